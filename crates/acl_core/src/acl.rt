@@ -1,0 +1,110 @@
+//! Valid lists.
+
+ghost use Rattle.std.specs.Prelude.{◌≡◌, ◌==◌, ◌≤◌, nat_lt, IfOk, IsPermutation, ◌↔◌, None};
+ghost use Rattle.acl_core.specs.AccessLists.{IsAcl, first_fault, fault_in, IsAccepted};
+ghost use Rattle.acl_core.specs.Modes.{minimal_list};
+
+use crate::entry::{Entry, Tag};
+use crate::fault::AclError;
+use crate::mode::Mode;
+use crate::search::{first_fault_of, sorted_copy};
+use std::alloc::{AllocError, Global};
+use std::marker::Model;
+use std::sync::ArcSlice;
+
+/// The most entries of a list.
+pub const MAX_ENTRIES: usize = 64;
+
+/// A valid list of at most 64 entries, in canonical order. A clone shares the entries.
+#[derive(Debug, Drop)]
+pub struct Acl {
+    entries: ArcSlice<Entry>,
+}
+
+impl Model for Acl {
+    ghost use Rattle.std.specs.Prelude.{List};
+    ghost use Rattle.std.specs.Arc.{arc_slice_items};
+    ghost use Rattle.acl_core.specs.declared.entry.Entry.{Entry};
+    ghost use Rattle.acl_core.specs.AccessLists.{IsAcl};
+
+    ghost Value = { List Entry };
+
+    ghost view = { λ acl. arc_slice_items acl.entries };
+
+    ghost invariant = { λ acl. IsAcl (arc_slice_items acl.entries) };
+}
+
+impl Clone for Acl {
+    ghost is_clone = { λ acl copy. copy ≡ acl };
+
+    fn clone(&self) -> Result<Acl, AllocError> {
+        let entries = self.entries.clone()?;
+        Ok(Acl { entries })
+    }
+}
+
+impl PartialEq for Acl {
+    ghost use Rattle.std.specs.Cmp.Lexicographic.{pointwise};
+    ghost use Rattle.acl_core.specs.Tags.{same_entry};
+    ghost use Rattle.acl_core.specs.EntryLaws.{same_list_partial_laws};
+
+    ghost eq = { λ a b. pointwise same_entry a b };
+
+    ghost laws = { same_list_partial_laws };
+
+    fn eq(&self, other: &Acl) -> bool {
+        self.entries == other.entries
+    }
+}
+
+impl Eq for Acl {
+    ghost use Rattle.acl_core.specs.EntryLaws.{same_list_laws};
+
+    ghost laws = { same_list_laws };
+}
+
+impl Acl {
+    /// The list of these entries, which may come in any order. What is wrong with them is answered by
+    /// the first of its names, also where memory would not have sufficed.
+    pub fn from_entries(alloc: Global, entries: &[Entry]) -> Result<Acl, AclError>
+        ensures fault { fault_in result ≡ first_fault entries.now }
+        ensures accepted { (first_fault entries.now ≡ None) ↔ IsAccepted entries.now }
+        ensures same_entries { IfOk result (IsPermutation entries.now) }
+        ensures acl { IfOk result IsAcl }
+    {
+        let Ok(sorted) = sorted_copy(alloc, entries) else {
+            return Err(match first_fault_of(entries, None) {
+                Some(fault) => AclError::Invalid(fault),
+                None => AclError::Memory,
+            });
+        };
+        if let Some(fault) = first_fault_of(entries, Some(&sorted)) {
+            return Err(AclError::Invalid(fault));
+        }
+        let entries = ArcSlice::from_vec(sorted)?;
+        Ok(Acl { entries })
+    }
+
+    /// The list of a mode: the owner's, the group's and the others' permissions.
+    pub fn from_mode(alloc: Global, mode: Mode) -> Result<Acl, AllocError>
+        ensures list { IfOk result (λ acl. acl ≡ minimal_list mode) }
+        ensures acl { IfOk result IsAcl }
+    {
+        let [owner, group, others] = mode.digits();
+        let entries = vec![in alloc;
+            Entry::from_digit(Tag::UserObj, owner),
+            Entry::from_digit(Tag::GroupObj, group),
+            Entry::from_digit(Tag::Other, others),
+        ]?;
+        let entries = ArcSlice::from_vec(entries)?;
+        Ok(Acl { entries })
+    }
+
+    /// The entries, in canonical order.
+    pub fn entries(&self) -> &[Entry]
+        ensures value { result.now ≡ self.now }
+        ensures acl { IsAcl self.now }
+    {
+        &self.entries
+    }
+}

@@ -1,0 +1,28 @@
+//! Access lists as acl(5) has them: entries, valid lists, and the access check.
+//!
+//! An [`Acl`] is a valid list by its type. [`Acl::from_entries`] makes one of entries in any order or
+//! says what the first thing wrong with them is, [`Acl::from_mode`] makes the list of a file mode, and
+//! [`Acl::check`] answers whether a caller is granted what it wants, and if not, which entry decided.
+//! The contract of `check` is the algorithm of acl(5), stated on a list in any order
+//! (`specs/Checks.antt`).
+#![tactic(auto)]
+
+mod acl;
+mod caller;
+mod check;
+mod entry;
+mod fault;
+mod mode;
+mod perms;
+mod search;
+
+pub use acl::{Acl, MAX_ENTRIES};
+pub use caller::{Caller, MAX_GROUPS, TooManyGroups};
+pub use check::{Check, Decider};
+pub use entry::{Entry, Tag};
+pub use fault::{AclError, AclFault};
+pub use mode::Mode;
+pub use perms::Perms;
+
+#[cfg(test)]
+mod tests;
