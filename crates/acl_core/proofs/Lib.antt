@@ -6,3 +6,4 @@ pub mod Sorting
 pub mod Answering
 pub mod EntryEquality
 pub mod Doubles
+pub mod OneOrder

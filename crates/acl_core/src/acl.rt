@@ -2,6 +2,7 @@
 
 ghost use Rattle.std.specs.Prelude.{◌≡◌, ◌==◌, ◌≤◌, nat_lt, IfOk, IsPermutation, ◌↔◌, None};
 ghost use Rattle.acl_core.specs.AccessLists.{IsAcl, first_fault, fault_in, IsAccepted};
+ghost use Rattle.acl_core.specs.InOrder.{in_order};
 ghost use Rattle.acl_core.specs.Modes.{minimal_list};
 
 use crate::entry::{Entry, Tag};
@@ -69,6 +70,7 @@ impl Acl {
     pub fn from_entries(alloc: Global, entries: &[Entry]) -> Result<Acl, AclError>
         ensures fault { fault_in result ≡ first_fault entries.now }
         ensures accepted { (first_fault entries.now ≡ None) ↔ IsAccepted entries.now }
+        ensures value { IfOk result (λ acl. acl ≡ in_order entries.now) }
         ensures same_entries { IfOk result (IsPermutation entries.now) }
         ensures acl { IfOk result IsAcl }
     {
