@@ -1,0 +1,7 @@
+pub mod ServerSets
+pub mod Doubles
+pub mod Faults
+pub mod Kept
+pub mod Members
+pub mod Meet
+pub mod QuorumLemmas

@@ -1,0 +1,38 @@
+-- What a word's changes do to the set that it stands for.
+use Rattle.std.proofs.Common.{◌≡◌, ℕ, ◌*◌, ◌%◌, ◌^◌, ◌<◌, ◌≤◌, ◌&&◌, ◌||◌, eqb, ltb, bit_or, w32, true, refl, sym, ap, ◌∙◌, inl, inr, arith}
+use Rattle.std.proofs.lemmas.Bool.{cases_eq, and_right, eq-eqb, ne_eqb, lt-ltb}
+use Rattle.std.proofs.lemmas.Nat.Bits.{bit_at-zero, bit_at_set_same, bit_at_set_other}
+use Rattle.std.specs.Int.{bit_at}
+use Rattle.std.specs.Ordering.{nat_cmp}
+use Rattle.std.specs.Cmp.{nat_cmp_total, unsigned_tied}
+use Rattle.std.specs.FinSet as set
+use Rattle.vote_core.specs.ServerBits.{set_below}
+use Rattle.vote_core.specs.ServerBitLaws.{contains-set_below}
+
+-- a server is in a set to which one is added if it is that one or was in it
+pub contains_inserted : (members : set.FinSet nat_cmp) (k q : ℕ) → set.contains (set.insert members k) q ≡ (eqb q k || set.contains members q)
+contains_inserted members k q = set.contains-insert nat_cmp_total members k q ∙ ap (λ b. b || set.contains members q) (unsigned_tied q k)
+
+-- a bit set, as a test of each number
+with_bit : (n bits k : ℕ) → k < n → n ≤ 32 → (q : ℕ) → (ltb q n && eqb (bit_at (bit_or bits (1 * 2 ^ k % 2 ^ 32)) q) 1) ≡ (eqb q k || (ltb q n && eqb (bit_at bits q) 1))
+with_bit n bits k lt word q =
+    let within : k < 32 = omega arith in
+    elim (cases_eq q k) [
+      | inl same ↦
+          let below : ltb q n ≡ true = lt-ltb q n (omega arith) in
+          let there : bit_at (bit_or bits (1 * 2 ^ k % 2 ^ 32)) q ≡ 1 = ap (bit_at (bit_or bits (1 * 2 ^ k % 2 ^ 32))) same ∙ bit_at_set_same w32 bits k within in
+          rw (below, there, eq-eqb q k same) refl
+      | inr other ↦ rw (ne_eqb q k other, bit_at_set_other w32 bits k within q other) refl
+    ]
+
+-- no bit, no number
+pub set_below-zero : (n : ℕ) → set_below n 0 ≡ set.empty
+set_below-zero n = set.same_set nat_cmp_total set.nat_cmp-IsAntisymmetric _ _ (λ q.
+    contains-set_below n 0 q ∙ and_right (ltb q n) (eqb (bit_at 0 q) 1) (ap (λ b. eqb b 1) (bit_at-zero q)) ∙ sym (set.contains-empty nat_cmp q))
+
+-- a bit set adds its number
+pub set_below-bit_or : (n bits k : ℕ) → k < n → n ≤ 32 → set_below n (bit_or bits (1 * 2 ^ k % 2 ^ 32)) ≡ set.insert (set_below n bits) k
+set_below-bit_or n bits k lt word = set.same_set nat_cmp_total set.nat_cmp-IsAntisymmetric _ _ (λ q.
+    contains-set_below n (bit_or bits (1 * 2 ^ k % 2 ^ 32)) q
+    ∙ with_bit n bits k lt word q
+    ∙ sym (contains_inserted (set_below n bits) k q ∙ ap (λ b. eqb q k || b) (contains-set_below n bits q)))

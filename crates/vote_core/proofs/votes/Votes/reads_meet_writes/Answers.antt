@@ -1,0 +1,8 @@
+use Rattle.std.proofs.Common.{subst}
+use Rattle.vote_core.specs.Quorums.{ReadsMeetWrites}
+use Rattle.vote_core.specs.VotesFields.{configuration_of}
+use Rattle.vote_core.proofs.Meet.{reads_meet_writes}
+use Rattle.vote_core.proofs.votes.Votes.reads_meet_writes.Goals as goal
+
+pub returns : goal.returns
+returns c = subst ReadsMeetWrites c.self.view_is (reads_meet_writes (configuration_of c.self.inside) c.self.invariant.1)

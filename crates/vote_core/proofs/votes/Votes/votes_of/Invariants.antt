@@ -1,0 +1,10 @@
+use Rattle.std.proofs.Common.{◌≡◌, ◌+◌, ◌*◌, ◌≤◌, drop}
+use Rattle.std.specs.FinSet.{contains}
+use Rattle.vote_core.specs.Quorums.{votes_in}
+use Rattle.vote_core.proofs.votes.Votes.votes_of.Given as goal
+
+abbrev pub invariant-loop-server : goal.invariant-loop-server
+invariant-loop-server l = record {
+  small : l.votes ≤ 255 * l.server-index;
+  rest : l.votes + votes_in (drop l.server-index l.server-items) (contains l.servers) ≡ votes_in l.server-items (contains l.servers);
+}

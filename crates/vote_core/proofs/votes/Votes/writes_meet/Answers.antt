@@ -1,0 +1,8 @@
+use Rattle.std.proofs.Common.{subst}
+use Rattle.vote_core.specs.Quorums.{WritesMeet}
+use Rattle.vote_core.specs.VotesFields.{configuration_of}
+use Rattle.vote_core.proofs.Meet.{writes_meet}
+use Rattle.vote_core.proofs.votes.Votes.writes_meet.Goals as goal
+
+pub returns : goal.returns
+returns c = subst WritesMeet c.self.view_is (writes_meet (configuration_of c.self.inside) c.self.invariant.1)

@@ -1,0 +1,7 @@
+pub mod Quorums
+pub mod Validity
+pub mod SameVotes
+pub mod Padding
+pub mod VotesFields
+pub mod ServerBits
+pub mod ServerBitLaws

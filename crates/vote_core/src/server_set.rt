@@ -1,0 +1,62 @@
+//! Sets of servers.
+
+ghost use Rattle.std.specs.Prelude.{◌≡◌, ℕ, ◌<◌, ◌==◌, ◌||◌, false};
+ghost use Rattle.std.specs.FinSet.{empty, insert, contains};
+
+use crate::MAX_SERVERS;
+use std::marker::Model;
+
+/// A set of server numbers below `MAX_SERVERS`.
+#[derive(Clone, Copy, Debug)]
+pub struct ServerSet {
+    bits: u32,
+}
+
+impl Model for ServerSet {
+    ghost use Rattle.std.specs.Prelude.{◌<◌, ◌^◌};
+    ghost use Rattle.std.specs.Ordering.{nat_cmp};
+    ghost use Rattle.std.specs.Coded.{coded_ℕ};
+    ghost use Rattle.std.specs.FinSet.{FinSet, code};
+    ghost use Rattle.vote_core.specs.declared.TheConstants.{MAX_SERVERS};
+    ghost use Rattle.vote_core.specs.ServerBits.{set_below, word_below};
+
+    ghost Value = { FinSet nat_cmp };
+
+    ghost coded = { code coded_ℕ };
+
+    ghost use Rattle.vote_core.specs.ServerBitLaws.{fields_back};
+
+    ghost view = { λ set. set_below MAX_SERVERS set.bits };
+
+    ghost invariant = { λ set. set.bits < 2 ^ MAX_SERVERS };
+
+    ghost inverse = { λ members. record { bits = word_below MAX_SERVERS members } };
+
+    ghost inverse_ok = { λ set within. fields_back set within };
+}
+
+impl ServerSet {
+    /// The set of no server.
+    pub fn empty() -> ServerSet
+        ensures value { result ≡ empty }
+        ensures members { (server : ℕ) → contains result server ≡ false }
+    {
+        ServerSet { bits: 0 }
+    }
+
+    /// Whether a server is in the set.
+    pub fn contains(&self, server: u8) -> bool
+        ensures { result ≡ contains self.now server }
+    {
+        usize::from(server) < MAX_SERVERS && (self.bits >> server) & 1 == 1
+    }
+
+    /// Adds a server.
+    pub fn insert(&mut self, server: u8)
+        requires { server < MAX_SERVERS }
+        ensures value { self.new ≡ insert self.old server }
+        ensures members { (other : ℕ) → contains self.new other ≡ ((other == server) || contains self.old other) }
+    {
+        self.bits |= 1 << server;
+    }
+}
