@@ -1,0 +1,117 @@
+//! Streams over memory.
+
+ghost use Rattle.std.specs.Prelude.{◌≡◌, Some, [], length};
+
+use crate::traits::{ByteIn, ByteOut, ReadFailed, WriteFailed};
+use std::alloc::Global;
+
+/// Bytes of memory to read, at most so many a call; the call with a given number may fail.
+#[derive(Drop)]
+pub struct MemoryIn<'a> {
+    bytes: &'a [u8],
+    failures: u64,
+    calls: u64,
+    failing: Option<u64>,
+}
+
+impl<'a> MemoryIn<'a> {
+    /// All these bytes.
+    pub fn new(bytes: &'a [u8]) -> MemoryIn<'a> {
+        MemoryIn {
+            bytes,
+            failures: 0,
+            calls: 0,
+            failing: None,
+        }
+    }
+
+    /// These bytes, where one call fails, counted from 0.
+    pub fn failing_at(bytes: &'a [u8], call: u64) -> MemoryIn<'a> {
+        MemoryIn {
+            bytes,
+            failures: 0,
+            calls: 0,
+            failing: Some(call),
+        }
+    }
+}
+
+impl<'a> ByteIn for MemoryIn<'a> {
+    ghost rest = { λ stream. Some stream.bytes.now };
+
+    ghost failed_reads = { λ stream. stream.failures };
+
+    fn read(&mut self, buffer: &mut [u8]) -> Result<usize, ReadFailed> {
+        let call = self.calls;
+        self.calls = call.saturating_add(1);
+        if self.failing == Some(call) {
+            self.failures = self.failures.saturating_add(1);
+            return Err(ReadFailed);
+        }
+        let count = self.bytes.len().min(buffer.len());
+        let (front, rest) = self.bytes.split_at(count);
+        buffer[..count].copy_from_slice(front);
+        self.bytes = rest;
+        Ok(count)
+    }
+
+    fn failed_reads(&self) -> u64 {
+        self.failures
+    }
+}
+
+/// Memory to write to; the call with a given number may fail.
+#[derive(Drop)]
+pub struct MemoryOut {
+    bytes: Vec<u8>,
+    failures: u64,
+    calls: u64,
+    failing: Option<u64>,
+}
+
+impl MemoryOut {
+    /// Nothing written yet.
+    pub fn new(alloc: Global) -> MemoryOut {
+        MemoryOut {
+            bytes: Vec::new(alloc),
+            failures: 0,
+            calls: 0,
+            failing: None,
+        }
+    }
+
+    /// Nothing written yet, and one call fails, counted from 0.
+    pub fn failing_at(alloc: Global, call: u64) -> MemoryOut {
+        MemoryOut {
+            bytes: Vec::new(alloc),
+            failures: 0,
+            calls: 0,
+            failing: Some(call),
+        }
+    }
+
+    /// What was written.
+    pub fn bytes(&self) -> &[u8] {
+        &self.bytes
+    }
+}
+
+impl ByteOut for MemoryOut {
+    ghost written = { λ stream. Some stream.bytes.items };
+
+    ghost failed_writes = { λ stream. stream.failures };
+
+    fn write(&mut self, piece: &[u8]) -> Result<(), WriteFailed> {
+        let call = self.calls;
+        self.calls = call.saturating_add(1);
+        if self.failing != Some(call) && self.bytes.extend_from_slice(piece).is_ok() {
+            return Ok(());
+        }
+        self.failures = self.failures.saturating_add(1);
+        Err(WriteFailed)
+    }
+
+    fn failed_writes(&self) -> u64 {
+        self.failures
+    }
+}

@@ -1,0 +1,144 @@
+-- Cutting off the first line and the first word.
+use Rattle.std.proofs.Common.{◌≡◌, ℕ, zero, suc, ◌+◌, ◌-◌, ◌<◌, ◌≤◌, Bool, true, cond, eqb, ltb, not, List, [], ◌∷◌, Some, None, length, take, drop, filter, get_or, refl, ◌∙◌, ap, sym, inl, inr, arith}
+use Rattle.std.specs.List.{slice_split, position, position_or_len, before_first, after_first}
+use Rattle.std.specs.Str.Lines.{lines, lines_of_parts, strip_carriage_return}
+use Rattle.std.proofs.lemmas.List.{drop_all, drop_more, take_all, length-drop, length-take-le}
+use Rattle.std.proofs.lemmas.List.Splits.{slice_split-cons_yes, slice_split_first, slice_split_none, length-slice_split}
+use Rattle.std.proofs.lemmas.List.Sums.{fails_before_first, passes_at_first}
+use Rattle.std.proofs.lemmas.Bool.{cases_Bool, both_ways, ltb-true, ltb-false, lt-ltb, ne_eqb}
+use Rattle.std.proofs.Math.Numerals.{one-add}
+use Rattle.script_text.specs.Words.{words, is_blank, BeginsWithWord}
+
+-- a place that is found is the first, and in the list
+pub found_at : {X : Type 0} (p : X → Bool) (xs : List X) (i : ℕ) → Some i ≡ position p xs → (position_or_len p xs ≡ i) × (i < length xs)
+found_at p xs i h =
+    elim (cases_Bool (ltb (position_or_len p xs) (length xs))) [
+      | inl inside ↦
+          let some : Some i ≡ Some (position_or_len p xs) = h ∙ ap (λ b. cond b (Some (position_or_len p xs)) None) inside in
+          let same : position_or_len p xs ≡ i = cc in
+          (same, let low = ltb-true (position_or_len p xs) (length xs) inside in omega (arith, low, same))
+      | inr outside ↦
+          let none : Some i ≡ None = h ∙ ap (λ b. cond b (Some (position_or_len p xs)) None) outside in
+          cc
+    ]
+
+-- where none is found no element passes
+pub none_at : {X : Type 0} (p : X → Bool) (xs : List X) → None ≡ position p xs → length xs ≤ position_or_len p xs
+none_at p xs h =
+    elim (cases_Bool (ltb (position_or_len p xs) (length xs))) [
+      | inl inside ↦
+          let some : None ≡ Some (position_or_len p xs) = h ∙ ap (λ b. cond b (Some (position_or_len p xs)) None) inside in
+          cc
+      | inr outside ↦ ltb-false (position_or_len p xs) (length xs) outside
+    ]
+
+-- where no element passes there is one part
+pub one_part : {X : Type 0} (p : X → Bool) (xs : List X) → None ≡ position p xs → slice_split p xs ≡ xs ∷ []
+one_part p xs h = let far = none_at p xs h in slice_split_none p xs (λ k d inside. fails_before_first p xs k d (omega (arith, far)))
+
+-- a list of parts that is not empty, after a first part
+more_parts : (line : List ℕ) (parts : List (List ℕ)) → 0 < length parts → lines_of_parts (line ∷ parts) ≡ strip_carriage_return line ∷ lines_of_parts parts
+more_parts line [] some = absurd (omega arith)
+more_parts line (part ∷ parts) some = refl
+
+-- the line before a line feed, and the lines after it
+pub lines-cut : (text : List ℕ) (end : ℕ) → Some end ≡ position (λ b. eqb b 10) text → lines text ≡ strip_carriage_return (take end text) ∷ lines (drop (end + 1) text)
+lines-cut text end found =
+    let place = found_at (λ (b : ℕ). eqb b 10) text end found in
+    let inside : position_or_len (λ b. eqb b 10) text < length text = omega arith in
+    let rest = after_first (λ (b : ℕ). eqb b 10) text in
+    let some : 0 < length (slice_split (λ b. eqb b 10) rest) = omega (arith, length-slice_split (λ (b : ℕ). eqb b 10) rest) in
+    ap lines_of_parts (slice_split_first (λ b. eqb b 10) text 0 inside)
+    ∙ more_parts (before_first (λ b. eqb b 10) text) (slice_split (λ b. eqb b 10) rest) some
+    ∙ ap (λ n. strip_carriage_return (take n text) ∷ lines (drop (n + 1) text)) place.0
+
+one_line : (text : List ℕ) → 0 < length text → lines_of_parts (text ∷ []) ≡ text ∷ []
+one_line [] some = absurd (omega arith)
+one_line (b ∷ bs) some = ap (λ test. cond test [] ((b ∷ bs) ∷ [])) (ne_eqb (suc (length bs)) 0 (λ h. omega (arith, h)))
+
+-- a text without a line feed is one line
+pub lines-last : (text : List ℕ) → 0 < length text → None ≡ position (λ b. eqb b 10) text → lines text ≡ text ∷ []
+lines-last text some none = ap lines_of_parts (one_part (λ b. eqb b 10) text none) ∙ one_line text some
+
+-- a blank at the start is no word
+words-blank : (b : ℕ) (line : List ℕ) → is_blank b ≡ true → words (b ∷ line) ≡ words line
+words-blank b line blank = ap (filter (λ word. ltb 0 (length word))) (slice_split-cons_yes is_blank b line blank)
+
+-- nor are several
+skip_at : (b : ℕ) (line : List ℕ) (n : ℕ) → words (drop n line) ≡ words line → is_blank b ≡ true → words (drop (1 + n) (b ∷ line)) ≡ words (b ∷ line)
+skip_at b line n rest blank = ap (λ m. words (drop m (b ∷ line))) (one-add n) ∙ rest ∙ sym (words-blank b line blank)
+
+words-skip : (line : List ℕ) → words (drop (position_or_len (λ b. not (is_blank b)) line) line) ≡ words line
+words-skip [] = refl
+words-skip (b ∷ line) =
+    elim (cases_Bool (is_blank b)) [
+      | inl blank ↦
+          ap (λ test. words (drop (cond (not (not test)) (1 + position_or_len (λ (x : ℕ). not (is_blank x)) line) 0) (b ∷ line))) blank
+          ∙ skip_at b line (position_or_len (λ (x : ℕ). not (is_blank x)) line) (words-skip line) blank
+      | inr other ↦ ap (λ test. words (drop (cond (not (not test)) (1 + position_or_len (λ (x : ℕ). not (is_blank x)) line) 0) (b ∷ line))) other
+    ]
+
+pub words-from : (line : List ℕ) (start : ℕ) → Some start ≡ position (λ b. not (is_blank b)) line → words (drop start line) ≡ words line
+words-from line start found = rw (← (found_at (λ (b : ℕ). not (is_blank b)) line start found).0) (words-skip line)
+
+-- a line of blanks has no word
+pub words-none : (line : List ℕ) → None ≡ position (λ b. not (is_blank b)) line → words line ≡ []
+words-none line none =
+    let far = none_at (λ (b : ℕ). not (is_blank b)) line none in
+    sym (words-skip line) ∙ ap words (drop_all (position_or_len (λ (b : ℕ). not (is_blank b)) line) line far)
+
+-- what is found is no blank
+begins_at : (line : List ℕ) → (k : ℕ) → k < length line → not (is_blank (get_or line k 0)) ≡ true → BeginsWithWord (drop k line)
+begins_at [] k inside passes = absurd (omega arith)
+begins_at (b ∷ line) zero inside passes = elim (cases_Bool (is_blank b)) [
+  | inl blank ↦ absurd (both_ways (not (is_blank b)) (ap not blank) passes)
+  | inr other ↦ other
+]
+begins_at (b ∷ line) (suc k) inside passes = begins_at line k (omega arith) passes
+
+pub begins-from : (line : List ℕ) (start : ℕ) → Some start ≡ position (λ b. not (is_blank b)) line → BeginsWithWord (drop start line)
+begins-from line start found =
+    let place = found_at (λ (b : ℕ). not (is_blank b)) line start found in
+    let inside : position_or_len (λ b. not (is_blank b)) line < length line = omega arith in
+    let passes : not (is_blank (get_or line (position_or_len (λ b. not (is_blank b)) line) 0)) ≡ true = passes_at_first (λ (b : ℕ). not (is_blank b)) line 0 inside in
+    begins_at line start place.1 (rw place.0 at passes)
+
+-- a word that begins the line is kept
+kept : (word : List ℕ) (parts : List (List ℕ)) → 0 < length word → filter (λ w. ltb 0 (length w)) (word ∷ parts) ≡ word ∷ filter (λ w. ltb 0 (length w)) parts
+kept word parts some = rw (lt-ltb 0 (length word) some) refl
+
+-- a blank after the first byte: the word before it is not empty
+word_some : (line : List ℕ) (end : ℕ) → BeginsWithWord line → end < length line → is_blank (get_or line end 0) ≡ true → 0 < end
+word_some [] end begins inside blank = absurd (omega arith)
+word_some (b ∷ line) zero begins inside blank = absurd (both_ways (is_blank b) begins blank)
+word_some (b ∷ line) (suc end) begins inside blank = omega arith
+
+-- the first word up to a blank, and the words after it
+pub words-cut : (line : List ℕ) (end : ℕ) → BeginsWithWord line → Some end ≡ position is_blank line → words line ≡ take end line ∷ words (drop end line)
+words-cut line end begins found =
+    let place = found_at is_blank line end found in
+    let first : position_or_len is_blank line < length line = omega arith in
+    let passes : is_blank (get_or line (position_or_len is_blank line) 0) ≡ true = passes_at_first is_blank line 0 first in
+    let blank : is_blank (get_or line end 0) ≡ true = rw place.0 at passes in
+    let some : 0 < length (take end line) = let inside = place.1 in let low : end ≤ length line = omega (arith, inside) in rw length-take-le (word_some line end begins inside blank) in
+    let cut : slice_split is_blank line ≡ take end line ∷ slice_split is_blank (drop (end + 1) line) =
+    slice_split_first is_blank line 0 first ∙ ap (λ n. take n line ∷ slice_split is_blank (drop (n + 1) line)) place.0 in
+    let after : words (drop end line) ≡ words (drop (end + 1) line) =
+    ap words (drop_more line end 0 place.1) ∙ words-blank (get_or line end 0) (drop (end + 1) line) blank in
+    ap (filter (λ w. ltb 0 (length w))) cut ∙ kept (take end line) (slice_split is_blank (drop (end + 1) line)) some ∙ ap (λ ws. take end line ∷ ws) (sym after)
+
+-- a line without a blank is one word
+pub words-last : (line : List ℕ) → 0 < length line → None ≡ position is_blank line → words line ≡ line ∷ []
+words-last line some none = ap (filter (λ w. ltb 0 (length w))) (one_part is_blank line none) ∙ kept line [] some
+
+-- all that stands after n elements
+pub rest_of : (text : List ℕ) (n : ℕ) → take (length text - n) (drop n text) ≡ drop n text
+rest_of text n = take_all (length text - n) (drop n text) (omega (arith, length-drop n text))
+
+-- the part before a separator, and the parts after it
+pub parts-cut : (separator : ℕ) (word : List ℕ) (end : ℕ) → Some end ≡ position (λ b. eqb b separator) word → slice_split (λ b. eqb b separator) word ≡ take end word ∷ slice_split (λ b. eqb b separator) (drop (end + 1) word)
+parts-cut separator word end found =
+    let place = found_at (λ (b : ℕ). eqb b separator) word end found in
+    let inside : position_or_len (λ b. eqb b separator) word < length word = omega arith in
+    slice_split_first (λ b. eqb b separator) word 0 inside
+    ∙ ap (λ n. take n word ∷ slice_split (λ b. eqb b separator) (drop (n + 1) word)) place.0

@@ -1,0 +1,7 @@
+use Rattle.std.proofs.Common.{◌≡◌, drop}
+use Rattle.script_text.specs.Numbers.{number_up_to}
+use Rattle.script_text.proofs.Values.{number_from}
+use Rattle.script_text.proofs.number.read_number.Given as goal
+
+abbrev pub invariant-loop-byte : goal.invariant-loop-byte
+invariant-loop-byte l = number_from l.value l.limit (drop l.byte-index l.word) ≡ number_up_to l.limit l.word

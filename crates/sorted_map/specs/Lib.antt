@@ -1,0 +1,10 @@
+pub mod SortedMap
+pub mod Roomy
+pub mod Comparisons
+pub mod Laws
+pub mod Edits
+pub mod Exact
+pub mod Numbers
+pub mod Texts
+pub mod Place
+pub mod Lends

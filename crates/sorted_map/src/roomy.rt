@@ -1,0 +1,203 @@
+//! A sorted map that is seen with its free places.
+
+ghost use Rattle.std.specs.Prelude.{◌≡◌, ◌+◌, ◌<◌, ◌≤◌, ◌↔◌, [], length, IsTrue, IfOk, IfErr, OnOk, OnErr, None, Some, is_some, if◌then◌else◌};
+ghost use Rattle.std.specs.Option.{option_copied, option_copied_mut};
+ghost use Rattle.std.specs.Borrow.{sem};
+ghost use Rattle.sorted_map.specs.SortedMap.{IsOrdered, get, insert, remove};
+ghost use Rattle.sorted_map.specs.Lends.{roomy_lends_value, roomy_lends_get};
+ghost use Rattle.sorted_map.specs.Place.{IsPlaceOf, IsGapFor};
+
+use std::alloc::{AllocError, AllocFailed, Global};
+use std::cmp::Ord;
+use std::marker::Model;
+use std::mem;
+
+/// A map from `K` to `V`, in the order of its keys, that shows how many new keys it takes without
+/// memory.
+#[derive(Drop)]
+pub struct RoomyMap<K: Ord, V> {
+    pairs: Vec<(K, V)>,
+}
+
+impl<K: Ord, V> Model for RoomyMap<K, V> {
+    ghost use Rattle.std.specs.Prelude.{◌-◌, vec_len, vec_capacity};
+    ghost use Rattle.sorted_map.specs.SortedMap.{IsOrdered};
+    ghost use Rattle.sorted_map.specs.Roomy.{Roomy};
+
+    ghost Value = { Roomy K V };
+
+    ghost view = { λ m. record { pairs = m.pairs.items; room = vec_capacity m.pairs - vec_len m.pairs } };
+
+    ghost invariant = { λ m. IsOrdered K.cmp m.pairs.items };
+}
+
+impl<K: Ord + Copy, V: Copy> Clone for RoomyMap<K, V> {
+    ghost use Rattle.std.specs.Prelude.{◌≡◌};
+
+    ghost is_clone = { λ map copy. copy.pairs ≡ map.pairs };
+
+    fn clone(&self) -> Result<Self, AllocError> {
+        let pairs = Vec::from_slice(*self.pairs.allocator(), &self.pairs)?;
+        Ok(RoomyMap { pairs })
+    }
+}
+
+impl<K: Ord, V> RoomyMap<K, V> {
+    /// An empty map.
+    pub fn new(alloc: Global) -> Self
+        ensures { result.pairs ≡ [] }
+    {
+        RoomyMap {
+            pairs: Vec::new(alloc),
+        }
+    }
+
+    /// How many pairs there are.
+    pub fn len(&self) -> usize
+        ensures len { result ≡ length self.now.pairs }
+        ensures ordered { IsOrdered K.cmp self.now.pairs }
+    {
+        self.pairs.len()
+    }
+
+    /// Whether there is no pair.
+    pub fn is_empty(&self) -> bool
+        ensures { IsTrue result ↔ (self.now.pairs ≡ []) }
+    {
+        self.pairs.is_empty()
+    }
+
+    /// How many new keys it takes without memory.
+    pub fn room(&self) -> usize
+        ensures { result ≡ self.now.room }
+    {
+        self.pairs.capacity() - self.pairs.len()
+    }
+
+    /// The pairs, in the order of their keys.
+    pub fn as_slice(&self) -> &[(K, V)]
+        ensures pairs { result.now ≡ self.now.pairs }
+        ensures ordered { IsOrdered K.cmp self.now.pairs }
+    {
+        &self.pairs
+    }
+
+    /// The value at a key.
+    pub fn get(&self, key: &K) -> Option<&V>
+        ensures { option_copied result ≡ get K.cmp self.now.pairs key.now }
+    {
+        match self.search(key) {
+            Ok(at) => Some(&self.pairs[at].1),
+            Err(_) => None,
+        }
+    }
+
+    /// The value at a key, to be changed in place. Where a value is written, the map is the one
+    /// before with that value at the key.
+    pub fn get_mut(&mut self, key: &K) -> Option<&mut V>
+        ensures* writes_back { sem 𝓛 (roomy_lends_get K.row V.row K.Ord self.entry key.now result) }
+        ensures value { option_copied_mut result ≡ get K.cmp self.old.pairs key.now }
+        ensures ordered { IsOrdered K.cmp self.old.pairs }
+    {
+        match self.search(key) {
+            Ok(at) => Some(self.value_mut(key, at)),
+            Err(_) => None,
+        }
+    }
+
+    /// The value at a key whose place is known, to be changed in place.
+    fn value_mut(&mut self, key: &K, at: usize) -> &mut V
+        requires { IsPlaceOf K.cmp self.old.pairs key.now at }
+        ensures* writes_back { sem 𝓛 (roomy_lends_value K.row V.row K.Ord self.entry key.now result) }
+        ensures value { get K.cmp self.old.pairs key.now ≡ Some result.now }
+    {
+        let pair = &mut self.pairs[at];
+        &mut pair.1
+    }
+
+    /// Whether there is a pair with a key.
+    pub fn contains_key(&self, key: &K) -> bool
+        ensures { result ≡ is_some (get K.cmp self.now.pairs key.now) }
+    {
+        self.get(key).is_some()
+    }
+
+    /// Puts a value at a key, and gives the value before. To write over a value takes no memory.
+    pub fn insert(&mut self, key: K, value: V) -> Result<Option<V>, AllocFailed<(K, V)>>
+    where
+        K: Drop,
+        ensures before { IfOk result (λ before. before ≡ get K.cmp self.old.pairs key) }
+        ensures ok { OnOk result (self.new.pairs ≡ insert K.cmp self.old.pairs key value) }
+        ensures room { IfOk result (λ before. self.old.room ≤ self.new.room + (if is_some before then 0 else 1)) }
+        ensures was_ordered { IsOrdered K.cmp self.old.pairs }
+        ensures ordered { IsOrdered K.cmp self.new.pairs }
+
+        // Memory is refused only to a new key in a map without room. The pair comes back.
+        ensures full { OnErr result (self.old.room ≡ 0) }
+        ensures absent { OnErr result (get K.cmp self.old.pairs key ≡ None) }
+        ensures err { OnErr result (self.new.pairs ≡ self.old.pairs) }
+        ensures pair_returned { IfErr result (λ refused. refused.value ≡ (key, value)) }
+    {
+        match self.search(&key) {
+            Ok(at) => Ok(Some(mem::replace(&mut self.pairs[at].1, value))),
+            Err(at) => {
+                self.pairs.insert(at, (key, value))?;
+                Ok(None)
+            }
+        }
+    }
+
+    /// Puts a value at a key, and gives the value before. Where the key is new, there is room for it.
+    pub fn insert_in_room(&mut self, key: K, value: V) -> Option<V>
+    where
+        K: Drop,
+        V: Drop,
+        requires { get K.cmp self.old.pairs key ≡ None → 0 < self.old.room }
+        ensures before { result ≡ get K.cmp self.old.pairs key }
+        ensures pairs { self.new.pairs ≡ insert K.cmp self.old.pairs key value }
+        ensures room { self.old.room ≤ self.new.room + (if is_some result then 0 else 1) }
+        ensures was_ordered { IsOrdered K.cmp self.old.pairs }
+        ensures ordered { IsOrdered K.cmp self.new.pairs }
+    {
+        self.insert(key, value).unwrap()
+    }
+
+    /// Takes a key out, and gives its value. Its place stays as room.
+    pub fn remove(&mut self, key: &K) -> Option<V>
+    where
+        K: Drop,
+        ensures before { result ≡ get K.cmp self.old.pairs key.now }
+        ensures pairs { self.new.pairs ≡ remove K.cmp self.old.pairs key.now }
+        ensures room { self.new.room ≡ self.old.room + (if is_some result then 1 else 0) }
+        ensures was_ordered { IsOrdered K.cmp self.old.pairs }
+        ensures ordered { IsOrdered K.cmp self.new.pairs }
+    {
+        match self.search(key) {
+            Ok(at) => {
+                let (_, value) = self.pairs.remove(at);
+                Some(value)
+            }
+            Err(_) => None,
+        }
+    }
+
+    /// Makes room for this many new keys. An error leaves the map as it was.
+    pub fn reserve(&mut self, additional: usize) -> Result<(), AllocError>
+        ensures ok { OnOk result (additional ≤ self.new.room) }
+        ensures pairs { self.new.pairs ≡ self.old.pairs }
+        ensures room { self.old.room ≤ self.new.room }
+        ensures full { OnErr result (self.old.room < additional) }
+        ensures err { OnErr result (self.new ≡ self.old) }
+    {
+        self.pairs.reserve(additional)
+    }
+
+    /// Where a key stands, or where it would stand.
+    fn search(&self, key: &K) -> Result<usize, usize>
+        ensures found { IfOk result (IsPlaceOf K.cmp self.now.pairs key.now) }
+        ensures absent { IfErr result (IsGapFor K.cmp self.now.pairs key.now) }
+        ensures ordered { IsOrdered K.cmp self.now.pairs }
+    {
+        self.pairs.binary_search_by(|pair| pair.0.cmp(key))
+    }
+}
