@@ -1,0 +1,31 @@
+-- What a parse comes to for each thing that words may ask for.
+use Rattle.std.proofs.Common.{◌≡◌, true, false, Bool, [], ◌∷◌}
+use Rattle.std.specs.List.{list_all}
+use Rattle.clap.specs.Kinds.{Kinds, or_else}
+use Rattle.clap.specs.declared.error.kind.ErrorKind.{ErrorKind}
+use Rattle.clap.specs.declared.error.kind.ErrorKind.TheVariants.{DisplayHelp, InvalidSubcommand, MissingSubcommand, TooManyValues, UnknownArgument}
+use Rattle.suite_args.specs.CommandLine.{Asked, acl, help, nothing, table, topic}
+
+-- the kinds of error that a wrong command line may give
+abbrev pub is_mistake : ErrorKind → Bool
+is_mistake InvalidSubcommand = true
+is_mistake MissingSubcommand = true
+is_mistake TooManyValues = true
+is_mistake UnknownArgument = true
+is_mistake kind = false
+
+abbrev pub are_mistakes : Kinds → Bool
+are_mistakes [] = false
+are_mistakes (kind ∷ kinds) = list_all is_mistake (kind ∷ kinds)
+
+-- the faults of a parse, and what its matches ask for where it has none, fit what the words ask for
+abbrev pub Meets : Asked → Kinds → Asked → Type 0
+Meets table faults found = (faults ≡ []) × (found ≡ table)
+Meets (acl names) faults found = (faults ≡ []) × (found ≡ acl names)
+Meets help faults found = faults ≡ DisplayHelp ∷ []
+Meets topic faults found = faults ≡ DisplayHelp ∷ InvalidSubcommand ∷ []
+Meets nothing faults found = are_mistakes faults ≡ true
+
+pub mistakes_first : (kinds next : Kinds) → are_mistakes kinds ≡ true → are_mistakes (or_else kinds next) ≡ true
+mistakes_first [] next e = cc
+mistakes_first (kind ∷ kinds) next e = e

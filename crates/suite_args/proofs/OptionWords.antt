@@ -1,0 +1,175 @@
+-- What `clap` makes of a word that may be an option, where it knows no option but help.
+use Rattle.std.proofs.Common.{◌≡◌, ◌∙◌, ap, sym, refl, codes, true≢false, ℕ, Bool, true, false, ◌==◌, ◌||◌, List, [], ◌∷◌, Option, Some, None, is_some, length, drop}
+use Rattle.std.specs.Prelude.{encode_utf8, if◌then◌else◌, slice_get}
+use Rattle.std.specs.List.{after_first, before_first}
+use Rattle.std.specs.Option.{option_map_or}
+use Rattle.std.specs.Str.{bytes_eq, chars}
+use Rattle.std.proofs.lemmas.Slice.Eq.{bytes_eq-Decides}
+use Rattle.clap.specs.Lexer.{has_byte, long_of, short_of}
+use Rattle.clap.specs.Simple.{filled, help_rule}
+use Rattle.clap.specs.Kinds.{Kinds, or_else}
+use Rattle.clap.specs.Faults.{bundle_fault, bundle_step_fault, flag_word_fault, flags_fault, long_fault, react_fault, settle_fault, short_fault, use_fault}
+use Rattle.clap.specs.Walk.{Held, Outcome, Row, Rule, Text, Waiting, after_flag, arg_by_long, arg_by_short, bundle, bundle_met, bundle_step, long_or_other, plain, plain_word, reacted, settled, short_or_plain}
+use Rattle.clap.specs.declared.error.kind.ErrorKind.TheVariants.{DisplayHelp}
+use Rattle.suite_args.specs.CommandLine.{ends_options, flag_of, is_help_option, is_option}
+use Rattle.suite_args.proofs.Meanings.{are_mistakes}
+use Rattle.suite_args.proofs.WordShapes.{Shaped, bare, lone, other, flags, dashes, shape_of_word, other_long, other_short, other_flag, flags_long, flags_short, dashes_flag, lone_flag, before_none}
+
+abbrev pub help_flag : Rule
+help_flag = filled help_rule
+
+-- the only option among the rules is help
+pub record KnowsHelp (rules : List Rule) : Type 0 where
+  pub long : (name : Text) → arg_by_long rules name ≡ (if bytes_eq (codes "help") name then Some help_flag else None)
+  pub short : (flag : ℕ) → arg_by_short rules flag ≡ (if 104 == flag then Some help_flag else None)
+
+abbrev pub held_so_far : List Row → Option (Text × List Text) → Held
+held_so_far rows pending = record { rows = rows; pending = pending; skip = 0 }
+
+or_right_false : (a b : Bool) → (a || b) ≡ false → b ≡ false
+or_right_false true b e = cc
+or_right_false false b e = e
+
+or_left : (a b : Bool) → (a || b) ≡ false → a ≡ false
+or_left true b e = cc
+or_left false b e = refl
+
+is_none : (o : Option ℕ) → is_some o ≡ false → o ≡ None
+is_none None e = refl
+is_none (Some x) e = cc
+
+module _ (rules : List Rule) (rows : List Row) (pending : Option (Text × List Text)) where
+  abbrev h : Held
+  h = held_so_far rows pending
+
+  abbrev faults_of : Text → Kinds
+  faults_of word = flag_word_fault rules false (long_of word) word h
+
+  -- ---- words that are cut in no way
+
+  uncut_faults : (word : Text) → long_of word ≡ None → short_of word ≡ None → faults_of word ≡ []
+  uncut_faults word long short =
+      ap (λ o. flag_word_fault rules false o word h) long ∙ ap (λ o. option_map_or (λ f. bundle_fault rules false f h) o []) short
+
+  uncut_met : (waiting : Waiting) (word : Text) → long_of word ≡ None → short_of word ≡ None
+      → long_or_other rules waiting word (long_of word) h ≡ plain_word rules waiting word h
+  uncut_met waiting word long short =
+      ap (λ o. long_or_other rules waiting word o h) long ∙ ap (λ o. short_or_plain rules waiting word o h) short
+
+  -- ---- words of a hyphen and characters
+
+  cut_faults : (x : ℕ) (rest : Text) → (x == 45) ≡ false → faults_of (45 ∷ x ∷ rest) ≡ bundle_fault rules false (x ∷ rest) h
+  cut_faults x rest e =
+      ap (λ o. flag_word_fault rules false o (45 ∷ x ∷ rest) h) (flags_long x rest e)
+      ∙ ap (λ o. option_map_or (λ f. bundle_fault rules false f h) o []) (flags_short x rest e)
+
+  cut_met : (waiting : Waiting) (x : ℕ) (rest : Text) → (x == 45) ≡ false → long_or_other rules waiting (45 ∷ x ∷ rest) (long_of (45 ∷ x ∷ rest)) h
+      ≡ after_flag rules waiting (45 ∷ x ∷ rest) (bundle rules (x ∷ rest) h).0 (bundle rules (x ∷ rest) h).1
+  cut_met waiting x rest e =
+      ap (λ o. long_or_other rules waiting (45 ∷ x ∷ rest) o h) (flags_long x rest e)
+      ∙ ap (λ o. short_or_plain rules waiting (45 ∷ x ∷ rest) o h) (flags_short x rest e)
+
+  -- no character, as may be in a text that is no UTF-8
+  no_char_faults : (x : ℕ) (rest : Text) → slice_get (chars (x ∷ rest)) 0 ≡ None → bundle_fault rules false (x ∷ rest) h ≡ []
+  unfolding flags_fault
+  no_char_faults x rest none = ap (λ o. bundle_step_fault rules false o (x ∷ rest) 0 h (flags_fault rules false (length rest))) none
+
+  no_char_met : (x : ℕ) (rest : Text) → slice_get (chars (x ∷ rest)) 0 ≡ None → bundle rules (x ∷ rest) h ≡ (h, plain)
+  unfolding bundle_met
+  no_char_met x rest none = ap (λ o. bundle_step rules o (x ∷ rest) 0 plain h (bundle_met rules (length rest))) none
+
+  -- ---- a word that is no option is plain
+
+  plain_shaped : (word : Text) → Shaped word → is_option word ≡ false → faults_of word ≡ []
+  plain_shaped word bare e = refl
+  plain_shaped word lone e = uncut_faults (45 ∷ []) refl refl
+  plain_shaped word (other b rest o) e = uncut_faults (b ∷ rest) (other_long b rest o) (other_short b rest o)
+  plain_shaped word (flags x rest o) e = cut_faults x rest o ∙ no_char_faults x rest (is_none _ e)
+  plain_shaped word (dashes rest) e = absurd (true≢false (ap is_some (sym (dashes_flag rest)) ∙ e))
+
+  pub plain_faults : (word : Text) → is_option word ≡ false → faults_of word ≡ []
+  plain_faults word e = plain_shaped word (shape_of_word word) e
+
+  plain_met_shaped : (waiting : Waiting) (word : Text) → Shaped word → is_option word ≡ false → long_or_other rules waiting word (long_of word) h ≡ plain_word rules waiting word h
+  plain_met_shaped waiting word bare e = refl
+  plain_met_shaped waiting word lone e = uncut_met waiting (45 ∷ []) refl refl
+  plain_met_shaped waiting word (other b rest o) e = uncut_met waiting (b ∷ rest) (other_long b rest o) (other_short b rest o)
+  plain_met_shaped waiting word (flags x rest o) e =
+      cut_met waiting x rest o ∙ ap (λ (p : Held × Outcome). after_flag rules waiting (45 ∷ x ∷ rest) p.0 p.1) (no_char_met x rest (is_none _ e))
+  plain_met_shaped waiting word (dashes rest) e = absurd (true≢false (ap is_some (sym (dashes_flag rest)) ∙ e))
+
+  pub plain_met : (waiting : Waiting) (word : Text) → is_option word ≡ false → long_or_other rules waiting word (long_of word) h ≡ plain_word rules waiting word h
+  plain_met waiting word e = plain_met_shaped waiting word (shape_of_word word) e
+
+  -- ---- options, where those so far and what is pending have no fault
+
+  module _ (knows : KnowsHelp rules) (settles : settle_fault rules false h ≡ []) where
+    help_used : react_fault rules false help_flag [] h ≡ DisplayHelp ∷ []
+    help_used = ap (λ k. or_else k (use_fault false help_flag [] (settled rules h).rows)) settles
+
+    char_faults : (y x : ℕ) (rest : Text) → slice_get (chars (x ∷ rest)) 0 ≡ Some y
+        → bundle_fault rules false (x ∷ rest) h
+        ≡ short_fault rules false (if 104 == y then Some help_flag else None) (drop (length (encode_utf8 y)) (x ∷ rest)) h (flags_fault rules false (length rest) (drop (length (encode_utf8 y)) (x ∷ rest)) 0)
+    unfolding flags_fault
+    char_faults y x rest some =
+        ap (λ o. bundle_step_fault rules false o (x ∷ rest) 0 h (flags_fault rules false (length rest))) some
+        ∙ ap (λ a. short_fault rules false a (drop (length (encode_utf8 y)) (x ∷ rest)) h (flags_fault rules false (length rest) (drop (length (encode_utf8 y)) (x ∷ rest)) 0)) (knows.short y)
+
+    char_asks_help : (flag : Option ℕ) (x : ℕ) (rest : Text) → slice_get (chars (x ∷ rest)) 0 ≡ flag → option_map_or (λ y. 104 == y) flag false ≡ true
+        → bundle_fault rules false (x ∷ rest) h ≡ DisplayHelp ∷ []
+    char_asks_help None x rest some e = cc
+    char_asks_help (Some y) x rest some e =
+        let next : Held → Kinds = flags_fault rules false (length rest) (drop (length (encode_utf8 y)) (x ∷ rest)) 0 in
+        char_faults y x rest some ∙ ap (λ t. short_fault rules false (if t then Some help_flag else None) (drop (length (encode_utf8 y)) (x ∷ rest)) h next) e
+        ∙ ap (λ k. or_else k (next (reacted rules help_flag [] h))) help_used
+
+    char_unknown : (flag : Option ℕ) (x : ℕ) (rest : Text) → slice_get (chars (x ∷ rest)) 0 ≡ flag → is_some flag ≡ true → option_map_or (λ y. 104 == y) flag false ≡ false
+        → are_mistakes (bundle_fault rules false (x ∷ rest) h) ≡ true
+    char_unknown None x rest some given e = cc
+    char_unknown (Some y) x rest some given e =
+        let next : Held → Kinds = flags_fault rules false (length rest) (drop (length (encode_utf8 y)) (x ∷ rest)) 0 in
+        ap are_mistakes (char_faults y x rest some ∙ ap (λ t. short_fault rules false (if t then Some help_flag else None) (drop (length (encode_utf8 y)) (x ∷ rest)) h next) e)
+
+    -- `--help` itself
+    long_help : faults_of (codes "--help") ≡ DisplayHelp ∷ []
+    long_help = ap (λ a. long_fault rules false a None h) (knows.long (codes "help")) ∙ help_used
+
+    short_help : (word : Text) → Shaped word → option_map_or (λ y. 104 == y) (flag_of word) false ≡ true → faults_of word ≡ DisplayHelp ∷ []
+    short_help word bare e = cc
+    short_help word lone e = absurd (true≢false (sym e ∙ ap (λ o. option_map_or (λ y. 104 == y) o false) lone_flag))
+    short_help word (other b rest o) e = absurd (true≢false (sym e ∙ ap (λ f. option_map_or (λ y. 104 == y) f false) (other_flag b rest o)))
+    short_help word (flags x rest o) e = cut_faults x rest o ∙ char_asks_help (slice_get (chars (x ∷ rest)) 0) x rest refl e
+    short_help word (dashes rest) e = absurd (true≢false (sym e ∙ ap (λ o. option_map_or (λ y. 104 == y) o false) (dashes_flag rest)))
+
+    pub help_faults : (word : Text) → is_help_option word ≡ true → faults_of word ≡ DisplayHelp ∷ []
+    help_faults word e = go (bytes_eq word (codes "--help")) refl
+      where
+        go : (t : Bool) → bytes_eq word (codes "--help") ≡ t → faults_of word ≡ DisplayHelp ∷ []
+        go true t = ap faults_of ((bytes_eq-Decides word (codes "--help")).0 t) ∙ long_help
+        go false t = short_help word (shape_of_word word) (sym (ap (λ b. b || option_map_or (λ y. 104 == y) (flag_of word) false) t) ∙ e)
+
+    -- two hyphens and more, which is not `--help`
+    long_faults : (name : Text) (value : Option Text) (t : Bool) → bytes_eq (codes "help") name ≡ t
+        → long_fault rules false (arg_by_long rules name) value h ≡ long_fault rules false (if t then Some help_flag else None) value h
+    long_faults name value t e = ap (λ a. long_fault rules false a value h) (knows.long name) ∙ ap (λ b. long_fault rules false (if b then Some help_flag else None) value h) e
+
+    long_unknown : (text : Text) → (text ≡ codes "help" → ⊥) → (t u : Bool) → bytes_eq (codes "help") (before_first (λ x. x == 61) text) ≡ t → has_byte 61 text ≡ u
+        → are_mistakes (long_fault rules false (arg_by_long rules (before_first (λ x. x == 61) text)) (if has_byte 61 text then Some (after_first (λ x. x == 61) text) else None) h) ≡ true
+    long_unknown text not_help false u named valued = ap are_mistakes (long_faults _ _ false named)
+    long_unknown text not_help true true named valued =
+        ap are_mistakes (long_faults _ _ true named ∙ ap (λ b. long_fault rules false (Some help_flag) (if b then Some (after_first (λ x. x == 61) text) else None) h) valued)
+    long_unknown text not_help true false named valued =
+        absurd (not_help (sym (before_none text valued) ∙ sym ((bytes_eq-Decides _ _).0 named)))
+
+    wrong_shaped : (word : Text) → Shaped word → ends_options word ≡ false → is_option word ≡ true → is_help_option word ≡ false → are_mistakes (faults_of word) ≡ true
+    wrong_shaped word bare end option help = cc
+    wrong_shaped word lone end option help = absurd (true≢false (sym option ∙ ap is_some lone_flag))
+    wrong_shaped word (other b rest o) end option help = absurd (true≢false (sym option ∙ ap is_some (other_flag b rest o)))
+    wrong_shaped word (flags x rest o) end option help =
+        ap are_mistakes (cut_faults x rest o) ∙ char_unknown (slice_get (chars (x ∷ rest)) 0) x rest refl option (or_right_false _ _ help)
+    wrong_shaped word (dashes []) end option help = cc
+    wrong_shaped word (dashes (y ∷ rest)) end option help = long_unknown (y ∷ rest)
+        (λ is. true≢false (sym (ap (λ r. bytes_eq (45 ∷ 45 ∷ r) (codes "--help")) is) ∙ or_left _ _ help)) _ _ refl refl
+
+    pub wrong_faults : (word : Text) → ends_options word ≡ false → is_option word ≡ true → is_help_option word ≡ false → are_mistakes (faults_of word) ≡ true
+    wrong_faults word end option help = wrong_shaped word (shape_of_word word) end option help

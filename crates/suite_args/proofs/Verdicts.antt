@@ -1,0 +1,86 @@
+-- From what a parse comes to, to the answer.
+use Rattle.std.proofs.Common.{◌≡◌, ◌⊎◌, inl, inr, sym, subst, true, [], ◌∷◌, Result, Ok, Err}
+use Rattle.std.specs.List.{list_all}
+use Rattle.clap.specs.Kinds.{IsAmong, Kinds}
+use Rattle.clap.proofs.WalkLemmas.{both}
+use Rattle.clap.specs.declared.error.kind.ErrorKind.{ErrorKind}
+use Rattle.clap.specs.declared.error.kind.ErrorKind.TheVariants.{DisplayHelp, InvalidSubcommand, MissingSubcommand, OutOfMemory, TooManyValues, UnknownArgument}
+use Rattle.suite_args.specs.Answering.{Answers, AnswersTo}
+use Rattle.suite_args.specs.CommandLine.{Asked, acl, help, nothing, table, topic}
+use Rattle.suite_args.specs.declared.request.ArgsError.{ArgsError}
+use Rattle.suite_args.specs.declared.request.ArgsError.TheVariants.{CommandLine, Memory}
+use Rattle.suite_args.specs.declared.request.Request.{Request}
+use Rattle.suite_args.specs.declared.request.Request.TheVariants.{Acl, Help, Table}
+use Rattle.suite_args.proofs.Meanings.{Meets, are_mistakes, is_mistake}
+
+-- a parse with matches has no fault, and they say what the words ask for
+pub parsed : (asked found : Asked) (faults : Kinds) (r : Result Request ArgsError) → Meets asked faults found → faults ≡ [] → Answers found r → Answers asked r
+parsed table found faults r meets right answers = subst (λ (x : Asked). Answers x r) meets.1 answers
+parsed (acl names) found faults r meets right answers = subst (λ (x : Asked). Answers x r) meets.1 answers
+parsed help found faults r meets right answers = cc
+parsed topic found faults r meets right answers = cc
+parsed nothing found faults r meets right answers = let bad : are_mistakes [] ≡ true = subst (λ (k : Kinds). are_mistakes k ≡ true) right meets in cc
+
+-- want of memory answers anything
+no_memory : (asked : Asked) (r : Result Request ArgsError) → AnswersTo OutOfMemory r → Answers asked r
+no_memory table (Err Memory) answers = tt
+no_memory (acl names) (Err Memory) answers = tt
+no_memory help (Err Memory) answers = tt
+no_memory topic (Err Memory) answers = tt
+no_memory nothing (Err Memory) answers = tt
+no_memory asked (Err CommandLine) answers = absurd answers
+no_memory asked (Ok r) answers = absurd answers
+
+helped : (r : Result Request ArgsError) → AnswersTo DisplayHelp r → Answers help r
+helped (Ok (Help text)) answers = tt
+helped (Err Memory) answers = tt
+helped (Ok Table) answers = absurd answers
+helped (Ok (Acl names)) answers = absurd answers
+helped (Err CommandLine) answers = absurd answers
+
+helped_on_topic : (r : Result Request ArgsError) → AnswersTo DisplayHelp r → Answers topic r
+helped_on_topic (Ok (Help text)) answers = tt
+helped_on_topic (Err Memory) answers = tt
+helped_on_topic (Ok Table) answers = absurd answers
+helped_on_topic (Ok (Acl names)) answers = absurd answers
+helped_on_topic (Err CommandLine) answers = absurd answers
+
+refused_topic : (r : Result Request ArgsError) → AnswersTo InvalidSubcommand r → Answers topic r
+refused_topic (Err CommandLine) answers = tt
+refused_topic (Err Memory) answers = absurd answers
+refused_topic (Ok r) answers = absurd answers
+
+among_mistakes : (kind : ErrorKind) (kinds : Kinds) → list_all is_mistake kinds ≡ true → IsAmong kind kinds → is_mistake kind ≡ true
+among_mistakes kind [] all among = absurd among
+among_mistakes kind (k ∷ ks) all (inl is) = subst (λ (x : ErrorKind). is_mistake x ≡ true) (sym is) (both (is_mistake k) _ all).0
+among_mistakes kind (k ∷ ks) all (inr among) = among_mistakes kind ks (both (is_mistake k) _ all).1 among
+
+mistaken : (kind : ErrorKind) (r : Result Request ArgsError) → is_mistake kind ≡ true → AnswersTo kind r → Answers nothing r
+mistaken kind (Err CommandLine) mistake answers = tt
+mistaken kind (Err Memory) mistake answers = tt
+mistaken InvalidSubcommand (Ok r) mistake answers = absurd answers
+mistaken MissingSubcommand (Ok r) mistake answers = absurd answers
+mistaken TooManyValues (Ok r) mistake answers = absurd answers
+mistaken UnknownArgument (Ok r) mistake answers = absurd answers
+mistaken kind (Ok r) mistake answers = cc
+
+-- a parse that fails for one of its faults
+faulted : (asked found : Asked) (faults : Kinds) (kind : ErrorKind) (r : Result Request ArgsError) → Meets asked faults found → IsAmong kind faults → AnswersTo kind r → Answers asked r
+faulted table found faults kind r meets among answers = absurd (subst (IsAmong kind) meets.0 among)
+faulted (acl names) found faults kind r meets among answers = absurd (subst (IsAmong kind) meets.0 among)
+faulted help found faults kind r meets among answers = elim (subst (IsAmong kind) meets among) [
+  | inl is ↦ helped r (subst (λ (k : ErrorKind). AnswersTo k r) is answers)
+  | inr other ↦ absurd other
+]
+faulted topic found faults kind r meets among answers = elim (subst (IsAmong kind) meets among) [
+  | inl is ↦ helped_on_topic r (subst (λ (k : ErrorKind). AnswersTo k r) is answers)
+  | inr (inl is) ↦ refused_topic r (subst (λ (k : ErrorKind). AnswersTo k r) is answers)
+  | inr (inr other) ↦ absurd other
+]
+faulted nothing found [] kind r meets among answers = absurd among
+faulted nothing found (k ∷ ks) kind r meets among answers = mistaken kind r (among_mistakes kind (k ∷ ks) meets among) answers
+
+pub failed : (asked found : Asked) (faults : Kinds) (kind : ErrorKind) (r : Result Request ArgsError) → Meets asked faults found
+    → (kind ≡ OutOfMemory) ⊎ IsAmong kind faults → AnswersTo kind r → Answers asked r
+failed asked found faults kind r meets (inl memory) answers = no_memory asked r (subst (λ (k : ErrorKind). AnswersTo k r) memory answers)
+failed asked found faults kind r meets (inr among) answers = faulted asked found faults kind r meets among answers

@@ -1,0 +1,32 @@
+//! The command line of the program `suites`: what its words ask for.
+//!
+//! [`read_words`] reads the words after the program's name. Its contract has the whole command line
+//! as a function of those words (`specs/CommandLine.antt`) and the answers that there may be to each
+//! thing that they ask for (`specs/Answering.antt`). `clap` reads the words and writes the help.
+#![tactic(auto)]
+
+ghost use Rattle.std.specs.Prelude.{map};
+ghost use Rattle.suite_args.specs.CommandLine.{asked_by};
+ghost use Rattle.suite_args.specs.Answering.{Answers};
+
+mod answer;
+mod commands;
+mod request;
+
+pub use request::{ArgsError, HelpText, Names, Request};
+use std::alloc::Global;
+
+/// Reads the words after the program's name: `table`, `acl [NAME]...`, or a call for help. A word
+/// that begins with a hyphen and has more is an option, until `--`, and no option but help is known.
+pub fn read_words<'a>(alloc: Global, words: &'a [&'a str]) -> Result<Request<'a>, ArgsError>
+    ensures { Answers (asked_by (map (λ w. w.now) words.entry.now)) result }
+{
+    let commands = commands::commands(alloc)?;
+    match commands.try_get_matches_from(words) {
+        Ok(matches) => answer::request_of(alloc, &matches),
+        Err(error) => answer::answer_to(alloc, &error),
+    }
+}
+
+#[cfg(test)]
+mod tests;
