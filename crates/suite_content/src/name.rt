@@ -1,0 +1,138 @@
+//! Names in a folder.
+
+ghost use Rattle.std.specs.Prelude.{◌≡◌, ◌↔◌, IsSome, IfSome, IsTrue};
+ghost use Rattle.suite_content.specs.Names.{IsName, is_name_byte};
+
+use std::cmp::Ordering;
+use std::fmt;
+use std::fmt::Write;
+use std::marker::Model;
+
+/// The most bytes of a name.
+pub const LONGEST_NAME: usize = 64;
+
+/// A name in a folder: 1 to 64 bytes of `A` to `Z`, `a` to `z`, `0` to `9`, `.`, `_` and `-`, and
+/// neither `.` nor `..`. It takes no memory. Names are ordered by their bytes.
+#[derive(Clone, Copy)]
+pub struct Name {
+    array: [u8; 64],
+    count: u8,
+}
+
+impl Model for Name {
+    ghost use Rattle.std.specs.Prelude.{ℕ, List, take, length};
+
+    ghost Value = { List ℕ };
+
+    ghost use Rattle.suite_content.specs.Names.{IsName};
+    ghost use Rattle.suite_content.specs.Padding.{IsPadded, padded, fields_back};
+
+    ghost view = { λ n. take n.count n.array };
+
+    ghost invariant = { λ n. IsPadded n.count n.array × IsName (take n.count n.array) };
+
+    ghost inverse = { λ v. record { array = padded v; count = length v } };
+
+    ghost inverse_ok = { λ n h. fields_back n h.0 };
+}
+
+impl fmt::Debug for Name {
+    fn fmt<W: fmt::Write>(&self, f: &mut fmt::Formatter<W>) -> fmt::Result {
+        for byte in self.as_bytes() {
+            f.write_char(char::from(*byte))?;
+        }
+        Ok(())
+    }
+}
+
+impl PartialEq for Name {
+    ghost use Rattle.std.specs.Prelude.{nat_eq};
+    ghost use Rattle.std.specs.Cmp.Lexicographic.{pointwise};
+    ghost use Rattle.std.specs.Cmp.{partial_equiv_from_equiv};
+    ghost use Rattle.std.proofs.lemmas.Cmp.{nat_list_eq_equiv};
+
+    ghost eq = { pointwise nat_eq };
+
+    ghost laws = { partial_equiv_from_equiv nat_list_eq_equiv };
+
+    fn eq(&self, other: &Name) -> bool {
+        self.as_bytes() == other.as_bytes()
+    }
+}
+
+impl Eq for Name {
+    ghost use Rattle.std.proofs.lemmas.Cmp.{nat_list_eq_equiv};
+
+    ghost laws = { nat_list_eq_equiv };
+}
+
+impl PartialOrd for Name {
+    ghost use Rattle.std.specs.Ordering.{nat_cmp, as_partial_cmp};
+    ghost use Rattle.std.specs.Cmp.Lexicographic.{slice_cmp, texts_po};
+
+    ghost partial_cmp = { as_partial_cmp (slice_cmp nat_cmp) };
+
+    ghost laws = { texts_po };
+
+    fn partial_cmp(&self, other: &Name) -> Option<Ordering> {
+        Some(self.cmp(other))
+    }
+}
+
+impl Ord for Name {
+    ghost use Rattle.std.specs.Prelude.{refl};
+    ghost use Rattle.std.specs.Ordering.{nat_cmp};
+    ghost use Rattle.std.specs.Cmp.Lexicographic.{slice_cmp, texts_ties, nat_list_cmp_total};
+
+    ghost cmp = { slice_cmp nat_cmp };
+
+    ghost total = { nat_list_cmp_total };
+
+    ghost matches_partial_cmp = { λ x y. refl };
+
+    ghost matches_eq = { texts_ties };
+
+    fn cmp(&self, other: &Name) -> Ordering {
+        self.as_bytes().cmp(other.as_bytes())
+    }
+}
+
+impl Name {
+    /// The name of these bytes, if they are one.
+    pub fn new(bytes: &[u8]) -> Option<Name>
+        ensures is_name { IsSome result ↔ IsName bytes.now }
+        ensures value { IfSome result (λ name. name ≡ bytes.now) }
+    {
+        if !is_name(bytes) {
+            return None;
+        }
+        let mut array = [0; 64];
+        array[..bytes.len()].copy_from_slice(bytes);
+        let count = bytes.len() as u8;
+        Some(Name { array, count })
+    }
+
+    /// Its bytes.
+    pub fn as_bytes(&self) -> &[u8]
+        ensures value { result.now ≡ self.now }
+        ensures is_name { IsName self.now }
+    {
+        &self.array[..self.count as usize]
+    }
+}
+
+/// Whether bytes are a name.
+fn is_name(bytes: &[u8]) -> bool
+    ensures { IsTrue result ↔ IsName bytes.now }
+{
+    let fits = !bytes.is_empty() && bytes.len() <= LONGEST_NAME;
+    let reserved = bytes == b".".as_slice() || bytes == b"..".as_slice();
+    fits && !reserved && bytes.iter().all(|byte| is_portable(*byte))
+}
+
+/// Whether a byte may stand in a name.
+const fn is_portable(byte: u8) -> bool
+    ensures { result ≡ is_name_byte byte }
+{
+    byte.is_ascii_alphanumeric() || matches!(byte, b'.' | b'_' | b'-')
+}
