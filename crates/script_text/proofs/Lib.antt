@@ -1,3 +1,4 @@
 pub mod Cuts
 pub mod Values
 pub mod PhraseLemmas
+pub mod LineCounts

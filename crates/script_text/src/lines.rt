@@ -1,6 +1,6 @@
 //! The lines of a text.
 
-ghost use Rattle.std.specs.Prelude.{◌≡◌, ◌==◌, ◌<◌, List, ◌∷◌, ℕ, length};
+ghost use Rattle.std.specs.Prelude.{◌≡◌, ◌==◌, ◌<◌, ◌≤◌, List, ◌∷◌, ℕ, length};
 ghost use Rattle.std.specs.Iterator.{YieldsFirstRef, item_count};
 ghost use Rattle.std.specs.List.{position};
 ghost use Rattle.std.specs.Str.Lines.{lines, strip_carriage_return};
@@ -23,7 +23,8 @@ impl<'a> Model for Lines<'a> {
 impl<'a> Lines<'a> {
     /// The lines of a text.
     pub fn new(text: &'a [u8]) -> Lines<'a>
-        ensures { result ≡ lines text.now }
+        ensures value { result ≡ lines text.now }
+        ensures few { length result ≤ length text.now }
     {
         Lines { rest: text }
     }

@@ -1,0 +1,196 @@
+-- The text of an entry is read as that entry.
+use Rattle.std.proofs.Common.{◌≡◌, ℕ, ◌<◌, ◌≤◌, ◌%◌, ◌&&◌, Bool, true, false, not, eqb, List, [], ◌∷◌, ◌++◌, length, map, Option, Some, Result, Ok, codes, decimal, refl, sym, ap, ◌∙◌, append_assoc, arith}
+use Rattle.std.specs.Char.{is_ascii_digit}
+use Rattle.std.specs.List.{list_all}
+use Rattle.std.specs.Result.{result_map_both}
+use Rattle.std.specs.Str.{all_ascii_digits}
+use Rattle.std.proofs.lemmas.Bool.{agree_below_at, eqb-true, and_from}
+use Rattle.std.proofs.lemmas.Bool.Decides.{nat_tests}
+use Rattle.std.proofs.lemmas.Fmt.{digits_decimal, decimal_is_IsNumeral}
+use Rattle.std.proofs.lemmas.List.Folds.{list_all-append}
+use Rattle.std.proofs.lemmas.Str.Parse.{numerals_by_value, tells_all_ascii_digits}
+use Rattle.acl_core.specs.declared.entry.Tag.{Tag}
+use Rattle.acl_core.specs.declared.entry.Tag.TheVariants as tag
+use Rattle.acl_core.specs.declared.entry.Entry.{Entry}
+use Rattle.acl_core.specs.declared.perms.Perms.{Perms}
+use Rattle.acl_core.specs.Entries.{entry_of}
+use Rattle.acl_core.specs.Permissions.{read, write, execute, has, digit_of}
+use Rattle.acl_core.specs.Tags.{qualifier}
+use Rattle.acl_core.proofs.EntryEquality.{same_by_fields}
+use Rattle.acl_text.specs.declared.keyword.Keyword.{Keyword}
+use Rattle.acl_text.specs.declared.keyword.Keyword.TheVariants.{User, Group, Mask, Other}
+use Rattle.acl_text.specs.declared.item.ItemFault.{ItemFault}
+use Rattle.acl_text.specs.Grammar.{reading, entry_reading, fits_keyword, numbered, tag_of, are_permissions, permission_digit}
+use Rattle.acl_text.specs.Keywords.{word_of, keyword_of, is_default}
+use Rattle.acl_text.specs.Layout.{is_white, colon, parts, trimmed, fields_of}
+use Rattle.acl_text.specs.Qualifiers.{is_name_byte, most_id}
+use Rattle.acl_text.specs.Tables.{Tables}
+use Rattle.acl_text.specs.Writing.{entry_text, tag_text}
+use Rattle.acl_text.proofs.CleanText.{lacks, split_at_byte, trimmed_clean, list_all_wider}
+use Rattle.acl_text.proofs.Letters.{three, tail, is_plain, letter_facts}
+use Rattle.acl_text.proofs.Numbers.{fits}
+
+-- a printed number is digits alone
+digits_alone : (digits : List ℕ) → list_all is_ascii_digit digits ≡ all_ascii_digits digits
+digits_alone [] = refl
+digits_alone (d ∷ digits) = ap (λ rest. is_ascii_digit d && rest) (digits_alone digits)
+
+decimal_digits : (id : ℕ) → id ≤ most_id → list_all is_ascii_digit (decimal id) ≡ true
+decimal_digits id small = digits_alone (decimal id) ∙ digits_decimal (numerals_by_value _ tells_all_ascii_digits) id (omega arith)
+
+name_digit : (b : ℕ) → is_ascii_digit b ≡ true → is_name_byte b ≡ true
+name_digit b digit = grind (arith, nat_tests)
+
+plain_digit : (b : ℕ) → is_ascii_digit b ≡ true → is_plain b ≡ true
+plain_digit b digit = grind (arith, nat_tests)
+
+no_white_digit : (b : ℕ) → is_ascii_digit b ≡ true → not (is_white b) ≡ true
+no_white_digit b digit = grind (arith, nat_tests)
+
+no_colon_digit : (b : ℕ) → is_ascii_digit b ≡ true → not (eqb b colon) ≡ true
+no_colon_digit b digit = grind (arith, nat_tests)
+
+-- the keyword of an entry, and its qualifier as it is written
+abbrev keyword_of_tag : Tag → Keyword
+keyword_of_tag tag.UserObj = User
+keyword_of_tag (tag.User id) = User
+keyword_of_tag tag.GroupObj = Group
+keyword_of_tag (tag.Group id) = Group
+keyword_of_tag tag.Mask = Mask
+keyword_of_tag tag.Other = Other
+
+abbrev qualifier_text : Tag → List ℕ
+qualifier_text (tag.User id) = decimal id
+qualifier_text (tag.Group id) = decimal id
+qualifier_text _ = []
+
+-- the three fields of an entry's text
+tag_fields : (t : Tag) (rest : List ℕ) → tag_text t ++ rest ≡ word_of (keyword_of_tag t) ++ 58 ∷ (qualifier_text t ++ 58 ∷ rest)
+tag_fields tag.UserObj rest = refl
+tag_fields (tag.User id) rest = ap (λ more. codes "user:" ++ more) (append_assoc (decimal id) (58 ∷ []) rest)
+tag_fields tag.GroupObj rest = refl
+tag_fields (tag.Group id) rest = ap (λ more. codes "group:" ++ more) (append_assoc (decimal id) (58 ∷ []) rest)
+tag_fields tag.Mask rest = refl
+tag_fields tag.Other rest = refl
+
+record WordFacts (k : Keyword) : Type 0 where
+  no_colon : lacks (λ b. eqb b colon) (word_of k) ≡ true
+  trims : trimmed (word_of k) ≡ word_of k
+  known : keyword_of (word_of k) ≡ Some k
+  no_default : is_default (word_of k) ≡ false
+  no_blank : (rest : List ℕ) → list_all is_white (word_of k ++ rest) ≡ false
+  plain : list_all is_plain (word_of k) ≡ true
+
+word_facts : (k : Keyword) → WordFacts k
+word_facts User = record { no_colon = refl; trims = refl; known = refl; no_default = refl; no_blank = λ rest. refl; plain = refl }
+word_facts Group = record { no_colon = refl; trims = refl; known = refl; no_default = refl; no_blank = λ rest. refl; plain = refl }
+word_facts Mask = record { no_colon = refl; trims = refl; known = refl; no_default = refl; no_blank = λ rest. refl; plain = refl }
+word_facts Other = record { no_colon = refl; trims = refl; known = refl; no_default = refl; no_blank = λ rest. refl; plain = refl }
+
+record QualifierFacts (names : Tables) (t : Tag) : Type 0 where
+  no_colon : lacks (λ b. eqb b colon) (qualifier_text t) ≡ true
+  trims : trimmed (qualifier_text t) ≡ qualifier_text t
+  fit : fits_keyword (keyword_of_tag t) (qualifier_text t) ≡ true
+  whom : tag_of names (keyword_of_tag t) (qualifier_text t) ≡ Ok t
+  plain : list_all is_plain (qualifier_text t) ≡ true
+
+-- digits are not empty, so that they are looked up
+user_of : (names : Tables) (q : List ℕ) → 0 < length q → tag_of names User q ≡ result_map_both tag.User (λ fault. fault) (numbered names.users q)
+user_of names [] some = absurd (omega arith)
+user_of names (b ∷ q) some = refl
+
+group_of : (names : Tables) (q : List ℕ) → 0 < length q → tag_of names Group q ≡ result_map_both tag.Group (λ fault. fault) (numbered names.groups q)
+group_of names [] some = absurd (omega arith)
+group_of names (b ∷ q) some = refl
+
+numbered_decimal : (table : List (List ℕ × ℕ)) (id : ℕ) → id ≤ most_id → numbered table (decimal id) ≡ Ok id
+numbered_decimal table id small =
+    let numeral = decimal_is_IsNumeral id (omega arith) in
+    rw (decimal_digits id small, ← fits (decimal id) id (sym numeral.1) small) refl
+
+decimal_facts : (id : ℕ) → id ≤ most_id → (0 < length (decimal id)) × (lacks (λ b. eqb b colon) (decimal id) ≡ true) × (trimmed (decimal id) ≡ decimal id) × (list_all is_name_byte (decimal id) ≡ true) × (list_all is_plain (decimal id) ≡ true)
+decimal_facts id small =
+    let digits = decimal_digits id small in (
+      (decimal_is_IsNumeral id (omega arith)).0.0,
+      list_all_wider is_ascii_digit (λ b. not (eqb b colon)) no_colon_digit (decimal id) digits,
+      trimmed_clean (decimal id) (list_all_wider is_ascii_digit (λ b. not (is_white b)) no_white_digit (decimal id) digits),
+      list_all_wider is_ascii_digit is_name_byte name_digit (decimal id) digits,
+      list_all_wider is_ascii_digit is_plain plain_digit (decimal id) digits,
+    )
+
+qualifier_facts : (names : Tables) (t : Tag) → qualifier t ≤ most_id → QualifierFacts names t
+qualifier_facts names tag.UserObj small = record { no_colon = refl; trims = refl; fit = refl; whom = refl; plain = refl }
+qualifier_facts names (tag.User id) small =
+    let f = decimal_facts id small in
+    record { no_colon = f.1; trims = f.2; fit = f.3; whom = user_of names (decimal id) f.0 ∙ ap (result_map_both tag.User (λ fault. fault)) (numbered_decimal names.users id small); plain = f.4 }
+qualifier_facts names tag.GroupObj small = record { no_colon = refl; trims = refl; fit = refl; whom = refl; plain = refl }
+qualifier_facts names (tag.Group id) small =
+    let f = decimal_facts id small in
+    record { no_colon = f.1; trims = f.2; fit = f.3; whom = group_of names (decimal id) f.0 ∙ ap (result_map_both tag.Group (λ fault. fault)) (numbered_decimal names.groups id small); plain = f.4 }
+qualifier_facts names tag.Mask small = record { no_colon = refl; trims = refl; fit = refl; whom = refl; plain = refl }
+qualifier_facts names tag.Other small = record { no_colon = refl; trims = refl; fit = refl; whom = refl; plain = refl }
+
+-- an item of three fields
+reading_fields : (names : Tables) (text word q permissions : List ℕ) → list_all is_white text ≡ false → fields_of text ≡ word ∷ q ∷ permissions ∷ [] → is_default word ≡ false
+    → reading names text ≡ result_map_both Some (λ fault. fault) (entry_reading names (keyword_of word) q permissions)
+reading_fields names text word q permissions no_blank three_fields no_default = rw (no_blank, three_fields, no_default) refl
+
+-- cut at two colons
+cut_fields : (word q last : List ℕ) → lacks (λ b. eqb b colon) word ≡ true → lacks (λ b. eqb b colon) q ≡ true → parts colon last ≡ last ∷ []
+    → fields_of (word ++ 58 ∷ (q ++ 58 ∷ last)) ≡ trimmed word ∷ trimmed q ∷ trimmed last ∷ []
+cut_fields word q last clean_word clean_q one =
+    let rest = split_at_byte (λ b. eqb b colon) q 58 last clean_q refl ∙ ap (λ more. q ∷ more) one in
+    ap (map trimmed) (split_at_byte (λ b. eqb b colon) word 58 (q ++ 58 ∷ last) clean_word refl ∙ ap (λ more. word ∷ more) rest)
+
+-- what is read of good fields
+reading_parts : (names : Tables) (t : Tag) (permissions : List ℕ) → QualifierFacts names t → are_permissions permissions ≡ true
+    → entry_reading names (Some (keyword_of_tag t)) (qualifier_text t) permissions ≡ Ok (entry_of t (permission_digit permissions))
+reading_parts names t permissions q good = rw (q.fit, good, q.whom) refl
+
+-- the digit of an entry's permissions gives the entry back
+same_digit : (n : ℕ) → n < 8 → digit_of (has (record { 0 = n }) read) (has (record { 0 = n }) write) (has (record { 0 = n }) execute) % 8 ≡ n
+same_digit n small =
+    eqb-true _ _ (agree_below_at (λ b. eqb (digit_of (has (record { 0 = b }) read) (has (record { 0 = b }) write) (has (record { 0 = b }) execute) % 8) b) (λ _. true) 8 n refl small)
+
+entry_of-shown : (e : Entry) → entry_of e.tag (digit_of (has e.perms read) (has e.perms write) (has e.perms execute)) ≡ e
+entry_of-shown e =
+    let set : ℕ → Perms = λ n. record { 0 = n } in
+    same_by_fields _ e refl (ap set (same_digit e.perms.0 e.known))
+
+-- an entry's text, also with a tab after it, is read as that entry
+pub entry_text_read : (names : Tables) (e : Entry) (t : Bool) → qualifier e.tag ≤ most_id → reading names (entry_text e ++ tail t) ≡ Ok (Some e)
+entry_text_read names e t small =
+    let r = has e.perms read in
+    let w = has e.perms write in
+    let x = has e.perms execute in
+    let k = keyword_of_tag e.tag in
+    let q = qualifier_text e.tag in
+    let letters = letter_facts r w x t in
+    let word = word_facts k in
+    let qualified = qualifier_facts names e.tag small in
+    let text = word_of k ++ 58 ∷ (q ++ 58 ∷ (three r w x ++ tail t)) in
+    let is : entry_text e ++ tail t ≡ text = append_assoc (tag_text e.tag) (three r w x) (tail t) ∙ tag_fields e.tag (three r w x ++ tail t) in
+    let fields : fields_of text ≡ word_of k ∷ q ∷ three r w x ∷ [] =
+    cut_fields (word_of k) q (three r w x ++ tail t) word.no_colon qualified.no_colon letters.one_field
+    ∙ (λ i. word.trims i ∷ qualified.trims i ∷ letters.trims i ∷ []) in
+    let said : Result Entry ItemFault → Result (Option Entry) ItemFault = result_map_both Some (λ fault. fault) in
+    ap (reading names) is
+    ∙ reading_fields names text (word_of k) q (three r w x) (word.no_blank (58 ∷ (q ++ 58 ∷ (three r w x ++ tail t)))) fields word.no_default
+    ∙ ap (λ keyword. said (entry_reading names keyword q (three r w x))) word.known
+    ∙ ap said (reading_parts names e.tag (three r w x) qualified letters.permissions)
+    ∙ ap (λ digit. said (Ok (entry_of e.tag digit))) letters.digit
+    ∙ ap (λ entry. said (Ok entry)) (entry_of-shown e)
+
+-- an entry's text cuts no text into items
+pub entry_text_plain : (names : Tables) (e : Entry) (t : Bool) → qualifier e.tag ≤ most_id → list_all is_plain (entry_text e ++ tail t) ≡ true
+entry_text_plain names e t small =
+    let r = has e.perms read in
+    let w = has e.perms write in
+    let x = has e.perms execute in
+    let k = keyword_of_tag e.tag in
+    let q = qualifier_text e.tag in
+    let last = three r w x ++ tail t in
+    let is : entry_text e ++ tail t ≡ word_of k ++ 58 ∷ (q ++ 58 ∷ last) = append_assoc (tag_text e.tag) (three r w x) (tail t) ∙ tag_fields e.tag last in
+    let after : list_all is_plain (q ++ 58 ∷ last) ≡ true =
+    list_all-append is_plain q (58 ∷ last) ∙ and_from _ _ (qualifier_facts names e.tag small).plain (letter_facts r w x t).plain in
+    ap (list_all is_plain) is ∙ list_all-append is_plain (word_of k) (58 ∷ (q ++ 58 ∷ last)) ∙ and_from _ _ (word_facts k).plain after

@@ -1,0 +1,53 @@
+-- A text has no more items than bytes, and one.
+use Rattle.std.proofs.Common.{◌≡◌, ℕ, ◌+◌, ◌≤◌, Bool, eqb, List, [], ◌∷◌, length, refl, ap, sym, ◌∙◌, inl, inr, arith, length-append}
+use Rattle.std.specs.List.{slice_split, flat_map, position_or_len}
+use Rattle.std.proofs.lemmas.Bool.{cases_Bool}
+use Rattle.std.proofs.lemmas.List.{length-take}
+use Rattle.std.proofs.lemmas.List.Splits.{slice_split-cons_no}
+use Rattle.acl_text.specs.Layout.{items_of, items_of_line, parts, line_feed, comma, uncommented}
+use Rattle.acl_text.proofs.Splits.{some_part}
+
+-- the bytes of some lines, each counted with an end of its own
+room : List (List ℕ) → ℕ
+room [] = 0
+room (line ∷ lines) = length line + 1 + room lines
+
+room-slice_split : (p : ℕ → Bool) (bytes : List ℕ) → room (slice_split p bytes) ≡ length bytes + 1
+unfolding room
+room-slice_split p [] = refl
+room-slice_split p (byte ∷ bytes) =
+    let rest = room-slice_split p bytes in
+    let some = some_part p bytes in
+    elim (cases_Bool (p byte)) [
+      | inl separates ↦ rw separates (omega (arith, rest))
+      | inr other ↦
+          let e : room (some.0 ∷ some.1) ≡ length bytes + 1 = ap room (sym some.2) ∙ rest in
+          rw (slice_split-cons_no p byte bytes other, some.2) (omega (arith, e))
+    ]
+
+-- there are as many parts as separators, and one
+few_parts : (p : ℕ → Bool) (bytes : List ℕ) → length (slice_split p bytes) ≤ length bytes + 1
+few_parts p [] = omega arith
+few_parts p (byte ∷ bytes) =
+    let rest = few_parts p bytes in
+    let some = some_part p bytes in
+    elim (cases_Bool (p byte)) [
+      | inl separates ↦ rw separates (omega (arith, rest))
+      | inr other ↦
+          let e : length (some.0 ∷ some.1) ≡ length (slice_split p bytes) = ap length (sym some.2) in
+          rw (slice_split-cons_no p byte bytes other, some.2) (omega (arith, e, rest))
+    ]
+
+few_in_line : (line : List ℕ) → length (items_of_line line) ≤ length line + 1
+few_in_line line =
+    let cut = length-take (position_or_len (λ (b : ℕ). eqb b 35) line) line in
+    omega (arith, few_parts (λ b. eqb b comma) (uncommented line), cut)
+
+few_in_lines : (lines : List (List ℕ)) → length (flat_map items_of_line lines) ≤ room lines
+unfolding room
+few_in_lines [] = omega arith
+few_in_lines (line ∷ lines) =
+    omega (arith, few_in_line line, few_in_lines lines, length-append (items_of_line line) (flat_map items_of_line lines))
+
+pub few_items : (text : List ℕ) → length (items_of text) ≤ length text + 1
+few_items text = omega (arith, few_in_lines (parts line_feed text), room-slice_split (λ b. eqb b line_feed) text)

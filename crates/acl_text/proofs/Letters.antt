@@ -1,0 +1,44 @@
+-- The three characters of permissions, over all eight sets, with or without white space after them.
+use Rattle.std.proofs.Common.{◌≡◌, ℕ, ◌&&◌, Bool, true, false, not, if◌then◌else◌, List, [], ◌∷◌, ◌++◌, refl, eqb}
+use Rattle.std.specs.List.{list_all}
+use Rattle.acl_core.specs.Permissions.{digit_of}
+use Rattle.acl_text.specs.Layout.{trimmed, colon, parts}
+use Rattle.acl_text.specs.Grammar.{are_permissions, permission_digit}
+
+-- the characters of r, w and x
+abbrev pub three : Bool → Bool → Bool → List ℕ
+three r w x = (if r then 114 else 45) ∷ (if w then 119 else 45) ∷ (if x then 120 else 45) ∷ []
+
+-- a tab, or nothing
+abbrev pub tail : Bool → List ℕ
+tail true = 9 ∷ []
+tail false = []
+
+-- bytes that cut no text into items
+abbrev pub is_plain : ℕ → Bool
+is_plain b = not (eqb b 10) && not (eqb b 35) && not (eqb b 44)
+
+pub record LetterFacts (r w x t : Bool) : Type 0 where
+  pub permissions : are_permissions (three r w x) ≡ true
+  pub digit : permission_digit (three r w x) ≡ digit_of r w x
+  pub one_field : parts colon (three r w x ++ tail t) ≡ (three r w x ++ tail t) ∷ []
+  pub trims : trimmed (three r w x ++ tail t) ≡ three r w x
+  pub plain : list_all is_plain (three r w x ++ tail t) ≡ true
+
+pub letter_facts : (r w x t : Bool) → LetterFacts r w x t
+letter_facts true true true true = record { permissions = refl; digit = refl; one_field = refl; trims = refl; plain = refl }
+letter_facts true true true false = record { permissions = refl; digit = refl; one_field = refl; trims = refl; plain = refl }
+letter_facts true true false true = record { permissions = refl; digit = refl; one_field = refl; trims = refl; plain = refl }
+letter_facts true true false false = record { permissions = refl; digit = refl; one_field = refl; trims = refl; plain = refl }
+letter_facts true false true true = record { permissions = refl; digit = refl; one_field = refl; trims = refl; plain = refl }
+letter_facts true false true false = record { permissions = refl; digit = refl; one_field = refl; trims = refl; plain = refl }
+letter_facts true false false true = record { permissions = refl; digit = refl; one_field = refl; trims = refl; plain = refl }
+letter_facts true false false false = record { permissions = refl; digit = refl; one_field = refl; trims = refl; plain = refl }
+letter_facts false true true true = record { permissions = refl; digit = refl; one_field = refl; trims = refl; plain = refl }
+letter_facts false true true false = record { permissions = refl; digit = refl; one_field = refl; trims = refl; plain = refl }
+letter_facts false true false true = record { permissions = refl; digit = refl; one_field = refl; trims = refl; plain = refl }
+letter_facts false true false false = record { permissions = refl; digit = refl; one_field = refl; trims = refl; plain = refl }
+letter_facts false false true true = record { permissions = refl; digit = refl; one_field = refl; trims = refl; plain = refl }
+letter_facts false false true false = record { permissions = refl; digit = refl; one_field = refl; trims = refl; plain = refl }
+letter_facts false false false true = record { permissions = refl; digit = refl; one_field = refl; trims = refl; plain = refl }
+letter_facts false false false false = record { permissions = refl; digit = refl; one_field = refl; trims = refl; plain = refl }

@@ -1,0 +1,11 @@
+pub mod Splits
+pub mod NameLookups
+pub mod Numbers
+pub mod FieldLists
+pub mod ItemCounts
+pub mod Spelling
+pub mod Appending
+pub mod CleanText
+pub mod Letters
+pub mod EntryTexts
+pub mod RoundTrip

@@ -1,0 +1,40 @@
+-- The number that decimal digits write, digit by digit.
+use Rattle.std.proofs.Common.{◌≡◌, ℕ, ◌+◌, ◌-◌, ◌*◌, ◌<◌, ◌≤◌, true, false, cond, List, length, get_or, take, leb, Some, None, sym, ◌∙◌, ap, inl, inr, arith}
+use Rattle.std.specs.Char.{is_ascii_digit, digit_value}
+use Rattle.std.specs.List.{list_all}
+use Rattle.std.specs.Str.Parse.{digits_value}
+use Rattle.std.proofs.lemmas.Bool.{cases_Bool, false≢true}
+use Rattle.std.proofs.lemmas.Bool.Decides.{nat_tests}
+use Rattle.std.proofs.lemmas.List.Folds.{list_all_at}
+use Rattle.std.proofs.lemmas.Int.Digits.{digits_value_more}
+use Rattle.std.proofs.lemmas.Str.Parse.{digits_value-take-le}
+use Rattle.acl_text.specs.Qualifiers.{id_of, most_id}
+
+-- each of some digits is one
+pub digit_at : (digits : List ℕ) (i : ℕ) → list_all is_ascii_digit digits ≡ true → i < length digits → is_ascii_digit (get_or digits i 0) ≡ true
+digit_at digits i all inside = elim (cases_Bool (is_ascii_digit (get_or digits i 0))) [
+  | inl is_one ↦ is_one
+  | inr not_one ↦ absurd (false≢true (sym (list_all_at is_ascii_digit digits i 0 inside not_one) ∙ all))
+]
+
+-- what a digit adds
+pub value_of_digit : (d : ℕ) → is_ascii_digit d ≡ true → digit_value d ≡ d - 48
+value_of_digit d digit = grind (arith, nat_tests)
+
+-- one digit more
+pub number_more : (digits : List ℕ) (i : ℕ) → list_all is_ascii_digit digits ≡ true → i < length digits
+    → digits_value 10 (take (i + 1) digits) ≡ digits_value 10 (take i digits) * 10 + (get_or digits i 0 - 48)
+number_more digits i all inside =
+    digits_value_more 10 digits i inside ∙ ap (λ v. digits_value 10 (take i digits) * 10 + v) (value_of_digit (get_or digits i 0) (digit_at digits i all inside))
+
+-- a number that is too big after some digits is too big
+pub too_big : (digits : List ℕ) (i n : ℕ) → n ≡ digits_value 10 (take i digits) → most_id < n → id_of digits ≡ None
+too_big digits i n is big =
+    let kept = digits_value-take-le 10 digits i (omega arith) in
+    let above : leb (digits_value 10 digits) most_id ≡ false = let over : most_id < digits_value 10 digits = omega (arith, kept, is, big) in grind (arith, nat_tests) in
+    ap (λ b. cond b (Some (digits_value 10 digits)) None) above
+
+pub fits : (digits : List ℕ) (n : ℕ) → n ≡ digits_value 10 digits → n ≤ most_id → Some n ≡ id_of digits
+fits digits n is small =
+    let below : leb (digits_value 10 digits) most_id ≡ true = let under : digits_value 10 digits ≤ most_id = omega (arith, is, small) in grind (arith, nat_tests) in
+    ap Some is ∙ sym (ap (λ b. cond b (Some (digits_value 10 digits)) None) below)

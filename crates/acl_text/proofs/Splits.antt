@@ -1,0 +1,33 @@
+-- Parts between separators, by the place of the first one.
+use Rattle.std.proofs.Common.{◌≡◌, ℕ, ◌+◌, ◌-◌, ◌<◌, ◌≤◌, ◌==◌, Bool, List, [], ◌∷◌, length, take, drop, refl, inl, inr, arith}
+use Rattle.std.specs.List.{slice_split, position_or_len}
+use Rattle.std.proofs.lemmas.Bool.{cases_Bool}
+use Rattle.std.proofs.lemmas.List.{take_rest}
+use Rattle.std.proofs.lemmas.List.Splits.{slice_split_first, slice_split-cons_no}
+use Rattle.acl_text.specs.Layout.{parts}
+
+-- where no separator is found, all is one part
+pub split_whole : (p : ℕ → Bool) (bytes : List ℕ) → length bytes ≤ position_or_len p bytes → slice_split p bytes ≡ bytes ∷ []
+split_whole p [] none = refl
+split_whole p (byte ∷ bytes) none = elim (cases_Bool (p byte)) [
+  | inl separates ↦ let short : position_or_len p (byte ∷ bytes) ≡ 0 = rw separates refl in absurd (omega arith)
+  | inr other ↦
+      let more : position_or_len p (byte ∷ bytes) ≡ 1 + position_or_len p bytes = rw other refl in
+      rw (slice_split-cons_no p byte bytes other, split_whole p bytes (omega arith)) refl
+]
+
+-- the part before the first separator, and the parts after it
+pub split_at_first : (separator : ℕ) (bytes : List ℕ) (place : ℕ) → place ≡ position_or_len (λ b. b == separator) bytes → place < length bytes
+    → parts separator bytes ≡ take place bytes ∷ parts separator (take (length bytes - (place + 1)) (drop (place + 1) bytes))
+split_at_first separator bytes place is inside =
+    rw (take_rest bytes (place + 1), is) (slice_split_first (λ (b : ℕ). b == separator) bytes 0 (omega arith))
+
+-- there is at least one part
+pub some_part : (p : ℕ → Bool) (bytes : List ℕ) → (first : List ℕ) × (rest : List (List ℕ)) × (slice_split p bytes ≡ first ∷ rest)
+some_part p [] = ([], [], refl)
+some_part p (byte ∷ bytes) =
+    let later = some_part p bytes in
+    elim (cases_Bool (p byte)) [
+      | inl separates ↦ ([], slice_split p bytes, rw separates refl)
+      | inr other ↦ (byte ∷ later.0, later.1, rw (slice_split-cons_no p byte bytes other, later.2) refl)
+    ]

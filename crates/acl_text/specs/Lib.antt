@@ -1,0 +1,10 @@
+pub mod Layout
+pub mod Remaining
+pub mod Qualifiers
+pub mod Tables
+pub mod Keywords
+pub mod Grammar
+pub mod Faults
+pub mod Texts
+pub mod Writing
+pub mod Laws

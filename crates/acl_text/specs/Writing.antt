@@ -1,0 +1,61 @@
+-- The texts that are written of a list, after acl(5), "LONG TEXT FORM" and "SHORT TEXT FORM". The
+-- entries of a list are in canonical order, so each list has one long text and one short text.
+use Rattle.std.specs.Prelude.{ℕ, Bool, true, false, ◌&&◌, not, if◌then◌else◌, List, [], ◌∷◌, ◌++◌, codes, decimal, Option, None, Some, option_map}
+use Rattle.std.specs.List.{find, flat_map, join_by}
+use Rattle.acl_core.specs.declared.entry.Tag.{Tag}
+use Rattle.acl_core.specs.declared.entry.Tag.TheVariants.{UserObj, User, GroupObj, Group, Mask, Other}
+use Rattle.acl_core.specs.declared.entry.Entry.{Entry}
+use Rattle.acl_core.specs.declared.perms.Perms.{Perms}
+use Rattle.acl_core.specs.Permissions.{read, write, execute, has, has_all}
+use Rattle.acl_core.specs.Tags.{same_tag}
+
+-- whom an entry is about, with both colons
+abbrev pub tag_text : Tag → List ℕ
+tag_text UserObj = codes "user::"
+tag_text (User id) = codes "user:" ++ decimal id ++ codes ":"
+tag_text GroupObj = codes "group::"
+tag_text (Group id) = codes "group:" ++ decimal id ++ codes ":"
+tag_text Mask = codes "mask::"
+tag_text Other = codes "other::"
+
+-- r, w and x, with a hyphen for each that is absent
+abbrev pub letters : (ℕ → Bool) → List ℕ
+letters granted = (if granted read then 114 else 45) ∷ (if granted write then 119 else 45) ∷ (if granted execute then 120 else 45) ∷ []
+
+abbrev pub permission_text : Perms → List ℕ
+permission_text perms = letters (has perms)
+
+-- what both grant
+abbrev pub common_text : Perms → Perms → List ℕ
+common_text perms mask = letters (λ permission. has perms permission && has mask permission)
+
+abbrev pub entry_text : Entry → List ℕ
+entry_text entry = tag_text entry.tag ++ permission_text entry.perms
+
+-- the kinds of entries that the mask limits
+abbrev pub is_limited : Tag → Bool
+is_limited (User id) = true
+is_limited GroupObj = true
+is_limited (Group id) = true
+is_limited _ = false
+
+-- a tab and what is left of an entry, where the mask takes something away
+abbrev pub remark : Option Perms → Entry → List ℕ
+remark None entry = []
+remark (Some mask) entry =
+    if is_limited entry.tag && not (has_all mask entry.perms) then 9 ∷ codes "#effective:" ++ common_text entry.perms mask else []
+
+-- what the mask of a list grants
+abbrev pub mask_of : List Entry → Option Perms
+mask_of list = option_map (λ e. e.perms) (find (λ e. same_tag e.tag Mask) list)
+
+-- the long text: one entry a line
+abbrev pub line_text : Option Perms → Entry → List ℕ
+line_text mask entry = entry_text entry ++ remark mask entry ++ 10 ∷ []
+
+abbrev pub canonical : List Entry → List ℕ
+canonical list = flat_map (line_text (mask_of list)) list
+
+-- the short text: the entries with commas between them, and no line end
+abbrev pub short_text : List Entry → List ℕ
+short_text list = join_by entry_text (codes ",") list

@@ -1,0 +1,26 @@
+//! The text of access lists, after acl(5): long text, one entry a line, and short text, its entries
+//! joined by commas.
+//!
+//! [`read_acl`] reads both, also mixed, with comments and white space, as `getfacl` writes them. It
+//! answers the list that the text spells (`specs/Grammar.antt`, `specs/Texts.antt`) or the first thing
+//! wrong with it. Names of users and groups are looked up in [`Names`]. [`write_acl`] and
+//! [`write_short`] give the one long and the one short text of a list (`specs/Writing.antt`). That each
+//! of them spells its list is a theorem: see [`long_text_spells_its_list`].
+#![tactic(auto)]
+
+mod cut;
+mod item;
+mod keyword;
+mod laws;
+mod names;
+mod qualifier;
+mod read;
+mod write;
+
+pub use laws::{long_text_spells_its_list, short_text_spells_its_list, what_is_spelled_is_read};
+pub use names::{MAX_NAME, NameError, Names};
+pub use read::{TextFault, read_acl};
+pub use write::{append_acl, append_short, append_tag, permission_text, write_acl, write_short};
+
+#[cfg(test)]
+mod tests;

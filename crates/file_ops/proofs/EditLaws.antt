@@ -1,0 +1,55 @@
+-- Edits of one row: one after another, and taken back.
+use Rattle.std.proofs.Common.{◌≡◌, ℕ, List, Option, Some, None, refl, sym, ap, ◌∙◌}
+use Rattle.std.specs.Option.{option_map_or}
+use Rattle.std.specs.Ordering.{nat_cmp, is_eq}
+use Rattle.std.proofs.lemmas.Bool.{cond-true}
+use Rattle.std.proofs.lemmas.Cmp.{nat_cmp_total, tied_itself}
+use Rattle.sorted_map.specs.SortedMap.{IsOrdered}
+use Rattle.sorted_map.specs.Laws.{get-insert}
+use Rattle.sorted_map.specs.Edits.{insert-insert, insert_same}
+use Rattle.suite_content.specs.declared.content.Content.{Content}
+use Rattle.suite_content.specs.declared.content.Content.TheVariants.{Bytes, Names}
+use Rattle.suite_content.specs.Folders.{with_name, without_name}
+use Rattle.suite_content.specs.FolderLaws.{without-with_name}
+use Rattle.file_ops.specs.Rows.{Row, Rows, row_of, with_row, with_content}
+use Rattle.file_ops.specs.Edits.{edited, number_in, number_at, in_names, put_name, drop_name}
+
+-- the row that was put is there
+pub row_of-with_same : (rows : Rows) (suite : ℕ) (row : Row) → row_of (with_row rows suite row) suite ≡ Some row
+row_of-with_same rows suite row = get-insert nat_cmp_total rows suite row suite ∙ cond-true _ _ _ (ap is_eq (tied_itself nat_cmp_total suite))
+
+edited_by : Rows → ℕ → (Row → Row) → Option Row → Rows
+edited_by rows suite edit found = option_map_or (λ row. with_row rows suite (edit row)) found rows
+
+-- an edit where the row is, and where it is not
+pub edited-some : (rows : Rows) (suite : ℕ) (edit : Row → Row) (row : Row) → row_of rows suite ≡ Some row → edited rows suite edit ≡ with_row rows suite (edit row)
+edited-some rows suite edit row there = ap (λ found. option_map_or (λ row. with_row rows suite (edit row)) found rows) there
+
+pub edited-none : (rows : Rows) (suite : ℕ) (edit : Row → Row) → row_of rows suite ≡ None → edited rows suite edit ≡ rows
+edited-none rows suite edit absent = ap (λ found. option_map_or (λ row. with_row rows suite (edit row)) found rows) absent
+
+-- each answer of a look-up
+by_found : {P : Type 0} (found : Option Row) → (found ≡ None → P) → ((row : Row) → found ≡ Some row → P) → P
+by_found None absent there = absent refl
+by_found (Some row) absent there = there row refl
+
+-- an edit that takes another one back
+pub edited-back : (rows : Rows) (suite : ℕ) (edit back : Row → Row) → IsOrdered nat_cmp rows → ((row : Row) → row_of rows suite ≡ Some row → back (edit row) ≡ row) → edited (edited rows suite edit) suite back ≡ rows
+edited-back rows suite edit back ordered undoes = by_found (row_of rows suite)
+    (λ absent. ap (λ r. edited r suite back) (edited-none rows suite edit absent) ∙ edited-none rows suite back absent)
+    (λ row there.
+    ap (λ r. edited r suite back) (edited-some rows suite edit row there)
+    ∙ edited-some (with_row rows suite (edit row)) suite back (edit row) (row_of-with_same rows suite (edit row))
+    ∙ insert-insert nat_cmp_total rows suite (edit row) (back (edit row))
+    ∙ ap (with_row rows suite) (undoes row there)
+    ∙ insert_same nat_cmp_total rows suite row ordered there)
+
+-- a name that was put is taken out again
+drop-put_in : (held : Content) (name : List ℕ) (number : ℕ) → number_in held name ≡ None → in_names (λ names. without_name names name) (in_names (λ names. with_name names name number) held) ≡ held
+drop-put_in (Names names) name number absent = ap Names (without-with_name names name number absent)
+drop-put_in (Bytes bytes) name number absent = refl
+
+pub drop-put_name : (rows : Rows) (folder : ℕ) (name : List ℕ) (number : ℕ) → IsOrdered nat_cmp rows → number_at rows folder name ≡ None → edited (edited rows folder (put_name name number)) folder (drop_name name) ≡ rows
+drop-put_name rows folder name number ordered absent =
+    edited-back rows folder (put_name name number) (drop_name name) ordered
+    (λ row there. ap (with_content row) (drop-put_in row.content name number (sym (ap (λ found. option_map_or (λ r. number_in r.content name) found None) there) ∙ absent)))

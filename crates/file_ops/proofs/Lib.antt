@@ -1,0 +1,4 @@
+pub mod Plain
+pub mod PathFacts
+pub mod EditLaws
+pub mod LastName

@@ -1,0 +1,77 @@
+-- Stored rows as the rows that are seen of them: an edit of the ones is an edit of the others.
+use Rattle.std.proofs.Common.{◌≡◌, ℕ, List, [], ◌∷◌, Some, None, refl, sym, ap, ◌∙◌, ⊎_elim, subst}
+use Rattle.std.specs.Prelude.{is_some}
+use Rattle.std.specs.Option.{option_map, option_map_or}
+use Rattle.std.specs.Ordering.{nat_cmp}
+use Rattle.std.specs.BTreeMap.{is_at}
+use Rattle.std.specs.List.Sorted.{IsStrictlySortedBy}
+use Rattle.std.proofs.lemmas.Bool.{cases_Bool}
+use Rattle.std.proofs.lemmas.Map.Made.{lookup-map_values, keys_of-map_values}
+use Rattle.std.proofs.lemmas.Cmp.{nat_cmp_total}
+use Rattle.sorted_map.specs.SortedMap.{IsOrdered, get, insert, replace}
+use Rattle.sorted_map.specs.Comparisons.{by_answer}
+use Rattle.sorted_map.specs.Edits.{insert_present, replace_same}
+use Rattle.sorted_map.specs.Roomy.{Roomy}
+use Rattle.suite_content.specs.declared.content.Content.TheVariants as content
+use Rattle.file_ops.specs.declared.stored.StoredContent.TheVariants.{Bytes, Names}
+use Rattle.file_ops.specs.declared.stored.StoredRow.{StoredRow}
+use Rattle.file_ops.specs.Stored.{StoredRows, plain, plain_content, plain_row}
+use Rattle.file_ops.specs.Rows.{Row, row_of, with_row, with_content}
+use Rattle.file_ops.specs.Edits.{edited, in_names}
+
+-- what is seen of a stored row is the row
+pub row_of-plain : (rows : StoredRows) (suite : ℕ) → row_of (plain rows) suite ≡ option_map plain_row (get nat_cmp rows suite)
+row_of-plain rows suite = lookup-map_values plain_row (is_at (nat_cmp suite)) rows
+
+pub plain-replace : (rows : StoredRows) (suite : ℕ) (row : StoredRow) → plain (replace nat_cmp rows suite row) ≡ replace nat_cmp (plain rows) suite (plain_row row)
+plain-replace [] suite row = refl
+plain-replace (e ∷ es) suite row = ⊎_elim
+    (λ here. rw (here) refl)
+    (λ there. rw (there) (ap (λ l. (e.0, plain_row e.1) ∷ l) (plain-replace es suite row)))
+    (cases_Bool (is_at (nat_cmp suite) e.0))
+
+pub plain-insert : (rows : StoredRows) (suite : ℕ) (row : StoredRow) → plain (insert nat_cmp rows suite row) ≡ insert nat_cmp (plain rows) suite (plain_row row)
+plain-insert [] suite row = refl
+plain-insert (e ∷ es) suite row = by_answer (nat_cmp suite e.0)
+    (λ less. rw (less) refl)
+    (λ equal. rw (equal) refl)
+    (λ greater. rw (greater) (ap (λ l. (e.0, plain_row e.1) ∷ l) (plain-insert es suite row)))
+
+pub ordered-plain : (rows : StoredRows) → IsOrdered nat_cmp rows → IsOrdered nat_cmp (plain rows)
+ordered-plain rows ordered = subst (IsStrictlySortedBy nat_cmp) (sym (keys_of-map_values plain_row rows)) ordered
+
+-- a row that was there, edited
+pub edited-there : (rows : StoredRows) (suite : ℕ) (before row : StoredRow) (edit : Row → Row) → IsOrdered nat_cmp rows → get nat_cmp rows suite ≡ Some before → plain_row row ≡ edit (plain_row before) → plain (replace nat_cmp rows suite row) ≡ edited (plain rows) suite edit
+edited-there rows suite before row edit ordered there is =
+    let seen : row_of (plain rows) suite ≡ Some (plain_row before) = row_of-plain rows suite ∙ ap (option_map plain_row) there in
+    plain-replace rows suite row
+    ∙ sym (insert_present nat_cmp_total (plain rows) suite (plain_row row) (ordered-plain rows ordered) (ap is_some seen))
+    ∙ ap (with_row (plain rows) suite) is
+    ∙ sym (ap (λ found. option_map_or (λ r. with_row (plain rows) suite (edit r)) found (plain rows)) seen)
+
+-- no row to edit
+pub edited-absent : (rows : StoredRows) (suite : ℕ) (edit : Row → Row) → get nat_cmp rows suite ≡ None → plain rows ≡ edited (plain rows) suite edit
+edited-absent rows suite edit absent =
+    sym (ap (λ found. option_map_or (λ r. with_row (plain rows) suite (edit r)) found (plain rows)) (row_of-plain rows suite ∙ ap (option_map plain_row) absent))
+
+-- a row in which nothing is seen to change
+pub unchanged : (rows : StoredRows) (suite : ℕ) (before row : StoredRow) → get nat_cmp rows suite ≡ Some before → plain_row row ≡ plain_row before → plain (replace nat_cmp rows suite row) ≡ plain rows
+unchanged rows suite before row there same =
+    plain-replace rows suite row ∙ replace_same nat_cmp_total (plain rows) suite (plain_row row) (row_of-plain rows suite ∙ ap (option_map plain_row) there ∙ ap Some (sym same))
+
+-- a folder with other names, and a file without any
+pub other_names : (row : StoredRow) (before after : Roomy (List ℕ) ℕ) (edit : List (List ℕ × ℕ) → List (List ℕ × ℕ)) → row.content ≡ Names before → after.pairs ≡ edit before.pairs → plain_row (record row { content = Names after }) ≡ with_content (plain_row row) (in_names edit (plain_content row.content))
+other_names row before after edit holds is =
+    ap (λ names. with_content (plain_row row) (content.Names names)) is
+    ∙ sym (ap (λ held. with_content (plain_row row) (in_names edit (plain_content held))) holds)
+
+pub no_names : (row : StoredRow) (bytes : List ℕ) (edit : List (List ℕ × ℕ) → List (List ℕ × ℕ)) → row.content ≡ Bytes bytes → plain_row row ≡ with_content (plain_row row) (in_names edit (plain_content row.content))
+no_names row bytes edit holds =
+    ap (λ held. with_content (plain_row row) (plain_content held)) holds
+    ∙ sym (ap (λ held. with_content (plain_row row) (in_names edit (plain_content held))) holds)
+
+-- a folder whose names are seen as before
+pub same_names : (row : StoredRow) (before after : Roomy (List ℕ) ℕ) → row.content ≡ Names before → after.pairs ≡ before.pairs → plain_row (record row { content = Names after }) ≡ plain_row row
+same_names row before after holds is =
+    ap (λ names. with_content (plain_row row) (content.Names names)) is
+    ∙ sym (ap (λ held. with_content (plain_row row) (plain_content held)) holds)

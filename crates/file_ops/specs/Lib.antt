@@ -1,0 +1,11 @@
+pub mod Steps
+pub mod Paths
+pub mod Lists
+pub mod Rows
+pub mod Stored
+pub mod Walks
+pub mod Operations
+pub mod Transactions
+pub mod Edits
+pub mod Found
+pub mod Done

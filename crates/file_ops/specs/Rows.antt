@@ -1,0 +1,57 @@
+-- One table of files and folders: a row for each suite, and the denials so far.
+use Rattle.std.specs.Prelude.{ℕ, ◌+◌, ◌*◌, List, [], ◌∷◌, Option}
+use Rattle.std.specs.Ordering.{nat_cmp}
+use Rattle.sorted_map.specs.SortedMap.{get, insert}
+use Rattle.acl_core.specs.declared.entry.Entry.{Entry}
+use Rattle.acl_core.specs.Identity.{Identity}
+use Rattle.suite_content.specs.declared.content.Kind.{Kind}
+use Rattle.suite_content.specs.declared.content.Kind.TheVariants.{Folder}
+use Rattle.suite_content.specs.declared.content.Content.{Content}
+use Rattle.suite_content.specs.Contents.{empty_content}
+use Rattle.file_ops.specs.declared.operation.Init.{Init}
+use Rattle.file_ops.specs.declared.audit.AuditItem.{AuditItem}
+use Rattle.file_ops.specs.Lists.{list_of}
+
+-- one file or folder: a file holds bytes, and a folder names
+pub record Row : Type 0 where
+  pub owner : ℕ
+  pub group : ℕ
+  pub acl : List Entry
+  pub content : Content
+
+-- the rows with their suites' numbers, which rise
+abbrev pub Rows : Type 0
+Rows = List (ℕ × Row)
+
+-- the row of a suite
+abbrev pub row_of : Rows → ℕ → Option Row
+row_of rows suite = get nat_cmp rows suite
+
+-- the rows with this one for a suite, in place of the row before where there was one
+abbrev pub with_row : Rows → ℕ → Row → Rows
+with_row rows suite row = insert nat_cmp rows suite row
+
+-- the table: its rows, and the denials in the order in which they were answered
+pub record PlainTable : Type 0 where
+  pub rows : Rows
+  pub audit : List AuditItem
+
+-- the number of the root folder
+abbrev pub root : ℕ
+root = 0
+
+-- the number of what the transaction t makes by its operation at a place, counted from 0
+abbrev pub made_number : ℕ → ℕ → ℕ
+made_number t place = 8 * t + place + 1
+
+-- the row of a new file or folder: the caller's, in its own group, and empty
+abbrev pub new_row : Kind → Init → Identity → Row
+new_row kind init caller = record { owner = caller.uid; group = caller.gid; acl = list_of init; content = empty_content kind }
+
+-- a row with other content
+abbrev pub with_content : Row → Content → Row
+with_content row content = record row { content = content }
+
+-- the table of a root folder alone, without names
+abbrev pub opening : ℕ → ℕ → List Entry → PlainTable
+opening owner group acl = record { rows = (root, record { owner = owner; group = group; acl = acl; content = empty_content Folder }) ∷ []; audit = [] }

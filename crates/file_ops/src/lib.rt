@@ -1,0 +1,30 @@
+//! The plain table: files and folders, and transactions of operations on them.
+//!
+//! A [`Table`] has a row for each file and folder: its owner, its group, its access list and what it
+//! holds. [`Table::apply`] plays a transaction, a list of operations that see one another and are
+//! taken back together at the first refusal. Its contract is the definition of a transaction on rows
+//! as a finite map (`specs/Transactions.antt`): for every table, caller and list of operations the
+//! answer is the definition's, and so is the table after it. Who may do what is decided by the
+//! access check of `acl_core`.
+#![tactic(auto)]
+
+mod act;
+mod answer;
+mod audit;
+mod edit;
+mod operation;
+mod path;
+mod refusal;
+mod stored;
+mod table;
+mod walk;
+
+pub use answer::{Answer, Answers};
+pub use audit::AuditItem;
+pub use operation::{Action, Init, Op};
+pub use path::PathText;
+pub use refusal::{ApplyError, Denial, Refusal, Why};
+pub use table::Table;
+
+#[cfg(test)]
+mod tests;

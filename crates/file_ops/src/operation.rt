@@ -1,0 +1,50 @@
+//! What a transaction is made of.
+
+ghost use Rattle.std.specs.Prelude.{◌≡◌, IfOk};
+ghost use Rattle.file_ops.specs.Lists.{list_of};
+
+use crate::path::PathText;
+use acl_core::{Acl, Mode};
+use std::alloc::{AllocError, Global};
+use suite_content::{FileBytes, Kind};
+
+/// The access list that a new file or folder gets.
+#[derive(Debug, Drop)]
+pub enum Init {
+    /// The list of a mode.
+    Mode(Mode),
+    /// This list.
+    List(Acl),
+}
+
+impl Init {
+    /// The list.
+    pub(crate) fn list(&self, alloc: Global) -> Result<Acl, AllocError>
+        ensures { IfOk result (λ acl. acl ≡ list_of self.now) }
+    {
+        match self {
+            Init::Mode(mode) => Acl::from_mode(alloc, *mode),
+            Init::List(acl) => acl.clone(),
+        }
+    }
+}
+
+/// What is done at the end of a path.
+#[derive(Debug, Drop)]
+pub enum Action {
+    /// The bytes of a file are answered.
+    Read,
+    /// A file gets these bytes in place of those before.
+    Write(FileBytes),
+    /// The names of a folder are answered.
+    List,
+    /// A name is put in a folder, for a new file or folder.
+    Make(Kind, Init),
+}
+
+/// An operation: what is done, and where.
+#[derive(Debug, Drop)]
+pub struct Op {
+    pub path: PathText,
+    pub action: Action,
+}

@@ -1,0 +1,117 @@
+//! The way to a file or a folder, and what a caller may do there.
+
+ghost use Rattle.std.specs.Prelude.{◌≡◌};
+ghost use Rattle.file_ops.specs.Steps.{ok_map};
+ghost use Rattle.file_ops.specs.Stored.{plain};
+ghost use Rattle.file_ops.specs.Rows.{root};
+ghost use Rattle.file_ops.specs.Walks.{place_of, permit, step, walk, reach, to_change};
+ghost use Rattle.file_ops.specs.Operations.{last_name, parent_of};
+ghost use Rattle.file_ops.specs.Found.{plain_place, plain_named, plain_parent};
+
+use crate::refusal::{Denial, Why};
+use crate::stored::{StoredRow, StoredRows};
+use acl_core::{Caller, Check, Perms};
+use sorted_map::RoomyMap;
+use suite_content::Name;
+
+/// The number of the root folder.
+pub(crate) const ROOT: u64 = 0;
+
+/// A suite with its row.
+#[derive(Clone, Copy)]
+pub(crate) struct Place<'a> {
+    pub(crate) suite: u64,
+    pub(crate) row: &'a StoredRow,
+}
+
+/// A folder in which a name is to be put or dropped, with its names.
+#[derive(Clone, Copy)]
+pub(crate) struct Parent<'a> {
+    pub(crate) place: Place<'a>,
+    pub(crate) names: &'a RoomyMap<Name, u64>,
+}
+
+fn place_of(rows: &StoredRows, suite: u64) -> Result<Place<'_>, Why>
+    ensures { ok_map plain_place result ≡ place_of (plain rows.now) suite }
+{
+    match rows.get(&suite) {
+        Some(row) => Ok(Place { suite, row }),
+        None => Err(Why::NoName),
+    }
+}
+
+/// Whether the caller has what it wants of a file or a folder.
+pub(crate) fn permit(caller: &Caller, place: Place<'_>, wanted: Perms) -> Result<(), Why>
+    ensures { result ≡ permit caller.now (plain_place place.entry) wanted }
+{
+    let row = place.row;
+    match row.acl.check(row.owner, row.group, caller, wanted) {
+        Check::Granted => Ok(()),
+        Check::Denied(decider) => Err(Why::Denied(Denial {
+            suite: place.suite,
+            wanted,
+            decider,
+        })),
+    }
+}
+
+/// One step of a walk: the suite of a name in a folder, which the caller must be let search.
+fn step(rows: &StoredRows, caller: &Caller, suite: u64, name: &Name) -> Result<u64, Why>
+    ensures { result ≡ step (plain rows.now) caller.now suite name.now }
+{
+    let folder = place_of(rows, suite)?;
+    let names = folder.row.content.names()?;
+    permit(caller, folder, Perms::EXEC)?;
+    names.get(name).copied().ok_or(Why::NoName)
+}
+
+/// The suite that names lead to from the root folder.
+fn walk(rows: &StoredRows, caller: &Caller, names: &[Name]) -> Result<u64, Why>
+    ensures { result ≡ walk (plain rows.now) caller.now root names.now }
+{
+    let mut suite = ROOT;
+    for name in names {
+        suite = step(rows, caller, suite, name)?;
+    }
+    Ok(suite)
+}
+
+/// The file or folder that names lead to from the root folder.
+pub(crate) fn reach<'a>(
+    rows: &'a StoredRows,
+    caller: &Caller,
+    names: &[Name],
+) -> Result<Place<'a>, Why>
+    ensures { ok_map plain_place result ≡ reach (plain rows.now) caller.now names.now }
+{
+    let suite = walk(rows, caller, names)?;
+    place_of(rows, suite)
+}
+
+/// The last name of a path, and the names before it; `/` has none.
+pub(crate) fn last_name(names: &[Name]) -> Result<(&Name, &[Name]), Why>
+    ensures { ok_map plain_named result ≡ last_name names.now }
+{
+    names.split_last().ok_or(Why::BadPath)
+}
+
+/// The folder that names lead to, which the caller must be let write and search.
+pub(crate) fn parent_of<'a>(
+    rows: &'a StoredRows,
+    caller: &Caller,
+    folders: &[Name],
+) -> Result<Parent<'a>, Why>
+    ensures { ok_map plain_parent result ≡ parent_of (plain rows.now) caller.now folders.now }
+{
+    let place = reach(rows, caller, folders)?;
+    let names = place.row.content.names()?;
+    permit(caller, place, to_change())?;
+    Ok(Parent { place, names })
+}
+
+/// What is wanted of a folder in which a name is put or dropped.
+fn to_change() -> Perms
+    ensures { result ≡ to_change }
+{
+    Perms::of(false, true, true)
+}

@@ -1,0 +1,11 @@
+pub mod Faults
+pub mod Words
+pub mod Readings
+pub mod Lists
+pub mod Operations
+pub mod Scripts
+pub mod Texts
+pub mod Progress
+pub mod Outputs
+pub mod Names
+pub mod Runs

@@ -1,0 +1,75 @@
+-- Operations as words: a verb, a path, and what the verb wants besides.
+use Rattle.std.specs.Prelude.{ℕ, Bool, if◌then◌else◌, List, [], ◌∷◌, codes, Option, Some, None, Result, Ok, Err}
+use Rattle.std.specs.List.{find, slice_split}
+use Rattle.std.specs.Result.{result_ok}
+use Rattle.std.specs.Str.{bytes_eq}
+use Rattle.hex.specs.Hex.{decode_of}
+use Rattle.acl_text.specs.Tables.{Tables}
+use Rattle.script_text.specs.Phrases.{is_semicolon}
+use Rattle.suite_content.specs.declared.content.Kind.TheVariants.{File}
+use Rattle.file_ops.specs.declared.operation.Op.{Op}
+use Rattle.file_ops.specs.declared.operation.Action.{Action}
+use Rattle.file_ops.specs.declared.operation.Action.TheVariants as action
+use Rattle.file_ops.specs.Steps.{◌>>=◌, ◌>>◌, found_or}
+use Rattle.suite_cli.specs.declared.fault.LineFault.{LineFault}
+use Rattle.suite_cli.specs.declared.fault.LineFault.TheVariants.{Form}
+use Rattle.suite_cli.specs.declared.operation.Verb.{Verb}
+use Rattle.suite_cli.specs.declared.operation.Verb.TheVariants as verb
+use Rattle.suite_cli.specs.Words.{Word, Taken, word, at_end}
+use Rattle.suite_cli.specs.Lists.{init}
+
+-- how a verb is written
+abbrev pub spelling : Verb → Word
+spelling verb.Read = codes "read"
+spelling verb.Write = codes "write"
+spelling verb.List = codes "list"
+spelling verb.File = codes "file"
+
+abbrev pub verbs : List Verb
+verbs = verb.Read ∷ verb.Write ∷ verb.List ∷ verb.File ∷ []
+
+abbrev pub verb_in : Word → Option Verb
+verb_in text = find (λ verb. bytes_eq text (spelling verb)) verbs
+
+-- bytes in hexadecimal digits, two a byte; a hyphen stands for none
+abbrev pub bytes_in : Word → Option (List ℕ)
+bytes_in text = if bytes_eq text (codes "-") then Some [] else result_ok (decode_of text)
+
+abbrev pub bytes : List Word → Result (Taken (List ℕ)) LineFault
+bytes words = do
+  next ← word words
+  given ← found_or (bytes_in next.value) Form
+  Ok (record { value = given; rest = next.rest })
+
+-- what a verb does, with what it wants besides the path
+abbrev pub act : Tables → Verb → List Word → Result (Taken Action) LineFault
+act names verb.Read words = Ok (record { value = action.Read; rest = words })
+act names verb.Write words = do
+  given ← bytes words
+  Ok (record { value = action.Write given.value; rest = given.rest })
+act names verb.List words = Ok (record { value = action.List; rest = words })
+act names verb.File words = do
+  given ← init names words
+  Ok (record { value = action.Make File given.value; rest = given.rest })
+
+-- an operation, which is all of its phrase
+abbrev pub operation : Tables → List Word → Result Op LineFault
+operation names words = do
+  first ← word words
+  verb ← found_or (verb_in first.value) Form
+  path ← word first.rest
+  done ← act names verb path.rest
+  at_end done.rest
+  Ok (record { path = path.value; action = done.value })
+
+-- the operations of some phrases
+abbrev pub operations_in : Tables → List (List Word) → Result (List Op) LineFault
+operations_in names [] = Ok []
+operations_in names (phrase ∷ phrases) = do
+  op ← operation names phrase
+  ops ← operations_in names phrases
+  Ok (op ∷ ops)
+
+-- the operations of a line, with a semicolon between each two
+abbrev pub operations : Tables → List Word → Result (List Op) LineFault
+operations names words = operations_in names (slice_split is_semicolon words)

@@ -1,0 +1,156 @@
+-- What a command that ended has done.
+use Rattle.std.specs.Prelude.{◌≡◌, Bool, true, false, alloc_error, Vec, ℕ, ◌<◌, ◌⊎◌, List, [], ◌++◌, length, Option, Some, None, Result, Ok, Err}
+use Rattle.byte_streams.specs.Streams.{Adds, one_more}
+use Rattle.suite_cli.specs.declared.fault.ScriptFault.{ScriptFault}
+use Rattle.suite_cli.specs.declared.fault.ScriptError.{ScriptError}
+use Rattle.suite_cli.specs.declared.fault.ScriptError.TheVariants as script
+use Rattle.suite_cli.specs.declared.table.PlayError.{PlayError}
+use Rattle.suite_cli.specs.declared.table.PlayError.TheVariants.{WriteFailed, Memory}
+use Rattle.suite_cli.specs.Scripts.{Job, Script, script_in}
+use Rattle.suite_cli.specs.Outputs.{Output, acl_output, table_lines, table_output, word_fault_line}
+use Rattle.suite_cli.specs.declared.acl.NamesError.{NamesError}
+use Rattle.suite_cli.specs.declared.acl.NamesError.TheVariants as names
+use Rattle.std.specs.declared.alloc.AllocError.{AllocError}
+use Rattle.std.specs.declared.alloc.Global.{Global}
+use Rattle.suite_cli.specs.declared.acl.ListError.{ListError}
+use Rattle.suite_cli.specs.declared.acl.ListError.TheVariants as list
+use Rattle.acl_text.specs.declared.names.NameError.{NameError}
+use Rattle.acl_text.specs.declared.names.NameError.TheVariants as name
+use Rattle.acl_text.specs.Tables.{Tables}
+use Rattle.suite_cli.specs.Outputs.Output.{Done, Faulty}
+use Rattle.file_ops.specs.Rows.{PlainTable, opening}
+
+-- the first fault of a reading, if there is one
+abbrev pub fault_of : {A : Type 0} → Result A ScriptFault → Option ScriptFault
+fault_of (Ok given) = None
+fault_of (Err fault) = Some fault
+
+-- a script was looked through for its first fault
+abbrev pub Checks : Result (Unit {0}) ScriptError → Option ScriptFault → Type 0
+Checks (Ok nothing) fault = fault ≡ None
+Checks (Err (script.Faulty given)) fault = fault ≡ Some given
+Checks (Err script.Memory) fault = Unit {0}
+
+-- the lines of the transactions of a script that has no fault
+abbrev pub lines_of : PlainTable → ℕ → Result (List Job) ScriptFault → List ℕ
+lines_of table number (Ok jobs) = table_lines table number jobs
+lines_of table number (Err fault) = []
+
+-- the lines of a script that has no fault
+abbrev pub script_lines : Result Script ScriptFault → List ℕ
+script_lines (Ok script) = table_lines (opening script.root.owner script.root.group script.root.acl) 0 script.jobs
+script_lines (Err fault) = []
+
+-- the text is written but for a rest
+abbrev pub WroteSoFar : Option (List ℕ) → List ℕ → List ℕ → Option (List ℕ) → Type 0
+WroteSoFar None text rest written = Unit {0}
+WroteSoFar (Some before) text rest None = ⊥
+WroteSoFar (Some before) text rest (Some written) = written ++ rest ≡ before ++ text
+
+-- a script was played: its lines are written; where a write failed it was counted
+abbrev pub Plays : Result (Unit {0}) PlayError → List ℕ → Option (List ℕ) → Option (List ℕ) → ℕ → ℕ → Type 0
+Plays (Ok nothing) lines before after failures failures_after = Adds before lines after × (failures_after ≡ failures)
+Plays (Err WriteFailed) lines before after failures failures_after = failures_after ≡ one_more failures
+Plays (Err Memory) lines before after failures failures_after = Unit {0}
+
+-- text that was gathered is written, or is gathered still
+abbrev pub IsMoved : List ℕ → List ℕ → Option (List ℕ) → Option (List ℕ) → Type 0
+IsMoved gathered left None after = Unit {0}
+IsMoved gathered left (Some written) None = ⊥
+IsMoved gathered left (Some written) (Some all) = all ++ left ≡ written ++ gathered
+
+abbrev pub Moves : Result (Unit {0}) PlayError → List ℕ → List ℕ → Option (List ℕ) → Option (List ℕ) → ℕ → ℕ → Type 0
+Moves (Ok nothing) gathered left before after failures failures_after = IsMoved gathered left before after × (failures_after ≡ failures)
+Moves (Err WriteFailed) gathered left before after failures failures_after = failures_after ≡ one_more failures
+Moves (Err Memory) gathered left before after failures failures_after = Unit {0}
+
+-- the statuses
+abbrev pub done : ℕ
+done = 0
+
+abbrev pub bad_words : ℕ
+bad_words = 2
+
+abbrev pub faulty : ℕ
+faulty = 3
+
+abbrev pub no_memory : ℕ
+no_memory = 4
+
+abbrev pub no_stream : ℕ
+no_stream = 6
+
+-- the most bytes of an input; a limit of this project
+abbrev pub most_input : ℕ
+most_input = 16777216
+
+-- all that is written for an output, with its status
+abbrev pub Writes : Output → ℕ → Option (List ℕ) → Option (List ℕ) → Type 0
+Writes (Done text) status before after = (status ≡ done) × Adds before text after
+Writes (Faulty text) status before after = (status ≡ faulty) × Adds before text after
+
+-- what is known of the streams before and after a command
+pub record Streams : Type 0 where
+  pub input : Option (List ℕ)
+  pub written : Option (List ℕ)
+  pub written_after : Option (List ℕ)
+  pub failed_reads : ℕ
+  pub failed_reads_after : ℕ
+  pub failed_writes : ℕ
+  pub failed_writes_after : ℕ
+
+-- there are more bytes than the limit
+abbrev pub IsTooLong : Option (List ℕ) → Type 0
+IsTooLong None = Unit {0}
+IsTooLong (Some all) = most_input < length all
+
+-- a read failed and was counted, or a write was, or the input passed its limit
+abbrev pub StreamFailed : Streams → Type 0
+StreamFailed streams =
+    (streams.failed_reads_after ≡ one_more streams.failed_reads)
+    ⊎ ((streams.failed_writes_after ≡ one_more streams.failed_writes) ⊎ IsTooLong streams.input)
+
+-- for the input that a stream tells, all of the command's output is written with its status; or memory ran out, or a stream failed
+abbrev pub RunsOn : (List ℕ → Output) → Streams → ℕ → Option (List ℕ) → Type 0
+RunsOn output streams status None = Unit {0}
+RunsOn output streams status (Some input) =
+    Writes (output input) status streams.written streams.written_after
+    ⊎ ((status ≡ no_memory) ⊎ ((status ≡ no_stream) × StreamFailed streams))
+
+abbrev pub Runs : (List ℕ → Output) → Streams → ℕ → Type 0
+Runs output streams status = RunsOn output streams status streams.input
+
+-- a text was written whole, with its status; or a write failed
+abbrev pub Finishes : List ℕ → ℕ → ℕ → Option (List ℕ) → Option (List ℕ) → ℕ → ℕ → Type 0
+Finishes text status result before after failures failures_after =
+    ((result ≡ status) × Adds before text after) ⊎ ((result ≡ no_stream) × (failures_after ≡ one_more failures))
+
+-- `acl` has run under the names of its words; or a name was bad, and the line of its place was written
+abbrev pub RunsAcl : Result Tables ℕ → Streams → ℕ → Type 0
+RunsAcl (Ok names) streams status = Runs (acl_output names) streams status
+RunsAcl (Err place) streams status =
+    (status ≡ no_memory)
+    ⊎ Finishes (word_fault_line place) bad_words status streams.written streams.written_after streams.failed_writes streams.failed_writes_after
+
+-- what the words of `acl` said: names, or the place of a bad one
+abbrev pub GivesNames : Result Tables NamesError → Result Tables ℕ → Type 0
+GivesNames (Ok names) given = given ≡ Ok names
+GivesNames (Err (names.BadWord place)) given = given ≡ Err place
+GivesNames (Err names.Memory) given = Unit {0}
+
+abbrev pub GivesName : Result Bool AllocError → Tables → Option Tables → Type 0
+GivesName (Ok true) after given = given ≡ Some after
+GivesName (Ok false) after given = given ≡ None
+GivesName (Err error) after given = Unit {0}
+
+-- whether a name was added
+abbrev pub is_added : Result (Unit {0}) NameError → Result Bool AllocError
+is_added (Ok nothing) = Ok true
+is_added (Err name.Memory) = Err alloc_error
+is_added (Err error) = Ok false
+
+-- a list's text was printed anew, or is faulty
+abbrev pub GivesList : Result (Vec ℕ Global) ListError → Output → Type 0
+GivesList (Ok text) output = output ≡ Done text.items
+GivesList (Err (list.Faulty line)) output = output ≡ Faulty line.items
+GivesList (Err list.Memory) output = Unit {0}

@@ -1,0 +1,117 @@
+//! Operations as words.
+
+ghost use Rattle.std.specs.Prelude.{◌≡◌, ◌∷◌, [], MatchResult, OnOk};
+ghost use Rattle.std.specs.Result.{result_map_both};
+ghost use Rattle.suite_cli.specs.Words.{at_end};
+ghost use Rattle.suite_cli.specs.Operations.{act, operation, operations, verb_in};
+ghost use Rattle.suite_cli.specs.Readings.{Gives, Reads};
+
+use crate::fault::{LineError, LineFault};
+use crate::word::{read_bytes, read_init};
+use acl_text::Names;
+use file_ops::{Action, Op, PathText};
+use script_text::{Phrases, Words};
+use std::alloc::Global;
+use suite_content::Kind;
+
+/// The words that begin an operation.
+#[derive(Clone, Copy, PartialEq, Eq, Debug)]
+pub(crate) enum Verb {
+    Read,
+    Write,
+    List,
+    File,
+}
+
+impl Verb {
+    fn of(word: &[u8]) -> Option<Verb>
+        ensures { result ≡ verb_in word.now }
+    {
+        match word {
+            b"read" => Some(Verb::Read),
+            b"write" => Some(Verb::Write),
+            b"list" => Some(Verb::List),
+            b"file" => Some(Verb::File),
+            _ => None,
+        }
+    }
+}
+
+/// The operations of the words that are left, with a semicolon between each two.
+pub(crate) fn read_operations(
+    alloc: Global,
+    names: &Names,
+    words: Words<'_>,
+) -> Result<Vec<Op>, LineError>
+    ensures { Gives (result_map_both (λ ops. ops.items) (λ e. e) result) (operations names.now words.entry) }
+{
+    let mut phrases = Phrases::new(words);
+    let mut ops = Vec::new(alloc);
+    loop {
+        ops.push(read_operation(alloc, names, &mut phrases)?)?;
+        if !phrases.next_phrase() {
+            return Ok(ops);
+        }
+    }
+}
+
+/// An operation, which is all that is left of its phrase.
+fn read_operation(alloc: Global, names: &Names, phrases: &mut Phrases<'_>) -> Result<Op, LineError>
+    ensures operation { Gives result (operation names.now phrases.old.here) }
+    ensures whole { OnOk result (phrases.new.here ≡ []) }
+    ensures later { phrases.new.later ≡ phrases.old.later }
+{
+    let Some(verb) = Verb::of(phrase_word(phrases)?) else {
+        return Err(LineError::Faulty(LineFault::Form));
+    };
+    let path = phrase_word(phrases)?;
+    let action = read_action(alloc, names, verb, phrases)?;
+    phrase_end(phrases)?;
+    let path = PathText::new(alloc, path)?;
+    Ok(Op { path, action })
+}
+
+/// What a verb does, with what it wants besides the path.
+fn read_action(
+    alloc: Global,
+    names: &Names,
+    verb: Verb,
+    phrases: &mut Phrases<'_>,
+) -> Result<Action, LineError>
+    ensures action { Reads result phrases.new.here (act names.now verb phrases.old.here) }
+    ensures later { phrases.new.later ≡ phrases.old.later }
+{
+    match verb {
+        Verb::Read => Ok(Action::Read),
+        Verb::Write => Ok(Action::Write(read_bytes(alloc, phrase_word(phrases)?)?)),
+        Verb::List => Ok(Action::List),
+        Verb::File => {
+            let init = read_init(alloc, names, phrase_word(phrases)?)?;
+            Ok(Action::Make(Kind::File, init))
+        }
+    }
+}
+
+/// The next word of a phrase.
+fn phrase_word<'a>(phrases: &mut Phrases<'a>) -> Result<&'a [u8], LineFault>
+    ensures word { MatchResult result (λ word. phrases.old.here ≡ word.now ∷ phrases.new.here)
+        (λ fault. (fault ≡ LineFault.Form) × (phrases.old.here ≡ [])) }
+    ensures later { phrases.new.later ≡ phrases.old.later }
+{
+    match phrases.next_word() {
+        Some(word) => Ok(word),
+        None => Err(LineFault::Form),
+    }
+}
+
+/// Nothing more in a phrase.
+fn phrase_end(phrases: &mut Phrases<'_>) -> Result<(), LineFault>
+    ensures end { result ≡ at_end phrases.old.here }
+    ensures whole { OnOk result (phrases.new.here ≡ []) }
+    ensures later { phrases.new.later ≡ phrases.old.later }
+{
+    match phrases.next_word() {
+        Some(_) => Err(LineFault::Form),
+        None => Ok(()),
+    }
+}

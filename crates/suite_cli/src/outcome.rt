@@ -1,0 +1,164 @@
+//! The lines that outcomes print.
+
+ghost use Rattle.std.specs.Prelude.{◌≡◌, ◌++◌, OnOk, Ok, Err, codes};
+ghost use Rattle.std.specs.List.{flat_map};
+ghost use Rattle.suite_cli.specs.Texts.{bytes_text, decider_text, denied_text, names_text, outcome_line, refused_text, replies_text, reply_text, why_text};
+
+use acl_core::{Decider, Tag};
+use acl_text::{append_tag, permission_text};
+use file_ops::{Answer, Denial, Refusal, Why};
+use script_text::push_number;
+use std::alloc::{AllocError, Global};
+use suite_content::{FileBytes, NameList};
+
+/// The line of a transaction that was answered.
+pub(crate) fn push_answered(
+    alloc: Global,
+    text: &mut Vec<u8>,
+    number: u64,
+    replies: &[Answer],
+) -> Result<(), AllocError>
+    ensures { OnOk result (text.new.items ≡ text.old.items ++ outcome_line number (Ok replies.now)) }
+{
+    push_number(text, number)?;
+    text.extend_from_slice(b" answered ")?;
+    push_replies(alloc, text, replies)?;
+    text.extend_from_slice(b"\n")
+}
+
+/// The line of a transaction that was refused.
+pub(crate) fn push_refused(
+    text: &mut Vec<u8>,
+    number: u64,
+    refusal: Refusal,
+) -> Result<(), AllocError>
+    ensures { OnOk result (text.new.items ≡ text.old.items ++ outcome_line number (Err refusal)) }
+{
+    push_number(text, number)?;
+    text.extend_from_slice(b" ")?;
+    push_why(text, refusal.op, refusal.why)?;
+    text.extend_from_slice(b"\n")
+}
+
+fn push_replies(alloc: Global, text: &mut Vec<u8>, replies: &[Answer]) -> Result<(), AllocError>
+    ensures { OnOk result (text.new.items ≡ text.old.items ++ replies_text replies.now) }
+{
+    let [first, more @ ..] = replies else {
+        return Ok(());
+    };
+    push_reply(alloc, text, first)?;
+    push_more_replies(alloc, text, more)
+}
+
+fn push_more_replies(
+    alloc: Global,
+    text: &mut Vec<u8>,
+    replies: &[Answer],
+) -> Result<(), AllocError>
+    ensures { OnOk result (text.new.items
+        ≡ text.old.items ++ flat_map (λ next. codes "; " ++ reply_text next) replies.now) }
+{
+    for reply in replies {
+        text.extend_from_slice(b"; ")?;
+        push_reply(alloc, text, reply)?;
+    }
+    Ok(())
+}
+
+fn push_reply(alloc: Global, text: &mut Vec<u8>, reply: &Answer) -> Result<(), AllocError>
+    ensures { OnOk result (text.new.items ≡ text.old.items ++ reply_text reply.now) }
+{
+    match reply {
+        Answer::Read(bytes) => {
+            text.extend_from_slice(b"read ")?;
+            push_bytes(alloc, text, bytes)
+        }
+        Answer::Wrote => text.extend_from_slice(b"wrote"),
+        Answer::List(names) => {
+            text.extend_from_slice(b"list ")?;
+            push_names(text, names)
+        }
+        Answer::Made(suite) => {
+            text.extend_from_slice(b"made ")?;
+            push_number(text, *suite)
+        }
+    }
+}
+
+fn push_bytes(alloc: Global, text: &mut Vec<u8>, bytes: &FileBytes) -> Result<(), AllocError>
+    ensures { OnOk result (text.new.items ≡ text.old.items ++ bytes_text bytes.now) }
+{
+    let bytes = bytes.as_slice();
+    if bytes.is_empty() {
+        return text.extend_from_slice(b"-");
+    }
+    let digits = hex::encode(alloc, bytes)?;
+    text.extend_from_slice(digits.as_bytes())
+}
+
+fn push_names(text: &mut Vec<u8>, names: &NameList) -> Result<(), AllocError>
+    ensures { OnOk result (text.new.items ≡ text.old.items ++ names_text names.now) }
+{
+    let mut names = names.iter();
+    let Some(first) = names.next() else {
+        return text.extend_from_slice(b"-");
+    };
+    text.extend_from_slice(first.as_bytes())?;
+    for name in names {
+        text.extend_from_slice(b",")?;
+        text.extend_from_slice(name.as_bytes())?;
+    }
+    Ok(())
+}
+
+fn push_why(text: &mut Vec<u8>, op: u8, why: Why) -> Result<(), AllocError>
+    ensures { OnOk result (text.new.items ≡ text.old.items ++ why_text op why) }
+{
+    match why {
+        Why::BadPath => push_code(text, op, b"F1"),
+        Why::NotFolder => push_code(text, op, b"F2"),
+        Why::Denied(denial) => push_denied(text, op, denial),
+        Why::NoName => push_code(text, op, b"F4"),
+        Why::Exists => push_code(text, op, b"F5"),
+        Why::IsFolder => push_code(text, op, b"F6"),
+        Why::TooLong => push_code(text, op, b"F8"),
+        Why::FolderFull => push_code(text, op, b"F9"),
+        Why::OpCount => push_code(text, op, b"F10"),
+    }
+}
+
+fn push_code(text: &mut Vec<u8>, op: u8, code: &[u8]) -> Result<(), AllocError>
+    ensures { OnOk result (text.new.items ≡ text.old.items ++ refused_text op code.now) }
+{
+    text.extend_from_slice(b"refused ")?;
+    text.extend_from_slice(code)?;
+    text.extend_from_slice(b" op ")?;
+    push_number(text, u64::from(op))
+}
+
+fn push_denied(text: &mut Vec<u8>, op: u8, denial: Denial) -> Result<(), AllocError>
+    ensures { OnOk result (text.new.items ≡ text.old.items ++ denied_text op denial) }
+{
+    text.extend_from_slice(b"denied op ")?;
+    push_number(text, u64::from(op))?;
+    text.extend_from_slice(b" suite ")?;
+    push_number(text, denial.suite)?;
+    text.extend_from_slice(b" wants ")?;
+    text.extend_from_slice(&permission_text(denial.wanted))?;
+    text.extend_from_slice(b" by ")?;
+    push_decider(text, denial.decider)
+}
+
+fn push_decider(text: &mut Vec<u8>, decider: Decider) -> Result<(), AllocError>
+    ensures { OnOk result (text.new.items ≡ text.old.items ++ decider_text decider) }
+{
+    match decider {
+        Decider::UserObj => append_tag(text, Tag::UserObj),
+        Decider::User(id) => append_tag(text, Tag::User(id)),
+        Decider::GroupObj => append_tag(text, Tag::GroupObj),
+        Decider::Group(id) => append_tag(text, Tag::Group(id)),
+        Decider::Mask => append_tag(text, Tag::Mask),
+        Decider::Other => append_tag(text, Tag::Other),
+        Decider::OwnerRule => text.extend_from_slice(b"owner"),
+    }
+}
