@@ -16,3 +16,6 @@ pub use reading::{ReadError, read_all};
 pub use system::{SystemIn, SystemOut};
 pub use traits::{ByteIn, ByteOut, ReadFailed, WriteFailed};
 pub use writing::write_all;
+
+#[cfg(test)]
+mod tests;

@@ -1,6 +1,6 @@
 //! Streams over memory.
 
-ghost use Rattle.std.specs.Prelude.{◌≡◌, Some, [], length};
+ghost use Rattle.std.specs.Prelude.{◌≡◌, Some, []};
 
 use crate::traits::{ByteIn, ByteOut, ReadFailed, WriteFailed};
 use std::alloc::Global;
@@ -16,7 +16,10 @@ pub struct MemoryIn<'a> {
 
 impl<'a> MemoryIn<'a> {
     /// All these bytes.
-    pub fn new(bytes: &'a [u8]) -> MemoryIn<'a> {
+    pub fn new(bytes: &'a [u8]) -> MemoryIn<'a>
+        ensures bytes { ⟦<MemoryIn<'a> as ByteIn>⟧.rest result ≡ Some bytes.now }
+        ensures failures { ⟦<MemoryIn<'a> as ByteIn>⟧.failed_reads result ≡ 0 }
+    {
         MemoryIn {
             bytes,
             failures: 0,
@@ -26,7 +29,10 @@ impl<'a> MemoryIn<'a> {
     }
 
     /// These bytes, where one call fails, counted from 0.
-    pub fn failing_at(bytes: &'a [u8], call: u64) -> MemoryIn<'a> {
+    pub fn failing_at(bytes: &'a [u8], call: u64) -> MemoryIn<'a>
+        ensures bytes { ⟦<MemoryIn<'a> as ByteIn>⟧.rest result ≡ Some bytes.now }
+        ensures failures { ⟦<MemoryIn<'a> as ByteIn>⟧.failed_reads result ≡ 0 }
+    {
         MemoryIn {
             bytes,
             failures: 0,
@@ -71,7 +77,10 @@ pub struct MemoryOut {
 
 impl MemoryOut {
     /// Nothing written yet.
-    pub fn new(alloc: Global) -> MemoryOut {
+    pub fn new(alloc: Global) -> MemoryOut
+        ensures bytes { ⟦<MemoryOut as ByteOut>⟧.written result ≡ Some [] }
+        ensures failures { ⟦<MemoryOut as ByteOut>⟧.failed_writes result ≡ 0 }
+    {
         MemoryOut {
             bytes: Vec::new(alloc),
             failures: 0,
@@ -81,7 +90,10 @@ impl MemoryOut {
     }
 
     /// Nothing written yet, and one call fails, counted from 0.
-    pub fn failing_at(alloc: Global, call: u64) -> MemoryOut {
+    pub fn failing_at(alloc: Global, call: u64) -> MemoryOut
+        ensures bytes { ⟦<MemoryOut as ByteOut>⟧.written result ≡ Some [] }
+        ensures failures { ⟦<MemoryOut as ByteOut>⟧.failed_writes result ≡ 0 }
+    {
         MemoryOut {
             bytes: Vec::new(alloc),
             failures: 0,
@@ -91,7 +103,9 @@ impl MemoryOut {
     }
 
     /// What was written.
-    pub fn bytes(&self) -> &[u8] {
+    pub fn bytes(&self) -> &[u8]
+        ensures { ⟦<MemoryOut as ByteOut>⟧.written self.now ≡ Some result.now }
+    {
         &self.bytes
     }
 }

@@ -1,6 +1,6 @@
 //! Streams of the system.
 
-ghost use Rattle.std.specs.Prelude.{◌≤◌, None, IfOk, length};
+ghost use Rattle.std.specs.Prelude.{◌≡◌, ◌≤◌, None, IfOk, length};
 
 use crate::traits::{ByteIn, ByteOut, ReadFailed, WriteFailed};
 use std::io::{ErrorKind, Read, Write};
@@ -13,7 +13,10 @@ pub struct SystemIn<R: Read + Drop> {
 }
 
 impl<R: Read + Drop> SystemIn<R> {
-    pub fn new(reader: R) -> SystemIn<R> {
+    /// The bytes of a reader.
+    pub fn new(reader: R) -> SystemIn<R>
+        ensures { ⟦<SystemIn<R> as ByteIn>⟧.failed_reads result ≡ 0 }
+    {
         SystemIn {
             reader,
             failures: 0,
@@ -61,7 +64,10 @@ pub struct SystemOut<W: Write + Drop> {
 }
 
 impl<W: Write + Drop> SystemOut<W> {
-    pub fn new(writer: W) -> SystemOut<W> {
+    /// Where a writer puts them.
+    pub fn new(writer: W) -> SystemOut<W>
+        ensures { ⟦<SystemOut<W> as ByteOut>⟧.failed_writes result ≡ 0 }
+    {
         SystemOut {
             writer,
             failures: 0,

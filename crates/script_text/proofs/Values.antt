@@ -1,9 +1,11 @@
 -- Reading a number digit by digit.
-use Rattle.std.proofs.Common.{◌≡◌, ℕ, ◌+◌, ◌-◌, ◌*◌, ◌<◌, ◌≤◌, true, false, cond, leb, ◌&&◌, List, [], ◌∷◌, Option, Some, None, length, fold, ◌∙◌, ap, inl, inr, arith}
+use Rattle.std.proofs.Common.{◌≡◌, ℕ, ◌+◌, ◌-◌, ◌*◌, ◌<◌, ◌≤◌, true, false, cond, leb, ◌&&◌, List, [], ◌∷◌, Option, Some, None, length, fold, refl, ◌∙◌, ap, sym, inl, inr, arith}
 use Rattle.std.specs.List.{list_all}
-use Rattle.std.specs.Char.{is_ascii_digit}
-use Rattle.std.proofs.lemmas.Bool.{cases_Bool, and_right, and_left, lt-leb, lt-ltb}
-use Rattle.script_text.specs.Numbers.{value_of, number_up_to}
+use Rattle.std.specs.Char.{is_ascii_digit, digit_value}
+use Rattle.std.specs.Str.Parse.{digits_value, digits_value_after}
+use Rattle.std.proofs.lemmas.Bool.{cases_Bool, and_right, and_left, and_parts, leb-true, lt-leb, lt-ltb}
+use Rattle.std.proofs.lemmas.Str.{digit_value_digit}
+use Rattle.script_text.specs.Numbers.{number_up_to}
 
 -- the number, where some digits were read already
 abbrev pub value_from : ℕ → List ℕ → ℕ
@@ -41,8 +43,34 @@ no_room value limit byte word big =
       | inr other ↦ no_digit value limit byte word other
     ]
 
+-- a digit's value is its distance from that of 0
+digit_is : (byte : ℕ) → is_ascii_digit byte ≡ true → digit_value byte + 48 ≡ byte
+digit_is byte digit =
+    let range = and_parts (leb 48 byte) (leb byte 57) digit in
+    digit_value_digit byte (leb-true 48 byte range.0, leb-true byte 57 range.1)
+
+-- std's value of a numeral is the one that is read
+same_value : (value : ℕ) (digits : List ℕ) → list_all is_ascii_digit digits ≡ true → digits_value_after 10 value digits ≡ value_from value digits
+same_value value [] all = refl
+same_value value (byte ∷ digits) all =
+    let parts = and_parts (is_ascii_digit byte) (list_all is_ascii_digit digits) all in
+    let is = digit_is byte parts.0 in
+    let next : value * 10 + digit_value byte ≡ 10 * value + (byte - 48) = omega (arith, is) in
+    ap (λ n. digits_value_after 10 n digits) next ∙ same_value (10 * value + (byte - 48)) digits parts.1
+
+-- so it may be read in place of std's
+number_by_value : (limit : ℕ) (word : List ℕ) → cond (list_all is_ascii_digit word && leb (digits_value 10 word) limit) (Some (digits_value 10 word)) None ≡ number_from 0 limit word
+number_by_value limit word =
+    elim (cases_Bool (list_all is_ascii_digit word)) [
+      | inl digits ↦ ap (λ n. cond (list_all is_ascii_digit word && leb n limit) (Some n) None) (same_value 0 word digits)
+      | inr other ↦
+          ap (λ b. cond b (Some (digits_value 10 word)) None) (and_left (list_all is_ascii_digit word) (leb (digits_value 10 word) limit) other)
+          ∙ sym (ap (λ b. cond b (Some (value_from 0 word)) None) (and_left (list_all is_ascii_digit word) (leb (value_from 0 word) limit) other))
+    ]
+
 -- a word that is not empty
 pub number_of_some : (limit : ℕ) (word : List ℕ) → 0 < length word → number_up_to limit word ≡ number_from 0 limit word
 number_of_some limit [] some = absurd (omega arith)
 number_of_some limit (byte ∷ word) some =
-    ap (λ b. cond ((b && list_all is_ascii_digit (byte ∷ word)) && leb (value_of (byte ∷ word)) limit) (Some (value_of (byte ∷ word))) None) (lt-ltb 0 (length (byte ∷ word)) some)
+    ap (λ b. cond ((b && list_all is_ascii_digit (byte ∷ word)) && leb (digits_value 10 (byte ∷ word)) limit) (Some (digits_value 10 (byte ∷ word))) None) (lt-ltb 0 (length (byte ∷ word)) some)
+    ∙ number_by_value limit (byte ∷ word)

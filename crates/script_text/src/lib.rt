@@ -15,3 +15,6 @@ pub use number::{push_number, read_number};
 pub use parts::Parts;
 pub use phrases::Phrases;
 pub use words::Words;
+
+#[cfg(test)]
+mod tests;

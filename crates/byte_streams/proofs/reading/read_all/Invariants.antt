@@ -1,4 +1,4 @@
-use Rattle.std.proofs.Common.{◌≡◌, ◌-◌, ◌+◌, ◌≤◌, length, vec_len}
+use Rattle.std.proofs.Common.{◌≡◌, ◌-◌, ◌+◌, ◌≤◌, vec_len}
 use Rattle.byte_streams.proofs.Progress.{ReadSoFar}
 use Rattle.byte_streams.proofs.reading.read_all.Given as goal
 

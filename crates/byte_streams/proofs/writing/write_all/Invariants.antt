@@ -1,4 +1,4 @@
-use Rattle.std.proofs.Common.{◌≡◌, ◌++◌, length}
+use Rattle.std.proofs.Common.{◌≡◌, length}
 use Rattle.byte_streams.proofs.Progress.{WroteSoFar}
 use Rattle.byte_streams.proofs.writing.write_all.Given as goal
 
