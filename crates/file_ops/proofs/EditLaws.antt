@@ -1,11 +1,12 @@
 -- Edits of one row: one after another, and taken back.
-use Rattle.std.proofs.Common.{◌≡◌, ℕ, List, Option, Some, None, refl, sym, ap, ◌∙◌}
+use Rattle.std.proofs.Common.{◌≡◌, ℕ, List, Option, Some, None, refl, sym, ap, ◌∙◌, subst}
 use Rattle.std.specs.Option.{option_map_or}
 use Rattle.std.specs.Ordering.{nat_cmp, is_eq}
 use Rattle.std.proofs.lemmas.Bool.{cond-true}
 use Rattle.std.proofs.lemmas.Cmp.{nat_cmp_total, tied_itself}
+use Rattle.std.proofs.lemmas.Option.{same_Some}
 use Rattle.sorted_map.specs.SortedMap.{IsOrdered}
-use Rattle.sorted_map.specs.Laws.{get-insert}
+use Rattle.sorted_map.specs.Laws.{get-insert, IsOrdered-insert}
 use Rattle.sorted_map.specs.Edits.{insert-insert, insert_same}
 use Rattle.suite_content.specs.declared.content.Content.{Content}
 use Rattle.suite_content.specs.declared.content.Content.TheVariants.{Bytes, Names}
@@ -17,9 +18,6 @@ use Rattle.file_ops.specs.Edits.{edited, number_in, number_at, in_names, put_nam
 -- the row that was put is there
 pub row_of-with_same : (rows : Rows) (suite : ℕ) (row : Row) → row_of (with_row rows suite row) suite ≡ Some row
 row_of-with_same rows suite row = get-insert nat_cmp_total rows suite row suite ∙ cond-true _ _ _ (ap is_eq (tied_itself nat_cmp_total suite))
-
-edited_by : Rows → ℕ → (Row → Row) → Option Row → Rows
-edited_by rows suite edit found = option_map_or (λ row. with_row rows suite (edit row)) found rows
 
 -- an edit where the row is, and where it is not
 pub edited-some : (rows : Rows) (suite : ℕ) (edit : Row → Row) (row : Row) → row_of rows suite ≡ Some row → edited rows suite edit ≡ with_row rows suite (edit row)
@@ -33,6 +31,12 @@ by_found : {P : Type 0} (found : Option Row) → (found ≡ None → P) → ((ro
 by_found None absent there = absent refl
 by_found (Some row) absent there = there row refl
 
+-- the order stays
+pub ordered-edited : (rows : Rows) (suite : ℕ) (edit : Row → Row) → IsOrdered nat_cmp rows → IsOrdered nat_cmp (edited rows suite edit)
+ordered-edited rows suite edit ordered = by_found (row_of rows suite)
+    (λ absent. subst (λ r. IsOrdered nat_cmp r) (sym (edited-none rows suite edit absent)) ordered)
+    (λ row there. subst (λ r. IsOrdered nat_cmp r) (sym (edited-some rows suite edit row there)) (IsOrdered-insert nat_cmp_total rows suite (edit row) ordered))
+
 -- an edit that takes another one back
 pub edited-back : (rows : Rows) (suite : ℕ) (edit back : Row → Row) → IsOrdered nat_cmp rows → ((row : Row) → row_of rows suite ≡ Some row → back (edit row) ≡ row) → edited (edited rows suite edit) suite back ≡ rows
 edited-back rows suite edit back ordered undoes = by_found (row_of rows suite)
@@ -43,6 +47,12 @@ edited-back rows suite edit back ordered undoes = by_found (row_of rows suite)
     ∙ insert-insert nat_cmp_total rows suite (edit row) (back (edit row))
     ∙ ap (with_row rows suite) (undoes row there)
     ∙ insert_same nat_cmp_total rows suite row ordered there)
+
+-- the same, of a row that is known
+pub edited-back-at : (rows : Rows) (suite : ℕ) (edit back : Row → Row) (row : Row) → IsOrdered nat_cmp rows → row_of rows suite ≡ Some row → back (edit row) ≡ row → edited (edited rows suite edit) suite back ≡ rows
+edited-back-at rows suite edit back row ordered there undoes =
+    edited-back rows suite edit back ordered
+    (λ found there'. let same : row ≡ found = same_Some row found (sym there ∙ there') in subst (λ r. back (edit r) ≡ r) same undoes)
 
 -- a name that was put is taken out again
 drop-put_in : (held : Content) (name : List ℕ) (number : ℕ) → number_in held name ≡ None → in_names (λ names. without_name names name) (in_names (λ names. with_name names name number) held) ≡ held

@@ -2,3 +2,5 @@ pub mod Plain
 pub mod PathFacts
 pub mod EditLaws
 pub mod LastName
+pub mod CapacityLaws
+pub mod TakingBack

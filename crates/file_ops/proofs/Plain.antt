@@ -8,16 +8,15 @@ use Rattle.std.specs.List.Sorted.{IsStrictlySortedBy}
 use Rattle.std.proofs.lemmas.Bool.{cases_Bool}
 use Rattle.std.proofs.lemmas.Map.Made.{lookup-map_values, keys_of-map_values}
 use Rattle.std.proofs.lemmas.Cmp.{nat_cmp_total}
-use Rattle.sorted_map.specs.SortedMap.{IsOrdered, get, insert, replace}
+use Rattle.std.proofs.lemmas.Option.{none-some}
+use Rattle.sorted_map.specs.SortedMap.{IsOrdered, get, insert, replace, remove}
 use Rattle.sorted_map.specs.Comparisons.{by_answer}
 use Rattle.sorted_map.specs.Edits.{insert_present, replace_same}
-use Rattle.sorted_map.specs.Roomy.{Roomy}
-use Rattle.suite_content.specs.declared.content.Content.TheVariants as content
-use Rattle.file_ops.specs.declared.stored.StoredContent.TheVariants.{Bytes, Names}
+use Rattle.file_ops.specs.declared.stored.StoredContent.{StoredContent}
 use Rattle.file_ops.specs.declared.stored.StoredRow.{StoredRow}
 use Rattle.file_ops.specs.Stored.{StoredRows, plain, plain_content, plain_row}
 use Rattle.file_ops.specs.Rows.{Row, row_of, with_row, with_content}
-use Rattle.file_ops.specs.Edits.{edited, in_names}
+use Rattle.file_ops.specs.Edits.{edited, in_names, number_in, number_at}
 
 -- what is seen of a stored row is the row
 pub row_of-plain : (rows : StoredRows) (suite : ℕ) → row_of (plain rows) suite ≡ option_map plain_row (get nat_cmp rows suite)
@@ -36,6 +35,13 @@ plain-insert (e ∷ es) suite row = by_answer (nat_cmp suite e.0)
     (λ less. rw (less) refl)
     (λ equal. rw (equal) refl)
     (λ greater. rw (greater) (ap (λ l. (e.0, plain_row e.1) ∷ l) (plain-insert es suite row)))
+
+pub plain-remove : (rows : StoredRows) (suite : ℕ) → plain (remove nat_cmp rows suite) ≡ remove nat_cmp (plain rows) suite
+plain-remove [] suite = refl
+plain-remove (e ∷ es) suite = ⊎_elim
+    (λ here. rw (here) refl)
+    (λ there. rw (there) (ap (λ l. (e.0, plain_row e.1) ∷ l) (plain-remove es suite)))
+    (cases_Bool (is_at (nat_cmp suite) e.0))
 
 pub ordered-plain : (rows : StoredRows) → IsOrdered nat_cmp rows → IsOrdered nat_cmp (plain rows)
 ordered-plain rows ordered = subst (IsStrictlySortedBy nat_cmp) (sym (keys_of-map_values plain_row rows)) ordered
@@ -59,19 +65,16 @@ pub unchanged : (rows : StoredRows) (suite : ℕ) (before row : StoredRow) → g
 unchanged rows suite before row there same =
     plain-replace rows suite row ∙ replace_same nat_cmp_total (plain rows) suite (plain_row row) (row_of-plain rows suite ∙ ap (option_map plain_row) there ∙ ap Some (sym same))
 
--- a folder with other names, and a file without any
-pub other_names : (row : StoredRow) (before after : Roomy (List ℕ) ℕ) (edit : List (List ℕ × ℕ) → List (List ℕ × ℕ)) → row.content ≡ Names before → after.pairs ≡ edit before.pairs → plain_row (record row { content = Names after }) ≡ with_content (plain_row row) (in_names edit (plain_content row.content))
-other_names row before after edit holds is =
-    ap (λ names. with_content (plain_row row) (content.Names names)) is
-    ∙ sym (ap (λ held. with_content (plain_row row) (in_names edit (plain_content held))) holds)
+-- a row that holds something else
+pub other_content : (rows : StoredRows) (suite : ℕ) (before : StoredRow) (held : StoredContent) (edit : List (List ℕ × ℕ) → List (List ℕ × ℕ)) → IsOrdered nat_cmp rows → get nat_cmp rows suite ≡ Some before → plain_content held ≡ in_names edit (plain_content before.content) → plain (replace nat_cmp rows suite (record before { content = held })) ≡ edited (plain rows) suite (λ row. with_content row (in_names edit row.content))
+other_content rows suite before held edit ordered there is =
+    edited-there rows suite before (record before { content = held }) (λ row. with_content row (in_names edit row.content)) ordered there (ap (with_content (plain_row before)) is)
 
-pub no_names : (row : StoredRow) (bytes : List ℕ) (edit : List (List ℕ × ℕ) → List (List ℕ × ℕ)) → row.content ≡ Bytes bytes → plain_row row ≡ with_content (plain_row row) (in_names edit (plain_content row.content))
-no_names row bytes edit holds =
-    ap (λ held. with_content (plain_row row) (plain_content held)) holds
-    ∙ sym (ap (λ held. with_content (plain_row row) (in_names edit (plain_content held))) holds)
+pub same_content : (rows : StoredRows) (suite : ℕ) (before : StoredRow) (held : StoredContent) → get nat_cmp rows suite ≡ Some before → plain_content held ≡ plain_content before.content → plain (replace nat_cmp rows suite (record before { content = held })) ≡ plain rows
+same_content rows suite before held there is =
+    unchanged rows suite before (record before { content = held }) there (ap (with_content (plain_row before)) is)
 
--- a folder whose names are seen as before
-pub same_names : (row : StoredRow) (before after : Roomy (List ℕ) ℕ) → row.content ≡ Names before → after.pairs ≡ before.pairs → plain_row (record row { content = Names after }) ≡ plain_row row
-same_names row before after holds is =
-    ap (λ names. with_content (plain_row row) (content.Names names)) is
-    ∙ sym (ap (λ held. with_content (plain_row row) (plain_content held)) holds)
+-- no name where there is no row
+pub no_number : (rows : StoredRows) (suite : ℕ) (name : List ℕ) (number : ℕ) → get nat_cmp rows suite ≡ None → number_at (plain rows) suite name ≡ Some number → ⊥
+no_number rows suite name number absent there =
+    none-some number (sym (ap (λ found. option_map_or (λ row. number_in row.content name) found None) (row_of-plain rows suite ∙ ap (option_map plain_row) absent)) ∙ there)

@@ -1,14 +1,37 @@
 -- What the code answers for an operation.
-use Rattle.std.specs.Prelude.{◌≡◌, Result, Ok, Err}
+use Rattle.std.specs.Prelude.{◌≡◌, List, Result, Ok, Err}
+use Rattle.file_ops.specs.declared.act.Done.{Done as Acted}
 use Rattle.file_ops.specs.declared.act.OpError.{OpError}
 use Rattle.file_ops.specs.declared.act.OpError.TheVariants.{Refused, Memory}
 use Rattle.file_ops.specs.declared.answer.Answer.{Answer}
+use Rattle.file_ops.specs.declared.refusal.ApplyError.{ApplyError}
+use Rattle.file_ops.specs.declared.refusal.ApplyError.TheVariants as apply
+use Rattle.file_ops.specs.declared.refusal.Refusal.{Refusal}
 use Rattle.file_ops.specs.declared.refusal.Why.{Why}
 use Rattle.file_ops.specs.Rows.{Rows}
 use Rattle.file_ops.specs.Operations.{Done}
+use Rattle.file_ops.specs.Stored.{StoredRows, plain}
+use Rattle.file_ops.specs.Changes.{TakesBack}
+use Rattle.file_ops.specs.Transactions.{Played}
 
 -- its reply, with the rows that it leaves, or its refusal; nothing is said where memory ran out
 abbrev pub Does : Result Answer OpError → Rows → Result Done Why → Type 0
 Does (Ok answer) rows done = done ≡ Ok (record { answer = answer; rows = rows })
 Does (Err (Refused why)) rows done = done ≡ Err why
 Does (Err Memory) rows done = Unit {0}
+
+-- the same of an operation that changes the rows, with a change that can be taken back
+pub record ActsWith (acted : Acted) (before after : StoredRows) (done : Result Done Why) : Type 0 where
+  pub does : done ≡ Ok (record { answer = acted.answer; rows = plain after })
+  pub takes_back : TakesBack acted.change before after
+
+abbrev pub Acts : Result Acted OpError → StoredRows → StoredRows → Result Done Why → Type 0
+Acts (Ok acted) before after done = ActsWith acted before after done
+Acts (Err (Refused why)) before after done = done ≡ Err why
+Acts (Err Memory) before after done = Unit {0}
+
+-- what the code answers for operations of a transaction: the replies so far, with the rows that it leaves, or a refusal
+abbrev pub Plays : Result (Unit {0}) ApplyError → List Answer → StoredRows → Result Played Refusal → Type 0
+Plays (Ok done) answers rows played = played ≡ Ok (record { answers = answers; rows = plain rows })
+Plays (Err (apply.Refused refusal)) answers rows played = played ≡ Err refusal
+Plays (Err apply.Memory) answers rows played = Unit {0}

@@ -1,10 +1,11 @@
 -- Edits of one row.
 use Rattle.std.specs.Prelude.{ℕ, List, Option, None}
 use Rattle.std.specs.Option.{option_map_or}
+use Rattle.acl_core.specs.declared.entry.Entry.{Entry}
 use Rattle.suite_content.specs.declared.content.Content.{Content}
 use Rattle.suite_content.specs.declared.content.Content.TheVariants.{Bytes, Names}
 use Rattle.suite_content.specs.Folders.{number_of, with_name, without_name}
-use Rattle.file_ops.specs.Rows.{Row, Rows, row_of, with_row, with_content}
+use Rattle.file_ops.specs.Rows.{Row, Rows, row_of, with_row, with_acl, with_content}
 
 -- the rows with one row edited, where it is there
 abbrev pub edited : Rows → ℕ → (Row → Row) → Rows
@@ -21,6 +22,13 @@ number_at rows suite name = option_map_or (λ row. number_in row.content name) (
 -- other content
 abbrev pub put_content : Content → Row → Row
 put_content content row = with_content row content
+
+-- another list, another row
+abbrev pub put_acl : List Entry → Row → Row
+put_acl acl row = with_acl row acl
+
+abbrev pub put_row : Row → Row → Row
+put_row other row = other
 
 -- other names in a folder; a file stays as it is
 abbrev pub in_names : (List (List ℕ × ℕ) → List (List ℕ × ℕ)) → Content → Content

@@ -7,5 +7,8 @@ pub mod Walks
 pub mod Operations
 pub mod Transactions
 pub mod Edits
+pub mod Capacity
+pub mod Restored
+pub mod Changes
 pub mod Found
 pub mod Done

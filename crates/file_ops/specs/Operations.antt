@@ -1,7 +1,8 @@
 -- One operation on the table: its reply and the rows after it, or why it is refused.
-use Rattle.std.specs.Prelude.{ℕ, ◌-◌, nat_lt, nat_le, Bool, true, false, List, length, take, is_some, slice_get, Result, Ok, Err}
+use Rattle.std.specs.Prelude.{ℕ, ◌-◌, nat_lt, nat_le, Bool, true, false, List, length, take, is_some, slice_get, Option, Some, None, Result, Ok, Err}
 use Rattle.acl_core.specs.Identity.{Identity}
 use Rattle.suite_content.specs.declared.content.Kind.{Kind}
+use Rattle.suite_content.specs.declared.content.Content.{Content}
 use Rattle.suite_content.specs.declared.content.Content.TheVariants.{Bytes, Names}
 use Rattle.suite_content.specs.Folders as folders
 use Rattle.suite_content.specs.Limits.{longest_content, most_names}
@@ -15,8 +16,8 @@ use Rattle.file_ops.specs.declared.refusal.Why.{Why}
 use Rattle.file_ops.specs.declared.refusal.Why.TheVariants as why
 use Rattle.file_ops.specs.Steps.{◌>>=◌, ◌>>◌, found_or}
 use Rattle.file_ops.specs.Paths.{names_of}
-use Rattle.file_ops.specs.Rows.{Row, Rows, with_row, with_content, made_number, new_row}
-use Rattle.file_ops.specs.Walks.{Place, bytes_in, names_in, to_read, to_write, to_change, permit, reach}
+use Rattle.file_ops.specs.Rows.{Row, Rows, row_of, with_row, with_acl, with_content, made_number, new_row}
+use Rattle.file_ops.specs.Walks.{Place, bytes_in, names_in, to_read, to_write, to_change, permit, permit_others, owner_only, reach}
 
 -- a reply with the rows after it
 pub record Done : Type 0 where
@@ -70,6 +71,24 @@ made rows number caller names kind init = do
   refuse_if (nat_le most_names (length parent.names)) why.FolderFull
   Ok (record { answer = answer.Made number; rows = with_made rows parent path.name number (new_row kind init caller) })
 
+-- whether it is a folder that has names
+abbrev pub is_used : Content → Bool
+is_used (Names names) = nat_lt 0 (length names)
+is_used (Bytes bytes) = false
+
+abbrev pub has_names : Option Row → Bool
+has_names (Some row) = is_used row.content
+has_names None = false
+
+-- a name dropped; what it leads to stays, though no path may lead there any more
+abbrev pub dropped : Rows → Identity → List (List ℕ) → Result Done Why
+dropped rows caller names = do
+  path ← last_name names
+  parent ← parent_of rows caller path.folders
+  number ← found_or (folders.number_of parent.names path.name) why.NoName
+  refuse_if (has_names (row_of rows number)) why.NotEmpty
+  Ok (record { answer = answer.Dropped; rows = with_names rows parent.place (folders.without_name parent.names path.name) })
+
 -- an operation of the transaction t, at a place counted from 0, with a path that leads through these names
 abbrev pub act : Rows → ℕ → ℕ → Identity → List (List ℕ) → Action → Result Done Why
 act rows t at caller names action.Read = do
@@ -89,6 +108,15 @@ act rows t at caller names action.List = do
   entries ← names_in place.row.content
   Ok (record { answer = answer.List (folders.names_in entries); rows = rows })
 act rows t at caller names (action.Make kind init) = made rows (made_number t at) caller names kind init
+act rows t at caller names action.Drop = dropped rows caller names
+act rows t at caller names action.GetAcl = do
+  place ← reach rows caller names
+  permit_others caller place to_read
+  Ok (record { answer = answer.Acl place.row.acl; rows = rows })
+act rows t at caller names (action.SetAcl acl) = do
+  place ← reach rows caller names
+  owner_only caller place
+  Ok (record { answer = answer.Set; rows = with_row rows place.suite (with_acl place.row acl) })
 
 -- an operation of the transaction t, at a place counted from 0
 abbrev pub operation : Rows → ℕ → ℕ → Identity → Op → Result Done Why

@@ -48,6 +48,10 @@ made_number t place = 8 * t + place + 1
 abbrev pub new_row : Kind → Init → Identity → Row
 new_row kind init caller = record { owner = caller.uid; group = caller.gid; acl = list_of init; content = empty_content kind }
 
+-- a row with another list
+abbrev pub with_acl : Row → List Entry → Row
+with_acl row acl = record row { acl = acl }
+
 -- a row with other content
 abbrev pub with_content : Row → Content → Row
 with_content row content = record row { content = content }

@@ -32,7 +32,7 @@ play played t at caller (op ∷ ops) = do
 
 -- the most operations of a transaction; a limit of this project
 abbrev pub most_operations : ℕ
-most_operations = 1
+most_operations = 8
 
 -- whether there are too few or too many operations
 abbrev pub is_miscounted : List Op → Bool

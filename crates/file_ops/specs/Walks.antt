@@ -1,11 +1,12 @@
 -- The way to a file or a folder, and what a caller may do there.
-use Rattle.std.specs.Prelude.{ℕ, List, [], ◌∷◌, Result, Ok, Err}
+use Rattle.std.specs.Prelude.{ℕ, ◌==◌, if◌then◌else◌, List, [], ◌∷◌, Result, Ok, Err}
 use Rattle.acl_core.specs.Permissions.{read, write, execute}
 use Rattle.acl_core.specs.Identity.{Identity}
 use Rattle.acl_core.specs.Checks.{check_of}
 use Rattle.acl_core.specs.declared.perms.Perms.{Perms}
 use Rattle.acl_core.specs.declared.check.Check.{Check}
 use Rattle.acl_core.specs.declared.check.Check.TheVariants.{Granted, Denied}
+use Rattle.acl_core.specs.declared.check.Decider.TheVariants.{OwnerRule}
 use Rattle.suite_content.specs.declared.content.Content.{Content}
 use Rattle.suite_content.specs.declared.content.Content.TheVariants.{Bytes, Names}
 use Rattle.suite_content.specs.Folders.{number_of}
@@ -39,6 +40,9 @@ to_write = record { 0 = write }
 abbrev pub to_search : Perms
 to_search = record { 0 = execute }
 
+abbrev pub nothing : Perms
+nothing = record { 0 = 0 }
+
 -- of a folder in which a name is put or dropped: to write and to search it, in one check
 abbrev pub to_change : Perms
 to_change = record { 0 = 3 }
@@ -52,6 +56,16 @@ unless_denied suite wanted (Denied decider) = Err (why.Denied (record { suite = 
 abbrev pub permit : Identity → Place → Perms → Result (Unit {0}) Why
 permit caller place wanted =
     unless_denied place.suite wanted (check_of place.row.acl place.row.owner place.row.group caller wanted)
+
+-- the same, of whoever does not own it; the owner needs no permission
+abbrev pub permit_others : Identity → Place → Perms → Result (Unit {0}) Why
+permit_others caller place wanted = if caller.uid == place.row.owner then Ok tt else permit caller place wanted
+
+-- whether a caller owns a file or a folder: what only the owner may do is decided by no entry, and nothing is wanted
+abbrev pub owner_only : Identity → Place → Result (Unit {0}) Why
+owner_only caller place =
+    if caller.uid == place.row.owner then Ok tt
+    else Err (why.Denied (record { suite = place.suite; wanted = nothing; decider = OwnerRule }))
 
 -- a suite with its row; a name that leads to no row is answered like a name that is not there
 abbrev pub place_of : Rows → ℕ → Result Place Why

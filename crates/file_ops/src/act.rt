@@ -6,18 +6,19 @@ ghost use Rattle.file_ops.specs.declared.act.OpError.TheVariants as stopped;
 ghost use Rattle.suite_content.specs.Folders.{names_in};
 ghost use Rattle.file_ops.specs.declared.operation.Action.TheVariants as action;
 ghost use Rattle.file_ops.specs.Lists.{list_of};
-ghost use Rattle.file_ops.specs.Rows.{new_row, made_number};
+ghost use Rattle.file_ops.specs.Rows.{row_of, new_row};
 ghost use Rattle.file_ops.specs.Stored.{plain, plain_row};
-ghost use Rattle.file_ops.specs.Operations.{act, made, operation};
-ghost use Rattle.file_ops.specs.Done.{Does};
+ghost use Rattle.file_ops.specs.Operations.{act, made, dropped, has_names, operation};
+ghost use Rattle.file_ops.specs.Restored.{Restores};
+ghost use Rattle.file_ops.specs.Done.{Does, Acts};
 
 use crate::answer::Answer;
-use crate::edit::{exchange_content, put_made};
+use crate::change::Change;
 use crate::operation::{Action, Init, Op};
 use crate::path::Path;
 use crate::refusal::Why;
 use crate::stored::{StoredContent, StoredRow, StoredRows};
-use crate::walk::{last_name, parent_of, permit, reach};
+use crate::walk::{last_name, owner_only, parent_of, permit, permit_others, reach};
 use acl_core::{Acl, Caller, Perms};
 use sorted_map::RoomyMap;
 use std::alloc::{AllocError, AllocFailed, Global};
@@ -45,6 +46,12 @@ impl From<AllocError> for OpError {
     }
 }
 
+/// A reply, and what was changed for it.
+pub(crate) struct Done {
+    pub(crate) answer: Answer,
+    pub(crate) change: Change,
+}
+
 /// The bytes of a file.
 fn read(rows: &StoredRows, caller: &Caller, names: &[Name]) -> Result<Answer, OpError>
     ensures { Does result (plain rows.now) (act (plain rows.now) 0 0 caller.now names.now action.Read) }
@@ -54,28 +61,6 @@ fn read(rows: &StoredRows, caller: &Caller, names: &[Name]) -> Result<Answer, Op
     let bytes = place.row.content.bytes()?;
     let bytes = bytes.clone()?;
     Ok(Answer::Read(bytes))
-}
-
-/// Puts other bytes in a file.
-fn write(
-    rows: &mut StoredRows,
-    caller: &Caller,
-    names: &[Name],
-    bytes: &FileBytes,
-) -> Result<Answer, OpError>
-    ensures does { Does result (plain rows.new) (act (plain rows.old) 0 0 caller.now names.now (action.Write bytes.now)) }
-    ensures err { OnErr result (plain rows.new ≡ plain rows.old) }
-{
-    if bytes.is_too_long() {
-        return Err(OpError::Refused(Why::TooLong));
-    }
-    let place = reach(rows, caller, names)?;
-    permit(caller, place, Perms::WRITE)?;
-    place.row.content.bytes()?;
-    let suite = place.suite;
-    let bytes = bytes.clone()?;
-    let _ = exchange_content(rows, suite, StoredContent::Bytes(bytes));
-    Ok(Answer::Wrote)
 }
 
 /// The names of a folder.
@@ -103,6 +88,62 @@ fn listed(alloc: Global, entries: &RoomyMap<Name, u64>) -> Result<NameList, Allo
     Ok(NameList::from(folder))
 }
 
+/// The access list of a file or folder.
+fn get_acl(rows: &StoredRows, caller: &Caller, names: &[Name]) -> Result<Answer, OpError>
+    ensures { Does result (plain rows.now) (act (plain rows.now) 0 0 caller.now names.now action.GetAcl) }
+{
+    let place = reach(rows, caller, names)?;
+    permit_others(caller, place, Perms::READ)?;
+    let acl = place.row.acl.clone()?;
+    Ok(Answer::Acl(acl))
+}
+
+/// Puts other bytes in a file.
+fn write(
+    rows: &mut StoredRows,
+    caller: &Caller,
+    names: &[Name],
+    bytes: &FileBytes,
+) -> Result<Done, OpError>
+    ensures acts { Acts result rows.old rows.new (act (plain rows.old) 0 0 caller.now names.now (action.Write bytes.now)) }
+    ensures err { OnErr result (Restores rows.old rows.new) }
+{
+    if bytes.is_too_long() {
+        return Err(OpError::Refused(Why::TooLong));
+    }
+    let place = reach(rows, caller, names)?;
+    permit(caller, place, Perms::WRITE)?;
+    place.row.content.bytes()?;
+    let suite = place.suite;
+    let bytes = bytes.clone()?;
+    let change = Change::hold(rows, suite, StoredContent::Bytes(bytes));
+    Ok(Done {
+        answer: Answer::Wrote,
+        change,
+    })
+}
+
+/// Gives a file or folder another access list.
+fn set_acl(
+    rows: &mut StoredRows,
+    caller: &Caller,
+    names: &[Name],
+    acl: &Acl,
+) -> Result<Done, OpError>
+    ensures acts { Acts result rows.old rows.new (act (plain rows.old) 0 0 caller.now names.now (action.SetAcl acl.now)) }
+    ensures err { OnErr result (Restores rows.old rows.new) }
+{
+    let place = reach(rows, caller, names)?;
+    owner_only(caller, place)?;
+    let suite = place.suite;
+    let acl = acl.clone()?;
+    let change = Change::list(rows, suite, acl);
+    Ok(Done {
+        answer: Answer::Set,
+        change,
+    })
+}
+
 /// Puts a name in a folder, for a new file or folder of this number.
 fn make(
     rows: &mut StoredRows,
@@ -112,9 +153,9 @@ fn make(
     names: &[Name],
     kind: Kind,
     init: &Init,
-) -> Result<Answer, OpError>
-    ensures does { Does result (plain rows.new) (made (plain rows.old) number caller.now names.now kind init.now) }
-    ensures err { OnErr result (plain rows.new ≡ plain rows.old) }
+) -> Result<Done, OpError>
+    ensures acts { Acts result rows.old rows.new (made (plain rows.old) number caller.now names.now kind init.now) }
+    ensures err { OnErr result (Restores rows.old rows.new) }
 {
     let (name, folders) = last_name(names)?;
     let parent = parent_of(rows, caller, folders)?;
@@ -126,8 +167,11 @@ fn make(
     }
     let folder = parent.place.suite;
     let row = new_row(alloc, kind, init, caller)?;
-    let _before = put_made(rows, folder, name, number, row)?;
-    Ok(Answer::Made(number))
+    let change = Change::make(rows, folder, name, number, row)?;
+    Ok(Done {
+        answer: Answer::Made(number),
+        change,
+    })
 }
 
 /// The row of a new file or folder.
@@ -143,6 +187,35 @@ fn new_row(alloc: Global, kind: Kind, init: &Init, caller: &Caller) -> Result<St
     })
 }
 
+/// Takes a name out of a folder.
+fn drop(rows: &mut StoredRows, caller: &Caller, names: &[Name]) -> Result<Done, OpError>
+    ensures acts { Acts result rows.old rows.new (dropped (plain rows.old) caller.now names.now) }
+    ensures err { OnErr result (Restores rows.old rows.new) }
+{
+    let (name, folders) = last_name(names)?;
+    let parent = parent_of(rows, caller, folders)?;
+    let number = parent.names.get(name).copied().ok_or(Why::NoName)?;
+    if has_names(rows, number) {
+        return Err(OpError::Refused(Why::NotEmpty));
+    }
+    let folder = parent.place.suite;
+    let change = Change::drop_name(rows, folder, name, number);
+    Ok(Done {
+        answer: Answer::Dropped,
+        change,
+    })
+}
+
+/// Whether there is a folder of this number that has names.
+fn has_names(rows: &StoredRows, number: u64) -> bool
+    ensures { result ≡ has_names (row_of (plain rows.now) number) }
+{
+    match rows.get(&number) {
+        Some(row) => row.content.has_names(),
+        None => false,
+    }
+}
+
 /// An operation of the transaction `t`, at a place counted from 0.
 pub(crate) fn operate(
     rows: &mut StoredRows,
@@ -151,20 +224,27 @@ pub(crate) fn operate(
     at: u8,
     caller: &Caller,
     op: &Op,
-) -> Result<Answer, OpError>
+) -> Result<Done, OpError>
     requires { t < 2 ^ 60 }
-    ensures does { Does result (plain rows.new) (operation (plain rows.old) t at caller.now op.now) }
-    ensures err { OnErr result (plain rows.new ≡ plain rows.old) }
+    ensures acts { Acts result rows.old rows.new (operation (plain rows.old) t at caller.now op.now) }
+    ensures err { OnErr result (Restores rows.old rows.new) }
 {
     let path = Path::parse(op.path.as_bytes()).ok_or(Why::BadPath)?;
     let names = path.names();
-    match &op.action {
-        Action::Read => read(rows, caller, names),
-        Action::Write(bytes) => write(rows, caller, names, bytes),
-        Action::List => list(rows, alloc, caller, names),
+    let answer = match &op.action {
+        Action::Read => read(rows, caller, names)?,
+        Action::List => list(rows, alloc, caller, names)?,
+        Action::GetAcl => get_acl(rows, caller, names)?,
+        Action::Write(bytes) => return write(rows, caller, names, bytes),
+        Action::SetAcl(acl) => return set_acl(rows, caller, names, acl),
+        Action::Drop => return drop(rows, caller, names),
         Action::Make(kind, init) => {
             let number = 8 * t + u64::from(at) + 1;
-            make(rows, alloc, number, caller, names, *kind, init)
+            return make(rows, alloc, number, caller, names, *kind, init);
         }
-    }
+    };
+    Ok(Done {
+        answer,
+        change: Change::Nothing,
+    })
 }

@@ -1,6 +1,7 @@
 //! What a transaction answers.
 
 use acl_core::Acl;
+use std::alloc::{AllocError, Global};
 use std::marker::Model;
 use suite_content::{FileBytes, NameList};
 
@@ -15,6 +16,12 @@ pub enum Answer {
     List(NameList),
     /// To Make: the number of the new file or folder.
     Made(u64),
+    /// To Drop.
+    Dropped,
+    /// To GetAcl: the list.
+    Acl(Acl),
+    /// To SetAcl.
+    Set,
 }
 
 /// The replies to the operations of a transaction, in their order.
@@ -32,18 +39,26 @@ impl Model for Answers {
     ghost view = { λ answers. answers.replies.items };
 }
 
-impl From<Vec<Answer>> for Answers {
-    ghost use Rattle.std.specs.Prelude.{◌≡◌};
-
-    ghost from_gives = { λ replies answers. answers ≡ replies.items };
-
-    fn from(replies: Vec<Answer>) -> Answers {
-        Answers { replies }
-    }
-}
-
 impl Answers {
-    ghost use Rattle.std.specs.Prelude.{◌≡◌};
+    ghost use Rattle.std.specs.Prelude.{◌≡◌, [], ◌∷◌, ◌++◌, OnOk, OnErr};
+
+    /// No replies.
+    pub(crate) fn new(alloc: Global) -> Answers
+        ensures { result ≡ [] }
+    {
+        Answers {
+            replies: Vec::new(alloc),
+        }
+    }
+
+    /// Adds a reply.
+    pub(crate) fn push(&mut self, answer: Answer) -> Result<(), AllocError>
+        ensures ok { OnOk result (self.new ≡ self.old ++ answer ∷ []) }
+        ensures err { OnErr result (self.new ≡ self.old) }
+    {
+        self.replies.push(answer)?;
+        Ok(())
+    }
 
     /// The replies, one an operation.
     pub fn as_slice(&self) -> &[Answer]

@@ -1,13 +1,16 @@
 //! Edits of stored rows in place.
 
-ghost use Rattle.std.specs.Prelude.{◌≡◌, None, OnOk, OnErr};
+ghost use Rattle.std.specs.Prelude.{◌≡◌, ℕ, None, Some, IfOk, OnOk, OnErr};
+ghost use Rattle.std.specs.Option.{option_map};
 ghost use Rattle.std.specs.Ordering.{nat_cmp};
-ghost use Rattle.sorted_map.specs.SortedMap.{IsOrdered};
-ghost use Rattle.file_ops.specs.Stored.{plain, plain_content, plain_row};
-ghost use Rattle.file_ops.specs.Rows.{with_row};
-ghost use Rattle.file_ops.specs.Edits.{edited, number_at, put_content, put_name, drop_name};
+ghost use Rattle.sorted_map.specs.SortedMap.{IsOrdered, get};
+ghost use Rattle.file_ops.specs.Capacity.{KeepsCapacity, HasRoom};
+ghost use Rattle.file_ops.specs.Stored.{plain, exchanged, restored_row, with_stored_content, with_stored_acl};
+ghost use Rattle.file_ops.specs.Edits.{edited, number_at, put_name, drop_name};
+ghost use Rattle.file_ops.specs.Restored.{Restores, Makes};
 
 use crate::stored::{StoredContent, StoredRow, StoredRows};
+use acl_core::Acl;
 use std::alloc::AllocError;
 use std::mem;
 use suite_content::Name;
@@ -18,10 +21,39 @@ pub(crate) fn exchange_content(
     suite: u64,
     content: StoredContent,
 ) -> Option<StoredContent>
-    ensures rows { plain rows.new ≡ edited (plain rows.old) suite (put_content (plain_content content)) }
+    ensures before { result ≡ option_map (λ row. row.content) (get nat_cmp rows.old suite) }
+    ensures after { rows.new ≡ exchanged rows.old suite (with_stored_content content) }
+    ensures ordered { IsOrdered nat_cmp rows.old }
 {
     let row = rows.get_mut(&suite)?;
     Some(mem::replace(&mut row.content, content))
+}
+
+/// Gives a suite another access list, where it has a row, and answers the list before.
+pub(crate) fn exchange_acl(rows: &mut StoredRows, suite: u64, acl: Acl) -> Option<Acl>
+    ensures before { result ≡ option_map (λ row. row.acl) (get nat_cmp rows.old suite) }
+    ensures after { rows.new ≡ exchanged rows.old suite (with_stored_acl acl) }
+    ensures ordered { IsOrdered nat_cmp rows.old }
+{
+    let row = rows.get_mut(&suite)?;
+    Some(mem::replace(&mut row.acl, acl))
+}
+
+/// Gives a suite the row that it had before, where it has one now, or none.
+pub(crate) fn restore_row(rows: &mut StoredRows, suite: u64, before: Option<StoredRow>)
+    ensures rows { rows.new ≡ restored_row rows.old suite before }
+    ensures ordered { IsOrdered nat_cmp rows.old }
+{
+    match before {
+        None => {
+            let _ = rows.remove(&suite);
+        }
+        Some(other) => {
+            if let Some(row) = rows.get_mut(&suite) {
+                *row = other;
+            }
+        }
+    }
 }
 
 /// Puts a name in a folder that lacks it, for a new row, and then the row, and answers the row of its
@@ -34,8 +66,8 @@ pub(crate) fn put_made(
     row: StoredRow,
 ) -> Result<Option<StoredRow>, AllocError>
     requires { number_at (plain rows.old) folder name.now ≡ None }
-    ensures ok { OnOk result (plain rows.new ≡ with_row (edited (plain rows.old) folder (put_name name.now number)) number (plain_row row)) }
-    ensures err { OnErr result (plain rows.new ≡ plain rows.old) }
+    ensures ok { IfOk result (λ before. Makes rows.old rows.new folder name.now number row before) }
+    ensures err { OnErr result (Restores rows.old rows.new) }
 {
     put_name(rows, folder, *name, number)?;
     match rows.insert(number, row) {
@@ -51,23 +83,35 @@ pub(crate) fn put_made(
 fn put_name(rows: &mut StoredRows, folder: u64, name: Name, number: u64) -> Result<(), AllocError>
     ensures ok { OnOk result (plain rows.new ≡ edited (plain rows.old) folder (put_name name number)) }
     ensures err { OnErr result (plain rows.new ≡ plain rows.old) }
+    ensures capacity { KeepsCapacity rows.old rows.new }
     ensures was_ordered { IsOrdered nat_cmp rows.old }
 {
-    if let Some(row) = rows.get_mut(&folder) {
-        if let StoredContent::Names(names) = &mut row.content {
-            names.insert(name, number)?;
-        }
+    match rows.get_mut(&folder) {
+        Some(row) => row.content.put_name(name, number),
+        None => Ok(()),
     }
-    Ok(())
+}
+
+/// Puts a name back in a folder out of which it was taken.
+pub(crate) fn put_back_name(rows: &mut StoredRows, folder: u64, name: Name, number: u64)
+    requires { HasRoom rows.old folder name }
+    ensures rows { plain rows.new ≡ edited (plain rows.old) folder (put_name name number) }
+    ensures capacity { KeepsCapacity rows.old rows.new }
+{
+    if let Some(row) = rows.get_mut(&folder) {
+        row.content.put_back_name(name, number);
+    }
 }
 
 /// Takes a name out of a folder.
-fn drop_name(rows: &mut StoredRows, folder: u64, name: &Name)
-    ensures { plain rows.new ≡ edited (plain rows.old) folder (drop_name name.now) }
+pub(crate) fn drop_name(rows: &mut StoredRows, folder: u64, name: &Name)
+    ensures rows { plain rows.new ≡ edited (plain rows.old) folder (drop_name name.now) }
+    ensures capacity { KeepsCapacity rows.old rows.new }
+
+    // It can be put back.
+    ensures back { (number : ℕ) → number_at (plain rows.old) folder name.now ≡ Some number → edited (plain rows.new) folder (put_name name.now number) ≡ plain rows.old }
 {
     if let Some(row) = rows.get_mut(&folder) {
-        if let StoredContent::Names(names) = &mut row.content {
-            names.remove(name);
-        }
+        row.content.drop_name(name);
     }
 }

@@ -11,9 +11,11 @@
 mod act;
 mod answer;
 mod audit;
+mod change;
 mod edit;
 mod operation;
 mod path;
+mod play;
 mod refusal;
 mod stored;
 mod table;
@@ -24,7 +26,7 @@ pub use audit::AuditItem;
 pub use operation::{Action, Init, Op};
 pub use path::PathText;
 pub use refusal::{ApplyError, Denial, Refusal, Why};
-pub use table::Table;
+pub use table::{MOST_OPERATIONS, Table};
 
 #[cfg(test)]
 mod tests;

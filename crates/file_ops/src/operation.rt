@@ -40,6 +40,12 @@ pub enum Action {
     List,
     /// A name is put in a folder, for a new file or folder.
     Make(Kind, Init),
+    /// A name is taken out of a folder. What it led to stays.
+    Drop,
+    /// The access list is answered.
+    GetAcl,
+    /// A file or folder gets this access list.
+    SetAcl(Acl),
 }
 
 /// An operation: what is done, and where.

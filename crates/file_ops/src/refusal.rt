@@ -18,7 +18,7 @@ pub struct Denial {
 #[derive(Clone, Copy, Debug, PartialEq, Eq)]
 pub enum Why {
     /// The path is neither `/` nor one to eight times `/` and a name, or it is `/` where a name is
-    /// put in a folder.
+    /// put in a folder or dropped.
     BadPath,
     /// What the path walks through, or what is to be listed, is no folder.
     NotFolder,
@@ -30,6 +30,8 @@ pub enum Why {
     Exists,
     /// What is to be read or written is a folder.
     IsFolder,
+    /// The name that is to be dropped leads to a folder with names.
+    NotEmpty,
     /// More than 65,536 bytes are to be written.
     TooLong,
     /// The folder has 1,024 names.

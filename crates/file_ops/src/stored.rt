@@ -1,15 +1,19 @@
 //! Rows as the table stores them.
 
-ghost use Rattle.std.specs.Prelude.{◌≡◌};
+ghost use Rattle.std.specs.Prelude.{◌≡◌, ℕ, ◌≤◌, Some, OnOk, OnErr};
 ghost use Rattle.suite_content.specs.Contents.{empty_content};
+ghost use Rattle.suite_content.specs.Folders.{with_name, without_name};
 ghost use Rattle.file_ops.specs.Steps.{ok_map};
 ghost use Rattle.file_ops.specs.Stored.{plain_content};
 ghost use Rattle.file_ops.specs.Walks.{bytes_in, names_in};
+ghost use Rattle.file_ops.specs.Operations.{is_used};
+ghost use Rattle.file_ops.specs.Edits.{in_names, number_in};
+ghost use Rattle.file_ops.specs.Capacity.{capacity_in, has_room_for};
 
 use crate::refusal::Why;
 use acl_core::Acl;
 use sorted_map::{RoomyMap, SortedMap};
-use std::alloc::Global;
+use std::alloc::{AllocError, Global};
 use suite_content::{FileBytes, Kind, Name};
 
 /// The rows with their suites' numbers, which rise.
@@ -52,6 +56,16 @@ impl StoredContent {
         }
     }
 
+    /// Whether it is a folder's names, and there are any.
+    pub(crate) fn has_names(&self) -> bool
+        ensures { result ≡ is_used (plain_content self.now) }
+    {
+        match self {
+            StoredContent::Names(names) => !names.is_empty(),
+            StoredContent::Bytes(_) => false,
+        }
+    }
+
     /// The names of a folder.
     pub(crate) fn names(&self) -> Result<&RoomyMap<Name, u64>, Why>
         ensures { ok_map (λ names. names.now.pairs) result ≡ names_in (plain_content self.now) }
@@ -59,6 +73,42 @@ impl StoredContent {
         match self {
             StoredContent::Names(names) => Ok(names),
             StoredContent::Bytes(_) => Err(Why::NotFolder),
+        }
+    }
+
+    /// Puts a name in a folder, or gives it another number.
+    pub(crate) fn put_name(&mut self, name: Name, number: u64) -> Result<(), AllocError>
+        ensures ok { OnOk result (plain_content self.new ≡ in_names (λ names. with_name names name number) (plain_content self.old)) }
+        ensures err { OnErr result (plain_content self.new ≡ plain_content self.old) }
+        ensures capacity { capacity_in self.old ≤ capacity_in self.new }
+    {
+        if let StoredContent::Names(names) = self {
+            names.insert(name, number)?;
+        }
+        Ok(())
+    }
+
+    /// Puts a name in a folder that has room for it.
+    pub(crate) fn put_back_name(&mut self, name: Name, number: u64)
+        requires { has_room_for self.old name }
+        ensures names { plain_content self.new ≡ in_names (λ names. with_name names name number) (plain_content self.old) }
+        ensures capacity { capacity_in self.old ≤ capacity_in self.new }
+    {
+        if let StoredContent::Names(names) = self {
+            let _ = names.insert_in_room(name, number);
+        }
+    }
+
+    /// Takes a name out of a folder.
+    pub(crate) fn drop_name(&mut self, name: &Name)
+        ensures names { plain_content self.new ≡ in_names (λ names. without_name names name.now) (plain_content self.old) }
+        ensures capacity { capacity_in self.old ≤ capacity_in self.new }
+
+        // It can be put back.
+        ensures back { (number : ℕ) → number_in (plain_content self.old) name.now ≡ Some number → in_names (λ names. with_name names name.now number) (plain_content self.new) ≡ plain_content self.old }
+    {
+        if let StoredContent::Names(names) = self {
+            let _ = names.remove(name);
         }
     }
 }

@@ -2,10 +2,10 @@
 
 ghost use Rattle.std.specs.Prelude.{◌≡◌, ◌<◌, ◌^◌, [], ◌∷◌, Err, IfOk};
 
-use crate::act::{OpError, operate};
 use crate::answer::Answers;
 use crate::audit::AuditItem;
 use crate::operation::Op;
+use crate::play::play;
 use crate::refusal::{ApplyError, Refusal, Why};
 use crate::stored::{StoredContent, StoredRow, StoredRows};
 use crate::walk::ROOT;
@@ -13,6 +13,9 @@ use acl_core::{Acl, Caller};
 use sorted_map::{RoomyMap, SortedMap};
 use std::alloc::{AllocError, Global};
 use std::marker::Model;
+
+/// The most operations of a transaction.
+pub const MOST_OPERATIONS: usize = 8;
 
 /// A table of files and folders, and the denials that it has answered.
 #[derive(Drop)]
@@ -63,20 +66,17 @@ impl Table {
         ensures answer { IsUnlessMemory result (replies (transaction self.old.rows t caller.now ops.now)) }
         ensures after { self.new ≡ left_by result self.old (table_after self.old t caller.now (transaction self.old.rows t caller.now ops.now)) }
     {
-        let [op] = ops else {
+        if ops.is_empty() || ops.len() > MOST_OPERATIONS {
             return Err(ApplyError::Refused(Refusal {
                 op: 0,
                 why: Why::OpCount,
             }));
-        };
-        let mut replies = Vec::with_capacity(self.alloc, 1)?;
-        match operate(&mut self.rows, self.alloc, t, 0, caller, op) {
-            Ok(answer) => {
-                replies.push(answer).unwrap();
-                Ok(Answers::from(replies))
-            }
-            Err(OpError::Refused(why)) => Err(self.refuse(t, caller, Refusal { op: 1, why })),
-            Err(OpError::Memory) => Err(ApplyError::Memory),
+        }
+        let mut answers = Answers::new(self.alloc);
+        match play(&mut self.rows, self.alloc, t, 0, caller, ops, &mut answers) {
+            Ok(()) => Ok(answers),
+            Err(ApplyError::Refused(refusal)) => Err(self.refuse(t, caller, refusal)),
+            Err(ApplyError::Memory) => Err(ApplyError::Memory),
         }
     }
 

@@ -87,11 +87,40 @@ fn push_answer(alloc: Global, text: &mut String, answer: &Answer) -> Result<(), 
             }
         }
         Answer::Made(number) => text.push_str(format!(in alloc; "made {number}")?.as_str())?,
+        Answer::Dropped => text.push_str("dropped")?,
+        Answer::Set => text.push_str("set")?,
+        Answer::Acl(acl) => {
+            text.push_str("acl")?;
+            for entry in acl.entries() {
+                let (tag, perms) = (entry.tag, entry.perms);
+                text.push_str(format!(in alloc; " {tag:?} {perms:?}")?.as_str())?;
+            }
+        }
     }
     Ok(())
 }
 
-/// Plays an operation of a caller, and compares what is answered.
+/// Plays operations of a caller, and compares what is answered. What memory was refused to is played
+/// again.
+fn play(
+    rt: &(impl Abort + AllocGlobal),
+    table: &mut Table,
+    t: u16,
+    caller: (u32, u32),
+    ops: &[Op],
+    want: &str,
+) -> Result<(), Fail> {
+    let caller = Caller::new(caller.0, caller.1, &[])?;
+    let mut outcome = table.apply(u64::from(t), &caller, ops);
+    if let Err(ApplyError::Memory) = outcome {
+        outcome = table.apply(u64::from(t), &caller, ops);
+    }
+    let got = words(rt.alloc(), &outcome)?;
+    assert_eq!(rt; got.as_str(), want, "transaction {t}");
+    Ok(())
+}
+
+/// The same for one operation.
 fn expect(
     rt: &(impl Abort + AllocGlobal),
     table: &mut Table,
@@ -100,11 +129,7 @@ fn expect(
     op: Op,
     want: &str,
 ) -> Result<(), Fail> {
-    let caller = Caller::new(caller.0, caller.1, &[])?;
-    let outcome = table.apply(u64::from(t), &caller, &[op]);
-    let got = words(rt.alloc(), &outcome)?;
-    assert_eq!(rt; got.as_str(), want, "transaction {t}");
-    Ok(())
+    play(rt, table, t, caller, &[op], want)
 }
 
 /// A file `/a` that its owner makes for itself, lisa and its group, and writes.
@@ -230,23 +255,127 @@ fn a_folder_has_1024_names(rt: HostRuntime) -> Result<(), Fail> {
     )
 }
 
-/// Each call is made again where its memory was refused: run with each allocation refused in turn.
-#[test]
-fn a_call_without_memory_changes_nothing(rt: HostRuntime) -> Result<(), Fail> {
-    let mut table = table(rt.alloc(), 0o777)?;
-    let caller = Caller::new(7, 7, &[])?;
-    for (t, want) in [(0, "made 1"), (1, "wrote"), (2, "read [1, 2]")] {
-        let op = match t {
-            0 => op(rt.alloc(), "/a", Action::Make(Kind::File, mode(0o600)?))?,
-            1 => write(rt.alloc(), "/a", &[1, 2])?,
-            _ => op(rt.alloc(), "/a", Action::Read)?,
-        };
-        let ops = [op];
-        let mut outcome = table.apply(t, &caller, &ops);
-        if let Err(ApplyError::Memory) = outcome {
-            outcome = table.apply(t, &caller, &ops);
+/// Operations, to which more can be added.
+#[derive(Drop)]
+struct Ops {
+    ops: Vec<Op>,
+}
+
+impl Ops {
+    fn new(alloc: Global) -> Ops {
+        Ops {
+            ops: Vec::new(alloc),
         }
-        assert_eq!(rt; words(rt.alloc(), &outcome)?.as_str(), want);
     }
+
+    fn add(&mut self, path: &str, action: Action) -> Result<(), Fail> {
+        let op = op(*self.ops.allocator(), path, action)?;
+        self.ops.push(op)?;
+        Ok(())
+    }
+
+    fn add_write(&mut self, path: &str, bytes: &[u8]) -> Result<(), Fail> {
+        let op = write(*self.ops.allocator(), path, bytes)?;
+        self.ops.push(op)?;
+        Ok(())
+    }
+}
+
+/// The folder `/d`, with the file `/d/f`, made by its owner.
+fn folder_and_file(rt: &(impl Abort + AllocGlobal)) -> Result<Table, Fail> {
+    let mut table = table(rt.alloc(), 0o755)?;
+    let mut made = Ops::new(rt.alloc());
+    made.add("/d", Action::Make(Kind::Folder, mode(0o750)?))?;
+    made.add("/d/f", Action::Make(Kind::File, mode(0o640)?))?;
+    made.add_write("/d/f", &[0x00, 0xff])?;
+    let want = "made 1; made 2; wrote";
+    play(rt, &mut table, 0, (1000, 100), &made.ops, want)?;
+    Ok(table)
+}
+
+#[test]
+fn folders_and_denials(rt: HostRuntime) -> Result<(), Fail> {
+    let mut table = folder_and_file(&rt)?;
+    let list = op(rt.alloc(), "/d", Action::List)?;
+    expect(&rt, &mut table, 1, (2000, 100), list, "list [102]")?;
+    let read = op(rt.alloc(), "/d/f", Action::Read)?;
+    let denied = "denied op 1 suite 1 wants Perms(1) by Other";
+    expect(&rt, &mut table, 2, (2000, 300), read, denied)?;
+    let drop = op(rt.alloc(), "/d/f", Action::Drop)?;
+    let denied = "denied op 1 suite 1 wants Perms(3) by GroupObj";
+    expect(&rt, &mut table, 3, (2000, 100), drop, denied)?;
+    let drop = op(rt.alloc(), "/d", Action::Drop)?;
+    let used = "refused NotEmpty op 1";
+    expect(&rt, &mut table, 4, (1000, 100), drop, used)?;
+    let denied: Vec<(u64, u32, u8)> = table
+        .audit()
+        .iter()
+        .map(|item| (item.t, item.uid, item.op))
+        .collect(rt.alloc())?;
+    assert_eq!(rt; denied.as_slice(), [(2, 2000, 1), (3, 2000, 1)].as_slice());
     Ok(())
+}
+
+#[test]
+fn lists_of_operations_are_taken_back(rt: HostRuntime) -> Result<(), Fail> {
+    let mut table = folder_and_file(&rt)?;
+    let shut = list(
+        rt.alloc(),
+        &[(Tag::UserObj, 0), (Tag::GroupObj, 4), (Tag::Other, 0)],
+    )?;
+    let mut changed = Ops::new(rt.alloc());
+    changed.add("/d/f", Action::SetAcl(shut))?;
+    changed.add("/d/f", Action::GetAcl)?;
+    let want = "set; acl UserObj Perms(0) GroupObj Perms(4) Other Perms(0)";
+    play(&rt, &mut table, 5, (1000, 100), &changed.ops, want)?;
+    let mut gone = Ops::new(rt.alloc());
+    gone.add("/d/f", Action::Drop)?;
+    gone.add("/d", Action::Drop)?;
+    let dropped = "dropped; dropped";
+    gone.add("/d/f", Action::Read)?;
+    let refused = "refused NoName op 3";
+    play(&rt, &mut table, 6, (1000, 100), &gone.ops, refused)?;
+    gone.ops.truncate(2);
+    play(&rt, &mut table, 7, (1000, 100), &gone.ops, dropped)
+}
+
+#[test]
+fn one_name_made_and_dropped(rt: HostRuntime) -> Result<(), Fail> {
+    let mut table = table(rt.alloc(), 0o755)?;
+    let mut once = Ops::new(rt.alloc());
+    once.add("/a", Action::Make(Kind::File, mode(0o600)?))?;
+    once.add_write("/a", &[7])?;
+    for action in [Action::Read, Action::Drop] {
+        once.add("/a", action)?;
+    }
+    once.add("/", Action::List)?;
+    let want = "made 1; wrote; read [7]; dropped; list";
+    play(&rt, &mut table, 0, (1000, 100), &once.ops, want)
+}
+
+#[test]
+fn a_list_is_its_owners(rt: HostRuntime) -> Result<(), Fail> {
+    let mut table = shared_file(&rt)?;
+    let minimal = Acl::from_mode(rt.alloc(), Mode::new(0o666).ok_or("a mode")?)?;
+    let other = op(rt.alloc(), "/a", Action::SetAcl(minimal))?;
+    let denied = "denied op 1 suite 1 wants Perms(0) by OwnerRule";
+    expect(&rt, &mut table, 2, (1001, 100), other, denied)?;
+    let get = op(rt.alloc(), "/a", Action::GetAcl)?;
+    let denied = "denied op 1 suite 1 wants Perms(4) by Other";
+    expect(&rt, &mut table, 3, (2000, 300), get, denied)
+}
+
+#[test]
+fn a_transaction_has_1_to_8_operations(rt: HostRuntime) -> Result<(), Fail> {
+    let mut table = table(rt.alloc(), 0o755)?;
+    let mut many = Ops::new(rt.alloc());
+    let refused = "refused OpCount op 0";
+    play(&rt, &mut table, 0, (1, 1), &many.ops, refused)?;
+    for _ in 0..8 {
+        many.add("/", Action::List)?;
+    }
+    let want = "list; list; list; list; list; list; list; list";
+    play(&rt, &mut table, 1, (1, 1), &many.ops, want)?;
+    many.add("/", Action::List)?;
+    play(&rt, &mut table, 2, (1, 1), &many.ops, refused)
 }

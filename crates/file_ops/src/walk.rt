@@ -4,13 +4,13 @@ ghost use Rattle.std.specs.Prelude.{◌≡◌};
 ghost use Rattle.file_ops.specs.Steps.{ok_map};
 ghost use Rattle.file_ops.specs.Stored.{plain};
 ghost use Rattle.file_ops.specs.Rows.{root};
-ghost use Rattle.file_ops.specs.Walks.{place_of, permit, step, walk, reach, to_change};
+ghost use Rattle.file_ops.specs.Walks.{place_of, permit, permit_others, owner_only, step, walk, reach, nothing, to_change};
 ghost use Rattle.file_ops.specs.Operations.{last_name, parent_of};
 ghost use Rattle.file_ops.specs.Found.{plain_place, plain_named, plain_parent};
 
 use crate::refusal::{Denial, Why};
 use crate::stored::{StoredRow, StoredRows};
-use acl_core::{Caller, Check, Perms};
+use acl_core::{Caller, Check, Decider, Perms};
 use sorted_map::RoomyMap;
 use suite_content::Name;
 
@@ -53,6 +53,37 @@ pub(crate) fn permit(caller: &Caller, place: Place<'_>, wanted: Perms) -> Result
             decider,
         })),
     }
+}
+
+/// The same, of whoever does not own it.
+pub(crate) fn permit_others(caller: &Caller, place: Place<'_>, wanted: Perms) -> Result<(), Why>
+    ensures { result ≡ permit_others caller.now (plain_place place.entry) wanted }
+{
+    if caller.uid() == place.row.owner {
+        return Ok(());
+    }
+    permit(caller, place, wanted)
+}
+
+/// Whether the caller owns a file or a folder.
+pub(crate) fn owner_only(caller: &Caller, place: Place<'_>) -> Result<(), Why>
+    ensures { result ≡ owner_only caller.now (plain_place place.entry) }
+{
+    if caller.uid() == place.row.owner {
+        return Ok(());
+    }
+    Err(Why::Denied(Denial {
+        suite: place.suite,
+        wanted: nothing(),
+        decider: Decider::OwnerRule,
+    }))
+}
+
+/// Nothing wanted.
+fn nothing() -> Perms
+    ensures { result ≡ nothing }
+{
+    Perms::of(false, false, false)
 }
 
 /// One step of a walk: the suite of a name in a folder, which the caller must be let search.

@@ -1,5 +1,5 @@
 -- The numbers of a caller's groups, read one after the other.
-use Rattle.std.proofs.Common.{◌≡◌, ℕ, ◌+◌, ◌<◌, ◌≤◌, List, [], ◌∷◌, ◌++◌, Option, Some, None, length, option_map, refl, ◌∙◌, ap, sym, append_assoc, arith}
+use Rattle.std.proofs.Common.{ℕ, List, ◌++◌, Option, option_map}
 use Rattle.suite_cli.specs.Words.{ids_in}
 
 -- the numbers, where some were read already

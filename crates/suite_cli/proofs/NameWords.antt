@@ -1,5 +1,5 @@
 -- Names, word by word.
-use Rattle.std.proofs.Common.{◌≡◌, ℕ, ◌+◌, ◌<◌, Bool, true, false, List, Option, Some, None, Result, Ok, Err, length, get_or, drop, map, ◌∙◌, ap}
+use Rattle.std.proofs.Common.{◌≡◌, ℕ, ◌+◌, ◌<◌, Bool, true, false, List, Option, Some, None, Ok, Err, length, get_or, drop, map, ◌∙◌, ap}
 use denote.Ref.{Bor}
 use Rattle.std.proofs.lemmas.List.{drop_more}
 use Rattle.acl_text.specs.Tables.{Tables}

@@ -1,5 +1,5 @@
 -- Playing a script line by line.
-use Rattle.std.proofs.Common.{◌≡◌, ℕ, ◌+◌, true, List, [], ◌∷◌, ◌++◌, Option, Some, None, Result, Ok, Err, is_ok, refl, ◌∙◌, ap, sym, append_assoc}
+use Rattle.std.proofs.Common.{◌≡◌, ℕ, ◌+◌, true, List, ◌++◌, Option, Some, None, Result, Ok, Err, is_ok, refl, ◌∙◌, ap, sym, append_assoc}
 use Rattle.byte_streams.specs.Streams.{Adds}
 use Rattle.file_ops.specs.Rows.{PlainTable, opening}
 use Rattle.file_ops.specs.Transactions.{replies, table_after, transaction}

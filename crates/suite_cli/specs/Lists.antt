@@ -1,15 +1,15 @@
 -- Access lists and modes as words.
-use Rattle.std.specs.Prelude.{ℕ, ◌+◌, ◌-◌, ◌*◌, ◌==◌, nat_le, Bool, ◌&&◌, if◌then◌else◌, List, [], ◌∷◌, length, fold, Option, Some, None, Result, Ok, Err}
+use Rattle.std.specs.Prelude.{ℕ, ◌+◌, ◌-◌, ◌*◌, ◌==◌, nat_le, Bool, ◌&&◌, if◌then◌else◌, List, length, fold, Option, Some, None, Result, Ok, Err}
 use Rattle.std.specs.List.{list_all, list_any, filter_map}
 use Rattle.acl_core.specs.declared.entry.Entry.{Entry}
 use Rattle.acl_core.specs.InOrder.{in_order}
-use Rattle.acl_text.specs.Layout.{is_white, line_feed}
+use Rattle.acl_text.specs.Layout.{is_white}
 use Rattle.acl_text.specs.Tables.{Tables}
 use Rattle.acl_text.specs.Texts.{readings, fault, entry_said}
 use Rattle.acl_text.specs.declared.read.TextFault.{TextFault}
 use Rattle.file_ops.specs.declared.operation.Init.{Init}
 use Rattle.file_ops.specs.declared.operation.Init.TheVariants as given
-use Rattle.file_ops.specs.Steps.{◌>>=◌, ◌>>◌}
+use Rattle.file_ops.specs.Steps.{◌>>=◌}
 use Rattle.suite_cli.specs.declared.fault.LineFault.{LineFault}
 use Rattle.suite_cli.specs.declared.fault.LineFault.TheVariants.{Form, List as no_list}
 use Rattle.suite_cli.specs.Words.{Word, Taken, word}

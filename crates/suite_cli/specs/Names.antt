@@ -1,5 +1,5 @@
 -- Names with their numbers as words of the command line: `user:lisa=1001`, `group:toolies=200`.
-use Rattle.std.specs.Prelude.{ℕ, ◌+◌, ◌==◌, nat_eq, nat_lt, Bool, if◌then◌else◌, List, [], ◌∷◌, ◌++◌, length, drop, codes, Option, Some, None, Result, Ok, Err}
+use Rattle.std.specs.Prelude.{ℕ, ◌+◌, ◌==◌, nat_eq, nat_lt, if◌then◌else◌, List, [], ◌∷◌, ◌++◌, length, drop, codes, Option, Some, None, Result, Ok, Err}
 use Rattle.std.specs.List.{starts_with, before_last, after_last}
 use Rattle.acl_text.specs.Tables.{Tables, name_fault}
 use Rattle.acl_text.specs.declared.names.NameError.{NameError}

@@ -1,12 +1,12 @@
 -- Operations as words: a verb, a path, and what the verb wants besides.
-use Rattle.std.specs.Prelude.{ℕ, Bool, if◌then◌else◌, List, [], ◌∷◌, codes, Option, Some, None, Result, Ok, Err}
+use Rattle.std.specs.Prelude.{ℕ, if◌then◌else◌, List, [], ◌∷◌, codes, Option, Some, Result, Ok}
 use Rattle.std.specs.List.{find, slice_split}
 use Rattle.std.specs.Result.{result_ok}
 use Rattle.std.specs.Str.{bytes_eq}
 use Rattle.hex.specs.Hex.{decode_of}
 use Rattle.acl_text.specs.Tables.{Tables}
 use Rattle.script_text.specs.Phrases.{is_semicolon}
-use Rattle.suite_content.specs.declared.content.Kind.TheVariants.{File}
+use Rattle.suite_content.specs.declared.content.Kind.TheVariants.{File, Folder}
 use Rattle.file_ops.specs.declared.operation.Op.{Op}
 use Rattle.file_ops.specs.declared.operation.Action.{Action}
 use Rattle.file_ops.specs.declared.operation.Action.TheVariants as action
@@ -16,7 +16,7 @@ use Rattle.suite_cli.specs.declared.fault.LineFault.TheVariants.{Form}
 use Rattle.suite_cli.specs.declared.operation.Verb.{Verb}
 use Rattle.suite_cli.specs.declared.operation.Verb.TheVariants as verb
 use Rattle.suite_cli.specs.Words.{Word, Taken, word, at_end}
-use Rattle.suite_cli.specs.Lists.{init}
+use Rattle.suite_cli.specs.Lists.{acl, init}
 
 -- how a verb is written
 abbrev pub spelling : Verb → Word
@@ -24,9 +24,13 @@ spelling verb.Read = codes "read"
 spelling verb.Write = codes "write"
 spelling verb.List = codes "list"
 spelling verb.File = codes "file"
+spelling verb.Folder = codes "folder"
+spelling verb.Drop = codes "drop"
+spelling verb.GetAcl = codes "getacl"
+spelling verb.SetAcl = codes "setacl"
 
 abbrev pub verbs : List Verb
-verbs = verb.Read ∷ verb.Write ∷ verb.List ∷ verb.File ∷ []
+verbs = verb.Read ∷ verb.Write ∷ verb.List ∷ verb.File ∷ verb.Folder ∷ verb.Drop ∷ verb.GetAcl ∷ verb.SetAcl ∷ []
 
 abbrev pub verb_in : Word → Option Verb
 verb_in text = find (λ verb. bytes_eq text (spelling verb)) verbs
@@ -51,6 +55,14 @@ act names verb.List words = Ok (record { value = action.List; rest = words })
 act names verb.File words = do
   given ← init names words
   Ok (record { value = action.Make File given.value; rest = given.rest })
+act names verb.Folder words = do
+  given ← init names words
+  Ok (record { value = action.Make Folder given.value; rest = given.rest })
+act names verb.Drop words = Ok (record { value = action.Drop; rest = words })
+act names verb.GetAcl words = Ok (record { value = action.GetAcl; rest = words })
+act names verb.SetAcl words = do
+  given ← acl names words
+  Ok (record { value = action.SetAcl given.value; rest = given.rest })
 
 -- an operation, which is all of its phrase
 abbrev pub operation : Tables → List Word → Result Op LineFault

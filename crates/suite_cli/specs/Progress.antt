@@ -9,7 +9,7 @@ use Rattle.suite_cli.specs.declared.fault.ScriptError.{ScriptError}
 use Rattle.suite_cli.specs.declared.fault.ScriptError.TheVariants as script
 use Rattle.suite_cli.specs.declared.script.ScriptReader.{ScriptReader}
 use Rattle.suite_cli.specs.declared.root.Root.{Root}
-use Rattle.suite_cli.specs.Scripts.{Job, Said, Script, jobs_from, script_from, scripted, with_job}
+use Rattle.suite_cli.specs.Scripts.{Job, Said, Script, jobs_from, scripted, with_job}
 use Rattle.suite_cli.specs.Scripts.Said.{Named, Asked}
 
 -- a line said a transaction, or a name that is now known

@@ -6,8 +6,8 @@ use Rattle.suite_cli.specs.declared.fault.ScriptError.{ScriptError}
 use Rattle.suite_cli.specs.declared.fault.ScriptError.TheVariants as script
 use Rattle.suite_cli.specs.declared.table.PlayError.{PlayError}
 use Rattle.suite_cli.specs.declared.table.PlayError.TheVariants.{WriteFailed, Memory}
-use Rattle.suite_cli.specs.Scripts.{Job, Script, script_in}
-use Rattle.suite_cli.specs.Outputs.{Output, acl_output, table_lines, table_output, word_fault_line}
+use Rattle.suite_cli.specs.Scripts.{Job, Script}
+use Rattle.suite_cli.specs.Outputs.{Output, acl_output, table_lines, word_fault_line}
 use Rattle.suite_cli.specs.declared.acl.NamesError.{NamesError}
 use Rattle.suite_cli.specs.declared.acl.NamesError.TheVariants as names
 use Rattle.std.specs.declared.alloc.AllocError.{AllocError}

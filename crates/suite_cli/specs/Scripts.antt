@@ -4,7 +4,6 @@ use Rattle.std.specs.Prelude.{ℕ, ◌+◌, ◌==◌, Bool, true, false, if◌th
 use Rattle.std.specs.List.{list_any}
 use Rattle.std.specs.Str.{bytes_eq}
 use Rattle.std.specs.Str.Lines.{lines}
-use Rattle.acl_core.specs.declared.entry.Entry.{Entry}
 use Rattle.acl_core.specs.Identity.{Identity}
 use Rattle.acl_text.specs.Tables.{Tables, name_fault}
 use Rattle.acl_text.specs.declared.names.NameError.{NameError}
@@ -17,7 +16,7 @@ use Rattle.suite_cli.specs.declared.fault.LineFault.{LineFault}
 use Rattle.suite_cli.specs.declared.fault.ScriptFault.{ScriptFault}
 use Rattle.suite_cli.specs.declared.root.Root.{Root}
 use Rattle.suite_cli.specs.declared.fault.LineFault.TheVariants.{Form, Order, BadName, NameTwice}
-use Rattle.suite_cli.specs.Words.{Word, Taken, word, id, at_end, caller}
+use Rattle.suite_cli.specs.Words.{Word, word, id, at_end, caller}
 use Rattle.suite_cli.specs.Lists.{init}
 use Rattle.suite_cli.specs.Operations.{operations}
 

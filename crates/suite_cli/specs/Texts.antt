@@ -5,7 +5,7 @@ use Rattle.hex.specs.Hex.{encode_lower}
 use Rattle.acl_core.specs.declared.entry.Tag.TheVariants as tag
 use Rattle.acl_core.specs.declared.check.Decider.{Decider}
 use Rattle.acl_core.specs.declared.check.Decider.TheVariants as decider
-use Rattle.acl_text.specs.Writing.{permission_text, tag_text}
+use Rattle.acl_text.specs.Writing.{permission_text, short_text, tag_text}
 use Rattle.file_ops.specs.declared.answer.Answer.{Answer}
 use Rattle.file_ops.specs.declared.answer.Answer.TheVariants as answer
 use Rattle.file_ops.specs.declared.refusal.Denial.{Denial}
@@ -30,6 +30,9 @@ reply_text (answer.Read bytes) = codes "read " ++ bytes_text bytes
 reply_text answer.Wrote = codes "wrote"
 reply_text (answer.List names) = codes "list " ++ names_text names
 reply_text (answer.Made suite) = codes "made " ++ decimal suite
+reply_text answer.Dropped = codes "dropped"
+reply_text (answer.Acl list) = codes "acl " ++ short_text list
+reply_text answer.Set = codes "set"
 
 -- the replies, with a semicolon and a space between each two
 abbrev pub replies_text : List Answer → List ℕ
@@ -62,6 +65,7 @@ why_text op (why.Denied denial) = denied_text op denial
 why_text op why.NoName = refused_text op (codes "F4")
 why_text op why.Exists = refused_text op (codes "F5")
 why_text op why.IsFolder = refused_text op (codes "F6")
+why_text op why.NotEmpty = refused_text op (codes "F7")
 why_text op why.TooLong = refused_text op (codes "F8")
 why_text op why.FolderFull = refused_text op (codes "F9")
 why_text op why.OpCount = refused_text op (codes "F10")

@@ -1,9 +1,9 @@
 -- The words of a line, read from the left: what they say, and the words after it.
-use Rattle.std.specs.Prelude.{ℕ, ◌+◌, ◌-◌, ◌*◌, ◌==◌, nat_le, Bool, ◌&&◌, if◌then◌else◌, List, [], ◌∷◌, length, fold, Option, Some, None, Result, Ok, Err}
-use Rattle.std.specs.List.{list_all, slice_split}
+use Rattle.std.specs.Prelude.{ℕ, ◌==◌, nat_le, if◌then◌else◌, List, [], ◌∷◌, length, Option, Some, None, Result, Ok, Err}
+use Rattle.std.specs.List.{slice_split}
 use Rattle.acl_core.specs.Identity.{Identity}
 use Rattle.script_text.specs.Numbers.{number_up_to}
-use Rattle.file_ops.specs.Steps.{◌>>=◌, ◌>>◌, found_or}
+use Rattle.file_ops.specs.Steps.{◌>>=◌, found_or}
 use Rattle.suite_cli.specs.declared.fault.LineFault.{LineFault}
 use Rattle.suite_cli.specs.declared.fault.LineFault.TheVariants.{Form}
 

@@ -6,12 +6,17 @@ mod code;
 mod commands;
 mod fault;
 mod job;
+#[cfg(test)]
+mod limits;
 mod line;
 mod operation;
 mod outcome;
 mod root;
 mod script;
 mod table;
+#[cfg(test)]
+mod tests;
 mod word;
 
-pub use commands::run;
+pub use byte_streams::{ByteIn, ByteOut};
+pub use commands::{lack_memory, run};

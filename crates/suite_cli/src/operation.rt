@@ -7,7 +7,7 @@ ghost use Rattle.suite_cli.specs.Operations.{act, operation, operations, verb_in
 ghost use Rattle.suite_cli.specs.Readings.{Gives, Reads};
 
 use crate::fault::{LineError, LineFault};
-use crate::word::{read_bytes, read_init};
+use crate::word::{read_bytes, read_init, read_list};
 use acl_text::Names;
 use file_ops::{Action, Op, PathText};
 use script_text::{Phrases, Words};
@@ -21,18 +21,34 @@ pub(crate) enum Verb {
     Write,
     List,
     File,
+    Folder,
+    Drop,
+    GetAcl,
+    SetAcl,
 }
 
 impl Verb {
     fn of(word: &[u8]) -> Option<Verb>
         ensures { result ≡ verb_in word.now }
     {
-        match word {
-            b"read" => Some(Verb::Read),
-            b"write" => Some(Verb::Write),
-            b"list" => Some(Verb::List),
-            b"file" => Some(Verb::File),
-            _ => None,
+        if word == b"read".as_slice() {
+            Some(Verb::Read)
+        } else if word == b"write".as_slice() {
+            Some(Verb::Write)
+        } else if word == b"list".as_slice() {
+            Some(Verb::List)
+        } else if word == b"file".as_slice() {
+            Some(Verb::File)
+        } else if word == b"folder".as_slice() {
+            Some(Verb::Folder)
+        } else if word == b"drop".as_slice() {
+            Some(Verb::Drop)
+        } else if word == b"getacl".as_slice() {
+            Some(Verb::GetAcl)
+        } else if word == b"setacl".as_slice() {
+            Some(Verb::SetAcl)
+        } else {
+            None
         }
     }
 }
@@ -88,6 +104,16 @@ fn read_action(
         Verb::File => {
             let init = read_init(alloc, names, phrase_word(phrases)?)?;
             Ok(Action::Make(Kind::File, init))
+        }
+        Verb::Folder => {
+            let init = read_init(alloc, names, phrase_word(phrases)?)?;
+            Ok(Action::Make(Kind::Folder, init))
+        }
+        Verb::Drop => Ok(Action::Drop),
+        Verb::GetAcl => Ok(Action::GetAcl),
+        Verb::SetAcl => {
+            let acl = read_list(alloc, names, phrase_word(phrases)?)?;
+            Ok(Action::SetAcl(acl))
         }
     }
 }

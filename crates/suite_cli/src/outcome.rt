@@ -5,7 +5,7 @@ ghost use Rattle.std.specs.List.{flat_map};
 ghost use Rattle.suite_cli.specs.Texts.{bytes_text, decider_text, denied_text, names_text, outcome_line, refused_text, replies_text, reply_text, why_text};
 
 use acl_core::{Decider, Tag};
-use acl_text::{append_tag, permission_text};
+use acl_text::{append_short, append_tag, permission_text};
 use file_ops::{Answer, Denial, Refusal, Why};
 use script_text::push_number;
 use std::alloc::{AllocError, Global};
@@ -82,6 +82,12 @@ fn push_reply(alloc: Global, text: &mut Vec<u8>, reply: &Answer) -> Result<(), A
             text.extend_from_slice(b"made ")?;
             push_number(text, *suite)
         }
+        Answer::Dropped => text.extend_from_slice(b"dropped"),
+        Answer::Acl(acl) => {
+            text.extend_from_slice(b"acl ")?;
+            append_short(text, acl)
+        }
+        Answer::Set => text.extend_from_slice(b"set"),
     }
 }
 
@@ -121,6 +127,7 @@ fn push_why(text: &mut Vec<u8>, op: u8, why: Why) -> Result<(), AllocError>
         Why::NoName => push_code(text, op, b"F4"),
         Why::Exists => push_code(text, op, b"F5"),
         Why::IsFolder => push_code(text, op, b"F6"),
+        Why::NotEmpty => push_code(text, op, b"F7"),
         Why::TooLong => push_code(text, op, b"F8"),
         Why::FolderFull => push_code(text, op, b"F9"),
         Why::OpCount => push_code(text, op, b"F10"),

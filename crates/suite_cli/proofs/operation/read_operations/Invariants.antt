@@ -1,6 +1,4 @@
 use Rattle.std.proofs.Common.{◌≡◌, ◌∷◌, length}
-use Rattle.std.specs.List.{slice_split}
-use Rattle.script_text.specs.Phrases.{is_semicolon}
 use Rattle.suite_cli.specs.Operations.{operations_in}
 use Rattle.suite_cli.proofs.Steps.{ops_after}
 use Rattle.suite_cli.proofs.operation.read_operations.Given as goal

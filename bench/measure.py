@@ -1,0 +1,49 @@
+"""Runs the built program on an input, and says how long it took and how much memory it held at most."""
+import os
+import subprocess
+import sys
+import tempfile
+
+PROGRAM = os.path.join(os.path.dirname(os.path.abspath(__file__)), "..", "crates", "suites", "out", "suites")
+
+# A child's peak begins with that of the process that starts it, so a process of its own starts it, which is small.
+STARTER = """
+import os, sys, time
+begin = time.monotonic()
+child = os.posix_spawn(sys.argv[2], sys.argv[2:], os.environ)
+_, status, usage = os.wait4(child, 0)
+seconds = time.monotonic() - begin
+with open(sys.argv[1], "w") as figures:
+    figures.write(f"{os.waitstatus_to_exitcode(status)} {seconds} {usage.ru_maxrss}")
+"""
+
+
+def run(words, data):
+    """The status, the output, the seconds and the peak memory (MiB) of a run of these words, on these bytes."""
+    if not os.path.exists(words[0]):
+        sys.exit(f"{words[0]} is not there: run ./suites --help first, which builds it")
+    with tempfile.TemporaryFile() as source, tempfile.TemporaryFile() as target, tempfile.NamedTemporaryFile() as told:
+        source.write(data)
+        source.seek(0)
+        starter = [sys.executable, "-I", "-S", "-c", STARTER, told.name, *words]
+        subprocess.run(starter, stdin=source, stdout=target, check=True)
+        target.seek(0)
+        status, seconds, peak = told.read().decode().split()
+        return int(status), target.read(), float(seconds), int(peak) / 1024
+
+
+def least(words, data, times=5):
+    """The same, with the least seconds of some runs."""
+    runs = [run(words, data) for _ in range(times)]
+    return min(runs, key=lambda one: one[2])
+
+
+def suites(words, data, times=5):
+    """The same, of the program `suites`."""
+    return least([PROGRAM, *words], data, times)
+
+
+def head(title):
+    """Begins a table of figures."""
+    idle = least(["/bin/true"], b"")
+    print(f"{title} ({os.cpu_count()} cores; a program that does nothing: {1000 * idle[2]:.1f} ms, {idle[3]:.1f} MiB)")

@@ -1,0 +1,52 @@
+//! The operations of a transaction, one after the other.
+
+ghost use Rattle.std.specs.Prelude.{◌+◌, ◌<◌, ◌≤◌, ◌^◌, length, OnErr};
+ghost use Rattle.file_ops.specs.Stored.{plain};
+ghost use Rattle.file_ops.specs.Restored.{Restores};
+ghost use Rattle.file_ops.specs.Transactions.{play};
+ghost use Rattle.file_ops.specs.Done.{Plays};
+
+use crate::act::{Done, OpError, operate};
+use crate::answer::Answers;
+use crate::operation::Op;
+use crate::refusal::{ApplyError, Refusal};
+use crate::stored::StoredRows;
+use acl_core::Caller;
+use std::alloc::Global;
+
+/// Plays the operations from a place on, counted from 0, and adds their replies. Where one is refused,
+/// all of them are taken back, the last one first: what each changed waits on the stack, of which at
+/// most 8 operations take little.
+pub(crate) fn play(
+    rows: &mut StoredRows,
+    alloc: Global,
+    t: u64,
+    at: u8,
+    caller: &Caller,
+    ops: &[Op],
+    answers: &mut Answers,
+) -> Result<(), ApplyError>
+    requires number { t < 2 ^ 60 }
+    requires few { at + length ops.now ≤ 8 }
+    ensures plays { Plays result answers.new rows.new (play (record { answers = answers.old; rows = plain rows.old }) t at caller.now ops.now) }
+    ensures err { OnErr result (Restores rows.old rows.new) }
+{
+    let Some((op, later)) = ops.split_first() else {
+        return Ok(());
+    };
+    let Done { answer, change } = match operate(rows, alloc, t, at, caller, op) {
+        Ok(done) => done,
+        Err(OpError::Refused(why)) => {
+            return Err(ApplyError::Refused(Refusal { op: at + 1, why }));
+        }
+        Err(OpError::Memory) => return Err(ApplyError::Memory),
+    };
+    let outcome = match answers.push(answer) {
+        Ok(()) => play(rows, alloc, t, at + 1, caller, later, answers),
+        Err(_) => Err(ApplyError::Memory),
+    };
+    if outcome.is_err() {
+        change.take_back(rows);
+    }
+    outcome
+}
