@@ -1,0 +1,195 @@
+-- What was written is read again, whatever follows.
+use Rattle.std.proofs.Common.{◌≡◌, ℕ, suc, ◌^◌, ◌<◌, false, ltb, List, [], ◌∷◌, ◌++◌, length, map, Result, Ok, refl, ap, ◌∙◌, append_assoc, arith}
+use Rattle.std.specs.Prelude.{All}
+use Rattle.std.specs.List.{flat_map, AllByRecursion}
+use Rattle.std.specs.Int.{Width, w16, w32, w64, byte_len, from_be_bytes, to_be_bytes}
+use Rattle.std.proofs.lemmas.Bool.{le-ltb}
+use Rattle.std.proofs.lemmas.List.{take_at, drop_at, length-append}
+use Rattle.std.proofs.lemmas.List.Concat.{flat_map-cons}
+use Rattle.std.proofs.lemmas.List.Elements.{recursion_from_All}
+use Rattle.std.proofs.lemmas.Nat.{from_be_bytes-to_be_bytes_2, from_be_bytes-to_be_bytes_4, from_be_bytes-to_be_bytes_8}
+use Rattle.acl_core.specs.declared.entry.Entry.{Entry}
+use Rattle.acl_core.specs.declared.entry.Tag.{Tag}
+use Rattle.acl_core.specs.declared.entry.Tag.TheVariants.{UserObj, User, GroupObj, Group, Mask, Other}
+use Rattle.acl_core.specs.Permissions.{number_of}
+use Rattle.acl_core.specs.Tags.{qualifier}
+use Rattle.vote_core.specs.Quorums.{Configuration, Representative}
+use Rattle.suite_content.specs.Contents.{kind_of}
+use Rattle.suite_content.specs.declared.content.Content.{Content}
+use Rattle.suite_content.specs.declared.content.Content.TheVariants.{Bytes, Names}
+use Rattle.suite_prefix.specs.declared.copies.PrefixKind.{PrefixKind}
+use Rattle.suite_prefix.specs.declared.copies.PrefixKind.TheVariants.{Absent, File, Folder}
+use Rattle.suite_prefix.specs.declared.copies.Prefix.{Prefix}
+use Rattle.suite_prefix.specs.declared.copies.Replica.{Replica}
+use Rattle.suite_prefix.specs.Bytes.{kind_code, tag_code, entry_bytes, list_bytes, representative_bytes, votes_bytes, identity_bytes, name_bytes, content_bytes, bytes_of}
+use Rattle.suite_prefix.specs.Copies.{IsCopy, PrefixFits, IsContent, held_by}
+use Rattle.suite_prefix.proofs.Joins.{five_pieces}
+use Rattle.suite_prefix.proofs.Reading.{Fault, Identity, number_at, bytes_at, kind_of_code, identity_at, code_at, entry_at, representative_at, name_at, many_at, list_at, votes_at, file_at, folder_at, content_at, shape_at, entry_shape, shape_of}
+
+-- ---- numbers and bytes
+
+pub record IsWide (w : Width) (limit : ℕ) : Type 0 where
+  pub len : (n : ℕ) → length (to_be_bytes w n) ≡ byte_len w
+  pub again : (n : ℕ) → n < limit → from_be_bytes w (to_be_bytes w n) ≡ n
+
+pub wide16 : IsWide w16 (2 ^ 16)
+wide16 = record { len = λ n. refl; again = λ n lt. from_be_bytes-to_be_bytes_2 n lt }
+
+pub wide32 : IsWide w32 (2 ^ 32)
+wide32 = record { len = λ n. refl; again = λ n lt. from_be_bytes-to_be_bytes_4 n lt }
+
+pub wide64 : IsWide w64 (2 ^ 64)
+wide64 = record { len = λ n. refl; again = λ n lt. from_be_bytes-to_be_bytes_8 n lt }
+
+pub number_again : (w : Width) (limit : ℕ) (wide : IsWide w limit) (n : ℕ) (rest : List ℕ) → n < limit → number_at w (to_be_bytes w n ++ rest) ≡ Ok (n, rest)
+number_again w limit wide n rest lt =
+    let len = wide.len n in
+    let long : ltb (length (to_be_bytes w n ++ rest)) (byte_len w) ≡ false = le-ltb _ _ (omega (arith, length-append (to_be_bytes w n) rest)) in
+    rw (long, take_at (to_be_bytes w n) rest (byte_len w) len, drop_at (to_be_bytes w n) rest (byte_len w) len, wide.again n lt) refl
+
+pub bytes_again : (bytes rest : List ℕ) → bytes_at (length bytes) (bytes ++ rest) ≡ Ok (bytes, rest)
+bytes_again bytes rest =
+    let long : ltb (length (bytes ++ rest)) (length bytes) ≡ false = le-ltb _ _ (omega (arith, length-append bytes rest)) in
+    rw (long, take_at bytes rest (length bytes) refl, drop_at bytes rest (length bytes) refl) refl
+
+-- ---- so many of a kind
+
+pub many_again : {X Y : Type 0} (one : List ℕ → Result (Y × List ℕ) Fault) (write : X → List ℕ) (shape : X → Y) (Fits : X → Type 0)
+    → ((x : X) (rest : List ℕ) → Fits x → one (write x ++ rest) ≡ Ok (shape x, rest))
+    → (xs : List X) (rest : List ℕ) → AllByRecursion Fits xs → many_at one (length xs) (flat_map write xs ++ rest) ≡ Ok (map shape xs, rest)
+unfolding many_at
+many_again one write shape Fits again [] rest fits = refl
+many_again one write shape Fits again (x ∷ xs) rest fits =
+    let regrouped : flat_map write (x ∷ xs) ++ rest ≡ write x ++ (flat_map write xs ++ rest) = ap (λ t. t ++ rest) (flat_map-cons write x xs) ∙ append_assoc (write x) (flat_map write xs) rest in
+    ap (many_at one (suc (length xs))) regrouped ∙ rw (again x (flat_map write xs ++ rest) fits.0, many_again one write shape Fits again xs rest fits.1) refl
+
+-- ---- entries and representatives
+
+code_again : (tag : Tag) (rest : List ℕ) → code_at (tag_code tag ∷ rest) ≡ Ok (tag_code tag, rest)
+code_again UserObj rest = refl
+code_again (User id) rest = refl
+code_again GroupObj rest = refl
+code_again (Group id) rest = refl
+code_again Mask rest = refl
+code_again Other rest = refl
+
+entry_again : (entry : Entry) (rest : List ℕ) → qualifier entry.tag < 2 ^ 32 → entry_at (entry_bytes entry ++ rest) ≡ Ok (entry_shape entry, rest)
+unfolding entry_at
+entry_again entry rest fits =
+    let number = to_be_bytes w32 (qualifier entry.tag) in
+    let regrouped : entry_bytes entry ++ rest ≡ tag_code entry.tag ∷ (number ++ (number_of entry.perms ∷ rest)) = refl in
+    ap entry_at regrouped ∙ rw (code_again entry.tag (number ++ (number_of entry.perms ∷ rest)), number_again w32 (2 ^ 32) wide32 (qualifier entry.tag) (number_of entry.perms ∷ rest) fits) refl
+
+representative_again : (rep : Representative) (rest : List ℕ) → Unit {0} → representative_at (representative_bytes rep ++ rest) ≡ Ok (rep, rest)
+unfolding representative_at
+representative_again rep rest fits = refl
+
+name_again : (entry : List ℕ × ℕ) (rest : List ℕ) → entry.1 < 2 ^ 64 → name_at (name_bytes entry ++ rest) ≡ Ok (entry, rest)
+unfolding name_at
+name_again entry rest fits =
+    let suite = to_be_bytes w64 entry.1 in
+    let regrouped : name_bytes entry ++ rest ≡ length entry.0 ∷ (entry.0 ++ (suite ++ rest)) = ap (λ t. length entry.0 ∷ t) (append_assoc entry.0 suite rest) in
+    ap name_at regrouped ∙ rw (bytes_again entry.0 (suite ++ rest), number_again w64 (2 ^ 64) wide64 entry.1 rest fits) refl
+
+-- ---- the parts of a copy
+
+list_again : (entries : List Entry) (rest : List ℕ) → All (λ entry. qualifier entry.tag < 2 ^ 32) entries → list_at (list_bytes entries ++ rest) ≡ Ok (map entry_shape entries, rest)
+unfolding list_at
+list_again entries rest fits =
+    many_again entry_at entry_bytes entry_shape (λ entry. qualifier entry.tag < 2 ^ 32) entry_again entries rest (recursion_from_All (λ entry. qualifier entry.tag < 2 ^ 32) entries fits)
+
+all_units : {X : Type 0} (xs : List X) → AllByRecursion (λ x. Unit {0}) xs
+all_units [] = tt
+all_units (x ∷ xs) = (tt, all_units xs)
+
+same_map : {X : Type 0} (xs : List X) → map (λ x. x) xs ≡ xs
+same_map [] = refl
+same_map (x ∷ xs) = ap (λ t. x ∷ t) (same_map xs)
+
+reps_again : (reps : List Representative) (rest : List ℕ) → many_at representative_at (length reps) (flat_map representative_bytes reps ++ rest) ≡ Ok (reps, rest)
+reps_again reps rest =
+    many_again representative_at representative_bytes (λ rep. rep) (λ rep. Unit {0}) representative_again reps rest (all_units reps) ∙ ap (λ xs. Ok (xs, rest)) (same_map reps)
+
+names_again : (names : List (List ℕ × ℕ)) (rest : List ℕ) → All (λ entry. entry.1 < 2 ^ 64) names → many_at name_at (length names) (flat_map name_bytes names ++ rest) ≡ Ok (names, rest)
+names_again names rest fits =
+    many_again name_at name_bytes (λ entry. entry) (λ entry. entry.1 < 2 ^ 64) name_again names rest (recursion_from_All (λ entry. entry.1 < 2 ^ 64) names fits) ∙ ap (λ xs. Ok (xs, rest)) (same_map names)
+
+votes_again : (votes : Configuration) (rest : List ℕ) → votes.r < 2 ^ 16 → votes.w < 2 ^ 16 → votes_at (votes_bytes votes ++ rest) ≡ Ok (votes, rest)
+unfolding votes_at
+votes_again votes rest r_fits w_fits =
+    let reps = flat_map representative_bytes votes.reps in
+    let r = to_be_bytes w16 votes.r in
+    let w = to_be_bytes w16 votes.w in
+    let regrouped : votes_bytes votes ++ rest ≡ length votes.reps ∷ (reps ++ (r ++ (w ++ rest))) =
+    ap (λ t. length votes.reps ∷ t) (append_assoc (reps ++ r) w rest ∙ append_assoc reps r (w ++ rest)) in
+    ap votes_at regrouped
+    ∙ rw (reps_again votes.reps (r ++ (w ++ rest)), number_again w16 (2 ^ 16) wide16 votes.r (w ++ rest) r_fits, number_again w16 (2 ^ 16) wide16 votes.w rest w_fits) refl
+
+kind_again : (kind : PrefixKind) → kind_of_code (kind_code kind) ≡ Ok kind
+kind_again Absent = refl
+kind_again File = refl
+kind_again Folder = refl
+
+identity_of : Prefix → Identity
+identity_of prefix = record { pver = prefix.pver; kind = prefix.kind; owner = prefix.owner; group = prefix.group }
+
+identity_again : (prefix : Prefix) (rest : List ℕ) → PrefixFits prefix → identity_at (identity_bytes prefix ++ rest) ≡ Ok (identity_of prefix, rest)
+unfolding identity_at identity_of
+identity_again prefix rest fits =
+    let pver = to_be_bytes w64 prefix.pver in
+    let owner = to_be_bytes w32 prefix.owner in
+    let group = to_be_bytes w32 prefix.group in
+    let regrouped : identity_bytes prefix ++ rest ≡ pver ++ (kind_code prefix.kind ∷ (owner ++ (group ++ rest))) = refl in
+    ap identity_at regrouped
+    ∙ rw (
+      number_again w64 (2 ^ 64) wide64 prefix.pver (kind_code prefix.kind ∷ (owner ++ (group ++ rest))) fits.pver,
+      kind_again prefix.kind,
+      number_again w32 (2 ^ 32) wide32 prefix.owner (group ++ rest) fits.owner,
+      number_again w32 (2 ^ 32) wide32 prefix.group rest fits.group,
+    ) refl
+
+file_again : (bytes rest : List ℕ) → length bytes < 2 ^ 32 → file_at (content_bytes (Bytes bytes) ++ rest) ≡ Ok (Bytes bytes, rest)
+unfolding file_at
+file_again bytes rest fits =
+    let len = to_be_bytes w32 (length bytes) in
+    ap file_at (append_assoc len bytes rest) ∙ rw (number_again w32 (2 ^ 32) wide32 (length bytes) (bytes ++ rest) fits, bytes_again bytes rest) refl
+
+folder_again : (names : List (List ℕ × ℕ)) (rest : List ℕ) → length names < 2 ^ 16 → All (λ entry. entry.1 < 2 ^ 64) names → folder_at (content_bytes (Names names) ++ rest) ≡ Ok (Names names, rest)
+unfolding folder_at
+folder_again names rest fits suites =
+    let len = to_be_bytes w16 (length names) in
+    ap folder_at (append_assoc len (flat_map name_bytes names) rest)
+    ∙ rw (number_again w16 (2 ^ 16) wide16 (length names) (flat_map name_bytes names ++ rest) fits, names_again names rest suites) refl
+
+content_again : (kind : PrefixKind) (content : Content) (rest : List ℕ) → kind_of content ≡ held_by kind → IsContent content → content_at kind (content_bytes content ++ rest) ≡ Ok (content, rest)
+content_again Absent (Bytes bytes) rest agree fits = file_again bytes rest (omega (arith, fits.few))
+content_again File (Bytes bytes) rest agree fits = file_again bytes rest (omega (arith, fits.few))
+content_again Folder (Names names) rest agree fits = folder_again names rest (omega (arith, fits.few)) fits.suites_fit
+content_again Absent (Names names) rest agree fits = absurd cc
+content_again File (Names names) rest agree fits = absurd cc
+content_again Folder (Bytes bytes) rest agree fits = absurd cc
+
+-- ---- a copy
+
+pub shape_again : (copy : Replica) (rest : List ℕ) → IsCopy copy → shape_at (bytes_of copy ++ rest) ≡ Ok (shape_of copy, rest)
+unfolding shape_at identity_of
+shape_again copy rest valid =
+    let p = copy.prefix in
+    let identity = identity_bytes p in
+    let list = list_bytes p.acl in
+    let votes = votes_bytes p.votes in
+    let dver = to_be_bytes w64 copy.dver in
+    let content = content_bytes copy.content in
+    let after_dver = content ++ rest in
+    let after_votes = dver ++ after_dver in
+    let after_list = votes ++ after_votes in
+    let regrouped : bytes_of copy ++ rest ≡ 1 ∷ (identity ++ (list ++ after_list)) =
+    ap (λ t. 1 ∷ t) (five_pieces identity list votes dver content rest) in
+    ap shape_at regrouped
+    ∙ rw (
+      identity_again p (list ++ after_list) valid.prefix.fits,
+      list_again p.acl after_list valid.prefix.fits.qualifiers,
+      votes_again p.votes after_votes valid.prefix.fits.r valid.prefix.fits.w,
+      number_again w64 (2 ^ 64) wide64 copy.dver after_dver valid.dver_fits,
+      content_again p.kind copy.content rest valid.kinds_agree valid.content,
+    ) refl

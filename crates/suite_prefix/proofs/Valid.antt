@@ -1,0 +1,39 @@
+-- Valid prefixes are those of valid copies.
+use Rattle.std.proofs.Common.{◌≡◌, refl, subst, arith}
+use Rattle.std.specs.List.Sorted.{IsStrictlySortedBy}
+use Rattle.suite_content.specs.Contents.{kind_of, empty_content}
+use Rattle.suite_content.specs.declared.content.Kind.{Kind}
+use Rattle.suite_content.specs.declared.content.Kind.TheVariants as holds
+use Rattle.suite_prefix.specs.declared.copies.Prefix.{Prefix}
+use Rattle.suite_prefix.specs.declared.copies.Replica.{Replica}
+use Rattle.suite_prefix.specs.Copies.{IsPrefix, IsOfSomeCopy, IsContent, held_by}
+
+empty_fits : (kind : Kind) → IsContent (empty_content kind)
+unfolding IsStrictlySortedBy
+empty_fits holds.File = record { few = omega arith; bytes_fit = λ i d in_list. absurd (omega arith) }
+empty_fits holds.Folder = record { few = omega arith; rising = tt; are_names = λ i d in_list. absurd (omega arith); suites_fit = λ i d in_list. absurd (omega arith) }
+
+empty_is_of : (kind : Kind) → kind_of (empty_content kind) ≡ kind
+empty_is_of holds.File = refl
+empty_is_of holds.Folder = refl
+
+-- a valid prefix is that of a copy whose content has version 0
+pub of_some_copy : (prefix : Prefix) → IsPrefix prefix → IsOfSomeCopy prefix
+of_some_copy prefix valid =
+    let kind = held_by prefix.kind in
+    let made : Replica = record { prefix = prefix; dver = 0; content = empty_content kind } in
+    record {
+      copy = made;
+      valid = record {
+        prefix = valid;
+        content = empty_fits kind;
+        kinds_agree = empty_is_of kind;
+        absent_holds_version_0 = λ absent. refl;
+        version_0_is_empty = λ none. rw empty_is_of refl;
+        dver_fits = omega arith;
+      };
+      has_it = refl;
+    }
+
+pub is_prefix : (prefix : Prefix) → IsOfSomeCopy prefix → IsPrefix prefix
+is_prefix prefix some = subst IsPrefix some.has_it some.valid.prefix

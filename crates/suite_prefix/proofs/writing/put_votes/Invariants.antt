@@ -1,0 +1,7 @@
+use Rattle.std.proofs.Common.{◌≡◌, [], ◌∷◌, ◌++◌, length, take}
+use Rattle.std.specs.List.{flat_map}
+use Rattle.suite_prefix.specs.Bytes.{representative_bytes}
+use Rattle.suite_prefix.proofs.writing.put_votes.Given as goal
+
+abbrev pub invariant-loop-server : goal.invariant-loop-server
+invariant-loop-server l = l.out.items ≡ (l.fn.out.items ++ length l.reps ∷ []) ++ flat_map representative_bytes (take l.server-index l.reps)

@@ -1,0 +1,56 @@
+-- What a service is opened with, and what keeps it from being opened.
+use Rattle.std.specs.Prelude.{ℕ, ◌<◌, ◌≤◌, ◌==◌, nat_lt, nat_le, Bool, ◌||◌, List, [], ◌∷◌, All, Option}
+use Rattle.std.specs.List.{list_any, find}
+use Rattle.acl_core.specs.declared.entry.Entry.{Entry}
+use Rattle.vote_core.specs.Quorums.{Configuration}
+use Rattle.suite_prefix.specs.declared.settings.SettingsFault.{SettingsFault}
+use Rattle.suite_prefix.specs.declared.settings.SettingsFault.TheVariants.{BadCount, UnknownServer, BadCache}
+
+-- how many servers and agents there are, the votes that a file or a folder has before it has others, whose the root
+-- is and who may do what there, and the limits of each agent's cache
+pub record Opening : Type 0 where
+  pub servers : ℕ
+  pub agents : ℕ
+  pub c0 : Configuration
+  pub root_owner : ℕ
+  pub root_group : ℕ
+  pub root_acl : List Entry
+  pub budget : ℕ
+  pub quota : ℕ
+  pub slots : ℕ
+
+-- limits of this project
+abbrev pub most_servers : ℕ
+most_servers = 16
+
+abbrev pub most_agents : ℕ
+most_agents = 64
+
+abbrev pub largest_cache : ℕ
+largest_cache = 268435456
+
+abbrev pub most_slots : ℕ
+most_slots = 4096
+
+-- settings that are accepted
+pub record IsAccepted (given : Opening) : Type 0 where
+  pub some_servers : (1 ≤ given.servers) × (given.servers ≤ most_servers)
+  pub some_agents : (1 ≤ given.agents) × (given.agents ≤ most_agents)
+  pub known_servers : All (λ rep. rep.0 < given.servers) given.c0.reps
+  pub budget_fits : given.budget ≤ largest_cache
+  pub quota_fits : given.quota ≤ largest_cache
+  pub slots_fit : given.slots ≤ most_slots
+
+-- whether settings have a fault
+abbrev pub has_fault : SettingsFault → Opening → Bool
+has_fault BadCount given = (given.servers == 0) || nat_lt most_servers given.servers || (given.agents == 0) || nat_lt most_agents given.agents
+has_fault UnknownServer given = list_any (λ rep. nat_le given.servers rep.0) given.c0.reps
+has_fault BadCache given = nat_lt largest_cache given.budget || nat_lt largest_cache given.quota || nat_lt most_slots given.slots
+
+-- the faults in the order in which they are answered
+abbrev pub faults : List SettingsFault
+faults = BadCount ∷ UnknownServer ∷ BadCache ∷ []
+
+-- the first fault of settings
+abbrev pub first_fault : Opening → Option SettingsFault
+first_fault given = find (λ fault. has_fault fault given) faults

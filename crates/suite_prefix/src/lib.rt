@@ -1,0 +1,22 @@
+//! Prefixes, copies and their bytes, and settings.
+//!
+//! A [`Replica`] is what a server stores of a file or a folder, and what it sends: the [`Prefix`] (its
+//! version, kind, owner, group, access list and votes), the content's version, and the content. Which
+//! copies are valid stands in `specs/Copies.antt`, and the bytes of a copy in `specs/Bytes.antt`.
+//! [`Settings`] are what a service is opened with.
+//!
+//! In a contract a prefix and a copy are the records of their fields, and `≡` compares them.
+#![tactic(auto)]
+
+mod copies;
+mod settings;
+mod validity;
+mod writing;
+
+pub use copies::{Prefix, PrefixKind, Replica};
+pub use settings::{Settings, SettingsFault};
+pub use suite_content::Content;
+pub use writing::{encode, no_bytes_begin_others};
+
+#[cfg(test)]
+mod tests;

@@ -1,0 +1,194 @@
+//! What a service is opened with.
+
+ghost use Rattle.std.specs.Prelude.{◌≡◌, ◌≤◌, ◌<◌, ◌↔◌, All, IsOk, IfOk, nat_le};
+ghost use Rattle.std.specs.List.{list_any};
+ghost use Rattle.std.specs.Result.{result_err};
+ghost use Rattle.suite_prefix.specs.SettingsRules.{IsAccepted, first_fault};
+
+use acl_core::Acl;
+use std::alloc::AllocError;
+use std::marker::Model;
+use vote_core::{MAX_SERVERS, Votes};
+
+/// The most agents that there are.
+pub const MAX_AGENTS: usize = 64;
+
+/// The most bytes of an agent's cache, and of a site's part of it.
+pub const LARGEST_CACHE: usize = 268_435_456;
+
+/// The most entries of an agent's cache.
+pub const MOST_SLOTS: usize = 4_096;
+
+/// Why settings are refused, in the order in which it is answered.
+#[derive(Clone, Copy, Debug, PartialEq, Eq)]
+pub enum SettingsFault {
+    /// There are not 1 to 16 servers, or not 1 to 64 agents.
+    BadCount,
+    /// The opening votes list a server that there is not.
+    UnknownServer,
+    /// The cache's budget, its quota or its slots are above their limit.
+    BadCache,
+}
+
+/// How many servers and agents there are, the opening votes, the root's owner, group and list, and the
+/// limits of each agent's cache.
+#[derive(Debug, Drop)]
+pub struct Settings {
+    servers: usize,
+    agents: usize,
+    c0: Votes,
+    root_owner: u32,
+    root_group: u32,
+    root_acl: Acl,
+    budget: usize,
+    quota: usize,
+    slots: usize,
+}
+
+impl Model for Settings {
+    ghost use Rattle.suite_prefix.specs.SettingsRules.{Opening, IsAccepted};
+    ghost use Rattle.suite_prefix.specs.SettingsView.{opening_of};
+
+    ghost Value = { Opening };
+
+    ghost view = { opening_of };
+
+    ghost invariant = { λ settings. IsAccepted (opening_of settings) };
+}
+
+impl Clone for Settings {
+    ghost is_clone = { λ settings copy. copy ≡ settings };
+
+    fn clone(&self) -> Result<Settings, AllocError> {
+        let root_acl = self.root_acl.clone()?;
+        Ok(Settings {
+            servers: self.servers,
+            agents: self.agents,
+            c0: self.c0,
+            root_owner: self.root_owner,
+            root_group: self.root_group,
+            root_acl,
+            budget: self.budget,
+            quota: self.quota,
+            slots: self.slots,
+        })
+    }
+}
+
+impl Settings {
+    /// Settings of these numbers, votes and list. The fault that is answered is the first.
+    pub fn new(
+        servers: usize,
+        agents: usize,
+        c0: Votes,
+        root_owner: u32,
+        root_group: u32,
+        root_acl: Acl,
+        budget: usize,
+        quota: usize,
+        slots: usize,
+    ) -> Result<Settings, SettingsFault>
+        ensures fault { result_err result ≡ first_fault (record { servers = servers; agents = agents; c0 = c0; root_owner = root_owner; root_group = root_group; root_acl = root_acl; budget = budget; quota = quota; slots = slots }) }
+        ensures accepted { IsOk result ↔ IsAccepted (record { servers = servers; agents = agents; c0 = c0; root_owner = root_owner; root_group = root_group; root_acl = root_acl; budget = budget; quota = quota; slots = slots }) }
+        ensures value { IfOk result (λ settings. settings ≡ record { servers = servers; agents = agents; c0 = c0; root_owner = root_owner; root_group = root_group; root_acl = root_acl; budget = budget; quota = quota; slots = slots }) }
+    {
+        if servers == 0 || servers > MAX_SERVERS || agents == 0 || agents > MAX_AGENTS {
+            return Err(SettingsFault::BadCount);
+        }
+        if lists_unknown(servers, &c0) {
+            return Err(SettingsFault::UnknownServer);
+        }
+        if budget > LARGEST_CACHE || quota > LARGEST_CACHE || slots > MOST_SLOTS {
+            return Err(SettingsFault::BadCache);
+        }
+        Ok(Settings {
+            servers,
+            agents,
+            c0,
+            root_owner,
+            root_group,
+            root_acl,
+            budget,
+            quota,
+            slots,
+        })
+    }
+
+    /// How many servers there are: they are numbered from 0.
+    pub fn servers(&self) -> usize
+        ensures value { result ≡ self.now.servers }
+        ensures accepted { IsAccepted self.now }
+    {
+        self.servers
+    }
+
+    /// How many agents there are.
+    pub fn agents(&self) -> usize
+        ensures value { result ≡ self.now.agents }
+        ensures accepted { IsAccepted self.now }
+    {
+        self.agents
+    }
+
+    /// The votes of what has no others.
+    pub fn c0(&self) -> &Votes
+        ensures { result.now ≡ self.now.c0 }
+    {
+        &self.c0
+    }
+
+    /// The root's owner.
+    pub fn root_owner(&self) -> u32
+        ensures { result ≡ self.now.root_owner }
+    {
+        self.root_owner
+    }
+
+    /// The root's group.
+    pub fn root_group(&self) -> u32
+        ensures { result ≡ self.now.root_group }
+    {
+        self.root_group
+    }
+
+    /// The root's list.
+    pub fn root_acl(&self) -> &Acl
+        ensures { result.now ≡ self.now.root_acl }
+    {
+        &self.root_acl
+    }
+
+    /// The most bytes of an agent's cache.
+    pub fn budget(&self) -> usize
+        ensures value { result ≡ self.now.budget }
+        ensures accepted { IsAccepted self.now }
+    {
+        self.budget
+    }
+
+    /// The most bytes of a site's part of it.
+    pub fn quota(&self) -> usize
+        ensures value { result ≡ self.now.quota }
+        ensures accepted { IsAccepted self.now }
+    {
+        self.quota
+    }
+
+    /// The most entries of an agent's cache.
+    pub fn slots(&self) -> usize
+        ensures value { result ≡ self.now.slots }
+        ensures accepted { IsAccepted self.now }
+    {
+        self.slots
+    }
+}
+
+/// Whether votes list a server that there is not.
+fn lists_unknown(servers: usize, votes: &Votes) -> bool
+    ensures { result ≡ list_any (λ rep. nat_le servers rep.0) votes.now.reps }
+{
+    votes
+        .reps()
+        .iter()
+        .any(|(server, _)| usize::from(*server) >= servers)
+}

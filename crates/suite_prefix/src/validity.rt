@@ -1,0 +1,174 @@
+//! Which prefixes and copies are valid. Neither test takes memory.
+
+ghost use Rattle.std.specs.Prelude.{◌≡◌, ◌<◌, ◌^◌, ◌↔◌, All, IsTrue};
+ghost use Rattle.acl_core.specs.Modes.{minimal_list};
+ghost use Rattle.acl_core.specs.Entries.{entry_of};
+ghost use Rattle.acl_core.specs.Tags.{qualifier};
+ghost use Rattle.suite_content.specs.Names.{IsName};
+ghost use Rattle.suite_content.specs.Contents.{kind_of, empty_content};
+ghost use Rattle.suite_content.specs.Folders.{IsFolder};
+ghost use Rattle.suite_prefix.specs.Copies.{IsPrefix, PrefixFits, IsNothing, IsCopy, IsOfSomeCopy, IsContent, IsFile, IsFolderContent, held_by};
+
+use crate::copies::{Prefix, PrefixKind, Replica};
+use acl_core::{Acl, Entry, Tag};
+use bitflags::Flags;
+use suite_content::{Content, Kind, LONGEST_CONTENT, MOST_NAMES, Name};
+
+impl Prefix {
+    /// Whether some valid copy has this prefix.
+    pub fn is_valid(&self) -> bool
+        ensures some_copy { IsTrue result ↔ IsOfSomeCopy self.now }
+        ensures prefix { IsTrue result ↔ IsPrefix self.now }
+    {
+        fits(self);
+        self.keeps_rules()
+    }
+
+    fn keeps_rules(&self) -> bool
+        requires { PrefixFits self.now }
+        ensures { IsTrue result ↔ IsPrefix self.now }
+    {
+        match self.kind {
+            PrefixKind::Absent => self.pver == 0 && is_nothing(self),
+            PrefixKind::File | PrefixKind::Folder => self.pver > 0,
+        }
+    }
+}
+
+/// Whether a prefix is nobody's and grants nothing.
+fn is_nothing(prefix: &Prefix) -> bool
+    ensures { IsTrue result ↔ IsNothing prefix.now }
+{
+    prefix.owner == 0 && prefix.group == 0 && is_closed(&prefix.acl)
+}
+
+/// A law: what the types of a prefix's fields say of it. It does nothing.
+fn fits(prefix: &Prefix)
+    ensures { PrefixFits prefix.now }
+{
+    fits_eight(prefix.pver);
+    fits_four(prefix.owner);
+    fits_four(prefix.group);
+    let _thresholds = (prefix.votes.r(), prefix.votes.w());
+    let _reps = prefix.votes.reps();
+    qualifiers_fit(prefix.acl.entries());
+}
+
+/// A law: a number fits eight bytes. It does nothing.
+fn fits_eight(number: u64)
+    ensures { number < 2 ^ 64 }
+{}
+
+/// A law: a number fits four bytes. It does nothing.
+fn fits_four(number: u32)
+    ensures { number < 2 ^ 32 }
+{}
+
+/// A law: the users and groups of entries fit four bytes. It does nothing.
+fn qualifiers_fit(entries: &[Entry])
+    ensures { All (λ entry. qualifier entry.tag < 2 ^ 32) entries.now }
+{
+    for entry in entries {
+        qualifier_fits(entry.tag);
+    }
+}
+
+fn qualifier_fits(tag: Tag)
+    ensures { qualifier tag < 2 ^ 32 }
+{
+    if let Tag::User(_number) | Tag::Group(_number) = tag {}
+}
+
+/// Whether a list is that of mode 000.
+fn is_closed(acl: &Acl) -> bool
+    ensures { IsTrue result ↔ (acl.now ≡ minimal_list 0) }
+{
+    match acl.entries() {
+        [owner, group, others] => {
+            grants_nothing(owner, Tag::UserObj)
+                && grants_nothing(group, Tag::GroupObj)
+                && grants_nothing(others, Tag::Other)
+        }
+        _ => false,
+    }
+}
+
+/// Whether an entry has this tag and no permission.
+fn grants_nothing(entry: &Entry, tag: Tag) -> bool
+    ensures { IsTrue result ↔ (entry.now ≡ entry_of tag 0) }
+{
+    entry.tag == tag && entry.perms.bits() == 0
+}
+
+impl Replica {
+    /// Whether this is a valid copy.
+    pub fn is_valid(&self) -> bool
+        ensures { IsTrue result ↔ IsCopy self.now }
+    {
+        let kinds_agree = holds(self.prefix.kind, &self.content);
+        let made = self.dver > 0;
+        let version_agrees = if made {
+            self.prefix.kind != PrefixKind::Absent
+        } else {
+            is_empty(&self.content)
+        };
+        self.prefix.is_valid() && kinds_agree && version_agrees && is_within_limits(&self.content)
+    }
+}
+
+/// Whether what has a prefix of this kind holds such a content.
+fn holds(kind: PrefixKind, content: &Content) -> bool
+    ensures { IsTrue result ↔ (kind_of content.now ≡ held_by kind) }
+{
+    match kind {
+        PrefixKind::Absent | PrefixKind::File => content.kind() == Kind::File,
+        PrefixKind::Folder => content.kind() == Kind::Folder,
+    }
+}
+
+/// Whether a content is empty.
+fn is_empty(content: &Content) -> bool
+    ensures { IsTrue result ↔ (content.now ≡ empty_content (kind_of content.now)) }
+{
+    match content {
+        Content::Bytes(bytes) => bytes.is_empty(),
+        Content::Names(names) => names.is_empty(),
+    }
+}
+
+/// Whether a content is within its limits.
+fn is_within_limits(content: &Content) -> bool
+    ensures { IsTrue result ↔ IsContent content.now }
+{
+    match content {
+        Content::Bytes(bytes) => is_file(bytes.as_slice()),
+        Content::Names(names) => is_folder(names.as_slice()),
+    }
+}
+
+/// Whether a file may hold these bytes.
+fn is_file(bytes: &[u8]) -> bool
+    ensures { IsTrue result ↔ IsFile bytes.now }
+{
+    bytes.len() <= LONGEST_CONTENT
+}
+
+/// Whether a folder may hold these names.
+fn is_folder(names: &[(Name, u64)]) -> bool
+    requires { IsFolder names.now }
+    ensures { IsTrue result ↔ IsFolderContent names.now }
+{
+    names_fit(names);
+    names.len() <= MOST_NAMES
+}
+
+/// A law: what a folder has are names, and their numbers fit eight bytes. It does nothing.
+fn names_fit(names: &[(Name, u64)])
+    ensures are_names { All (λ entry. IsName entry.0) names.now }
+    ensures suites_fit { All (λ entry. entry.1 < 2 ^ 64) names.now }
+{
+    for (name, suite) in names {
+        let _bytes = name.as_bytes();
+        fits_eight(*suite);
+    }
+}

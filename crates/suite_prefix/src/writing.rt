@@ -1,0 +1,161 @@
+//! The bytes of a copy.
+
+ghost use Rattle.std.specs.Prelude.{◌≡◌, ◌++◌, ◌<◌, ◌≤◌, length, OnOk, IfOk};
+ghost use Rattle.std.specs.List.{flat_map};
+ghost use Rattle.suite_prefix.specs.Copies.{IsCopy, IsContent};
+ghost use Rattle.suite_prefix.specs.Bytes.{NoneBeginsAnother, bytes_of, prefix_bytes, identity_bytes, list_bytes, entry_bytes, votes_bytes, representative_bytes, content_bytes, name_bytes, kind_code, tag_code};
+ghost use Rattle.acl_core.specs.Tags.{qualifier};
+
+use crate::copies::{Prefix, PrefixKind, Replica};
+use acl_core::{Acl, Entry, Tag};
+use bitflags::Flags;
+use std::alloc::{AllocError, Global};
+use suite_content::{Content, Name};
+use vote_core::Votes;
+
+/// The form of the bytes.
+const FORM: u8 = 1;
+
+/// The bytes of a valid copy.
+pub fn encode(alloc: Global, copy: &Replica) -> Result<Vec<u8>, AllocError>
+    requires { IsCopy copy.now }
+    ensures { IfOk result (λ bytes. bytes.items ≡ bytes_of copy.now) }
+{
+    let mut out = Vec::with_capacity(alloc, room_for(&copy.content))?;
+    out.push(FORM)?;
+    put_prefix(&mut out, &copy.prefix)?;
+    out.extend_from_slice(&copy.dver.to_be_bytes())?;
+    put_content(&mut out, &copy.content)?;
+    Ok(out)
+}
+
+/// At least as many bytes as the bytes of a copy are, so that there is one growth: a prefix and the two
+/// versions take 448 bytes at most, and a name 73.
+fn room_for(content: &Content) -> usize
+    requires { IsContent content.now }
+    ensures { result ≤ 131072 }
+{
+    match content {
+        Content::Bytes(bytes) => 512 + bytes.len(),
+        Content::Names(names) => 512 + 73 * names.len(),
+    }
+}
+
+/// A law: no valid copy's bytes begin those of another, so no two copies share bytes. It does nothing.
+pub fn no_bytes_begin_others()
+    ensures { NoneBeginsAnother }
+{}
+
+fn put_prefix(out: &mut Vec<u8>, prefix: &Prefix) -> Result<(), AllocError>
+    ensures { OnOk result (out.new.items ≡ out.old.items ++ prefix_bytes prefix.now) }
+{
+    put_identity(out, prefix)?;
+    put_list(out, &prefix.acl)?;
+    put_votes(out, &prefix.votes)
+}
+
+fn put_identity(out: &mut Vec<u8>, prefix: &Prefix) -> Result<(), AllocError>
+    ensures { OnOk result (out.new.items ≡ out.old.items ++ identity_bytes prefix.now) }
+{
+    out.extend_from_slice(&prefix.pver.to_be_bytes())?;
+    out.push(code_of_kind(prefix.kind))?;
+    out.extend_from_slice(&prefix.owner.to_be_bytes())?;
+    out.extend_from_slice(&prefix.group.to_be_bytes())?;
+    Ok(())
+}
+
+fn code_of_kind(kind: PrefixKind) -> u8
+    ensures { result ≡ kind_code kind }
+{
+    match kind {
+        PrefixKind::Absent => 0,
+        PrefixKind::File => 1,
+        PrefixKind::Folder => 2,
+    }
+}
+
+fn put_list(out: &mut Vec<u8>, acl: &Acl) -> Result<(), AllocError>
+    ensures { OnOk result (out.new.items ≡ out.old.items ++ list_bytes acl.now) }
+{
+    let entries = acl.entries();
+    out.push(entries.len() as u8)?;
+    for entry in entries {
+        put_entry(out, entry)?;
+    }
+    Ok(())
+}
+
+fn put_entry(out: &mut Vec<u8>, entry: &Entry) -> Result<(), AllocError>
+    ensures { OnOk result (out.new.items ≡ out.old.items ++ entry_bytes entry.now) }
+{
+    let (code, qualifier) = parts_of_tag(entry.tag);
+    out.push(code)?;
+    out.extend_from_slice(&qualifier.to_be_bytes())?;
+    out.push(entry.perms.bits())?;
+    Ok(())
+}
+
+/// The code of a tag, and its user or group.
+fn parts_of_tag(tag: Tag) -> (u8, u32)
+    ensures code { result.0 ≡ tag_code tag }
+    ensures qualifier { result.1 ≡ qualifier tag }
+{
+    match tag {
+        Tag::UserObj => (1, 0),
+        Tag::User(user) => (2, user),
+        Tag::GroupObj => (3, 0),
+        Tag::Group(group) => (4, group),
+        Tag::Mask => (5, 0),
+        Tag::Other => (6, 0),
+    }
+}
+
+fn put_votes(out: &mut Vec<u8>, votes: &Votes) -> Result<(), AllocError>
+    ensures { OnOk result (out.new.items ≡ out.old.items ++ votes_bytes votes.now) }
+{
+    let reps = votes.reps();
+    out.push(reps.len() as u8)?;
+    for (server, own) in reps {
+        out.push(*server)?;
+        out.push(*own)?;
+    }
+    out.extend_from_slice(&votes.r().to_be_bytes())?;
+    out.extend_from_slice(&votes.w().to_be_bytes())?;
+    Ok(())
+}
+
+fn put_content(out: &mut Vec<u8>, content: &Content) -> Result<(), AllocError>
+    requires { IsContent content.now }
+    ensures { OnOk result (out.new.items ≡ out.old.items ++ content_bytes content.now) }
+{
+    match content {
+        Content::Bytes(bytes) => {
+            out.extend_from_slice(&(bytes.len() as u32).to_be_bytes())?;
+            out.extend_from_slice(bytes.as_slice())?;
+        }
+        Content::Names(names) => {
+            out.extend_from_slice(&(names.len() as u16).to_be_bytes())?;
+            put_names(out, names.as_slice())?;
+        }
+    }
+    Ok(())
+}
+
+fn put_names(out: &mut Vec<u8>, names: &[(Name, u64)]) -> Result<(), AllocError>
+    ensures { OnOk result (out.new.items ≡ out.old.items ++ flat_map name_bytes names.now) }
+{
+    for (name, suite) in names {
+        put_name(out, name, *suite)?;
+    }
+    Ok(())
+}
+
+fn put_name(out: &mut Vec<u8>, name: &Name, suite: u64) -> Result<(), AllocError>
+    ensures { OnOk result (out.new.items ≡ out.old.items ++ name_bytes (name.now, suite)) }
+{
+    let bytes = name.as_bytes();
+    out.push(bytes.len() as u8)?;
+    out.extend_from_slice(bytes)?;
+    out.extend_from_slice(&suite.to_be_bytes())?;
+    Ok(())
+}
