@@ -1,6 +1,13 @@
 pub mod Openings
 pub mod Valid
 pub mod Joins
-pub mod Reading
+pub mod ShapeOf
 pub mod ReadAgain
 pub mod Back
+pub mod Loop
+pub mod Orders
+pub mod Judged
+pub mod Takes
+pub mod Decoded
+pub mod Names
+pub mod Fronts

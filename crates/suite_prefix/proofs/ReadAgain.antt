@@ -24,7 +24,10 @@ use Rattle.suite_prefix.specs.declared.copies.Replica.{Replica}
 use Rattle.suite_prefix.specs.Bytes.{kind_code, tag_code, entry_bytes, list_bytes, representative_bytes, votes_bytes, identity_bytes, name_bytes, content_bytes, bytes_of}
 use Rattle.suite_prefix.specs.Copies.{IsCopy, PrefixFits, IsContent, held_by}
 use Rattle.suite_prefix.proofs.Joins.{five_pieces}
-use Rattle.suite_prefix.proofs.Reading.{Fault, Identity, number_at, bytes_at, kind_of_code, identity_at, code_at, entry_at, representative_at, name_at, many_at, list_at, votes_at, file_at, folder_at, content_at, shape_at, entry_shape, shape_of}
+use Rattle.suite_prefix.proofs.ShapeOf.{entry_shape, shape_of, tag_back}
+use Rattle.suite_prefix.specs.declared.faults.CopyFault.{CopyFault}
+use Rattle.suite_prefix.specs.declared.shapes.Identity.{Identity}
+use Rattle.suite_prefix.specs.Reading.{number_at, bytes_at, kind_of_code, identity_at, code_at, entry_at, representative_at, name_at, many_at, list_at, listed_at, votes_at, file_at, folder_at, content_at, shape_at}
 
 -- ---- numbers and bytes
 
@@ -54,7 +57,7 @@ bytes_again bytes rest =
 
 -- ---- so many of a kind
 
-pub many_again : {X Y : Type 0} (one : List ℕ → Result (Y × List ℕ) Fault) (write : X → List ℕ) (shape : X → Y) (Fits : X → Type 0)
+pub many_again : {X Y : Type 0} (one : List ℕ → Result (Y × List ℕ) CopyFault) (write : X → List ℕ) (shape : X → Y) (Fits : X → Type 0)
     → ((x : X) (rest : List ℕ) → Fits x → one (write x ++ rest) ≡ Ok (shape x, rest))
     → (xs : List X) (rest : List ℕ) → AllByRecursion Fits xs → many_at one (length xs) (flat_map write xs ++ rest) ≡ Ok (map shape xs, rest)
 unfolding many_at
@@ -78,7 +81,8 @@ unfolding entry_at
 entry_again entry rest fits =
     let number = to_be_bytes w32 (qualifier entry.tag) in
     let regrouped : entry_bytes entry ++ rest ≡ tag_code entry.tag ∷ (number ++ (number_of entry.perms ∷ rest)) = refl in
-    ap entry_at regrouped ∙ rw (code_again entry.tag (number ++ (number_of entry.perms ∷ rest)), number_again w32 (2 ^ 32) wide32 (qualifier entry.tag) (number_of entry.perms ∷ rest) fits) refl
+    ap entry_at regrouped
+    ∙ rw (code_again entry.tag (number ++ (number_of entry.perms ∷ rest)), number_again w32 (2 ^ 32) wide32 (qualifier entry.tag) (number_of entry.perms ∷ rest) fits, tag_back entry.tag) refl
 
 representative_again : (rep : Representative) (rest : List ℕ) → Unit {0} → representative_at (representative_bytes rep ++ rest) ≡ Ok (rep, rest)
 unfolding representative_at
@@ -115,7 +119,7 @@ names_again names rest fits =
     many_again name_at name_bytes (λ entry. entry) (λ entry. entry.1 < 2 ^ 64) name_again names rest (recursion_from_All (λ entry. entry.1 < 2 ^ 64) names fits) ∙ ap (λ xs. Ok (xs, rest)) (same_map names)
 
 votes_again : (votes : Configuration) (rest : List ℕ) → votes.r < 2 ^ 16 → votes.w < 2 ^ 16 → votes_at (votes_bytes votes ++ rest) ≡ Ok (votes, rest)
-unfolding votes_at
+unfolding votes_at listed_at
 votes_again votes rest r_fits w_fits =
     let reps = flat_map representative_bytes votes.reps in
     let r = to_be_bytes w16 votes.r in

@@ -2,18 +2,25 @@
 //!
 //! A [`Replica`] is what a server stores of a file or a folder, and what it sends: the [`Prefix`] (its
 //! version, kind, owner, group, access list and votes), the content's version, and the content. Which
-//! copies are valid stands in `specs/Copies.antt`, and the bytes of a copy in `specs/Bytes.antt`.
+//! copies are valid stands in `specs/Copies.antt`, the bytes of a copy in `specs/Bytes.antt`, and what keeps
+//! bytes from being a copy's in `specs/Faults.antt`.
 //! [`Settings`] are what a service is opened with.
 //!
 //! In a contract a prefix and a copy are the records of their fields, and `≡` compares them.
 #![tactic(auto)]
 
 mod copies;
+mod decoding;
+mod faults;
+mod reading;
 mod settings;
+mod shapes;
 mod validity;
 mod writing;
 
 pub use copies::{Prefix, PrefixKind, Replica};
+pub use decoding::{decode, faults_tell_apart, fronts_are_short};
+pub use faults::{CopyFault, DecodeError};
 pub use settings::{Settings, SettingsFault};
 pub use suite_content::Content;
 pub use writing::{encode, no_bytes_begin_others};

@@ -1,7 +1,10 @@
 //! The worked copy, valid and invalid copies, the largest ones, and settings.
 
+ghost use Rattle.std.specs.Prelude.{◌<◌};
+
 use crate::{
-    Content, Prefix, PrefixKind, Replica, Settings, SettingsFault, encode, no_bytes_begin_others,
+    Content, CopyFault, DecodeError, Prefix, PrefixKind, Replica, Settings, SettingsFault, decode,
+    encode, faults_tell_apart, fronts_are_short, no_bytes_begin_others,
 };
 use acl_core::{Acl, Entry, Mode, Tag};
 use std::alloc::Global;
@@ -72,7 +75,137 @@ fn the_worked_copy_has_its_62_bytes(rt: HostRuntime) -> Result<(), Fail> {
     assert!(rt; copy.is_valid());
     let bytes = encode(rt.alloc(), &copy)?;
     assert_eq!(rt; bytes.as_slice(), WORKED.as_slice());
+    assert!(rt; decode(rt.alloc(), &WORKED) == Ok(copy));
     no_bytes_begin_others();
+    faults_tell_apart();
+    fronts_are_short();
+    Ok(())
+}
+
+/// The fault of the worked copy with another byte at a place.
+fn fault_with(alloc: Global, place: usize, byte: u8) -> Option<DecodeError> {
+    let mut bytes = WORKED;
+    if let Some(changed) = bytes.get_mut(place) {
+        *changed = byte;
+    }
+    decode(alloc, &bytes).err()
+}
+
+#[test]
+fn damaged_copies_are_refused_by_their_fault(rt: HostRuntime) -> Result<(), Fail> {
+    let alloc = rt.alloc();
+    let mut longer = Vec::from_slice(alloc, &WORKED)?;
+    longer.push(0)?;
+    let behind = Some(DecodeError::Fault(CopyFault::TrailingBytes));
+    assert_eq!(rt; decode(alloc, &longer).err(), behind);
+    let short = Some(DecodeError::Fault(CopyFault::Short));
+    for end in 0..62 {
+        assert_eq!(rt; decode(alloc, &WORKED[..end]).err(), short, "{end} bytes");
+    }
+    let bad_tag = Some(DecodeError::Fault(CopyFault::BadTag));
+    assert_eq!(rt; fault_with(alloc, 0, 7), bad_tag);
+    assert_eq!(rt; fault_with(alloc, 9, 3), bad_tag);
+    assert_eq!(rt; fault_with(alloc, 19, 0), bad_tag);
+    assert_eq!(rt; fault_with(alloc, 31, 7), bad_tag);
+    let disorder = Some(DecodeError::Fault(CopyFault::NotCanonical));
+    assert_eq!(rt; fault_with(alloc, 29, 1), disorder);
+    assert_eq!(rt; fault_with(alloc, 25, 1), disorder);
+    let invalid = Some(DecodeError::Fault(CopyFault::Invalid));
+    assert_eq!(rt; fault_with(alloc, 36, 8), invalid);
+    assert_eq!(rt; fault_with(alloc, 8, 0), invalid);
+    assert_eq!(rt; fault_with(alloc, 55, 0), invalid);
+    assert_eq!(rt; fault_with(alloc, 38, 16), invalid);
+    assert_eq!(rt; fault_with(alloc, 47, 0), invalid);
+    Ok(())
+}
+
+/// The place in a count of what was read: a copy, a fault, or want of memory.
+fn outcome_of(read: &Result<Replica, DecodeError>) -> usize
+    ensures { result < 7 }
+{
+    match read {
+        Ok(_) => 0,
+        Err(DecodeError::Fault(CopyFault::Short)) => 1,
+        Err(DecodeError::Fault(CopyFault::BadTag)) => 2,
+        Err(DecodeError::Fault(CopyFault::NotCanonical)) => 3,
+        Err(DecodeError::Fault(CopyFault::Invalid)) => 4,
+        Err(DecodeError::Fault(CopyFault::TrailingBytes)) => 5,
+        Err(DecodeError::Memory) => 6,
+    }
+}
+
+#[test]
+fn with_a_byte_changed_it_is_refused_or_another_copy(rt: HostRuntime) -> Result<(), Fail> {
+    let alloc = rt.alloc();
+    let mut counts = [0u32; 7];
+    for place in 0..62 {
+        for byte in 0..=255 {
+            let mut bytes = WORKED;
+            bytes[place] = byte;
+            let read = decode(alloc, &bytes);
+            let outcome = outcome_of(&read);
+            counts[outcome] = counts[outcome].wrapping_add(1);
+            if let Ok(copy) = read {
+                let again = encode(alloc, &copy)?;
+                assert_eq!(rt; again.as_slice(), bytes.as_slice(), "{byte} at {place}");
+            }
+        }
+    }
+    assert_eq!(rt; counts, [6755, 1275, 1508, 3069, 3262, 3, 0]);
+    Ok(())
+}
+
+/// The list of 64 entries: 30 users, 30 groups, and the four others.
+fn longest_list(alloc: Global) -> Result<Acl, Fail> {
+    let mut entries = vec![in alloc;
+        Entry::from_digit(Tag::UserObj, 6),
+        Entry::from_digit(Tag::GroupObj, 4),
+        Entry::from_digit(Tag::Mask, 7),
+        Entry::from_digit(Tag::Other, 0),
+    ]?;
+    for number in 0..30 {
+        entries.push(Entry::from_digit(Tag::User(number), 7))?;
+        entries.push(Entry::from_digit(Tag::Group(number), 5))?;
+    }
+    Ok(Acl::from_entries(alloc, &entries).ok().ok_or("a list")?)
+}
+
+/// 1,024 names of 64 bytes.
+fn most_names(alloc: Global) -> Result<FolderNames, Fail> {
+    let mut names = FolderNames::new(alloc);
+    for number in 0..1024u16 {
+        let mut bytes = [b'n'; 64];
+        bytes[61] = b'A' + (number / 256) as u8;
+        bytes[62] = b'A' + (number / 16 % 16) as u8;
+        bytes[63] = b'A' + (number % 16) as u8;
+        if let Some(name) = Name::new(&bytes) {
+            names.insert(name, u64::from(number))?;
+        }
+    }
+    Ok(names)
+}
+
+#[test]
+fn the_largest_copies_are_read_again(rt: HostRuntime) -> Result<(), Fail> {
+    let alloc = rt.alloc();
+    let mut reps = [(0, 255); 16];
+    for server in 0..16u8 {
+        reps[usize::from(server)].0 = server;
+    }
+    let mut copy = file(alloc, &vec![in alloc; 7; 65_536]?)?;
+    copy.prefix.acl = longest_list(alloc)?;
+    copy.prefix.votes = Votes::new(16, &reps, 1, 4080).ok().ok_or("votes")?;
+    assert!(rt; copy.is_valid());
+    let bytes = encode(alloc, &copy)?;
+    assert_eq!(rt; bytes.len(), 65_988);
+    assert!(rt; decode(alloc, &bytes) == Ok(copy.clone()?));
+
+    copy.prefix.kind = PrefixKind::Folder;
+    copy.content = Content::Names(most_names(alloc)?);
+    assert!(rt; copy.is_valid());
+    let bytes = encode(alloc, &copy)?;
+    assert_eq!(rt; bytes.len(), 75_202);
+    assert!(rt; decode(alloc, &bytes) == Ok(copy));
     Ok(())
 }
 
@@ -106,6 +239,7 @@ fn a_folder_has_its_names_in_byte_order(rt: HostRuntime) -> Result<(), Fail> {
     assert!(rt; again == copy && again.prefix == copy.prefix);
     let bytes = encode(alloc, &again)?;
     assert_eq!(rt; bytes.as_slice(), FOLDER.as_slice());
+    assert!(rt; decode(alloc, &FOLDER) == Ok(copy.clone()?));
     again.prefix.owner = 1001;
     assert!(rt; again != copy && again.content == copy.content);
     Ok(())

@@ -96,7 +96,7 @@ fn put_entry(out: &mut Vec<u8>, entry: &Entry) -> Result<(), AllocError>
 }
 
 /// The code of a tag, and its user or group.
-fn parts_of_tag(tag: Tag) -> (u8, u32)
+pub(crate) fn parts_of_tag(tag: Tag) -> (u8, u32)
     ensures code { result.0 ≡ tag_code tag }
     ensures qualifier { result.1 ≡ qualifier tag }
 {

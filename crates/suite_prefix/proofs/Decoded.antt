@@ -1,0 +1,163 @@
+-- What is read is a valid copy's, what a valid copy has is read, and faults tell apart.
+use Rattle.std.proofs.Common.{◌≡◌, ℕ, ◌<◌, true, ◌&&◌, get_or, length, List, [], ◌++◌, Result, Ok, Err, refl, sym, ap, subst, ◌∙◌, inl, inr, arith}
+use Rattle.std.specs.Prelude.{All, IfOk, IfErr, MatchResult}
+use Rattle.std.proofs.lemmas.Bool.{and_from, cases_Bool, cases_lt}
+use Rattle.std.proofs.lemmas.List.{append-nil, get_or_past}
+use Rattle.std.proofs.lemmas.List.Elements.{All-map}
+use Rattle.suite_content.specs.declared.content.Content.{Content}
+use Rattle.suite_content.specs.declared.content.Content.TheVariants.{Bytes, Names}
+use Rattle.suite_prefix.specs.declared.copies.Replica.{Replica}
+use Rattle.suite_prefix.specs.declared.faults.CopyFault.{CopyFault}
+use Rattle.suite_prefix.specs.declared.faults.CopyFault.TheVariants.{Short, BadTag, NotCanonical, Invalid, TrailingBytes}
+use Rattle.suite_prefix.specs.declared.faults.DecodeError.{DecodeError}
+use Rattle.suite_prefix.specs.declared.faults.DecodeError.TheVariants as errors
+use Rattle.suite_prefix.specs.declared.shapes.EntryShape.{EntryShape}
+use Rattle.suite_prefix.specs.Bytes.{bytes_of}
+use Rattle.suite_prefix.specs.Copies.{IsCopy, IsContent}
+use Rattle.suite_prefix.specs.Faults.{SpellsCopy, IsFaultOf, IsFaultIn, IsOfValidCopy, Explains, FaultsTellApart, is_canonical, numbers_belong, entries_rise, content_rises}
+use Rattle.suite_prefix.specs.Judging.{IsWhole, Refuses}
+use Rattle.suite_prefix.specs.Reading.{Shape, copy_of, shape_at}
+use Rattle.suite_prefix.proofs.Back.{whole_again}
+use Rattle.suite_prefix.proofs.Judged.{belongs}
+use Rattle.suite_prefix.proofs.Loop.{ok_is}
+use Rattle.suite_prefix.proofs.Orders.{numbers_of_entries, rise_if_canonical, rise_if_folder}
+use Rattle.suite_prefix.proofs.ShapeOf.{entry_shape, shape_of, copy_back}
+use Rattle.suite_prefix.proofs.Takes.{IsBytes, shape_takes, same_text}
+
+-- ---- the shape of a valid copy
+
+content_is_canonical : (content : Content) → IsContent content → content_rises content ≡ true
+content_is_canonical (Bytes bytes) valid = refl
+content_is_canonical (Names names) valid = rise_if_folder names valid.rising
+
+canonical_shape : (copy : Replica) → IsCopy copy → is_canonical (shape_of copy) ≡ true
+canonical_shape copy valid =
+    let shape = shape_of copy in
+    and_from (numbers_belong shape.entries && entries_rise shape.entries) (content_rises shape.content)
+    (and_from (numbers_belong shape.entries) (entries_rise shape.entries) (numbers_of_entries copy.prefix.acl) (rise_if_canonical copy.prefix.acl valid.prefix.fits.acl.canonical))
+    (content_is_canonical copy.content valid.content)
+
+spells_shape : (copy : Replica) → IsCopy copy → SpellsCopy (shape_of copy)
+spells_shape copy valid = record {
+  permissions_known = All-map (λ (entry : EntryShape). entry.permissions < 8) entry_shape copy.prefix.acl (λ k d in_list. (get_or copy.prefix.acl k d).known);
+  valid = subst IsCopy (sym (copy_back copy)) valid;
+}
+
+-- the shape of a valid copy with nothing behind it has no fault
+no_fault : (copy : Replica) (fault : CopyFault) → IsCopy copy → IsFaultOf (shape_of copy) [] fault → ⊥
+no_fault copy Short valid h = h
+no_fault copy BadTag valid h = h
+no_fault copy NotCanonical valid h = let yes = canonical_shape copy valid in absurd cc
+no_fault copy Invalid valid h = h.1 (spells_shape copy valid)
+no_fault copy TrailingBytes valid h = h.1.1 refl
+
+-- the bytes of a valid copy are read as its shape, whatever was read of them
+pub read_whole : (bytes : List ℕ) (copy : Replica) → IsCopy copy → bytes ≡ bytes_of copy → shape_at bytes ≡ Ok (shape_of copy, [])
+read_whole bytes copy valid has = ap shape_at has ∙ whole_again copy valid
+
+pub never_fails : (bytes : List ℕ) (copy : Replica) (fault : CopyFault) → IsCopy copy → bytes ≡ bytes_of copy → shape_at bytes ≡ Err fault → ⊥
+never_fails bytes copy fault valid has e = let whole = read_whole bytes copy valid has in absurd cc
+
+-- ---- the answers of decode
+
+pub spelled : (bytes : List ℕ) (shape : Shape) (rest : List ℕ) → IsBytes bytes → shape_at bytes ≡ Ok (shape, rest) → IsWhole shape rest → bytes ≡ bytes_of (copy_of shape)
+spelled bytes shape rest fits e whole =
+    (shape_takes bytes (shape, rest) fits e).whole ∙ ap (λ (t : List ℕ). t ++ rest) (same_text shape (belongs shape whole.canonical) whole.copy.permissions_known)
+    ∙ ap (λ (t : List ℕ). bytes_of (copy_of shape) ++ t) whole.ended ∙ append-nil (bytes_of (copy_of shape))
+
+pub is_read : (bytes : List ℕ) (shape : Shape) (rest : List ℕ) (r : Result Replica DecodeError) → IsBytes bytes → shape_at bytes ≡ Ok (shape, rest)
+    → IfOk r (λ copy. copy ≡ copy_of shape) → IfOk r (λ copy. IsWhole shape rest) → IfOk r (λ copy. bytes ≡ bytes_of copy)
+is_read bytes shape rest (Ok copy) fits e value whole = spelled bytes shape rest fits e whole ∙ ap bytes_of (sym value)
+is_read bytes shape rest (Err error) fits e value whole = tt
+
+pub is_valid : (shape : Shape) (rest : List ℕ) (r : Result Replica DecodeError) → IfOk r (λ copy. copy ≡ copy_of shape) → IfOk r (λ copy. IsWhole shape rest) → IfOk r IsCopy
+is_valid shape rest (Ok copy) value whole = subst IsCopy (sym value) whole.copy.valid
+is_valid shape rest (Err error) value whole = tt
+
+explains : (bytes : List ℕ) (shape : Shape) (rest : List ℕ) (error : DecodeError) → IsBytes bytes → shape_at bytes ≡ Ok (shape, rest) → Refuses shape rest error → Explains bytes error
+explains bytes shape rest (errors.Fault fault) fits e refused = subst (λ (read : Result (Shape × List ℕ) CopyFault). IsFaultIn read fault) (sym e) refused
+explains bytes shape rest errors.Memory fits e whole = record { copy = copy_of shape; valid = whole.copy.valid; has_them = spelled bytes shape rest fits e whole }
+
+pub is_explained : (bytes : List ℕ) (shape : Shape) (rest : List ℕ) (r : Result Replica DecodeError) → IsBytes bytes → shape_at bytes ≡ Ok (shape, rest)
+    → IfErr r (Refuses shape rest) → IfErr r (Explains bytes)
+is_explained bytes shape rest (Ok copy) fits e refused = tt
+is_explained bytes shape rest (Err error) fits e refused = explains bytes shape rest error fits e refused
+
+only_memory : (copy : Replica) (error : DecodeError) → IsCopy copy → Refuses (shape_of copy) [] error → error ≡ errors.Memory
+only_memory copy (errors.Fault fault) valid refused = absurd (no_fault copy fault valid refused)
+only_memory copy errors.Memory valid refused = refl
+
+only_this : (copy : Replica) (r : Result Replica DecodeError) → IsCopy copy → IfOk r (λ read. read ≡ copy_of (shape_of copy)) → IfErr r (Refuses (shape_of copy) [])
+    → MatchResult r (λ read. read ≡ copy) (λ error. error ≡ errors.Memory)
+only_this copy (Ok read) valid value refused = value ∙ copy_back copy
+only_this copy (Err error) valid value refused = only_memory copy error valid refused
+
+abbrev Answered : Replica → Result Replica DecodeError → Shape × List ℕ → Type 0
+Answered copy r read = IfOk r (λ made. made ≡ copy_of read.0) → IfErr r (Refuses read.0 read.1) → MatchResult r (λ made. made ≡ copy) (λ error. error ≡ errors.Memory)
+
+pub is_only : (bytes : List ℕ) (shape : Shape) (rest : List ℕ) (r : Result Replica DecodeError) → shape_at bytes ≡ Ok (shape, rest)
+    → IfOk r (λ copy. copy ≡ copy_of shape) → IfErr r (Refuses shape rest)
+    → (copy : Replica) → IsCopy copy → bytes ≡ bytes_of copy → MatchResult r (λ read. read ≡ copy) (λ error. error ≡ errors.Memory)
+is_only bytes shape rest r e value refused copy valid has =
+    let same : (shape_of copy, []) ≡ (shape, rest) = ok_is (shape_of copy, []) (shape, rest) (sym (read_whole bytes copy valid has) ∙ e) in
+    subst (Answered copy r) same (only_this copy r valid) value refused
+
+-- ---- faults tell apart
+
+one_of : (shape : Shape) (rest : List ℕ) (fault other : CopyFault) → IsFaultOf shape rest fault → IsFaultOf shape rest other → fault ≡ other
+one_of shape rest Short other h k = absurd h
+one_of shape rest BadTag other h k = absurd h
+one_of shape rest fault Short h k = absurd k
+one_of shape rest fault BadTag h k = absurd k
+one_of shape rest NotCanonical NotCanonical h k = refl
+one_of shape rest NotCanonical Invalid h k = let yes = k.0 in absurd cc
+one_of shape rest NotCanonical TrailingBytes h k = let yes = k.0 in absurd cc
+one_of shape rest Invalid NotCanonical h k = let yes = h.0 in absurd cc
+one_of shape rest Invalid Invalid h k = refl
+one_of shape rest Invalid TrailingBytes h k = absurd (h.1 k.1.0)
+one_of shape rest TrailingBytes NotCanonical h k = let yes = h.0 in absurd cc
+one_of shape rest TrailingBytes Invalid h k = absurd (k.1 h.1.0)
+one_of shape rest TrailingBytes TrailingBytes h k = refl
+
+one_in : (read : Result (Shape × List ℕ) CopyFault) (fault other : CopyFault) → IsFaultIn read fault → IsFaultIn read other → fault ≡ other
+one_in (Ok x) fault other h k = one_of x.0 x.1 fault other h k
+one_in (Err first) fault other h k = h ∙ sym k
+
+bytes_if_all : (bytes : List ℕ) → All (λ byte. byte < 256) bytes → IsBytes bytes
+bytes_if_all bytes each i =
+    elim (cases_lt i (length bytes)) [
+      | inl within ↦ each i 0 within
+      | inr past ↦ rw (get_or_past bytes i 0 past) (omega arith)
+    ]
+
+-- a whole shape has a fault, or is that of a valid copy
+whole_or_fault : (bytes : List ℕ) (shape : Shape) (rest : List ℕ) → IsBytes bytes → shape_at bytes ≡ Ok (shape, rest)
+    → ((fault : CopyFault) → IsFaultOf shape rest fault → ⊥) → (IsOfValidCopy bytes → ⊥) → ⊥
+whole_or_fault bytes shape rest fits e no_fault no_copy =
+    elim (cases_Bool (is_canonical shape)) [
+      | inr other ↦ no_fault NotCanonical other
+      | inl canonical ↦ no_fault Invalid (
+        canonical,
+        λ spells. no_fault TrailingBytes (
+          canonical,
+          (
+            spells,
+            λ ended.
+                let whole : IsWhole shape rest = record { canonical = canonical; copy = spells; ended = ended } in
+                no_copy (record { copy = copy_of shape; valid = spells.valid; has_them = spelled bytes shape rest fits e whole }),
+          ),
+        ),
+      )
+    ]
+
+one_or_copy : (bytes : List ℕ) (read : Result (Shape × List ℕ) CopyFault) → IsBytes bytes → shape_at bytes ≡ read
+    → ((fault : CopyFault) → IsFaultIn read fault → ⊥) → (IsOfValidCopy bytes → ⊥) → ⊥
+one_or_copy bytes (Ok x) fits e no_fault no_copy = whole_or_fault bytes x.0 x.1 fits e no_fault no_copy
+one_or_copy bytes (Err first) fits e no_fault no_copy = no_fault first refl
+
+pub told_apart : FaultsTellApart
+told_apart = record {
+  never_neither = λ bytes each no_fault no_copy. one_or_copy bytes (shape_at bytes) (bytes_if_all bytes each) refl no_fault no_copy;
+  never_both = λ bytes fault of_copy h. no_fault of_copy.copy fault of_copy.valid (subst (λ (read : Result (Shape × List ℕ) CopyFault). IsFaultIn read fault) (read_whole bytes of_copy.copy of_copy.valid of_copy.has_them) h);
+  one_fault = λ bytes fault other h k. one_in (shape_at bytes) fault other h k;
+}

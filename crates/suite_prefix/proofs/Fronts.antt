@@ -1,0 +1,200 @@
+-- Reading more bytes gives the same with more behind it, and a bad tag stays one. So each proper front of a valid copy's bytes ends too early.
+use Rattle.std.proofs.Common.{◌≡◌, ◌≢◌, ℕ, zero, suc, Bool, true, false, cond, ltb, List, [], ◌∷◌, ◌++◌, length, Result, Ok, Err, refl, sym, ap, subst, ◌∙◌, inl, inr, arith}
+use Rattle.std.specs.Int.{Width, w16, w32, w64, byte_len}
+use Rattle.std.proofs.lemmas.Bool.{cases_lt, lt-ltb, le-ltb}
+use Rattle.std.proofs.lemmas.List.{length-append, take-append-le, drop-append-le}
+use Rattle.suite_content.specs.declared.content.Content.TheVariants.{Bytes, Names}
+use Rattle.suite_prefix.specs.declared.copies.PrefixKind.{PrefixKind}
+use Rattle.suite_prefix.specs.declared.copies.PrefixKind.TheVariants.{Absent, File, Folder}
+use Rattle.suite_prefix.specs.declared.faults.CopyFault.{CopyFault}
+use Rattle.suite_prefix.specs.declared.faults.CopyFault.TheVariants.{Short, BadTag, NotCanonical, Invalid, TrailingBytes}
+use Rattle.suite_prefix.specs.Faults.{IsFaultIn, FrontsAreShort}
+use Rattle.suite_prefix.specs.Reading.{◌>>=◌, Shape, byte_at, number_at, bytes_at, form_at, kind_of_code, identity_at, code_at, entry_at, representative_at, name_at, many_at, list_at, listed_at, votes_at, file_at, folder_at, content_at, shape_at}
+use Rattle.suite_prefix.proofs.Back.{whole_again}
+use Rattle.suite_prefix.proofs.ShapeOf.{shape_of}
+use Rattle.suite_prefix.proofs.Takes.{identity_1, identity_2, identity_3, identity_4, entry_1, entry_2, votes_1, votes_2, shape_1, shape_2, shape_3, shape_4, shape_5}
+
+-- what ended too early may go on
+abbrev Fails : {X : Type 0} → CopyFault → Result (X × List ℕ) CopyFault → Type 0
+Fails Short longer = Unit {0}
+Fails BadTag longer = longer ≡ Err BadTag
+Fails NotCanonical longer = longer ≡ Err NotCanonical
+Fails Invalid longer = longer ≡ Err Invalid
+Fails TrailingBytes longer = longer ≡ Err TrailingBytes
+
+-- what is read of some bytes, and with more behind them
+abbrev Extends : {X : Type 0} → List ℕ → Result (X × List ℕ) CopyFault → Result (X × List ℕ) CopyFault → Type 0
+Extends more (Ok x) longer = longer ≡ Ok (x.0, x.1 ++ more)
+Extends more (Err fault) longer = Fails fault longer
+
+fails_then : {X Y : Type 0} (fault : CopyFault) (longer : Result (X × List ℕ) CopyFault) (f : X × List ℕ → Result (Y × List ℕ) CopyFault) → Fails fault longer → Fails fault (longer >>= f)
+fails_then Short longer f h = tt
+fails_then BadTag longer f h = ap (λ l. l >>= f) h
+fails_then NotCanonical longer f h = ap (λ l. l >>= f) h
+fails_then Invalid longer f h = ap (λ l. l >>= f) h
+fails_then TrailingBytes longer f h = ap (λ l. l >>= f) h
+
+then_extends : {X Y : Type 0} (more : List ℕ) (r longer : Result (X × List ℕ) CopyFault) (f : X × List ℕ → Result (Y × List ℕ) CopyFault)
+    → Extends more r longer → ((x : X × List ℕ) → Extends more (f x) (f (x.0, x.1 ++ more))) → Extends more (r >>= f) (longer >>= f)
+then_extends more (Ok x) longer f h each = subst (λ l. Extends more (f x) (l >>= f)) (sym h) (each x)
+then_extends more (Err fault) longer f h each = fails_then fault longer f h
+
+fails_again : (X : Type 0) (fault : CopyFault) → Fails {X = X} fault (Err fault)
+fails_again X Short = tt
+fails_again X BadTag = refl
+fails_again X NotCanonical = refl
+fails_again X Invalid = refl
+fails_again X TrailingBytes = refl
+
+same_then : {A Y : Type 0} (more : List ℕ) (r : Result A CopyFault) (f g : A → Result (Y × List ℕ) CopyFault) → ((a : A) → Extends more (f a) (g a)) → Extends more (r >>= f) (r >>= g)
+same_then more (Ok a) f g each = each a
+same_then more (Err fault) f g each = fails_again _ fault
+
+-- ---- the readers
+
+byte_extends : (bytes more : List ℕ) → Extends more (byte_at bytes) (byte_at (bytes ++ more))
+byte_extends [] more = tt
+byte_extends (b ∷ bytes) more = refl
+
+bytes_extend : (n : ℕ) (bytes more : List ℕ) → Extends more (bytes_at n bytes) (bytes_at n (bytes ++ more))
+bytes_extend n bytes more =
+    elim (cases_lt (length bytes) n) [
+      | inl short ↦ rw (lt-ltb (length bytes) n short) tt
+      | inr long ↦
+          let longer : ltb (length (bytes ++ more)) n ≡ false = le-ltb _ _ (omega (arith, length-append bytes more)) in
+          rw (le-ltb (length bytes) n long, longer, take-append-le n bytes more long, drop-append-le n bytes more long) refl
+    ]
+
+number_extends : (w : Width) (bytes more : List ℕ) → Extends more (number_at w bytes) (number_at w (bytes ++ more))
+number_extends w bytes more =
+    elim (cases_lt (length bytes) (byte_len w)) [
+      | inl short ↦ rw (lt-ltb (length bytes) (byte_len w) short) tt
+      | inr long ↦
+          let longer : ltb (length (bytes ++ more)) (byte_len w) ≡ false = le-ltb _ _ (omega (arith, length-append bytes more)) in
+          rw (le-ltb (length bytes) (byte_len w) long, longer, take-append-le (byte_len w) bytes more long, drop-append-le (byte_len w) bytes more long) refl
+    ]
+
+chosen_extends : {X : Type 0} (more : List ℕ) (b : Bool) (x : X) (rest : List ℕ) → Extends more (cond b (Ok (x, rest)) (Err BadTag)) (cond b (Ok (x, rest ++ more)) (Err BadTag))
+chosen_extends more true x rest = refl
+chosen_extends more false x rest = refl
+
+code_extends : (bytes more : List ℕ) → Extends more (code_at bytes) (code_at (bytes ++ more))
+code_extends [] more = tt
+code_extends (zero ∷ bytes) more = refl
+code_extends (suc n ∷ bytes) more = chosen_extends more (ltb n 6) (suc n) bytes
+
+identity_extends : (bytes more : List ℕ) → Extends more (identity_at bytes) (identity_at (bytes ++ more))
+unfolding identity_at
+identity_extends bytes more =
+    then_extends more (number_at w64 bytes) (number_at w64 (bytes ++ more)) (λ pver. byte_at pver.1 >>= identity_1 pver.0) (number_extends w64 bytes more) (λ pver.
+    then_extends more (byte_at pver.1) (byte_at (pver.1 ++ more)) (identity_1 pver.0) (byte_extends pver.1 more) (λ code.
+    same_then more (kind_of_code code.0) (identity_2 pver.0 code.1) (identity_2 pver.0 (code.1 ++ more)) (λ kind.
+    then_extends more (number_at w32 code.1) (number_at w32 (code.1 ++ more)) (identity_3 pver.0 kind) (number_extends w32 code.1 more) (λ owner.
+    then_extends more (number_at w32 owner.1) (number_at w32 (owner.1 ++ more)) (identity_4 pver.0 kind owner.0) (number_extends w32 owner.1 more) (λ group. refl)))))
+
+entry_extends : (bytes more : List ℕ) → Extends more (entry_at bytes) (entry_at (bytes ++ more))
+unfolding entry_at
+entry_extends bytes more =
+    then_extends more (code_at bytes) (code_at (bytes ++ more)) (λ code. number_at w32 code.1 >>= entry_1 code.0) (code_extends bytes more) (λ code.
+    then_extends more (number_at w32 code.1) (number_at w32 (code.1 ++ more)) (entry_1 code.0) (number_extends w32 code.1 more) (λ number.
+    then_extends more (byte_at number.1) (byte_at (number.1 ++ more)) (entry_2 code.0 number.0) (byte_extends number.1 more) (λ permissions. refl)))
+
+representative_extends : (bytes more : List ℕ) → Extends more (representative_at bytes) (representative_at (bytes ++ more))
+unfolding representative_at
+representative_extends bytes more =
+    then_extends more (byte_at bytes) (byte_at (bytes ++ more)) (λ server. byte_at server.1 >>= λ votes. Ok ((server.0, votes.0), votes.1)) (byte_extends bytes more) (λ server.
+    then_extends more (byte_at server.1) (byte_at (server.1 ++ more)) (λ votes. Ok ((server.0, votes.0), votes.1)) (byte_extends server.1 more) (λ votes. refl))
+
+name_extends : (bytes more : List ℕ) → Extends more (name_at bytes) (name_at (bytes ++ more))
+unfolding name_at
+name_extends bytes more =
+    then_extends more (byte_at bytes) (byte_at (bytes ++ more)) (λ len. bytes_at len.0 len.1 >>= λ name. number_at w64 name.1 >>= λ suite. Ok ((name.0, suite.0), suite.1)) (byte_extends bytes more) (λ len.
+    then_extends more (bytes_at len.0 len.1) (bytes_at len.0 (len.1 ++ more)) (λ name. number_at w64 name.1 >>= λ suite. Ok ((name.0, suite.0), suite.1)) (bytes_extend len.0 len.1 more) (λ name.
+    then_extends more (number_at w64 name.1) (number_at w64 (name.1 ++ more)) (λ suite. Ok ((name.0, suite.0), suite.1)) (number_extends w64 name.1 more) (λ suite. refl)))
+
+many_extend : {X : Type 0} (one : List ℕ → Result (X × List ℕ) CopyFault) → ((bytes more : List ℕ) → Extends more (one bytes) (one (bytes ++ more)))
+    → (n : ℕ) (bytes more : List ℕ) → Extends more (many_at one n bytes) (many_at one n (bytes ++ more))
+unfolding many_at
+many_extend one each zero bytes more = refl
+many_extend one each (suc n) bytes more =
+    then_extends more (one bytes) (one (bytes ++ more)) (λ first. many_at one n first.1 >>= λ others. Ok (first.0 ∷ others.0, others.1)) (each bytes more) (λ first.
+    then_extends more (many_at one n first.1) (many_at one n (first.1 ++ more)) (λ others. Ok (first.0 ∷ others.0, others.1)) (many_extend one each n first.1 more) (λ others. refl))
+
+list_extends : (bytes more : List ℕ) → Extends more (list_at bytes) (list_at (bytes ++ more))
+unfolding list_at
+list_extends bytes more =
+    then_extends more (byte_at bytes) (byte_at (bytes ++ more)) (λ count. many_at entry_at count.0 count.1) (byte_extends bytes more) (λ count. many_extend entry_at entry_extends count.0 count.1 more)
+
+listed_extends : (bytes more : List ℕ) → Extends more (listed_at bytes) (listed_at (bytes ++ more))
+unfolding listed_at
+listed_extends bytes more =
+    then_extends more (byte_at bytes) (byte_at (bytes ++ more)) (λ count. many_at representative_at count.0 count.1) (byte_extends bytes more) (λ count.
+    many_extend representative_at representative_extends count.0 count.1 more)
+
+votes_extend : (bytes more : List ℕ) → Extends more (votes_at bytes) (votes_at (bytes ++ more))
+unfolding votes_at
+votes_extend bytes more =
+    then_extends more (listed_at bytes) (listed_at (bytes ++ more)) (λ reps. number_at w16 reps.1 >>= votes_1 reps.0) (listed_extends bytes more) (λ reps.
+    then_extends more (number_at w16 reps.1) (number_at w16 (reps.1 ++ more)) (votes_1 reps.0) (number_extends w16 reps.1 more) (λ r.
+    then_extends more (number_at w16 r.1) (number_at w16 (r.1 ++ more)) (votes_2 reps.0 r.0) (number_extends w16 r.1 more) (λ w. refl)))
+
+file_extends : (bytes more : List ℕ) → Extends more (file_at bytes) (file_at (bytes ++ more))
+unfolding file_at
+file_extends bytes more =
+    then_extends more (number_at w32 bytes) (number_at w32 (bytes ++ more)) (λ len. bytes_at len.0 len.1 >>= λ file. Ok (Bytes file.0, file.1)) (number_extends w32 bytes more) (λ len.
+    then_extends more (bytes_at len.0 len.1) (bytes_at len.0 (len.1 ++ more)) (λ file. Ok (Bytes file.0, file.1)) (bytes_extend len.0 len.1 more) (λ file. refl))
+
+folder_extends : (bytes more : List ℕ) → Extends more (folder_at bytes) (folder_at (bytes ++ more))
+unfolding folder_at
+folder_extends bytes more =
+    then_extends more (number_at w16 bytes) (number_at w16 (bytes ++ more)) (λ count. many_at name_at count.0 count.1 >>= λ names. Ok (Names names.0, names.1)) (number_extends w16 bytes more) (λ count.
+    then_extends more (many_at name_at count.0 count.1) (many_at name_at count.0 (count.1 ++ more)) (λ names. Ok (Names names.0, names.1)) (many_extend name_at name_extends count.0 count.1 more) (λ names. refl))
+
+content_extends : (kind : PrefixKind) (bytes more : List ℕ) → Extends more (content_at kind bytes) (content_at kind (bytes ++ more))
+content_extends Absent bytes more = file_extends bytes more
+content_extends File bytes more = file_extends bytes more
+content_extends Folder bytes more = folder_extends bytes more
+
+-- the form has no value: reading goes on after it
+form_then : {X : Type 0} (f : List ℕ → Result (X × List ℕ) CopyFault) → ((rest more : List ℕ) → Extends more (f rest) (f (rest ++ more)))
+    → (bytes more : List ℕ) → Extends more (form_at bytes >>= f) (form_at (bytes ++ more) >>= f)
+form_then f each [] more = tt
+form_then f each (zero ∷ bytes) more = refl
+form_then f each (suc zero ∷ bytes) more = each bytes more
+form_then f each (suc (suc n) ∷ bytes) more = refl
+
+after_form : (bytes more : List ℕ) → Extends more (identity_at bytes >>= shape_1) (identity_at (bytes ++ more) >>= shape_1)
+after_form bytes more =
+    then_extends more (identity_at bytes) (identity_at (bytes ++ more)) shape_1 (identity_extends bytes more) (λ i.
+    then_extends more (list_at i.1) (list_at (i.1 ++ more)) (shape_2 i.0) (list_extends i.1 more) (λ l.
+    then_extends more (votes_at l.1) (votes_at (l.1 ++ more)) (shape_3 i.0 l.0) (votes_extend l.1 more) (λ v.
+    then_extends more (number_at w64 v.1) (number_at w64 (v.1 ++ more)) (shape_4 i.0 l.0 v.0) (number_extends w64 v.1 more) (λ d.
+    then_extends more (content_at i.0.kind d.1) (content_at i.0.kind (d.1 ++ more)) (shape_5 i.0 l.0 v.0 d.0) (content_extends i.0.kind d.1 more) (λ c. refl)))))
+
+shape_extends : (bytes more : List ℕ) → Extends more (shape_at bytes) (shape_at (bytes ++ more))
+unfolding shape_at
+shape_extends bytes more = form_then (λ rest. identity_at rest >>= shape_1) after_form bytes more
+
+-- ---- fronts
+
+nothing_after : (rest more : List ℕ) → rest ++ more ≡ [] → more ≡ []
+nothing_after [] more e = e
+nothing_after (b ∷ rest) more e = absurd cc
+
+rest_of : Result (Shape × List ℕ) CopyFault → List ℕ
+rest_of (Ok x) = x.1
+rest_of (Err fault) = []
+
+short_front : (shape : Shape) (more : List ℕ) (read : Result (Shape × List ℕ) CopyFault) → Extends more read (Ok (shape, [])) → more ≢ [] → IsFaultIn read Short
+unfolding rest_of
+short_front shape more (Ok x) h some = absurd (some (nothing_after x.1 more (sym (ap rest_of h))))
+short_front shape more (Err Short) h some = refl
+short_front shape more (Err BadTag) h some = absurd cc
+short_front shape more (Err NotCanonical) h some = absurd cc
+short_front shape more (Err Invalid) h some = absurd cc
+short_front shape more (Err TrailingBytes) h some = absurd cc
+
+pub fronts_are_short : FrontsAreShort
+fronts_are_short copy front rest valid whole some =
+    let read = ap shape_at (sym whole) ∙ whole_again copy valid in
+    short_front (shape_of copy) rest (shape_at front) (subst (Extends rest (shape_at front)) read (shape_extends front rest)) some

@@ -1,0 +1,103 @@
+-- Entries of which each stands before the next are in canonical order, and names of which each is below the next are a folder's.
+use Rattle.std.proofs.Common.{◌≡◌, ℕ, suc, true, eqb, List, [], ◌∷◌, ◌++◌, map, Less, refl, ap, arith}
+use Rattle.std.specs.Prelude.{All}
+use Rattle.std.specs.List.{AllByRecursion}
+use Rattle.std.specs.List.Sorted.{IsStrictlySortedBy}
+use Rattle.std.specs.Map.{keys_of}
+use Rattle.std.specs.Ordering.{is_lt}
+use Rattle.std.specs.declared.cmp.Ordering.{Ordering}
+use Rattle.std.specs.declared.cmp.Ordering.TheVariants as ord
+use Rattle.std.specs.Cmp.Lexicographic.{nat_list_cmp_total}
+use Rattle.std.proofs.lemmas.Bool.{and_parts, and_from}
+use Rattle.std.proofs.lemmas.Bool.Decides.{nat_tests}
+use Rattle.std.proofs.lemmas.List.Elements.{All-nil, All-cons}
+use Rattle.std.proofs.lemmas.List.Kept.{AllPairs-cons}
+use Rattle.acl_core.specs.declared.entry.Tag.{Tag}
+use Rattle.acl_core.specs.declared.entry.Entry.{Entry}
+use Rattle.acl_core.specs.AccessLists.{IsCanonical}
+use Rattle.acl_core.specs.Tags.{qualifier, precedes}
+use Rattle.suite_content.specs.Folders.{IsFolder, name_cmp}
+use Rattle.suite_prefix.specs.declared.shapes.EntryShape.{EntryShape}
+use Rattle.suite_prefix.specs.Faults.{numbers_belong, entries_rise, rise_above, names_rise}
+use Rattle.suite_prefix.specs.Reading.{entry_from}
+use Rattle.suite_prefix.proofs.ShapeOf.{entry_shape}
+
+chain : (s t u : Tag) → precedes s t ≡ true → precedes t u ≡ true → precedes s u ≡ true
+chain s t u h k = grind (arith, nat_tests)
+
+-- what stands before the first stands before all
+all_after : (s : Tag) (e : EntryShape) (es : List EntryShape) → precedes s e.tag ≡ true → entries_rise (e ∷ es) ≡ true → All (λ later. precedes s later.tag ≡ true) (map entry_from (e ∷ es))
+all_after s e [] h rise = All-cons (λ (later : Entry). precedes s later.tag ≡ true) (entry_from e) [] h (All-nil (λ (later : Entry). precedes s later.tag ≡ true))
+all_after s e (f ∷ fs) h rise =
+    let parts = and_parts (precedes e.tag f.tag) (entries_rise (f ∷ fs)) rise in
+    All-cons (λ (later : Entry). precedes s later.tag ≡ true) (entry_from e) (map entry_from (f ∷ fs)) h (all_after s f fs (chain s e.tag f.tag h parts.0) parts.1)
+
+pub canonical_if_rise : (es : List EntryShape) → entries_rise es ≡ true → IsCanonical (map entry_from es)
+canonical_if_rise [] rise = λ i j d lt in_list. absurd (omega arith)
+canonical_if_rise (e ∷ []) rise =
+    AllPairs-cons (λ (earlier later : Entry). precedes earlier.tag later.tag ≡ true) (entry_from e) [] (All-nil (λ (later : Entry). precedes e.tag later.tag ≡ true)) (λ i j d lt in_list. absurd (omega arith))
+canonical_if_rise (e ∷ (f ∷ fs)) rise =
+    let parts = and_parts (precedes e.tag f.tag) (entries_rise (f ∷ fs)) rise in
+    AllPairs-cons (λ (earlier later : Entry). precedes earlier.tag later.tag ≡ true) (entry_from e) (map entry_from (f ∷ fs)) (all_after e.tag f fs parts.0 parts.1) (canonical_if_rise (f ∷ fs) parts.1)
+
+-- and back, for the shapes in which entries are written
+pub rise_if_canonical : (es : List Entry) → IsCanonical es → entries_rise (map entry_shape es) ≡ true
+rise_if_canonical [] h = refl
+rise_if_canonical (e ∷ []) h = refl
+rise_if_canonical (e ∷ (f ∷ fs)) h =
+    and_from (precedes e.tag f.tag) (entries_rise (map entry_shape (f ∷ fs))) (h 0 1 e (omega arith) (omega arith)) (rise_if_canonical (f ∷ fs) (λ i j d lt in_list. h (suc i) (suc j) d (omega arith) (omega arith)))
+
+same_number : (n : ℕ) → eqb n n ≡ true
+same_number n = grind (arith, nat_tests)
+
+pub numbers_of_entries : (es : List Entry) → numbers_belong (map entry_shape es) ≡ true
+numbers_of_entries [] = refl
+numbers_of_entries (e ∷ es) = and_from (eqb (qualifier e.tag) (qualifier e.tag)) (numbers_belong (map entry_shape es)) (same_number (qualifier e.tag)) (numbers_of_entries es)
+
+-- ---- names
+
+less : (o : Ordering) → is_lt o ≡ true → o ≡ Less
+less ord.Less h = refl
+less ord.Equal h = absurd cc
+less ord.Greater h = absurd cc
+
+names_after : (name next : List ℕ) (names : List (List ℕ × ℕ)) → name_cmp name next ≡ Less → rise_above next names ≡ true → AllByRecursion (λ q. name_cmp name q ≡ Less) (keys_of names)
+names_after name next [] h rise = tt
+names_after name next (other ∷ names) h rise =
+    let parts = and_parts (is_lt (name_cmp next other.0)) (rise_above other.0 names) rise in
+    let on : name_cmp name other.0 ≡ Less = nat_list_cmp_total.trans name next other.0 h (less (name_cmp next other.0) parts.0) in
+    (on, names_after name other.0 names on parts.1)
+
+sorted_above : (first : List ℕ × ℕ) (names : List (List ℕ × ℕ)) → rise_above first.0 names ≡ true → IsStrictlySortedBy name_cmp (keys_of (first ∷ names))
+unfolding IsStrictlySortedBy
+sorted_above first [] rise = (tt, tt)
+sorted_above first (next ∷ names) rise =
+    let parts = and_parts (is_lt (name_cmp first.0 next.0)) (rise_above next.0 names) rise in
+    let below = less (name_cmp first.0 next.0) parts.0 in
+    ((below, names_after first.0 next.0 names below parts.1), sorted_above next names parts.1)
+
+pub folder_if_rise : (names : List (List ℕ × ℕ)) → names_rise names ≡ true → IsFolder names
+unfolding IsStrictlySortedBy
+folder_if_rise [] rise = tt
+folder_if_rise (first ∷ names) rise = sorted_above first names rise
+
+above_if_sorted : (first : List ℕ × ℕ) (names : List (List ℕ × ℕ)) → IsStrictlySortedBy name_cmp (keys_of (first ∷ names)) → rise_above first.0 names ≡ true
+unfolding IsStrictlySortedBy
+above_if_sorted first [] sorted = refl
+above_if_sorted first (next ∷ names) sorted =
+    and_from (is_lt (name_cmp first.0 next.0)) (rise_above next.0 names) (ap is_lt sorted.0.0) (above_if_sorted next names sorted.1)
+
+pub rise_if_folder : (names : List (List ℕ × ℕ)) → IsFolder names → names_rise names ≡ true
+rise_if_folder [] folder = refl
+rise_if_folder (first ∷ names) folder = above_if_sorted first names folder
+
+-- ---- a name behind others
+
+at_middle : (P : List ℕ → Type 0) (front : List (List ℕ × ℕ)) (entry : List ℕ × ℕ) (rest : List (List ℕ × ℕ)) → AllByRecursion P (keys_of (front ++ entry ∷ rest)) → P entry.0
+at_middle P [] entry rest all = all.0
+at_middle P (e ∷ front) entry rest all = at_middle P front entry rest all.1
+
+pub front_below : (front : List (List ℕ × ℕ)) (entry : List ℕ × ℕ) (rest : List (List ℕ × ℕ)) → IsFolder (front ++ entry ∷ rest) → AllByRecursion (λ q. name_cmp q entry.0 ≡ Less) (keys_of front)
+unfolding IsStrictlySortedBy
+front_below [] entry rest sorted = tt
+front_below (e ∷ front) entry rest sorted = (at_middle (λ (q : List ℕ). name_cmp e.0 q ≡ Less) front entry rest sorted.0, front_below front entry rest sorted.1)

@@ -1,0 +1,52 @@
+-- The shape in which a copy is written, and that it spells the copy.
+use Rattle.std.proofs.Common.{◌≡◌, ℕ, List, [], ◌∷◌, map, refl, ap, ◌∙◌}
+use Rattle.std.proofs.Math.Nat.{mod-eq_of_lt}
+use Rattle.acl_core.specs.declared.entry.Entry.{Entry}
+use Rattle.acl_core.specs.declared.perms.Perms.{Perms}
+use Rattle.acl_core.specs.declared.entry.Tag.{Tag}
+use Rattle.acl_core.specs.declared.entry.Tag.TheVariants.{UserObj, User, GroupObj, Group, Mask, Other}
+use Rattle.acl_core.specs.Permissions.{number_of}
+use Rattle.acl_core.specs.Tags.{qualifier}
+use Rattle.acl_core.proofs.EntryEquality.{same_by_fields}
+use Rattle.suite_prefix.specs.declared.copies.Replica.{Replica}
+use Rattle.suite_prefix.specs.declared.shapes.EntryShape.{EntryShape}
+use Rattle.suite_prefix.specs.Bytes.{tag_code}
+use Rattle.suite_prefix.specs.Reading.{Shape, tag_of, entry_from, copy_of}
+
+abbrev pub entry_shape : Entry → EntryShape
+entry_shape entry = record { tag = entry.tag; number = qualifier entry.tag; permissions = number_of entry.perms }
+
+abbrev pub shape_of : Replica → Shape
+shape_of copy = record {
+  identity = record { pver = copy.prefix.pver; kind = copy.prefix.kind; owner = copy.prefix.owner; group = copy.prefix.group };
+  entries = map entry_shape copy.prefix.acl;
+  votes = copy.prefix.votes;
+  dver = copy.dver;
+  content = copy.content;
+}
+
+pub tag_back : (tag : Tag) → tag_of (tag_code tag) (qualifier tag) ≡ tag
+tag_back UserObj = refl
+tag_back (User id) = refl
+tag_back GroupObj = refl
+tag_back (Group id) = refl
+tag_back Mask = refl
+tag_back Other = refl
+
+perms_of : ℕ → Perms
+perms_of bits = record { 0 = bits }
+
+entry_back : (entry : Entry) → entry_from (entry_shape entry) ≡ entry
+unfolding perms_of
+entry_back entry = same_by_fields _ entry refl (ap perms_of (mod-eq_of_lt entry.known))
+
+pub entries_back : (entries : List Entry) → map entry_from (map entry_shape entries) ≡ entries
+entries_back [] = refl
+entries_back (entry ∷ entries) = ap (λ e. e ∷ map entry_from (map entry_shape entries)) (entry_back entry) ∙ ap (λ es. entry ∷ es) (entries_back entries)
+
+with_acl : Replica → List Entry → Replica
+with_acl copy acl = record { prefix = record { pver = copy.prefix.pver; kind = copy.prefix.kind; owner = copy.prefix.owner; group = copy.prefix.group; acl = acl; votes = copy.prefix.votes }; dver = copy.dver; content = copy.content }
+
+pub copy_back : (copy : Replica) → copy_of (shape_of copy) ≡ copy
+unfolding with_acl
+copy_back copy = ap (with_acl copy) (entries_back copy.prefix.acl)

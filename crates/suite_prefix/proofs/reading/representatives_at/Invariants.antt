@@ -1,0 +1,7 @@
+use Rattle.std.proofs.Common.{◌≡◌, ◌-◌, length, take}
+use Rattle.suite_prefix.specs.Reading.{representative_at, many_at}
+use Rattle.suite_prefix.proofs.Loop.{with_front}
+use Rattle.suite_prefix.proofs.reading.representatives_at.Given as goal
+
+abbrev pub invariant-loop-place : goal.invariant-loop-place
+invariant-loop-place l = with_front (take l.place-index l.places) (many_at representative_at (length l.fn.places - l.place-index) l.rest) ≡ many_at representative_at (length l.fn.places) l.bytes
