@@ -9,6 +9,7 @@ use Rattle.std.proofs.lemmas.Cmp.{nat_cmp_total}
 use Rattle.std.proofs.lemmas.Option.{none-some, same_Some}
 use Rattle.std.proofs.lemmas.Map.Entries.{lookup_head, lookup_tail}
 use Rattle.acl_core.specs.declared.entry.Entry.{Entry}
+use Rattle.vote_core.specs.Quorums.{Configuration}
 use Rattle.sorted_map.specs.SortedMap.{IsOrdered, get, replace}
 use Rattle.sorted_map.specs.Roomy.{Roomy}
 use Rattle.sorted_map.specs.Comparisons.{by_answer}
@@ -20,10 +21,10 @@ use Rattle.suite_content.specs.declared.content.Content.TheVariants as content
 use Rattle.file_ops.specs.declared.stored.StoredContent.{StoredContent}
 use Rattle.file_ops.specs.declared.stored.StoredContent.TheVariants.{Bytes, Names}
 use Rattle.file_ops.specs.declared.stored.StoredRow.{StoredRow}
-use Rattle.file_ops.specs.declared.change.Change.TheVariants.{Held, Listed, Made, Dropped}
-use Rattle.file_ops.specs.Rows.{Row, Rows, row_of, with_row, with_acl, with_content}
-use Rattle.file_ops.specs.Stored.{StoredRows, plain, plain_content, plain_row, exchanged, restored_row, with_stored_content, with_stored_acl}
-use Rattle.file_ops.specs.Edits.{edited, number_at, in_names, put_acl, put_content, put_row, put_name, drop_name}
+use Rattle.file_ops.specs.declared.change.Change.TheVariants.{Held, Listed, Voted, Made, Dropped}
+use Rattle.file_ops.specs.Rows.{Row, Rows, row_of, with_row, with_acl, with_votes, with_content}
+use Rattle.file_ops.specs.Stored.{StoredRows, plain, plain_content, plain_row, exchanged, restored_row, with_stored_content, with_stored_acl, with_stored_votes}
+use Rattle.file_ops.specs.Edits.{edited, number_at, in_names, put_acl, put_votes, put_content, put_row, put_name, drop_name}
 use Rattle.file_ops.specs.Capacity.{capacity_in, capacity_of, capacity_at, KeepsCapacity, has_room_for, HasRoom}
 use Rattle.file_ops.specs.Restored.{Restores, Makes}
 use Rattle.file_ops.specs.Changes.{restored, TakesBack}
@@ -95,34 +96,67 @@ held_taken rows s held before ordered was = by_stored (get nat_cmp rows s)
       there = ap (λ r. is_some (row_of r s)) (after ∙ edited-some (plain rows) s edit (plain_row row) seen) ∙ ap is_some (row_of-with_same (plain rows) s (edit (plain_row row)));
     })
 
--- ---- the list before
+-- ---- the list and the votes before
 
--- another list changes no capacity
-listed_capacity : (rows : StoredRows) (s : ℕ) (acl : List Entry) (q : ℕ) → capacity_at (exchanged rows s (with_stored_acl acl)) q ≡ capacity_at rows q
-listed_capacity rows s acl q = each q s
+-- an edit of a row that leaves its content
+record Leaves (edit : StoredRow → StoredRow) (seen : Row → Row) : Type 0 where
+  plainly : (row : StoredRow) → plain_row (edit row) ≡ seen (plain_row row)
+  content : (row : StoredRow) → (edit row).content ≡ row.content
+
+-- it changes no capacity
+left_capacity : (rows : StoredRows) (s : ℕ) (edit : StoredRow → StoredRow) (seen : Row → Row) → Leaves edit seen → (q : ℕ) → capacity_at (exchanged rows s edit) q ≡ capacity_at rows q
+left_capacity rows s edit seen leaves q = each q s
     (λ same. by_stored (get nat_cmp rows s)
-    (λ absent. ap (λ r. capacity_at r q) (exchanged-none rows s (with_stored_acl acl) absent))
-    (λ row there. ap (capacity_at (exchanged rows s (with_stored_acl acl))) same ∙ exchanged_here rows s (with_stored_acl acl) row there ∙ sym (ap (capacity_at rows) same ∙ ap capacity_of there)))
-    (exchanged_apart rows s (with_stored_acl acl) q)
+    (λ absent. ap (λ r. capacity_at r q) (exchanged-none rows s edit absent))
+    (λ row there. ap (capacity_at (exchanged rows s edit)) same ∙ exchanged_here rows s edit row there ∙ ap capacity_in (leaves.content row) ∙ sym (ap (capacity_at rows) same ∙ ap capacity_of there)))
+    (exchanged_apart rows s edit q)
+
+-- it can be taken back
+left_taken : (rows : StoredRows) (s : ℕ) (edit : StoredRow → StoredRow) (seen back : Row → Row) (row : StoredRow) → IsOrdered nat_cmp rows → Leaves edit seen → get nat_cmp rows s ≡ Some row → back (seen (plain_row row)) ≡ plain_row row → edited (plain (exchanged rows s edit)) s back ≡ plain rows
+left_taken rows s edit seen back row ordered leaves there undoes =
+    ap (λ r. edited r s back) (plain-exchanged rows s edit seen ordered leaves.plainly)
+    ∙ edited-back-at (plain rows) s seen back (plain_row row) (ordered-plain rows ordered) (row_of-plain rows s ∙ ap (option_map plain_row) there) undoes
+
+-- and is what takes another one back
+left_back : (before now : StoredRows) (s : ℕ) (edit : StoredRow → StoredRow) (seen : Row → Row) → IsOrdered nat_cmp now → Leaves edit seen → edited (plain now) s seen ≡ plain before → ((q : ℕ) → capacity_at before q ≤ capacity_at now q) → Restores before (exchanged now s edit)
+left_back before now s edit seen ordered leaves rows capacity = record {
+  rows = plain-exchanged now s edit seen ordered leaves.plainly ∙ rows;
+  capacity = λ q. omega (arith, capacity q, left_capacity now s edit seen leaves q);
+}
+
+leaves_listed : (acl : List Entry) → Leaves (with_stored_acl acl) (put_acl acl)
+leaves_listed acl = record { plainly = λ row. refl; content = λ row. refl }
 
 pub listed_taken : (rows : StoredRows) (s : ℕ) (acl before : List Entry) → IsOrdered nat_cmp rows → Some before ≡ option_map (λ row. row.acl) (get nat_cmp rows s) → TakesBack (Listed s before) rows (exchanged rows s (with_stored_acl acl))
 listed_taken rows s acl before ordered was = by_stored (get nat_cmp rows s)
     (λ absent. absurd (none-some before (sym (ap (option_map (λ row. row.acl)) absent) ∙ sym was)))
     (λ row there.
     let same : before ≡ row.acl = same_Some before row.acl (was ∙ ap (option_map (λ r. r.acl)) there) in
-    let seen : row_of (plain rows) s ≡ Some (plain_row row) = row_of-plain rows s ∙ ap (option_map plain_row) there in
     record {
-      rows = ap (λ r. edited r s (put_acl before)) (plain-exchanged rows s (with_stored_acl acl) (put_acl acl) ordered (λ r. refl))
-          ∙ edited-back-at (plain rows) s (put_acl acl) (put_acl before) (plain_row row) (ordered-plain rows ordered) seen (ap (with_acl (plain_row row)) same);
-      capacity = λ q. omega (arith, listed_capacity rows s acl q);
+      rows = left_taken rows s (with_stored_acl acl) (put_acl acl) (put_acl before) row ordered (leaves_listed acl) there (ap (with_acl (plain_row row)) same);
+      capacity = λ q. omega (arith, left_capacity rows s (with_stored_acl acl) (put_acl acl) (leaves_listed acl) q);
       there = tt;
     })
 
 pub listed_back : (before now : StoredRows) (s : ℕ) (acl : List Entry) → IsOrdered nat_cmp now → TakesBack (Listed s acl) before now → Restores before (exchanged now s (with_stored_acl acl))
-listed_back before now s acl ordered back = record {
-  rows = plain-exchanged now s (with_stored_acl acl) (put_acl acl) ordered (λ row. refl) ∙ back.rows;
-  capacity = λ q. omega (arith, back.capacity q, listed_capacity now s acl q);
-}
+listed_back before now s acl ordered back = left_back before now s (with_stored_acl acl) (put_acl acl) ordered (leaves_listed acl) back.rows back.capacity
+
+leaves_voted : (votes : Configuration) → Leaves (with_stored_votes votes) (put_votes votes)
+leaves_voted votes = record { plainly = λ row. refl; content = λ row. refl }
+
+pub voted_taken : (rows : StoredRows) (s : ℕ) (votes before : Configuration) → IsOrdered nat_cmp rows → Some before ≡ option_map (λ row. row.votes) (get nat_cmp rows s) → TakesBack (Voted s before) rows (exchanged rows s (with_stored_votes votes))
+voted_taken rows s votes before ordered was = by_stored (get nat_cmp rows s)
+    (λ absent. absurd (none-some before (sym (ap (option_map (λ row. row.votes)) absent) ∙ sym was)))
+    (λ row there.
+    let same : before ≡ row.votes = same_Some before row.votes (was ∙ ap (option_map (λ r. r.votes)) there) in
+    record {
+      rows = left_taken rows s (with_stored_votes votes) (put_votes votes) (put_votes before) row ordered (leaves_voted votes) there (ap (with_votes (plain_row row)) same);
+      capacity = λ q. omega (arith, left_capacity rows s (with_stored_votes votes) (put_votes votes) (leaves_voted votes) q);
+      there = tt;
+    })
+
+pub voted_back : (before now : StoredRows) (s : ℕ) (votes : Configuration) → IsOrdered nat_cmp now → TakesBack (Voted s votes) before now → Restores before (exchanged now s (with_stored_votes votes))
+voted_back before now s votes ordered back = left_back before now s (with_stored_votes votes) (put_votes votes) ordered (leaves_voted votes) back.rows back.capacity
 
 -- ---- the row before, and then the name taken out
 

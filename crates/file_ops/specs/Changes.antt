@@ -3,11 +3,11 @@ use Rattle.std.specs.Prelude.{◌≡◌, ℕ, ◌≤◌, ◌==◌, true, if◌th
 use Rattle.std.specs.Ordering.{nat_cmp}
 use Rattle.sorted_map.specs.SortedMap.{remove}
 use Rattle.file_ops.specs.declared.change.Change.{Change}
-use Rattle.file_ops.specs.declared.change.Change.TheVariants.{Nothing, Held, Listed, Made, Dropped}
+use Rattle.file_ops.specs.declared.change.Change.TheVariants.{Nothing, Held, Listed, Voted, Made, Dropped}
 use Rattle.file_ops.specs.declared.stored.StoredRow.{StoredRow}
 use Rattle.file_ops.specs.Rows.{Rows, row_of}
 use Rattle.file_ops.specs.Stored.{StoredRows, plain, plain_content, plain_row}
-use Rattle.file_ops.specs.Edits.{edited, put_acl, put_content, put_row, put_name, drop_name}
+use Rattle.file_ops.specs.Edits.{edited, put_acl, put_votes, put_content, put_row, put_name, drop_name}
 use Rattle.file_ops.specs.Capacity.{capacity_in, capacity_at, capacity_of}
 
 -- the rows with the row that a number had before, or without one
@@ -20,6 +20,7 @@ abbrev pub taken_back : Change → Rows → Rows
 taken_back Nothing rows = rows
 taken_back (Held suite before) rows = edited rows suite (put_content (plain_content before))
 taken_back (Listed suite before) rows = edited rows suite (put_acl before)
+taken_back (Voted suite before) rows = edited rows suite (put_votes before)
 taken_back (Made folder name number before) rows = edited (restored rows number before) folder (drop_name name)
 taken_back (Dropped folder name number) rows = edited rows folder (put_name name number)
 

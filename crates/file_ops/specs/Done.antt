@@ -30,8 +30,8 @@ Acts (Ok acted) before after done = ActsWith acted before after done
 Acts (Err (Refused why)) before after done = done ≡ Err why
 Acts (Err Memory) before after done = Unit {0}
 
--- what the code answers for operations of a transaction: the replies so far, with the rows that it leaves, or a refusal
-abbrev pub Plays : Result (Unit {0}) ApplyError → List Answer → StoredRows → Result Played Refusal → Type 0
-Plays (Ok done) answers rows played = played ≡ Ok (record { answers = answers; rows = plain rows })
-Plays (Err (apply.Refused refusal)) answers rows played = played ≡ Err refusal
-Plays (Err apply.Memory) answers rows played = Unit {0}
+-- what the code answers for operations of a transaction: the replies, with the rows that it leaves, or a refusal
+abbrev pub Plays : Result (List Answer) ApplyError → StoredRows → Result Played Refusal → Type 0
+Plays (Ok answers) rows played = played ≡ Ok (record { answers = answers; rows = plain rows })
+Plays (Err (apply.Refused refusal)) rows played = played ≡ Err refusal
+Plays (Err apply.Memory) rows played = Unit {0}

@@ -2,10 +2,11 @@
 use Rattle.std.specs.Prelude.{ℕ, List, Option, None}
 use Rattle.std.specs.Option.{option_map_or}
 use Rattle.acl_core.specs.declared.entry.Entry.{Entry}
+use Rattle.vote_core.specs.Quorums.{Configuration}
 use Rattle.suite_content.specs.declared.content.Content.{Content}
 use Rattle.suite_content.specs.declared.content.Content.TheVariants.{Bytes, Names}
 use Rattle.suite_content.specs.Folders.{number_of, with_name, without_name}
-use Rattle.file_ops.specs.Rows.{Row, Rows, row_of, with_row, with_acl, with_content}
+use Rattle.file_ops.specs.Rows.{Row, Rows, row_of, with_row, with_acl, with_votes, with_content}
 
 -- the rows with one row edited, where it is there
 abbrev pub edited : Rows → ℕ → (Row → Row) → Rows
@@ -23,9 +24,12 @@ number_at rows suite name = option_map_or (λ row. number_in row.content name) (
 abbrev pub put_content : Content → Row → Row
 put_content content row = with_content row content
 
--- another list, another row
+-- another list, other votes, another row
 abbrev pub put_acl : List Entry → Row → Row
 put_acl acl row = with_acl row acl
+
+abbrev pub put_votes : Configuration → Row → Row
+put_votes votes row = with_votes row votes
 
 abbrev pub put_row : Row → Row → Row
 put_row other row = other

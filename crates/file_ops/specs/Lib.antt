@@ -4,6 +4,7 @@ pub mod Lists
 pub mod Rows
 pub mod Stored
 pub mod Walks
+pub mod KnownVotes
 pub mod Operations
 pub mod Transactions
 pub mod Edits
@@ -12,3 +13,5 @@ pub mod Restored
 pub mod Changes
 pub mod Found
 pub mod Done
+pub mod AnswerEquality
+pub mod RefusalEquality

@@ -1,6 +1,8 @@
 -- One operation on the table: its reply and the rows after it, or why it is refused.
 use Rattle.std.specs.Prelude.{ℕ, ◌-◌, nat_lt, nat_le, Bool, true, false, List, length, take, is_some, slice_get, Option, Some, None, Result, Ok, Err}
 use Rattle.acl_core.specs.Identity.{Identity}
+use Rattle.acl_core.specs.declared.entry.Entry.{Entry}
+use Rattle.vote_core.specs.Quorums.{Configuration}
 use Rattle.suite_content.specs.declared.content.Kind.{Kind}
 use Rattle.suite_content.specs.declared.content.Content.{Content}
 use Rattle.suite_content.specs.declared.content.Content.TheVariants.{Bytes, Names}
@@ -14,10 +16,12 @@ use Rattle.file_ops.specs.declared.operation.Init.{Init}
 use Rattle.file_ops.specs.declared.operation.Op.{Op}
 use Rattle.file_ops.specs.declared.refusal.Why.{Why}
 use Rattle.file_ops.specs.declared.refusal.Why.TheVariants as why
+use Rattle.file_ops.specs.declared.service.Service.{Service}
 use Rattle.file_ops.specs.Steps.{◌>>=◌, ◌>>◌, found_or}
 use Rattle.file_ops.specs.Paths.{names_of}
-use Rattle.file_ops.specs.Rows.{Row, Rows, row_of, with_row, with_acl, with_content, made_number, new_row}
-use Rattle.file_ops.specs.Walks.{Place, bytes_in, names_in, to_read, to_write, to_change, permit, permit_others, owner_only, reach}
+use Rattle.file_ops.specs.Rows.{Row, Rows, row_of, with_row, with_acl, with_votes, with_content, made_number, new_row}
+use Rattle.file_ops.specs.Walks.{Place, bytes_in, names_in, to_read, to_write, to_change, permit, reach, shown, owned}
+use Rattle.file_ops.specs.KnownVotes.{known_votes, votes_of_new}
 
 -- a reply with the rows after it
 pub record Done : Type 0 where
@@ -33,6 +37,54 @@ refuse_if false why = Ok tt
 pub record Named : Type 0 where
   pub folders : List (List ℕ)
   pub name : List ℕ
+
+-- the bytes of a file, answered
+abbrev pub bytes_read : Rows → Identity → List (List ℕ) → Result Done Why
+bytes_read rows caller names = do
+  place ← reach rows caller names
+  permit caller place to_read
+  bytes ← bytes_in place.row.content
+  Ok (record { answer = answer.Read bytes; rows = rows })
+
+-- the names of a folder, answered
+abbrev pub names_listed : Rows → Identity → List (List ℕ) → Result Done Why
+names_listed rows caller names = do
+  place ← reach rows caller names
+  permit caller place to_read
+  entries ← names_in place.row.content
+  Ok (record { answer = answer.List (folders.names_in entries); rows = rows })
+
+-- the access list of a file or folder, answered; its votes, answered
+abbrev pub list_shown : Rows → Identity → List (List ℕ) → Result Done Why
+list_shown rows caller names = do
+  place ← shown rows caller names
+  Ok (record { answer = answer.Acl place.row.acl; rows = rows })
+
+abbrev pub votes_shown : Rows → Identity → List (List ℕ) → Result Done Why
+votes_shown rows caller names = do
+  place ← shown rows caller names
+  Ok (record { answer = answer.Votes place.row.votes; rows = rows })
+
+-- other bytes put in a file
+abbrev pub bytes_written : Rows → Identity → List (List ℕ) → List ℕ → Result Done Why
+bytes_written rows caller names bytes = do
+  refuse_if (nat_lt longest_content (length bytes)) why.TooLong
+  place ← reach rows caller names
+  permit caller place to_write
+  before ← bytes_in place.row.content
+  Ok (record { answer = answer.Wrote; rows = with_row rows place.suite (with_content place.row (Bytes bytes)) })
+
+-- another access list set; other votes set
+abbrev pub list_set : Rows → Identity → List (List ℕ) → List Entry → Result Done Why
+list_set rows caller names acl = do
+  place ← owned rows caller names
+  Ok (record { answer = answer.Set; rows = with_row rows place.suite (with_acl place.row acl) })
+
+abbrev pub votes_set : Service → Rows → Identity → List (List ℕ) → Configuration → Result Done Why
+votes_set service rows caller names given = do
+  votes ← known_votes service given
+  place ← owned rows caller names
+  Ok (record { answer = answer.Set; rows = with_row rows place.suite (with_votes place.row votes) })
 
 -- the last name of a path, and the names before it; `/` has none
 abbrev pub last_name : List (List ℕ) → Result Named Why
@@ -63,13 +115,14 @@ with_made rows parent name number row =
     with_row (with_names rows parent.place (folders.with_name parent.names name number)) number row
 
 -- a file or folder of this number, made
-abbrev pub made : Rows → ℕ → Identity → List (List ℕ) → Kind → Init → Result Done Why
-made rows number caller names kind init = do
+abbrev pub made : Service → Rows → ℕ → Identity → List (List ℕ) → Kind → Init → Option Configuration → Result Done Why
+made service rows number caller names kind init given = do
   path ← last_name names
+  votes ← votes_of_new service given
   parent ← parent_of rows caller path.folders
   refuse_if (is_some (folders.number_of parent.names path.name)) why.Exists
   refuse_if (nat_le most_names (length parent.names)) why.FolderFull
-  Ok (record { answer = answer.Made number; rows = with_made rows parent path.name number (new_row kind init caller) })
+  Ok (record { answer = answer.Made number; rows = with_made rows parent path.name number (new_row kind init votes caller) })
 
 -- whether it is a folder that has names
 abbrev pub is_used : Content → Bool
@@ -90,36 +143,19 @@ dropped rows caller names = do
   Ok (record { answer = answer.Dropped; rows = with_names rows parent.place (folders.without_name parent.names path.name) })
 
 -- an operation of the transaction t, at a place counted from 0, with a path that leads through these names
-abbrev pub act : Rows → ℕ → ℕ → Identity → List (List ℕ) → Action → Result Done Why
-act rows t at caller names action.Read = do
-  place ← reach rows caller names
-  permit caller place to_read
-  bytes ← bytes_in place.row.content
-  Ok (record { answer = answer.Read bytes; rows = rows })
-act rows t at caller names (action.Write bytes) = do
-  refuse_if (nat_lt longest_content (length bytes)) why.TooLong
-  place ← reach rows caller names
-  permit caller place to_write
-  before ← bytes_in place.row.content
-  Ok (record { answer = answer.Wrote; rows = with_row rows place.suite (with_content place.row (Bytes bytes)) })
-act rows t at caller names action.List = do
-  place ← reach rows caller names
-  permit caller place to_read
-  entries ← names_in place.row.content
-  Ok (record { answer = answer.List (folders.names_in entries); rows = rows })
-act rows t at caller names (action.Make kind init) = made rows (made_number t at) caller names kind init
-act rows t at caller names action.Drop = dropped rows caller names
-act rows t at caller names action.GetAcl = do
-  place ← reach rows caller names
-  permit_others caller place to_read
-  Ok (record { answer = answer.Acl place.row.acl; rows = rows })
-act rows t at caller names (action.SetAcl acl) = do
-  place ← reach rows caller names
-  owner_only caller place
-  Ok (record { answer = answer.Set; rows = with_row rows place.suite (with_acl place.row acl) })
+abbrev pub act : Service → Rows → ℕ → ℕ → Identity → List (List ℕ) → Action → Result Done Why
+act service rows t at caller names action.Read = bytes_read rows caller names
+act service rows t at caller names (action.Write bytes) = bytes_written rows caller names bytes
+act service rows t at caller names action.List = names_listed rows caller names
+act service rows t at caller names (action.Make kind init votes) = made service rows (made_number t at) caller names kind init votes
+act service rows t at caller names action.Drop = dropped rows caller names
+act service rows t at caller names action.GetAcl = list_shown rows caller names
+act service rows t at caller names (action.SetAcl acl) = list_set rows caller names acl
+act service rows t at caller names action.GetVotes = votes_shown rows caller names
+act service rows t at caller names (action.SetVotes votes) = votes_set service rows caller names votes
 
 -- an operation of the transaction t, at a place counted from 0
-abbrev pub operation : Rows → ℕ → ℕ → Identity → Op → Result Done Why
-operation rows t at caller op = do
+abbrev pub operation : Service → Rows → ℕ → ℕ → Identity → Op → Result Done Why
+operation service rows t at caller op = do
   names ← found_or (names_of op.path) why.BadPath
-  act rows t at caller names op.action
+  act service rows t at caller names op.action

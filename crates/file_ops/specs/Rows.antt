@@ -4,10 +4,13 @@ use Rattle.std.specs.Ordering.{nat_cmp}
 use Rattle.sorted_map.specs.SortedMap.{get, insert}
 use Rattle.acl_core.specs.declared.entry.Entry.{Entry}
 use Rattle.acl_core.specs.Identity.{Identity}
+use Rattle.vote_core.specs.Quorums.{Configuration}
 use Rattle.suite_content.specs.declared.content.Kind.{Kind}
 use Rattle.suite_content.specs.declared.content.Kind.TheVariants.{Folder}
 use Rattle.suite_content.specs.declared.content.Content.{Content}
 use Rattle.suite_content.specs.Contents.{empty_content}
+use Rattle.suite_prefix.specs.SettingsRules.{Opening}
+use Rattle.file_ops.specs.declared.service.Service.{Service}
 use Rattle.file_ops.specs.declared.operation.Init.{Init}
 use Rattle.file_ops.specs.declared.audit.AuditItem.{AuditItem}
 use Rattle.file_ops.specs.Lists.{list_of}
@@ -17,6 +20,7 @@ pub record Row : Type 0 where
   pub owner : ℕ
   pub group : ℕ
   pub acl : List Entry
+  pub votes : Configuration
   pub content : Content
 
 -- the rows with their suites' numbers, which rise
@@ -31,8 +35,9 @@ row_of rows suite = get nat_cmp rows suite
 abbrev pub with_row : Rows → ℕ → Row → Rows
 with_row rows suite row = insert nat_cmp rows suite row
 
--- the table: its rows, and the denials in the order in which they were answered
+-- the table: the service that it is of, which never changes, the rows, and the denials in the order in which they were answered
 pub record PlainTable : Type 0 where
+  pub service : Service
   pub rows : Rows
   pub audit : List AuditItem
 
@@ -45,17 +50,36 @@ abbrev pub made_number : ℕ → ℕ → ℕ
 made_number t place = 8 * t + place + 1
 
 -- the row of a new file or folder: the caller's, in its own group, and empty
-abbrev pub new_row : Kind → Init → Identity → Row
-new_row kind init caller = record { owner = caller.uid; group = caller.gid; acl = list_of init; content = empty_content kind }
+abbrev pub new_row : Kind → Init → Configuration → Identity → Row
+new_row kind init votes caller =
+    record { owner = caller.uid; group = caller.gid; acl = list_of init; votes = votes; content = empty_content kind }
 
 -- a row with another list
 abbrev pub with_acl : Row → List Entry → Row
 with_acl row acl = record row { acl = acl }
 
+-- a row with other votes
+abbrev pub with_votes : Row → Configuration → Row
+with_votes row votes = record row { votes = votes }
+
 -- a row with other content
 abbrev pub with_content : Row → Content → Row
 with_content row content = record row { content = content }
 
--- the table of a root folder alone, without names
-abbrev pub opening : ℕ → ℕ → List Entry → PlainTable
-opening owner group acl = record { rows = (root, record { owner = owner; group = group; acl = acl; content = empty_content Folder }) ∷ []; audit = [] }
+-- the root folder of settings, without names
+abbrev pub root_row : Opening → Row
+root_row settings = record {
+  owner = settings.root_owner;
+  group = settings.root_group;
+  acl = settings.root_acl;
+  votes = settings.c0;
+  content = empty_content Folder;
+}
+
+-- the table that settings open: the root folder alone
+abbrev pub opening : Opening → PlainTable
+opening settings = record {
+  service = record { servers = settings.servers; c0 = settings.c0 };
+  rows = (root, root_row settings) ∷ [];
+  audit = [];
+}

@@ -4,6 +4,7 @@ use Rattle.std.specs.Option.{option_map_or}
 use Rattle.std.specs.Ordering.{nat_cmp}
 use Rattle.sorted_map.specs.SortedMap.{get, replace, remove}
 use Rattle.acl_core.specs.declared.entry.Entry.{Entry}
+use Rattle.vote_core.specs.Quorums.{Configuration}
 use Rattle.suite_content.specs.declared.content.Content.{Content}
 use Rattle.suite_content.specs.declared.content.Content.TheVariants as content
 use Rattle.file_ops.specs.declared.stored.StoredContent.{StoredContent}
@@ -20,7 +21,8 @@ plain_content (Bytes bytes) = content.Bytes bytes
 plain_content (Names names) = content.Names names.pairs
 
 abbrev pub plain_row : StoredRow → Row
-plain_row row = record { owner = row.owner; group = row.group; acl = row.acl; content = plain_content row.content }
+plain_row row =
+    record { owner = row.owner; group = row.group; acl = row.acl; votes = row.votes; content = plain_content row.content }
 
 abbrev pub plain : StoredRows → Rows
 plain rows = map (λ pair. (pair.0, plain_row pair.1)) rows
@@ -39,3 +41,6 @@ with_stored_content content row = record row { content = content }
 
 abbrev pub with_stored_acl : List Entry → StoredRow → StoredRow
 with_stored_acl acl row = record row { acl = acl }
+
+abbrev pub with_stored_votes : Configuration → StoredRow → StoredRow
+with_stored_votes votes row = record row { votes = votes }

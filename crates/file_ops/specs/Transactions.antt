@@ -9,6 +9,7 @@ use Rattle.file_ops.specs.declared.refusal.ApplyError.TheVariants.{Refused, Memo
 use Rattle.file_ops.specs.declared.refusal.Refusal.{Refusal}
 use Rattle.file_ops.specs.declared.refusal.Why.{Why}
 use Rattle.file_ops.specs.declared.refusal.Why.TheVariants as why
+use Rattle.file_ops.specs.declared.service.Service.{Service}
 use Rattle.file_ops.specs.Steps.{◌>>=◌, ◌>>◌}
 use Rattle.file_ops.specs.Rows.{Rows, PlainTable}
 use Rattle.file_ops.specs.Operations.{Done, operation}
@@ -24,11 +25,11 @@ after answers at (Ok done) = Ok (record { answers = answers ++ done.answer ∷ [
 after answers at (Err why) = Err (record { op = at + 1; why = why })
 
 -- the operations from a place on, up to the first refusal
-abbrev pub play : Played → ℕ → ℕ → Identity → List Op → Result Played Refusal
-play played t at caller [] = Ok played
-play played t at caller (op ∷ ops) = do
-  done ← after played.answers at (operation played.rows t at caller op)
-  play done t (at + 1) caller ops
+abbrev pub play : Service → Played → ℕ → ℕ → Identity → List Op → Result Played Refusal
+play service played t at caller [] = Ok played
+play service played t at caller (op ∷ ops) = do
+  done ← after played.answers at (operation service played.rows t at caller op)
+  play service done t (at + 1) caller ops
 
 -- the most operations of a transaction; a limit of this project
 abbrev pub most_operations : ℕ
@@ -39,10 +40,10 @@ abbrev pub is_miscounted : List Op → Bool
 is_miscounted ops = (length ops == 0) || nat_lt most_operations (length ops)
 
 -- all operations of a transaction, on the rows that it meets
-abbrev pub transaction : Rows → ℕ → Identity → List Op → Result Played Refusal
-transaction rows t caller ops = do
+abbrev pub transaction : Service → Rows → ℕ → Identity → List Op → Result Played Refusal
+transaction service rows t caller ops = do
   miscounted ops
-  play (record { answers = []; rows = rows }) t 0 caller ops
+  play service (record { answers = []; rows = rows }) t 0 caller ops
   where
     miscounted : List Op → Result (Unit {0}) Refusal
     miscounted ops = if is_miscounted ops then Err (record { op = 0; why = why.OpCount }) else Ok tt
@@ -62,8 +63,8 @@ denials t caller refusal = item refusal.why
 
 -- the table after a transaction: after a refusal the rows are the old ones, and a denial is kept
 abbrev pub table_after : PlainTable → ℕ → Identity → Result Played Refusal → PlainTable
-table_after table t caller (Ok played) = record { rows = played.rows; audit = table.audit }
-table_after table t caller (Err refusal) = record { rows = table.rows; audit = table.audit ++ denials t caller refusal }
+table_after table t caller (Ok played) = record table { rows = played.rows }
+table_after table t caller (Err refusal) = record table { audit = table.audit ++ denials t caller refusal }
 
 -- what a call answers for a transaction: its replies or its refusal, unless memory ran out
 abbrev pub IsUnlessMemory : Result (List Answer) ApplyError → Result (List Answer) Refusal → Type 0

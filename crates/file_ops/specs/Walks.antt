@@ -93,3 +93,17 @@ abbrev pub reach : Rows → Identity → List (List ℕ) → Result Place Why
 reach rows caller names = do
   suite ← walk rows caller root names
   place_of rows suite
+
+-- the file or folder whose list and votes the caller may see
+abbrev pub shown : Rows → Identity → List (List ℕ) → Result Place Why
+shown rows caller names = do
+  place ← reach rows caller names
+  permit_others caller place to_read
+  Ok place
+
+-- the file or folder whose list and votes the caller may change
+abbrev pub owned : Rows → Identity → List (List ℕ) → Result Place Why
+owned rows caller names = do
+  place ← reach rows caller names
+  owner_only caller place
+  Ok place

@@ -4,11 +4,10 @@ ghost use Rattle.std.specs.Prelude.{◌≡◌, ◌+◌, ◌<◌, ◌^◌, IfOk, 
 ghost use Rattle.acl_core.specs.declared.perms.Perms.{Perms};
 ghost use Rattle.file_ops.specs.declared.act.OpError.TheVariants as stopped;
 ghost use Rattle.suite_content.specs.Folders.{names_in};
-ghost use Rattle.file_ops.specs.declared.operation.Action.TheVariants as action;
 ghost use Rattle.file_ops.specs.Lists.{list_of};
 ghost use Rattle.file_ops.specs.Rows.{row_of, new_row};
 ghost use Rattle.file_ops.specs.Stored.{plain, plain_row};
-ghost use Rattle.file_ops.specs.Operations.{act, made, dropped, has_names, operation};
+ghost use Rattle.file_ops.specs.Operations.{bytes_read, names_listed, list_shown, votes_shown, bytes_written, list_set, votes_set, made, dropped, has_names, operation};
 ghost use Rattle.file_ops.specs.Restored.{Restores};
 ghost use Rattle.file_ops.specs.Done.{Does, Acts};
 
@@ -17,12 +16,24 @@ use crate::change::Change;
 use crate::operation::{Action, Init, Op};
 use crate::path::Path;
 use crate::refusal::Why;
+use crate::service::Service;
 use crate::stored::{StoredContent, StoredRow, StoredRows};
-use crate::walk::{last_name, owner_only, parent_of, permit, permit_others, reach};
+use crate::walk::{last_name, owned, parent_of, permit, reach, shown};
 use acl_core::{Acl, Caller, Perms};
 use sorted_map::RoomyMap;
-use std::alloc::{AllocError, AllocFailed, Global};
+use std::alloc::{AllocError, Global};
 use suite_content::{FileBytes, FolderNames, Kind, MOST_NAMES, Name, NameList};
+use vote_core::Votes;
+
+/// What the operations of a transaction share: memory, the service, the transaction's number, and its
+/// caller.
+#[derive(Clone, Copy)]
+pub(crate) struct Transaction<'a> {
+    pub(crate) alloc: Global,
+    pub(crate) service: &'a Service,
+    pub(crate) t: u64,
+    pub(crate) caller: &'a Caller,
+}
 
 /// Why an operation was not done.
 pub(crate) enum OpError {
@@ -54,7 +65,7 @@ pub(crate) struct Done {
 
 /// The bytes of a file.
 fn read(rows: &StoredRows, caller: &Caller, names: &[Name]) -> Result<Answer, OpError>
-    ensures { Does result (plain rows.now) (act (plain rows.now) 0 0 caller.now names.now action.Read) }
+    ensures { Does result (plain rows.now) (bytes_read (plain rows.now) caller.now names.now) }
 {
     let place = reach(rows, caller, names)?;
     permit(caller, place, Perms::READ)?;
@@ -70,7 +81,7 @@ fn list(
     caller: &Caller,
     names: &[Name],
 ) -> Result<Answer, OpError>
-    ensures { Does result (plain rows.now) (act (plain rows.now) 0 0 caller.now names.now action.List) }
+    ensures { Does result (plain rows.now) (names_listed (plain rows.now) caller.now names.now) }
 {
     let place = reach(rows, caller, names)?;
     permit(caller, place, Perms::READ)?;
@@ -90,12 +101,19 @@ fn listed(alloc: Global, entries: &RoomyMap<Name, u64>) -> Result<NameList, Allo
 
 /// The access list of a file or folder.
 fn get_acl(rows: &StoredRows, caller: &Caller, names: &[Name]) -> Result<Answer, OpError>
-    ensures { Does result (plain rows.now) (act (plain rows.now) 0 0 caller.now names.now action.GetAcl) }
+    ensures { Does result (plain rows.now) (list_shown (plain rows.now) caller.now names.now) }
 {
-    let place = reach(rows, caller, names)?;
-    permit_others(caller, place, Perms::READ)?;
+    let place = shown(rows, caller, names)?;
     let acl = place.row.acl.clone()?;
     Ok(Answer::Acl(acl))
+}
+
+/// The votes of a file or folder.
+fn get_votes(rows: &StoredRows, caller: &Caller, names: &[Name]) -> Result<Answer, OpError>
+    ensures { Does result (plain rows.now) (votes_shown (plain rows.now) caller.now names.now) }
+{
+    let place = shown(rows, caller, names)?;
+    Ok(Answer::Votes(place.row.votes))
 }
 
 /// Puts other bytes in a file.
@@ -105,7 +123,7 @@ fn write(
     names: &[Name],
     bytes: &FileBytes,
 ) -> Result<Done, OpError>
-    ensures acts { Acts result rows.old rows.new (act (plain rows.old) 0 0 caller.now names.now (action.Write bytes.now)) }
+    ensures acts { Acts result rows.old rows.new (bytes_written (plain rows.old) caller.now names.now bytes.now) }
     ensures err { OnErr result (Restores rows.old rows.new) }
 {
     if bytes.is_too_long() {
@@ -130,14 +148,32 @@ fn set_acl(
     names: &[Name],
     acl: &Acl,
 ) -> Result<Done, OpError>
-    ensures acts { Acts result rows.old rows.new (act (plain rows.old) 0 0 caller.now names.now (action.SetAcl acl.now)) }
+    ensures acts { Acts result rows.old rows.new (list_set (plain rows.old) caller.now names.now acl.now) }
     ensures err { OnErr result (Restores rows.old rows.new) }
 {
-    let place = reach(rows, caller, names)?;
-    owner_only(caller, place)?;
-    let suite = place.suite;
+    let suite = owned(rows, caller, names)?.suite;
     let acl = acl.clone()?;
     let change = Change::list(rows, suite, acl);
+    Ok(Done {
+        answer: Answer::Set,
+        change,
+    })
+}
+
+/// Gives a file or folder other votes.
+fn set_votes(
+    rows: &mut StoredRows,
+    service: &Service,
+    caller: &Caller,
+    names: &[Name],
+    given: &Votes,
+) -> Result<Done, OpError>
+    ensures acts { Acts result rows.old rows.new (votes_set service.now (plain rows.old) caller.now names.now given.now) }
+    ensures err { OnErr result (Restores rows.old rows.new) }
+{
+    let votes = service.known_votes(given)?;
+    let suite = owned(rows, caller, names)?.suite;
+    let change = Change::vote(rows, suite, votes);
     Ok(Done {
         answer: Answer::Set,
         change,
@@ -147,17 +183,24 @@ fn set_acl(
 /// Puts a name in a folder, for a new file or folder of this number.
 fn make(
     rows: &mut StoredRows,
-    alloc: Global,
+    transaction: Transaction<'_>,
     number: u64,
-    caller: &Caller,
     names: &[Name],
     kind: Kind,
     init: &Init,
+    given: &Option<Votes>,
 ) -> Result<Done, OpError>
-    ensures acts { Acts result rows.old rows.new (made (plain rows.old) number caller.now names.now kind init.now) }
+    ensures acts { Acts result rows.old rows.new (made transaction.entry.service.now (plain rows.old) number transaction.entry.caller.now names.now kind init.now given.now) }
     ensures err { OnErr result (Restores rows.old rows.new) }
 {
+    let Transaction {
+        alloc,
+        service,
+        caller,
+        ..
+    } = transaction;
     let (name, folders) = last_name(names)?;
+    let votes = service.votes_of_new(given)?;
     let parent = parent_of(rows, caller, folders)?;
     if parent.names.contains_key(name) {
         return Err(OpError::Refused(Why::Exists));
@@ -166,7 +209,7 @@ fn make(
         return Err(OpError::Refused(Why::FolderFull));
     }
     let folder = parent.place.suite;
-    let row = new_row(alloc, kind, init, caller)?;
+    let row = new_row(alloc, kind, init, votes, caller)?;
     let change = Change::make(rows, folder, name, number, row)?;
     Ok(Done {
         answer: Answer::Made(number),
@@ -175,14 +218,21 @@ fn make(
 }
 
 /// The row of a new file or folder.
-fn new_row(alloc: Global, kind: Kind, init: &Init, caller: &Caller) -> Result<StoredRow, AllocError>
-    ensures { IfOk result (λ row. plain_row row ≡ new_row kind init.now caller.now) }
+fn new_row(
+    alloc: Global,
+    kind: Kind,
+    init: &Init,
+    votes: Votes,
+    caller: &Caller,
+) -> Result<StoredRow, AllocError>
+    ensures { IfOk result (λ row. plain_row row ≡ new_row kind init.now votes caller.now) }
 {
     let acl = init.list(alloc)?;
     Ok(StoredRow {
         owner: caller.uid(),
         group: caller.gid(),
         acl,
+        votes,
         content: StoredContent::empty(alloc, kind),
     })
 }
@@ -216,31 +266,37 @@ fn has_names(rows: &StoredRows, number: u64) -> bool
     }
 }
 
-/// An operation of the transaction `t`, at a place counted from 0.
+/// An operation of a transaction, at a place counted from 0.
 pub(crate) fn operate(
     rows: &mut StoredRows,
-    alloc: Global,
-    t: u64,
+    transaction: Transaction<'_>,
     at: u8,
-    caller: &Caller,
     op: &Op,
 ) -> Result<Done, OpError>
-    requires { t < 2 ^ 60 }
-    ensures acts { Acts result rows.old rows.new (operation (plain rows.old) t at caller.now op.now) }
+    requires { transaction.t < 2 ^ 60 }
+    ensures acts { Acts result rows.old rows.new (operation transaction.entry.service.now (plain rows.old) transaction.entry.t at transaction.entry.caller.now op.now) }
     ensures err { OnErr result (Restores rows.old rows.new) }
 {
     let path = Path::parse(op.path.as_bytes()).ok_or(Why::BadPath)?;
     let names = path.names();
+    let Transaction {
+        alloc,
+        service,
+        t,
+        caller,
+    } = transaction;
     let answer = match &op.action {
         Action::Read => read(rows, caller, names)?,
         Action::List => list(rows, alloc, caller, names)?,
         Action::GetAcl => get_acl(rows, caller, names)?,
+        Action::GetVotes => get_votes(rows, caller, names)?,
         Action::Write(bytes) => return write(rows, caller, names, bytes),
         Action::SetAcl(acl) => return set_acl(rows, caller, names, acl),
+        Action::SetVotes(votes) => return set_votes(rows, service, caller, names, votes),
         Action::Drop => return drop(rows, caller, names),
-        Action::Make(kind, init) => {
+        Action::Make(kind, init, votes) => {
             let number = 8 * t + u64::from(at) + 1;
-            return make(rows, alloc, number, caller, names, *kind, init);
+            return make(rows, transaction, number, names, *kind, init, votes);
         }
     };
     Ok(Done {

@@ -1,23 +1,24 @@
 //! What an operation changes, and how it is taken back.
 //!
 //! A list of operations is taken back at its first refusal, change by change, the last one first. No
-//! step of that may fail for want of memory: contents, lists and rows are exchanged back, a name that
-//! was put is taken out, and a name that was taken out finds its place in the folder still free.
+//! step of that may fail for want of memory: contents, lists, votes and rows are exchanged back, a name
+//! that was put is taken out, and a name that was taken out finds its place in the folder still free.
 
 ghost use Rattle.std.specs.Prelude.{◌≡◌, None, Some, IfOk, OnOk, OnErr};
-ghost use Rattle.file_ops.specs.Edits.{edited, number_at, put_acl, put_content, put_name, drop_name};
+ghost use Rattle.file_ops.specs.Edits.{edited, number_at, put_acl, put_votes, put_content, put_name, drop_name};
 ghost use Rattle.file_ops.specs.Restored.{Restores};
 ghost use Rattle.file_ops.specs.Stored.{plain, plain_content, plain_row};
 ghost use Rattle.file_ops.specs.Stored.{StoredRows as Stored};
 ghost use Rattle.file_ops.specs.Rows.{with_row};
 
 use crate::edit::{
-    drop_name, exchange_acl, exchange_content, put_back_name, put_made, restore_row,
+    drop_name, exchange_acl, exchange_content, exchange_votes, put_back_name, put_made, restore_row,
 };
 use crate::stored::{StoredContent, StoredRow, StoredRows};
 use acl_core::Acl;
 use std::alloc::AllocError;
 use suite_content::Name;
+use vote_core::Votes;
 
 /// What an operation changed.
 #[derive(Drop)]
@@ -32,6 +33,11 @@ pub(crate) enum Change {
     Listed {
         suite: u64,
         before: Acl,
+    },
+    /// The votes of a suite before.
+    Voted {
+        suite: u64,
+        before: Votes,
     },
     /// A name that was put in a folder, the number it was given, and the row of that number before.
     Made {
@@ -69,6 +75,17 @@ impl Change {
     {
         match exchange_acl(rows, suite, acl) {
             Some(before) => Change::Listed { suite, before },
+            None => Change::Nothing,
+        }
+    }
+
+    /// Gives a suite other votes.
+    pub(crate) fn vote(rows: &mut StoredRows, suite: u64, votes: Votes) -> Change
+        ensures rows { plain rows.new ≡ edited (plain rows.old) suite (put_votes votes) }
+        ensures back { TakesBack result rows.old rows.new }
+    {
+        match exchange_votes(rows, suite, votes) {
+            Some(before) => Change::Voted { suite, before },
             None => Change::Nothing,
         }
     }
@@ -121,6 +138,9 @@ impl Change {
             }
             Change::Listed { suite, before } => {
                 let _ = exchange_acl(rows, suite, before);
+            }
+            Change::Voted { suite, before } => {
+                let _ = exchange_votes(rows, suite, before);
             }
             Change::Made {
                 folder,

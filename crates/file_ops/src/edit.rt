@@ -5,7 +5,7 @@ ghost use Rattle.std.specs.Option.{option_map};
 ghost use Rattle.std.specs.Ordering.{nat_cmp};
 ghost use Rattle.sorted_map.specs.SortedMap.{IsOrdered, get};
 ghost use Rattle.file_ops.specs.Capacity.{KeepsCapacity, HasRoom};
-ghost use Rattle.file_ops.specs.Stored.{plain, exchanged, restored_row, with_stored_content, with_stored_acl};
+ghost use Rattle.file_ops.specs.Stored.{plain, exchanged, restored_row, with_stored_content, with_stored_acl, with_stored_votes};
 ghost use Rattle.file_ops.specs.Edits.{edited, number_at, put_name, drop_name};
 ghost use Rattle.file_ops.specs.Restored.{Restores, Makes};
 
@@ -14,6 +14,7 @@ use acl_core::Acl;
 use std::alloc::AllocError;
 use std::mem;
 use suite_content::Name;
+use vote_core::Votes;
 
 /// Gives a suite other content, where it has a row, and answers the content before.
 pub(crate) fn exchange_content(
@@ -37,6 +38,16 @@ pub(crate) fn exchange_acl(rows: &mut StoredRows, suite: u64, acl: Acl) -> Optio
 {
     let row = rows.get_mut(&suite)?;
     Some(mem::replace(&mut row.acl, acl))
+}
+
+/// Gives a suite other votes, where it has a row, and answers the votes before.
+pub(crate) fn exchange_votes(rows: &mut StoredRows, suite: u64, votes: Votes) -> Option<Votes>
+    ensures before { result ≡ option_map (λ row. row.votes) (get nat_cmp rows.old suite) }
+    ensures after { rows.new ≡ exchanged rows.old suite (with_stored_votes votes) }
+    ensures ordered { IsOrdered nat_cmp rows.old }
+{
+    let row = rows.get_mut(&suite)?;
+    Some(mem::replace(&mut row.votes, votes))
 }
 
 /// Gives a suite the row that it had before, where it has one now, or none.

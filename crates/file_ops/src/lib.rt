@@ -1,7 +1,7 @@
 //! The plain table: files and folders, and transactions of operations on them.
 //!
-//! A [`Table`] has a row for each file and folder: its owner, its group, its access list and what it
-//! holds. [`Table::apply`] plays a transaction, a list of operations that see one another and are
+//! A [`Table`] has a row for each file and folder: its owner, its group, its access list, its votes and
+//! what it holds. [`Table::apply`] plays a transaction, a list of operations that see one another and are
 //! taken back together at the first refusal. Its contract is the definition of a transaction on rows
 //! as a finite map (`specs/Transactions.antt`): for every table, caller and list of operations the
 //! answer is the definition's, and so is the table after it. Who may do what is decided by the
@@ -17,6 +17,7 @@ mod operation;
 mod path;
 mod play;
 mod refusal;
+mod service;
 mod stored;
 mod table;
 mod walk;
@@ -26,7 +27,10 @@ pub use audit::AuditItem;
 pub use operation::{Action, Init, Op};
 pub use path::PathText;
 pub use refusal::{ApplyError, Denial, Refusal, Why};
+pub use service::Service;
 pub use table::{MOST_OPERATIONS, Table};
 
 #[cfg(test)]
 mod tests;
+#[cfg(test)]
+mod uses;

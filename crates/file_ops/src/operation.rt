@@ -7,6 +7,7 @@ use crate::path::PathText;
 use acl_core::{Acl, Mode};
 use std::alloc::{AllocError, Global};
 use suite_content::{FileBytes, Kind};
+use vote_core::Votes;
 
 /// The access list that a new file or folder gets.
 #[derive(Debug, Drop)]
@@ -38,14 +39,19 @@ pub enum Action {
     Write(FileBytes),
     /// The names of a folder are answered.
     List,
-    /// A name is put in a folder, for a new file or folder.
-    Make(Kind, Init),
+    /// A name is put in a folder, for a new file or folder with this list and these votes; where none are
+    /// given it gets C0, the opening votes.
+    Make(Kind, Init, Option<Votes>),
     /// A name is taken out of a folder. What it led to stays.
     Drop,
     /// The access list is answered.
     GetAcl,
     /// A file or folder gets this access list.
     SetAcl(Acl),
+    /// The votes are answered.
+    GetVotes,
+    /// A file or folder gets these votes.
+    SetVotes(Votes),
 }
 
 /// An operation: what is done, and where.

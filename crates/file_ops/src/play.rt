@@ -6,35 +6,31 @@ ghost use Rattle.file_ops.specs.Restored.{Restores};
 ghost use Rattle.file_ops.specs.Transactions.{play};
 ghost use Rattle.file_ops.specs.Done.{Plays};
 
-use crate::act::{Done, OpError, operate};
-use crate::answer::Answers;
+use crate::act::{Done, OpError, Transaction, operate};
+use crate::answer::{Answers, Replies};
 use crate::operation::Op;
 use crate::refusal::{ApplyError, Refusal};
 use crate::stored::StoredRows;
-use acl_core::Caller;
-use std::alloc::Global;
 
 /// Plays the operations from a place on, counted from 0, and adds their replies. Where one is refused,
 /// all of them are taken back, the last one first: what each changed waits on the stack, of which at
 /// most 8 operations take little.
 pub(crate) fn play(
     rows: &mut StoredRows,
-    alloc: Global,
-    t: u64,
+    transaction: Transaction<'_>,
     at: u8,
-    caller: &Caller,
     ops: &[Op],
-    answers: &mut Answers,
-) -> Result<(), ApplyError>
-    requires number { t < 2 ^ 60 }
+    answers: &mut Replies,
+) -> Result<Answers, ApplyError>
+    requires number { transaction.t < 2 ^ 60 }
     requires few { at + length ops.now ≤ 8 }
-    ensures plays { Plays result answers.new rows.new (play (record { answers = answers.old; rows = plain rows.old }) t at caller.now ops.now) }
+    ensures plays { Plays result rows.new (play transaction.entry.service.now (record { answers = answers.old; rows = plain rows.old }) transaction.entry.t at transaction.entry.caller.now ops.now) }
     ensures err { OnErr result (Restores rows.old rows.new) }
 {
     let Some((op, later)) = ops.split_first() else {
-        return Ok(());
+        return Ok(answers.finish()?);
     };
-    let Done { answer, change } = match operate(rows, alloc, t, at, caller, op) {
+    let Done { answer, change } = match operate(rows, transaction, at, op) {
         Ok(done) => done,
         Err(OpError::Refused(why)) => {
             return Err(ApplyError::Refused(Refusal { op: at + 1, why }));
@@ -42,7 +38,7 @@ pub(crate) fn play(
         Err(OpError::Memory) => return Err(ApplyError::Memory),
     };
     let outcome = match answers.push(answer) {
-        Ok(()) => play(rows, alloc, t, at + 1, caller, later, answers),
+        Ok(()) => play(rows, transaction, at + 1, later, answers),
         Err(_) => Err(ApplyError::Memory),
     };
     if outcome.is_err() {

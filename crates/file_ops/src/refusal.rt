@@ -38,6 +38,8 @@ pub enum Why {
     FolderFull,
     /// There is no operation, or there are too many.
     OpCount,
+    /// The votes of what is made, or those that are set, list a server that there is not.
+    UnknownServer,
 }
 
 /// A refusal: the operation, counted from 1, and why. Where the number of operations is refused, `op`

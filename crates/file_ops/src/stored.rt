@@ -15,6 +15,7 @@ use acl_core::Acl;
 use sorted_map::{RoomyMap, SortedMap};
 use std::alloc::{AllocError, Global};
 use suite_content::{FileBytes, Kind, Name};
+use vote_core::Votes;
 
 /// The rows with their suites' numbers, which rise.
 pub(crate) type StoredRows = SortedMap<u64, StoredRow>;
@@ -25,6 +26,7 @@ pub(crate) struct StoredRow {
     pub(crate) owner: u32,
     pub(crate) group: u32,
     pub(crate) acl: Acl,
+    pub(crate) votes: Votes,
     pub(crate) content: StoredContent,
 }
 

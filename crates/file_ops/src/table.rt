@@ -2,17 +2,21 @@
 
 ghost use Rattle.std.specs.Prelude.{◌≡◌, ◌<◌, ◌^◌, [], ◌∷◌, Err, IfOk};
 
-use crate::answer::Answers;
+use crate::act::Transaction;
+use crate::answer::{Answers, Replies};
 use crate::audit::AuditItem;
 use crate::operation::Op;
 use crate::play::play;
 use crate::refusal::{ApplyError, Refusal, Why};
+use crate::service::Service;
 use crate::stored::{StoredContent, StoredRow, StoredRows};
 use crate::walk::ROOT;
-use acl_core::{Acl, Caller};
-use sorted_map::{RoomyMap, SortedMap};
+use acl_core::Caller;
+use sorted_map::SortedMap;
 use std::alloc::{AllocError, Global};
 use std::marker::Model;
+use suite_content::Kind;
+use suite_prefix::Settings;
 
 /// The most operations of a transaction.
 pub const MOST_OPERATIONS: usize = 8;
@@ -21,6 +25,7 @@ pub const MOST_OPERATIONS: usize = 8;
 #[derive(Drop)]
 pub struct Table {
     alloc: Global,
+    service: Service,
     rows: StoredRows,
     audit: Vec<AuditItem>,
 }
@@ -32,28 +37,33 @@ impl Model for Table {
 
     ghost use Rattle.file_ops.specs.Stored.{plain};
 
-    ghost view = { λ table. record { rows = plain table.rows; audit = table.audit.items } };
+    ghost view = { λ table. record { service = table.service; rows = plain table.rows; audit = table.audit.items } };
 }
 
 impl Table {
     ghost use Rattle.file_ops.specs.Transactions.{IsUnlessMemory, transaction, replies, table_after, left_by};
     ghost use Rattle.file_ops.specs.Rows.{opening};
 
-    /// The table of the root folder alone, of this owner, group and list.
-    pub fn start(alloc: Global, owner: u32, group: u32, acl: Acl) -> Result<Table, AllocError>
-        ensures { IfOk result (λ table. table ≡ opening owner group acl) }
+    /// The table that settings open: the root folder alone, without names.
+    pub fn opening(alloc: Global, settings: &Settings) -> Result<Table, AllocError>
+        ensures { IfOk result (λ table. table ≡ opening settings.now) }
     {
-        let names = RoomyMap::new(alloc);
+        let acl = settings.root_acl().clone()?;
         let root = StoredRow {
-            owner,
-            group,
+            owner: settings.root_owner(),
+            group: settings.root_group(),
             acl,
-            content: StoredContent::Names(names),
+            votes: *settings.c0(),
+            content: StoredContent::empty(alloc, Kind::Folder),
         };
         let mut rows = SortedMap::new(alloc);
         rows.insert(ROOT, root)?;
         Ok(Table {
             alloc,
+            service: Service {
+                servers: settings.servers(),
+                c0: *settings.c0(),
+            },
             rows,
             audit: Vec::new(alloc),
         })
@@ -63,8 +73,8 @@ impl Table {
     /// kept for the audit. Where memory runs out the table is as it was.
     pub fn apply(&mut self, t: u64, caller: &Caller, ops: &[Op]) -> Result<Answers, ApplyError>
         requires { t < 2 ^ 60 }
-        ensures answer { IsUnlessMemory result (replies (transaction self.old.rows t caller.now ops.now)) }
-        ensures after { self.new ≡ left_by result self.old (table_after self.old t caller.now (transaction self.old.rows t caller.now ops.now)) }
+        ensures answer { IsUnlessMemory result (replies (transaction self.old.service self.old.rows t caller.now ops.now)) }
+        ensures after { self.new ≡ left_by result self.old (table_after self.old t caller.now (transaction self.old.service self.old.rows t caller.now ops.now)) }
     {
         if ops.is_empty() || ops.len() > MOST_OPERATIONS {
             return Err(ApplyError::Refused(Refusal {
@@ -72,9 +82,15 @@ impl Table {
                 why: Why::OpCount,
             }));
         }
-        let mut answers = Answers::new(self.alloc);
-        match play(&mut self.rows, self.alloc, t, 0, caller, ops, &mut answers) {
-            Ok(()) => Ok(answers),
+        let transaction = Transaction {
+            alloc: self.alloc,
+            service: &self.service,
+            t,
+            caller,
+        };
+        let mut answers = Replies::new(self.alloc);
+        match play(&mut self.rows, transaction, 0, ops, &mut answers) {
+            Ok(answers) => Ok(answers),
             Err(ApplyError::Refused(refusal)) => Err(self.refuse(t, caller, refusal)),
             Err(ApplyError::Memory) => Err(ApplyError::Memory),
         }

@@ -1,11 +1,15 @@
 //! Worked examples, the limits, and each public call once.
 
+mod votes;
+
 use crate::{Action, Answer, Answers, ApplyError, Init, Op, PathText, Table, Why};
-use acl_core::{Acl, Caller, Decider, Entry, Mode, Tag};
+use acl_core::{Acl, Caller, Entry, Mode, Tag};
 use std::alloc::Global;
 use std::process::Abort;
 use std::test::Fail;
 use suite_content::{FileBytes, Kind};
+use suite_prefix::Settings;
+use vote_core::{MAX_SERVERS, Votes};
 
 /// The list of these tags and octal digits.
 fn list(alloc: Global, given: &[(Tag, u8)]) -> Result<Acl, Fail> {
@@ -21,11 +25,24 @@ fn mode(bits: u16) -> Result<Init, Fail> {
     Ok(Init::Mode(Mode::new(bits).ok_or("a mode")?))
 }
 
-/// A table whose root folder has a mode.
-fn table(alloc: Global, bits: u16) -> Result<Table, Fail> {
+/// Votes of servers that are listed from 0.
+fn valid_votes(reps: &[(u8, u8)], r: u16, w: u16) -> Result<Votes, Fail> {
+    Ok(Votes::new(MAX_SERVERS, reps, r, w).ok().ok_or("votes")?)
+}
+
+/// A table of this many servers whose root folder has a mode.
+fn table_of(alloc: Global, servers: usize, bits: u16) -> Result<Table, Fail> {
     let mode = Mode::new(bits).ok_or("a mode")?;
     let acl = Acl::from_mode(alloc, mode)?;
-    Ok(Table::start(alloc, 1000, 100, acl)?)
+    let c0 = valid_votes(&[(0, 1)], 1, 1)?;
+    let settings = Settings::new(servers, 1, c0, 1000, 100, acl, 0, 0, 0);
+    let settings = settings.ok().ok_or("settings")?;
+    Ok(Table::opening(alloc, &settings)?)
+}
+
+/// A table whose root folder has a mode.
+fn table(alloc: Global, bits: u16) -> Result<Table, Fail> {
+    table_of(alloc, MAX_SERVERS, bits)
 }
 
 /// An operation.
@@ -89,6 +106,10 @@ fn push_answer(alloc: Global, text: &mut String, answer: &Answer) -> Result<(), 
         Answer::Made(number) => text.push_str(format!(in alloc; "made {number}")?.as_str())?,
         Answer::Dropped => text.push_str("dropped")?,
         Answer::Set => text.push_str("set")?,
+        Answer::Votes(votes) => {
+            let (reps, r, w) = (votes.reps(), votes.r(), votes.w());
+            text.push_str(format!(in alloc; "votes {reps:?}/{r}/{w}")?.as_str())?;
+        }
         Answer::Acl(acl) => {
             text.push_str("acl")?;
             for entry in acl.entries() {
@@ -146,7 +167,7 @@ fn shared_file(rt: &(impl Abort + AllocGlobal)) -> Result<Table, Fail> {
             (Tag::Other, 0),
         ],
     )?;
-    let make = op(alloc, "/a", Action::Make(Kind::File, Init::List(acl)))?;
+    let make = op(alloc, "/a", Action::Make(Kind::File, Init::List(acl), None))?;
     expect(rt, &mut table, 0, (1000, 100), make, "made 1")?;
     let write = write(alloc, "/a", &[0x68, 0x69])?;
     expect(rt, &mut table, 1, (1000, 100), write, "wrote")?;
@@ -201,7 +222,11 @@ fn paths_and_kinds(rt: HostRuntime) -> Result<(), Fail> {
         ("/b/c", "refused NoName op 1"),
         ("/b", "made 73"),
     ] {
-        let make = op(rt.alloc(), path, Action::Make(Kind::Folder, mode(0o700)?))?;
+        let make = op(
+            rt.alloc(),
+            path,
+            Action::Make(Kind::Folder, mode(0o700)?, None),
+        )?;
         expect(&rt, &mut table, 9, (1000, 100), make, want)?;
     }
     let names = op(rt.alloc(), "/a", Action::List)?;
@@ -235,16 +260,18 @@ fn a_file_has_65536_bytes(rt: HostRuntime) -> Result<(), Fail> {
 fn a_folder_has_1024_names(rt: HostRuntime) -> Result<(), Fail> {
     let alloc = rt.alloc();
     let mut table = table(alloc, 0o777)?;
-    let caller = Caller::new(7, 7, &[])?;
     for t in 0..1024u16 {
         let path = format!(in alloc; "/{t}")?;
-        let make = op(alloc, path.as_str(), Action::Make(Kind::File, mode(0o600)?))?;
-        assert!(rt;
-            table.apply(u64::from(t), &caller, &[make]).is_ok(),
-            "name {t}"
-        );
+        let number = 8 * u32::from(t) + 1;
+        let want = format!(in alloc; "made {number}")?;
+        let make = op(
+            alloc,
+            path.as_str(),
+            Action::Make(Kind::File, mode(0o600)?, None),
+        )?;
+        expect(&rt, &mut table, t, (7, 7), make, want.as_str())?;
     }
-    let make = op(alloc, "/more", Action::Make(Kind::File, mode(0o600)?))?;
+    let make = op(alloc, "/more", Action::Make(Kind::File, mode(0o600)?, None))?;
     expect(
         &rt,
         &mut table,
@@ -285,8 +312,8 @@ impl Ops {
 fn folder_and_file(rt: &(impl Abort + AllocGlobal)) -> Result<Table, Fail> {
     let mut table = table(rt.alloc(), 0o755)?;
     let mut made = Ops::new(rt.alloc());
-    made.add("/d", Action::Make(Kind::Folder, mode(0o750)?))?;
-    made.add("/d/f", Action::Make(Kind::File, mode(0o640)?))?;
+    made.add("/d", Action::Make(Kind::Folder, mode(0o750)?, None))?;
+    made.add("/d/f", Action::Make(Kind::File, mode(0o640)?, None))?;
     made.add_write("/d/f", &[0x00, 0xff])?;
     let want = "made 1; made 2; wrote";
     play(rt, &mut table, 0, (1000, 100), &made.ops, want)?;
@@ -343,7 +370,7 @@ fn lists_of_operations_are_taken_back(rt: HostRuntime) -> Result<(), Fail> {
 fn one_name_made_and_dropped(rt: HostRuntime) -> Result<(), Fail> {
     let mut table = table(rt.alloc(), 0o755)?;
     let mut once = Ops::new(rt.alloc());
-    once.add("/a", Action::Make(Kind::File, mode(0o600)?))?;
+    once.add("/a", Action::Make(Kind::File, mode(0o600)?, None))?;
     once.add_write("/a", &[7])?;
     for action in [Action::Read, Action::Drop] {
         once.add("/a", action)?;
@@ -378,4 +405,23 @@ fn a_transaction_has_1_to_8_operations(rt: HostRuntime) -> Result<(), Fail> {
     play(&rt, &mut table, 1, (1, 1), &many.ops, want)?;
     many.add("/", Action::List)?;
     play(&rt, &mut table, 2, (1, 1), &many.ops, refused)
+}
+
+#[test]
+fn replies_are_shared(rt: HostRuntime) -> Result<(), Fail> {
+    let bytes = FileBytes::from_slice(rt.alloc(), &[7, 8])?;
+    let mut replies = Vec::new(rt.alloc());
+    replies.push(Answer::Read(bytes))?;
+    replies.push(Answer::Votes(valid_votes(&[(0, 1)], 1, 1)?))?;
+    let other = replies[0].clone()?;
+    assert!(rt; other == replies[0], "a reply");
+    assert!(rt; other != replies[1], "another reply");
+    let answers = Answers::from_vec(replies)?;
+    let copy = answers.clone()?;
+    assert!(rt; copy == answers, "all replies");
+    assert!(rt;
+        copy != Answers::from_vec(vec![in rt.alloc(); other]?)?,
+        "fewer replies"
+    );
+    Ok(())
 }

@@ -4,7 +4,7 @@ ghost use Rattle.std.specs.Prelude.{◌≡◌};
 ghost use Rattle.file_ops.specs.Steps.{ok_map};
 ghost use Rattle.file_ops.specs.Stored.{plain};
 ghost use Rattle.file_ops.specs.Rows.{root};
-ghost use Rattle.file_ops.specs.Walks.{place_of, permit, permit_others, owner_only, step, walk, reach, nothing, to_change};
+ghost use Rattle.file_ops.specs.Walks.{place_of, permit, permit_others, owner_only, step, walk, reach, shown, owned, nothing, to_change};
 ghost use Rattle.file_ops.specs.Operations.{last_name, parent_of};
 ghost use Rattle.file_ops.specs.Found.{plain_place, plain_named, plain_parent};
 
@@ -56,7 +56,7 @@ pub(crate) fn permit(caller: &Caller, place: Place<'_>, wanted: Perms) -> Result
 }
 
 /// The same, of whoever does not own it.
-pub(crate) fn permit_others(caller: &Caller, place: Place<'_>, wanted: Perms) -> Result<(), Why>
+fn permit_others(caller: &Caller, place: Place<'_>, wanted: Perms) -> Result<(), Why>
     ensures { result ≡ permit_others caller.now (plain_place place.entry) wanted }
 {
     if caller.uid() == place.row.owner {
@@ -66,7 +66,7 @@ pub(crate) fn permit_others(caller: &Caller, place: Place<'_>, wanted: Perms) ->
 }
 
 /// Whether the caller owns a file or a folder.
-pub(crate) fn owner_only(caller: &Caller, place: Place<'_>) -> Result<(), Why>
+fn owner_only(caller: &Caller, place: Place<'_>) -> Result<(), Why>
     ensures { result ≡ owner_only caller.now (plain_place place.entry) }
 {
     if caller.uid() == place.row.owner {
@@ -117,6 +117,32 @@ pub(crate) fn reach<'a>(
 {
     let suite = walk(rows, caller, names)?;
     place_of(rows, suite)
+}
+
+/// The file or folder whose list and votes the caller may see.
+pub(crate) fn shown<'a>(
+    rows: &'a StoredRows,
+    caller: &Caller,
+    names: &[Name],
+) -> Result<Place<'a>, Why>
+    ensures { ok_map plain_place result ≡ shown (plain rows.now) caller.now names.now }
+{
+    let place = reach(rows, caller, names)?;
+    permit_others(caller, place, Perms::READ)?;
+    Ok(place)
+}
+
+/// The file or folder whose list and votes the caller may change.
+pub(crate) fn owned<'a>(
+    rows: &'a StoredRows,
+    caller: &Caller,
+    names: &[Name],
+) -> Result<Place<'a>, Why>
+    ensures { ok_map plain_place result ≡ owned (plain rows.now) caller.now names.now }
+{
+    let place = reach(rows, caller, names)?;
+    owner_only(caller, place)?;
+    Ok(place)
 }
 
 /// The last name of a path, and the names before it; `/` has none.

@@ -5,16 +5,17 @@ use Rattle.file_ops.specs.Rows.{PlainTable, opening}
 use Rattle.file_ops.specs.Transactions.{replies, table_after, transaction}
 use Rattle.suite_cli.specs.declared.fault.ScriptFault.{ScriptFault}
 use Rattle.suite_cli.specs.declared.root.Root.{Root}
+use Rattle.suite_cli.specs.Outputs.{settings_of}
 use Rattle.suite_cli.specs.Scripts.{Job, Script, scripted, with_job}
 use Rattle.suite_cli.specs.Texts.{outcome_line}
 use Rattle.suite_cli.specs.Runs.{IsMoved, WroteSoFar, lines_of, script_lines}
 
 -- the lines of a script are those of its transactions on the table of its root folder
-opened_jobs : (root : Root) (jobs : Result (List Job) ScriptFault) → script_lines (scripted root jobs) ≡ lines_of (opening root.owner root.group root.acl) 0 jobs
+opened_jobs : (root : Root) (jobs : Result (List Job) ScriptFault) → script_lines (scripted root jobs) ≡ lines_of (opening (settings_of root)) 0 jobs
 opened_jobs root (Ok jobs) = refl
 opened_jobs root (Err fault) = refl
 
-pub opened_lines : (given : Result Script ScriptFault) (root : Root) (jobs : Result (List Job) ScriptFault) → given ≡ scripted root jobs → script_lines given ≡ lines_of (opening root.owner root.group root.acl) 0 jobs
+pub opened_lines : (given : Result Script ScriptFault) (root : Root) (jobs : Result (List Job) ScriptFault) → given ≡ scripted root jobs → script_lines given ≡ lines_of (opening (settings_of root)) 0 jobs
 opened_lines given root jobs same = ap script_lines same ∙ opened_jobs root jobs
 
 ok_jobs : (root : Root) (jobs : Result (List Job) ScriptFault) → is_ok (scripted root jobs) ≡ is_ok jobs
@@ -33,10 +34,10 @@ more_ok before after job same faultless = sym (with_ok job after) ∙ sym (ap is
 
 -- the line of a transaction, and those after it
 abbrev pub line_of : PlainTable → ℕ → Job → List ℕ
-line_of table number job = outcome_line number (replies (transaction table.rows number job.caller job.ops))
+line_of table number job = outcome_line number (replies (transaction table.service table.rows number job.caller job.ops))
 
 abbrev pub after_job : PlainTable → ℕ → Job → PlainTable
-after_job table number job = table_after table number job.caller (transaction table.rows number job.caller job.ops)
+after_job table number job = table_after table number job.caller (transaction table.service table.rows number job.caller job.ops)
 
 with_lines : (table : PlainTable) (number : ℕ) (job : Job) (jobs : Result (List Job) ScriptFault) → is_ok jobs ≡ true → lines_of table number (with_job job jobs) ≡ line_of table number job ++ lines_of (after_job table number job) (number + 1) jobs
 with_lines table number job (Ok jobs) faultless = refl

@@ -4,6 +4,8 @@ use Rattle.acl_core.specs.declared.fault.AclFault.{AclFault}
 use Rattle.acl_core.specs.declared.fault.AclFault.TheVariants.{NoUserObj, NoGroupObj, NoOther, TwiceSingle, UserTwice, GroupTwice, MaskMissing, TooMany}
 use Rattle.acl_text.specs.declared.read.TextFault.{TextFault}
 use Rattle.acl_text.specs.declared.read.TextFault.TheVariants.{Syntax, UnknownName, NumberTooBig, DefaultEntry, Invalid, Memory}
+use Rattle.vote_core.specs.declared.fault.VotesFault.{VotesFault}
+use Rattle.vote_core.specs.declared.fault.VotesFault.TheVariants.{Empty, UnknownServer, ListedTwice, NoVotes, ThresholdOutOfRange, ReadMissesWrite, WritesDisjoint}
 use Rattle.suite_cli.specs.declared.fault.LineFault.{LineFault}
 use Rattle.suite_cli.specs.declared.fault.LineFault.TheVariants as line
 
@@ -31,6 +33,16 @@ text_code (DefaultEntry item) = item_code (codes "A12") item
 text_code (Invalid fault) = list_code fault
 text_code Memory = []
 
+-- the codes of what can be wrong with votes
+abbrev pub votes_code : VotesFault → List ℕ
+votes_code Empty = codes "V1"
+votes_code UnknownServer = codes "V2"
+votes_code ListedTwice = codes "V3"
+votes_code NoVotes = codes "V4"
+votes_code ThresholdOutOfRange = codes "V5"
+votes_code ReadMissesWrite = codes "V6"
+votes_code WritesDisjoint = codes "V7"
+
 -- the codes of what can be wrong with a line
 abbrev pub code_of : LineFault → List ℕ
 code_of line.Form = codes "S1"
@@ -38,6 +50,7 @@ code_of line.Order = codes "S2"
 code_of line.BadName = codes "N1"
 code_of line.NameTwice = codes "N2"
 code_of (line.List fault) = text_code fault
+code_of (line.Votes fault) = votes_code fault
 
 abbrev pub line_feed : List ℕ
 line_feed = 10 ∷ []

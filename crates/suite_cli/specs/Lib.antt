@@ -1,6 +1,7 @@
 pub mod Faults
 pub mod Words
 pub mod Readings
+pub mod Votes
 pub mod Lists
 pub mod Operations
 pub mod Scripts

@@ -1,22 +1,29 @@
 -- Operations as words: a verb, a path, and what the verb wants besides.
-use Rattle.std.specs.Prelude.{ℕ, if◌then◌else◌, List, [], ◌∷◌, codes, Option, Some, Result, Ok}
+use Rattle.std.specs.Prelude.{◌≡◌, ℕ, ◌+◌, take, if◌then◌else◌, List, [], ◌∷◌, codes, Option, Some, None, Result, Ok}
 use Rattle.std.specs.List.{find, slice_split}
 use Rattle.std.specs.Result.{result_ok}
 use Rattle.std.specs.Str.{bytes_eq}
 use Rattle.hex.specs.Hex.{decode_of}
 use Rattle.acl_text.specs.Tables.{Tables}
 use Rattle.script_text.specs.Phrases.{is_semicolon}
+use Rattle.suite_content.specs.declared.content.Kind.{Kind}
 use Rattle.suite_content.specs.declared.content.Kind.TheVariants.{File, Folder}
+use Rattle.vote_core.specs.Quorums.{Configuration}
 use Rattle.file_ops.specs.declared.operation.Op.{Op}
 use Rattle.file_ops.specs.declared.operation.Action.{Action}
 use Rattle.file_ops.specs.declared.operation.Action.TheVariants as action
+use Rattle.file_ops.specs.declared.service.Service.{Service}
+use Rattle.file_ops.specs.Rows.{Rows}
 use Rattle.file_ops.specs.Steps.{◌>>=◌, ◌>>◌, found_or}
+use Rattle.file_ops.specs.Transactions.{most_operations, transaction}
+use Rattle.acl_core.specs.Identity.{Identity}
 use Rattle.suite_cli.specs.declared.fault.LineFault.{LineFault}
 use Rattle.suite_cli.specs.declared.fault.LineFault.TheVariants.{Form}
 use Rattle.suite_cli.specs.declared.operation.Verb.{Verb}
 use Rattle.suite_cli.specs.declared.operation.Verb.TheVariants as verb
 use Rattle.suite_cli.specs.Words.{Word, Taken, word, at_end}
 use Rattle.suite_cli.specs.Lists.{acl, init}
+use Rattle.suite_cli.specs.Votes.{votes_in}
 
 -- how a verb is written
 abbrev pub spelling : Verb → Word
@@ -28,9 +35,11 @@ spelling verb.Folder = codes "folder"
 spelling verb.Drop = codes "drop"
 spelling verb.GetAcl = codes "getacl"
 spelling verb.SetAcl = codes "setacl"
+spelling verb.GetVotes = codes "getvotes"
+spelling verb.SetVotes = codes "setvotes"
 
 abbrev pub verbs : List Verb
-verbs = verb.Read ∷ verb.Write ∷ verb.List ∷ verb.File ∷ verb.Folder ∷ verb.Drop ∷ verb.GetAcl ∷ verb.SetAcl ∷ []
+verbs = verb.Read ∷ verb.Write ∷ verb.List ∷ verb.File ∷ verb.Folder ∷ verb.Drop ∷ verb.GetAcl ∷ verb.SetAcl ∷ verb.GetVotes ∷ verb.SetVotes ∷ []
 
 abbrev pub verb_in : Word → Option Verb
 verb_in text = find (λ verb. bytes_eq text (spelling verb)) verbs
@@ -45,6 +54,27 @@ bytes words = do
   given ← found_or (bytes_in next.value) Form
   Ok (record { value = given; rest = next.rest })
 
+-- votes
+abbrev pub votes : List Word → Result (Taken Configuration) LineFault
+votes words = do
+  next ← word words
+  given ← votes_in next.value
+  Ok (record { value = given; rest = next.rest })
+
+-- votes, where a word is left
+abbrev pub votes_or_none : List Word → Result (Taken (Option Configuration)) LineFault
+votes_or_none [] = Ok (record { value = None; rest = [] })
+votes_or_none (next ∷ words) = do
+  given ← votes_in next
+  Ok (record { value = Some given; rest = words })
+
+-- what a new file or folder gets: its list, and perhaps votes
+abbrev pub make : Tables → Kind → List Word → Result (Taken Action) LineFault
+make names kind words = do
+  list ← init names words
+  votes ← votes_or_none list.rest
+  Ok (record { value = action.Make kind list.value votes.value; rest = votes.rest })
+
 -- what a verb does, with what it wants besides the path
 abbrev pub act : Tables → Verb → List Word → Result (Taken Action) LineFault
 act names verb.Read words = Ok (record { value = action.Read; rest = words })
@@ -52,17 +82,17 @@ act names verb.Write words = do
   given ← bytes words
   Ok (record { value = action.Write given.value; rest = given.rest })
 act names verb.List words = Ok (record { value = action.List; rest = words })
-act names verb.File words = do
-  given ← init names words
-  Ok (record { value = action.Make File given.value; rest = given.rest })
-act names verb.Folder words = do
-  given ← init names words
-  Ok (record { value = action.Make Folder given.value; rest = given.rest })
+act names verb.File words = make names File words
+act names verb.Folder words = make names Folder words
 act names verb.Drop words = Ok (record { value = action.Drop; rest = words })
 act names verb.GetAcl words = Ok (record { value = action.GetAcl; rest = words })
 act names verb.SetAcl words = do
   given ← acl names words
   Ok (record { value = action.SetAcl given.value; rest = given.rest })
+act names verb.GetVotes words = Ok (record { value = action.GetVotes; rest = words })
+act names verb.SetVotes words = do
+  given ← votes words
+  Ok (record { value = action.SetVotes given.value; rest = given.rest })
 
 -- an operation, which is all of its phrase
 abbrev pub operation : Tables → List Word → Result Op LineFault
@@ -85,3 +115,12 @@ operations_in names (phrase ∷ phrases) = do
 -- the operations of a line, with a semicolon between each two
 abbrev pub operations : Tables → List Word → Result (List Op) LineFault
 operations names words = operations_in names (slice_split is_semicolon words)
+
+-- the operations that are kept for a transaction: one more than it may have are as good as any more
+abbrev pub kept : List Op → List Op
+kept ops = take (most_operations + 1) ops
+
+-- they make the same transaction as all of them
+abbrev pub KeptAreEnough : Type 0
+KeptAreEnough =
+    (service : Service) (rows : Rows) (t : ℕ) (caller : Identity) (ops : List Op) → transaction service rows t caller (kept ops) ≡ transaction service rows t caller ops

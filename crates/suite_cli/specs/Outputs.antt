@@ -9,7 +9,11 @@ use Rattle.acl_text.specs.Writing.{canonical}
 use Rattle.acl_text.specs.declared.read.TextFault.{TextFault}
 use Rattle.file_ops.specs.Rows.{PlainTable, opening}
 use Rattle.file_ops.specs.Transactions.{transaction, replies, table_after}
+use Rattle.suite_prefix.specs.SettingsRules.{Opening}
+use Rattle.vote_core.specs.Quorums.{Configuration}
+use Rattle.vote_core.specs.declared.TheConstants.{MAX_SERVERS}
 use Rattle.suite_cli.specs.declared.fault.ScriptFault.{ScriptFault}
+use Rattle.suite_cli.specs.declared.root.Root.{Root}
 use Rattle.suite_cli.specs.Faults.{fault_line, line_feed, text_code}
 use Rattle.suite_cli.specs.Scripts.{Job, Script, script_in}
 use Rattle.suite_cli.specs.Texts.{outcome_line}
@@ -19,15 +23,33 @@ pub data Output : Type 0 where
   Done : List ℕ → Output
   Faulty : List ℕ → Output
 
+-- the opening votes of a script's table: one vote, of server 0
+abbrev pub c0 : Configuration
+c0 = record { reps = (0, 1) ∷ []; r = 1; w = 1 }
+
+-- what a script's table opens with: all the servers that there may be, one agent without a cache, and its root folder
+abbrev pub settings_of : Root → Opening
+settings_of root = record {
+  servers = MAX_SERVERS;
+  agents = 1;
+  c0 = c0;
+  root_owner = root.owner;
+  root_group = root.group;
+  root_acl = root.acl;
+  budget = 0;
+  quota = 0;
+  slots = 0;
+}
+
 -- the lines of some transactions on a table, one after the other, numbered from a number on
 abbrev pub table_lines : PlainTable → ℕ → List Job → List ℕ
 table_lines table number [] = []
 table_lines table number (job ∷ jobs) =
-    outcome_line number (replies (transaction table.rows number job.caller job.ops))
-    ++ table_lines (table_after table number job.caller (transaction table.rows number job.caller job.ops)) (number + 1) jobs
+    outcome_line number (replies (transaction table.service table.rows number job.caller job.ops))
+    ++ table_lines (table_after table number job.caller (transaction table.service table.rows number job.caller job.ops)) (number + 1) jobs
 
 abbrev pub script_output : Result Script ScriptFault → Output
-script_output (Ok script) = Done (table_lines (opening script.root.owner script.root.group script.root.acl) 0 script.jobs)
+script_output (Ok script) = Done (table_lines (opening (settings_of script.root)) 0 script.jobs)
 script_output (Err fault) = Faulty (fault_line fault.line fault.fault)
 
 -- what `table` writes for a script
@@ -49,3 +71,11 @@ acl_output names text = list_output (fault text names) (filter_map entry_said (r
 -- the line of a bad name among the words of `acl`
 abbrev pub word_fault_line : ℕ → List ℕ
 word_fault_line place = codes "fault word " ++ decimal place ++ line_feed
+
+-- the line of words that ask for nothing
+abbrev pub command_line_fault : List ℕ
+command_line_fault = codes "fault command line" ++ line_feed
+
+-- the line of want of memory
+abbrev pub memory_line : List ℕ
+memory_line = codes "fault memory" ++ line_feed

@@ -1,13 +1,16 @@
 -- What a command that ended has done.
-use Rattle.std.specs.Prelude.{◌≡◌, Bool, true, false, alloc_error, Vec, ℕ, ◌<◌, ◌⊎◌, List, [], ◌++◌, length, Option, Some, None, Result, Ok, Err}
+use Rattle.std.specs.Prelude.{◌≡◌, Bool, true, false, alloc_error, Vec, ℕ, ◌<◌, ◌≤◌, ◌⊎◌, List, [], ◌++◌, length, Option, Some, None, Result, Ok, Err}
 use Rattle.byte_streams.specs.Streams.{Adds, one_more}
 use Rattle.suite_cli.specs.declared.fault.ScriptFault.{ScriptFault}
 use Rattle.suite_cli.specs.declared.fault.ScriptError.{ScriptError}
 use Rattle.suite_cli.specs.declared.fault.ScriptError.TheVariants as script
 use Rattle.suite_cli.specs.declared.table.PlayError.{PlayError}
 use Rattle.suite_cli.specs.declared.table.PlayError.TheVariants.{WriteFailed, Memory}
-use Rattle.suite_cli.specs.Scripts.{Job, Script}
-use Rattle.suite_cli.specs.Outputs.{Output, acl_output, table_lines, word_fault_line}
+use Rattle.suite_args.specs.CommandLine.{Asked}
+use Rattle.suite_args.specs.CommandLine as asked
+use Rattle.suite_cli.specs.Names.{names_from}
+use Rattle.suite_cli.specs.Scripts.{Job, Script, no_names}
+use Rattle.suite_cli.specs.Outputs.{Output, acl_output, command_line_fault, memory_line, settings_of, table_lines, table_output, word_fault_line}
 use Rattle.suite_cli.specs.declared.acl.NamesError.{NamesError}
 use Rattle.suite_cli.specs.declared.acl.NamesError.TheVariants as names
 use Rattle.std.specs.declared.alloc.AllocError.{AllocError}
@@ -38,7 +41,7 @@ lines_of table number (Err fault) = []
 
 -- the lines of a script that has no fault
 abbrev pub script_lines : Result Script ScriptFault → List ℕ
-script_lines (Ok script) = table_lines (opening script.root.owner script.root.group script.root.acl) 0 script.jobs
+script_lines (Ok script) = table_lines (opening (settings_of script.root)) 0 script.jobs
 script_lines (Err fault) = []
 
 -- the text is written but for a rest
@@ -92,6 +95,7 @@ Writes (Faulty text) status before after = (status ≡ faulty) × Adds before te
 -- what is known of the streams before and after a command
 pub record Streams : Type 0 where
   pub input : Option (List ℕ)
+  pub input_after : Option (List ℕ)
   pub written : Option (List ℕ)
   pub written_after : Option (List ℕ)
   pub failed_reads : ℕ
@@ -110,11 +114,12 @@ StreamFailed streams =
     (streams.failed_reads_after ≡ one_more streams.failed_reads)
     ⊎ ((streams.failed_writes_after ≡ one_more streams.failed_writes) ⊎ IsTooLong streams.input)
 
--- for the input that a stream tells, all of the command's output is written with its status; or memory ran out, or a stream failed
+-- for the input that a stream tells, which is within the limit, all of the command's output is written with its status; or memory
+-- ran out, or a stream failed
 abbrev pub RunsOn : (List ℕ → Output) → Streams → ℕ → Option (List ℕ) → Type 0
 RunsOn output streams status None = Unit {0}
 RunsOn output streams status (Some input) =
-    Writes (output input) status streams.written streams.written_after
+    ((length input ≤ most_input) × Writes (output input) status streams.written streams.written_after)
     ⊎ ((status ≡ no_memory) ⊎ ((status ≡ no_stream) × StreamFailed streams))
 
 abbrev pub Runs : (List ℕ → Output) → Streams → ℕ → Type 0
@@ -125,12 +130,45 @@ abbrev pub Finishes : List ℕ → ℕ → ℕ → Option (List ℕ) → Option 
 Finishes text status result before after failures failures_after =
     ((result ≡ status) × Adds before text after) ⊎ ((result ≡ no_stream) × (failures_after ≡ one_more failures))
 
+-- want of memory was said, or a write failed
+abbrev pub SaysMemory : Option (List ℕ) → Option (List ℕ) → ℕ → ℕ → Type 0
+SaysMemory before after failures failures_after = Adds before memory_line after ⊎ (failures_after ≡ one_more failures)
+
+-- memory ran out, and that was said
+abbrev pub LacksMemory : Streams → ℕ → Type 0
+LacksMemory streams status =
+    (status ≡ no_memory) × SaysMemory streams.written streams.written_after streams.failed_writes streams.failed_writes_after
+
+-- nothing was read
+abbrev pub IsUnread : Streams → Type 0
+IsUnread streams = (streams.input_after ≡ streams.input) × (streams.failed_reads_after ≡ streams.failed_reads)
+
+-- the words were refused with this line
+abbrev pub Refuses : List ℕ → Streams → ℕ → Type 0
+Refuses line streams status =
+    IsUnread streams
+    × (LacksMemory streams status
+    ⊎ Finishes line bad_words status streams.written streams.written_after streams.failed_writes streams.failed_writes_after)
+
+-- some text on how to use the program was written; nothing is said of that text
+abbrev pub Helps : Streams → ℕ → Type 0
+Helps streams status =
+    IsUnread streams
+    × (((status ≡ done) × ((text : List ℕ) × Adds streams.written text streams.written_after))
+    ⊎ (LacksMemory streams status ⊎ ((status ≡ no_stream) × (streams.failed_writes_after ≡ one_more streams.failed_writes))))
+
 -- `acl` has run under the names of its words; or a name was bad, and the line of its place was written
 abbrev pub RunsAcl : Result Tables ℕ → Streams → ℕ → Type 0
 RunsAcl (Ok names) streams status = Runs (acl_output names) streams status
-RunsAcl (Err place) streams status =
-    (status ≡ no_memory)
-    ⊎ Finishes (word_fault_line place) bad_words status streams.written streams.written_after streams.failed_writes streams.failed_writes_after
+RunsAcl (Err place) streams status = Refuses (word_fault_line place) streams status
+
+-- what the words ask for was done
+abbrev pub Does : Asked → Streams → ℕ → Type 0
+Does asked.table streams status = Runs table_output streams status
+Does (asked.acl names) streams status = RunsAcl (names_from 1 no_names names) streams status
+Does asked.help streams status = Helps streams status
+Does asked.topic streams status = Helps streams status ⊎ Refuses command_line_fault streams status
+Does asked.nothing streams status = Refuses command_line_fault streams status
 
 -- what the words of `acl` said: names, or the place of a bad one
 abbrev pub GivesNames : Result Tables NamesError → Result Tables ℕ → Type 0

@@ -18,7 +18,7 @@ use Rattle.suite_cli.specs.declared.root.Root.{Root}
 use Rattle.suite_cli.specs.declared.fault.LineFault.TheVariants.{Form, Order, BadName, NameTwice}
 use Rattle.suite_cli.specs.Words.{Word, word, id, at_end, caller}
 use Rattle.suite_cli.specs.Lists.{init}
-use Rattle.suite_cli.specs.Operations.{operations}
+use Rattle.suite_cli.specs.Operations.{kept, operations}
 
 -- a line that says nothing
 abbrev pub is_skipped : List ℕ → Bool
@@ -51,7 +51,7 @@ abbrev pub job_in : Tables → List Word → Result Job LineFault
 job_in names words = do
   caller ← caller words
   ops ← operations names caller.rest
-  Ok (record { caller = caller.value; ops = ops })
+  Ok (record { caller = caller.value; ops = kept ops })
 
 -- a name that is not taken into a table, for what reason
 abbrev pub refused : Option NameError → Result (Unit {0}) LineFault

@@ -13,6 +13,7 @@ use Rattle.file_ops.specs.declared.refusal.Refusal.{Refusal}
 use Rattle.file_ops.specs.declared.refusal.Why.{Why}
 use Rattle.file_ops.specs.declared.refusal.Why.TheVariants as why
 use Rattle.suite_cli.specs.Faults.{line_feed}
+use Rattle.suite_cli.specs.Votes.{votes_text}
 
 -- bytes in hexadecimal digits, two a byte; a hyphen stands for none
 abbrev pub bytes_text : List ℕ → List ℕ
@@ -32,6 +33,7 @@ reply_text (answer.List names) = codes "list " ++ names_text names
 reply_text (answer.Made suite) = codes "made " ++ decimal suite
 reply_text answer.Dropped = codes "dropped"
 reply_text (answer.Acl list) = codes "acl " ++ short_text list
+reply_text (answer.Votes votes) = codes "votes " ++ votes_text votes
 reply_text answer.Set = codes "set"
 
 -- the replies, with a semicolon and a space between each two
@@ -69,6 +71,7 @@ why_text op why.NotEmpty = refused_text op (codes "F7")
 why_text op why.TooLong = refused_text op (codes "F8")
 why_text op why.FolderFull = refused_text op (codes "F9")
 why_text op why.OpCount = refused_text op (codes "F10")
+why_text op why.UnknownServer = refused_text op (codes "F11")
 
 -- the outcome of a transaction
 abbrev pub outcome_text : Result (List Answer) Refusal → List ℕ

@@ -1,13 +1,14 @@
 //! The lines that faults print.
 
 ghost use Rattle.std.specs.Prelude.{◌≡◌, ◌++◌, OnOk};
-ghost use Rattle.suite_cli.specs.Faults.{code_of, fault_line, item_code, list_code, text_code};
+ghost use Rattle.suite_cli.specs.Faults.{code_of, fault_line, item_code, list_code, text_code, votes_code};
 
 use crate::fault::{LineFault, ScriptFault};
 use acl_core::AclFault;
 use acl_text::TextFault;
 use script_text::push_number;
 use std::alloc::AllocError;
+use vote_core::VotesFault;
 
 /// The line of a faulty script.
 pub(crate) fn push_fault(text: &mut Vec<u8>, fault: ScriptFault) -> Result<(), AllocError>
@@ -29,6 +30,7 @@ fn push_line_code(text: &mut Vec<u8>, fault: LineFault) -> Result<(), AllocError
         LineFault::BadName => text.extend_from_slice(b"N1"),
         LineFault::NameTwice => text.extend_from_slice(b"N2"),
         LineFault::List(fault) => push_text_code(text, fault),
+        LineFault::Votes(fault) => push_votes_code(text, fault),
     }
 }
 
@@ -66,6 +68,21 @@ fn push_list_code(text: &mut Vec<u8>, fault: AclFault) -> Result<(), AllocError>
         AclFault::GroupTwice => b"A6",
         AclFault::MaskMissing => b"A7",
         AclFault::TooMany => b"A8",
+    };
+    text.extend_from_slice(code)
+}
+
+fn push_votes_code(text: &mut Vec<u8>, fault: VotesFault) -> Result<(), AllocError>
+    ensures { OnOk result (text.new.items ≡ text.old.items ++ votes_code fault) }
+{
+    let code = match fault {
+        VotesFault::Empty => b"V1",
+        VotesFault::UnknownServer => b"V2",
+        VotesFault::ListedTwice => b"V3",
+        VotesFault::NoVotes => b"V4",
+        VotesFault::ThresholdOutOfRange => b"V5",
+        VotesFault::ReadMissesWrite => b"V6",
+        VotesFault::WritesDisjoint => b"V7",
     };
     text.extend_from_slice(code)
 }

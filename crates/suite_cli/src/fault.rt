@@ -6,6 +6,7 @@ ghost use Rattle.suite_cli.specs.Readings.{line_error_of, name_error_of};
 
 use acl_text::{NameError, TextFault};
 use std::alloc::{AllocError, AllocFailed};
+use vote_core::VotesFault;
 
 /// What is wrong with a line, by the first fault from its left.
 #[derive(Clone, Copy, PartialEq, Eq, Debug)]
@@ -20,6 +21,8 @@ pub enum LineFault {
     NameTwice,
     /// A list is none.
     List(TextFault),
+    /// Votes are of the right form, and not valid.
+    Votes(VotesFault),
 }
 
 /// Why a line was not read.

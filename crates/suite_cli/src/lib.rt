@@ -2,6 +2,8 @@
 #![tactic(auto)]
 
 mod acl;
+#[cfg(test)]
+mod ballots;
 mod code;
 mod commands;
 mod fault;
@@ -16,6 +18,7 @@ mod script;
 mod table;
 #[cfg(test)]
 mod tests;
+mod votes;
 mod word;
 
 pub use byte_streams::{ByteIn, ByteOut};

@@ -1,17 +1,20 @@
 //! Operations as words.
 
-ghost use Rattle.std.specs.Prelude.{◌≡◌, ◌∷◌, [], MatchResult, OnOk};
+ghost use Rattle.std.specs.Prelude.{◌≡◌, ◌+◌, ◌≤◌, ◌∷◌, ◌++◌, [], vec_len, MatchResult, OnOk};
+ghost use Rattle.file_ops.specs.Steps.{ok_map};
+ghost use Rattle.file_ops.specs.Transactions.{most_operations};
 ghost use Rattle.std.specs.Result.{result_map_both};
 ghost use Rattle.suite_cli.specs.Words.{at_end};
-ghost use Rattle.suite_cli.specs.Operations.{act, operation, operations, verb_in};
+ghost use Rattle.suite_cli.specs.Operations.{KeptAreEnough, act, kept, make, operation, operations, verb_in};
 ghost use Rattle.suite_cli.specs.Readings.{Gives, Reads};
 
 use crate::fault::{LineError, LineFault};
+use crate::votes::read_votes;
 use crate::word::{read_bytes, read_init, read_list};
 use acl_text::Names;
-use file_ops::{Action, Op, PathText};
+use file_ops::{Action, MOST_OPERATIONS, Op, PathText};
 use script_text::{Phrases, Words};
-use std::alloc::Global;
+use std::alloc::{AllocError, Global};
 use suite_content::Kind;
 
 /// The words that begin an operation.
@@ -25,6 +28,8 @@ pub(crate) enum Verb {
     Drop,
     GetAcl,
     SetAcl,
+    GetVotes,
+    SetVotes,
 }
 
 impl Verb {
@@ -47,28 +52,46 @@ impl Verb {
             Some(Verb::GetAcl)
         } else if word == b"setacl".as_slice() {
             Some(Verb::SetAcl)
+        } else if word == b"getvotes".as_slice() {
+            Some(Verb::GetVotes)
+        } else if word == b"setvotes".as_slice() {
+            Some(Verb::SetVotes)
         } else {
             None
         }
     }
 }
 
-/// The operations of the words that are left, with a semicolon between each two.
+/// The operations of the words that are left, with a semicolon between each two. No more are kept than
+/// tell what their transaction answers, and all are read for their faults.
 pub(crate) fn read_operations(
     alloc: Global,
     names: &Names,
     words: Words<'_>,
 ) -> Result<Vec<Op>, LineError>
-    ensures { Gives (result_map_both (λ ops. ops.items) (λ e. e) result) (operations names.now words.entry) }
+    ensures kept { Gives (result_map_both (λ ops. ops.items) (λ e. e) result) (ok_map kept (operations names.now words.entry)) }
+    ensures enough { KeptAreEnough }
 {
     let mut phrases = Phrases::new(words);
     let mut ops = Vec::new(alloc);
     loop {
-        ops.push(read_operation(alloc, names, &mut phrases)?)?;
+        keep(&mut ops, read_operation(alloc, names, &mut phrases)?)?;
         if !phrases.next_phrase() {
             return Ok(ops);
         }
     }
+}
+
+/// Keeps an operation, where there are not too many already.
+fn keep(ops: &mut Vec<Op>, op: Op) -> Result<(), AllocError>
+    requires { vec_len ops.old ≤ most_operations + 1 }
+    ensures ok { OnOk result (ops.new.items ≡ kept (ops.old.items ++ op ∷ [])) }
+    ensures few { OnOk result (vec_len ops.new ≤ most_operations + 1) }
+{
+    if ops.len() <= MOST_OPERATIONS {
+        ops.push(op)?;
+    }
+    Ok(())
 }
 
 /// An operation, which is all that is left of its phrase.
@@ -101,21 +124,35 @@ fn read_action(
         Verb::Read => Ok(Action::Read),
         Verb::Write => Ok(Action::Write(read_bytes(alloc, phrase_word(phrases)?)?)),
         Verb::List => Ok(Action::List),
-        Verb::File => {
-            let init = read_init(alloc, names, phrase_word(phrases)?)?;
-            Ok(Action::Make(Kind::File, init))
-        }
-        Verb::Folder => {
-            let init = read_init(alloc, names, phrase_word(phrases)?)?;
-            Ok(Action::Make(Kind::Folder, init))
-        }
+        Verb::File => read_make(alloc, names, Kind::File, phrases),
+        Verb::Folder => read_make(alloc, names, Kind::Folder, phrases),
         Verb::Drop => Ok(Action::Drop),
         Verb::GetAcl => Ok(Action::GetAcl),
         Verb::SetAcl => {
             let acl = read_list(alloc, names, phrase_word(phrases)?)?;
             Ok(Action::SetAcl(acl))
         }
+        Verb::GetVotes => Ok(Action::GetVotes),
+        Verb::SetVotes => Ok(Action::SetVotes(read_votes(phrase_word(phrases)?)?)),
     }
+}
+
+/// What a new file or folder gets: its list, and perhaps votes.
+fn read_make(
+    alloc: Global,
+    names: &Names,
+    kind: Kind,
+    phrases: &mut Phrases<'_>,
+) -> Result<Action, LineError>
+    ensures action { Reads result phrases.new.here (make names.now kind phrases.old.here) }
+    ensures later { phrases.new.later ≡ phrases.old.later }
+{
+    let init = read_init(alloc, names, phrase_word(phrases)?)?;
+    let votes = match phrases.next_word() {
+        Some(word) => Some(read_votes(word)?),
+        None => None,
+    };
+    Ok(Action::Make(kind, init, votes))
 }
 
 /// The next word of a phrase.

@@ -4,6 +4,7 @@ ghost use Rattle.std.specs.Prelude.{◌≡◌, ◌++◌, OnOk, Ok, Err, codes};
 ghost use Rattle.std.specs.List.{flat_map};
 ghost use Rattle.suite_cli.specs.Texts.{bytes_text, decider_text, denied_text, names_text, outcome_line, refused_text, replies_text, reply_text, why_text};
 
+use crate::votes::push_votes;
 use acl_core::{Decider, Tag};
 use acl_text::{append_short, append_tag, permission_text};
 use file_ops::{Answer, Denial, Refusal, Why};
@@ -87,6 +88,10 @@ fn push_reply(alloc: Global, text: &mut Vec<u8>, reply: &Answer) -> Result<(), A
             text.extend_from_slice(b"acl ")?;
             append_short(text, acl)
         }
+        Answer::Votes(votes) => {
+            text.extend_from_slice(b"votes ")?;
+            push_votes(text, votes)
+        }
         Answer::Set => text.extend_from_slice(b"set"),
     }
 }
@@ -131,6 +136,7 @@ fn push_why(text: &mut Vec<u8>, op: u8, why: Why) -> Result<(), AllocError>
         Why::TooLong => push_code(text, op, b"F8"),
         Why::FolderFull => push_code(text, op, b"F9"),
         Why::OpCount => push_code(text, op, b"F10"),
+        Why::UnknownServer => push_code(text, op, b"F11"),
     }
 }
 

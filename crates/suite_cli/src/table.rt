@@ -2,6 +2,7 @@
 
 ghost use Rattle.std.specs.Prelude.{◌≡◌, ◌<◌, ◌≤◌, ◌^◌, ◌++◌, [], true, is_ok, length, OnOk};
 ghost use Rattle.file_ops.specs.Transactions.{replies, table_after, transaction};
+ghost use Rattle.suite_cli.specs.Outputs.{settings_of};
 ghost use Rattle.suite_cli.specs.Scripts.{script_in};
 ghost use Rattle.suite_cli.specs.Texts.{outcome_line};
 ghost use Rattle.suite_cli.specs.Runs.{Checks, Moves, Plays, fault_of, script_lines};
@@ -9,10 +10,13 @@ ghost use Rattle.suite_cli.specs.Runs.{Checks, Moves, Plays, fault_of, script_li
 use crate::fault::ScriptError;
 use crate::job::Job;
 use crate::outcome::{push_answered, push_refused};
+use crate::root::Root;
 use crate::script::ScriptReader;
 use byte_streams::{ByteOut, write_all};
 use file_ops::{ApplyError, Table};
 use std::alloc::{AllocError, Global};
+use suite_prefix::Settings;
+use vote_core::{MAX_SERVERS, Votes};
 
 /// Why a script was not played to its end.
 #[derive(Clone, Copy, Debug)]
@@ -65,7 +69,8 @@ pub(crate) fn play_script<O: ByteOut>(
         Err(ScriptError::Memory) => return Err(PlayError::Memory),
         Err(ScriptError::Faulty(_)) => unreachable!(),
     };
-    let mut table = Table::start(alloc, root.owner, root.group, root.acl)?;
+    let settings = settings_of(root);
+    let mut table = Table::opening(alloc, &settings)?;
     let mut gathered = Vec::new(alloc);
     let mut number = 0;
     loop {
@@ -82,6 +87,25 @@ pub(crate) fn play_script<O: ByteOut>(
     write_gathered(writer, &mut gathered)
 }
 
+/// What a script's table opens with.
+fn settings_of(root: Root) -> Settings
+    ensures { result ≡ settings_of root }
+{
+    let c0 = Votes::new(MAX_SERVERS, &[(0, 1)], 1, 1).unwrap();
+    Settings::new(
+        MAX_SERVERS,
+        1,
+        c0,
+        root.owner,
+        root.group,
+        root.acl,
+        0,
+        0,
+        0,
+    )
+    .unwrap()
+}
+
 /// Plays a transaction, and adds its line to the text.
 fn push_outcome(
     alloc: Global,
@@ -92,9 +116,9 @@ fn push_outcome(
 ) -> Result<(), AllocError>
     requires { number < 2 ^ 60 }
     ensures line { OnOk result (text.new.items ≡ text.old.items
-        ++ outcome_line number (replies (transaction table.old.rows number job.now.caller job.now.ops))) }
+        ++ outcome_line number (replies (transaction table.old.service table.old.rows number job.now.caller job.now.ops))) }
     ensures after { OnOk result (table.new ≡ table_after table.old number job.now.caller
-        (transaction table.old.rows number job.now.caller job.now.ops)) }
+        (transaction table.old.service table.old.rows number job.now.caller job.now.ops)) }
 {
     match table.apply(number, job.caller(), job.ops()) {
         Ok(answers) => push_answered(alloc, text, number, answers.as_slice()),

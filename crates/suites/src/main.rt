@@ -2,6 +2,8 @@
 //! and standard output. All of it but the reading of its words is in `suite_cli`.
 #![tactic(auto)]
 
+ghost use Rattle.std.specs.Prelude.{◌≡◌, map, string_bytes, IfOk};
+
 use byte_streams::{SystemIn, SystemOut};
 use std::alloc::{AllocError, Global};
 use std::env::{Env, FillError};
@@ -55,8 +57,10 @@ fn word<R: Env>(rt: &R, alloc: Global, place: usize) -> Result<Option<String>, A
     Err(AllocError)
 }
 
-/// The words as slices.
-fn slices<'a>(alloc: Global, words: &'a [String]) -> Result<Vec<&'a str>, AllocError> {
+/// The words as slices, each word in its place.
+fn slices<'a>(alloc: Global, words: &'a [String]) -> Result<Vec<&'a str>, AllocError>
+    ensures { IfOk result (λ slices. map (λ slice. slice.now) slices.items ≡ map string_bytes words.entry.now) }
+{
     let mut slices = Vec::with_capacity(alloc, words.len())?;
     for word in words {
         slices.push(word.as_str())?;

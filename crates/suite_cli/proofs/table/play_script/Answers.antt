@@ -12,7 +12,7 @@ loop-job-init g c = record {
   few = let room = c.in-Ok.ensures.room in let short = c.requires.short in omega (arith, room, short);
   written =
       let lines = opened_lines (script_in c.args.text.now) c.in-Ok.opened.0 (jobs_left c.in-Ok.opened.1) c.in-Ok.ensures.opened in
-      rw (c.new-gathered.ensures.items, c.in_ok-table.ensures, ← lines) (wrote_nothing (g.O.ByteOut.written c.args.writer.now) (script_lines (script_in c.args.text.now)));
+      rw (c.new-gathered.ensures.items, c.in_ok-table.ensures, c.settings_of-settings.ensures, ← lines) (wrote_nothing (g.O.ByteOut.written c.args.writer.now) (script_lines (script_in c.args.text.now)));
   failures = cc;
 }
 

@@ -3,7 +3,7 @@ use Rattle.file_ops.specs.Capacity.{KeepsCapacity}
 use Rattle.file_ops.specs.Edits.{edited, drop_name}
 use Rattle.file_ops.specs.Stored.{plain}
 use Rattle.file_ops.specs.Changes.{TakesBack}
-use Rattle.file_ops.proofs.TakingBack.{held_back, listed_back, made_back, room_to_put_back}
+use Rattle.file_ops.proofs.TakingBack.{held_back, listed_back, voted_back, made_back, room_to_put_back}
 use Rattle.file_ops.proofs.change.Change.take_back.Goals as goal
 
 pub returns-in-Held : goal.returns-in-Held
@@ -13,6 +13,10 @@ returns-in-Held c = λ before back.
 pub returns-in-Listed : goal.returns-in-Listed
 returns-in-Listed c = λ before back.
     rw c.exchange_acl.ensures.after (listed_back before c.args.rows.now c.in-Listed.suite c.in-Listed.before c.exchange_acl.ensures.ordered (subst (λ change. TakesBack change before c.args.rows.now) c.in-Listed.is back))
+
+pub returns-in-Voted : goal.returns-in-Voted
+returns-in-Voted c = λ before back.
+    rw c.exchange_votes.ensures.after (voted_back before c.args.rows.now c.in-Voted.suite c.in-Voted.before c.exchange_votes.ensures.ordered (subst (λ change. TakesBack change before c.args.rows.now) c.in-Voted.is back))
 
 pub returns-in-Made : goal.returns-in-Made
 returns-in-Made c = λ before back.
