@@ -1,4 +1,5 @@
 pub mod Copies
+pub mod Tests
 pub mod Bytes
 pub mod Reading
 pub mod Faults

@@ -1,17 +1,17 @@
 //! Which prefixes and copies are valid. Neither test takes memory.
 
-ghost use Rattle.std.specs.Prelude.{◌≡◌, ◌<◌, ◌^◌, ◌↔◌, All, IsTrue};
+ghost use Rattle.std.specs.Prelude.{◌≡◌, ◌<◌, ◌^◌, ◌↔◌, All, IsTrue, nat_le, length};
 ghost use Rattle.acl_core.specs.Modes.{minimal_list};
-ghost use Rattle.acl_core.specs.Entries.{entry_of};
 ghost use Rattle.acl_core.specs.Tags.{qualifier};
+ghost use Rattle.suite_content.specs.Limits.{most_names, longest_content};
 ghost use Rattle.suite_content.specs.Names.{IsName};
 ghost use Rattle.suite_content.specs.Contents.{kind_of, empty_content};
 ghost use Rattle.suite_content.specs.Folders.{IsFolder};
 ghost use Rattle.suite_prefix.specs.Copies.{IsPrefix, PrefixFits, IsNothing, IsCopy, IsOfSomeCopy, IsContent, IsFile, IsFolderContent, held_by};
+ghost use Rattle.suite_prefix.specs.Tests as test;
 
 use crate::copies::{Prefix, PrefixKind, Replica};
 use acl_core::{Acl, Entry, Tag};
-use bitflags::Flags;
 use suite_content::{Content, Kind, LONGEST_CONTENT, MOST_NAMES, Name};
 
 impl Prefix {
@@ -19,6 +19,7 @@ impl Prefix {
     pub fn is_valid(&self) -> bool
         ensures some_copy { IsTrue result ↔ IsOfSomeCopy self.now }
         ensures prefix { IsTrue result ↔ IsPrefix self.now }
+        ensures test { result ≡ test.is_valid_prefix self.now }
     {
         fits(self);
         self.keeps_rules()
@@ -26,7 +27,8 @@ impl Prefix {
 
     fn keeps_rules(&self) -> bool
         requires { PrefixFits self.now }
-        ensures { IsTrue result ↔ IsPrefix self.now }
+        ensures prefix { IsTrue result ↔ IsPrefix self.now }
+        ensures test { result ≡ test.is_valid_prefix self.now }
     {
         match self.kind {
             PrefixKind::Absent => self.pver == 0 && is_nothing(self),
@@ -37,7 +39,8 @@ impl Prefix {
 
 /// Whether a prefix is nobody's and grants nothing.
 fn is_nothing(prefix: &Prefix) -> bool
-    ensures { IsTrue result ↔ IsNothing prefix.now }
+    ensures nothing { IsTrue result ↔ IsNothing prefix.now }
+    ensures test { result ≡ test.is_nothing prefix.now }
 {
     prefix.owner == 0 && prefix.group == 0 && is_closed(&prefix.acl)
 }
@@ -81,29 +84,22 @@ fn qualifier_fits(tag: Tag)
 
 /// Whether a list is that of mode 000.
 fn is_closed(acl: &Acl) -> bool
-    ensures { IsTrue result ↔ (acl.now ≡ minimal_list 0) }
+    ensures closed { IsTrue result ↔ (acl.now ≡ minimal_list 0) }
+    ensures test { result ≡ test.is_closed acl.now }
 {
-    match acl.entries() {
-        [owner, group, others] => {
-            grants_nothing(owner, Tag::UserObj)
-                && grants_nothing(group, Tag::GroupObj)
-                && grants_nothing(others, Tag::Other)
-        }
-        _ => false,
-    }
-}
-
-/// Whether an entry has this tag and no permission.
-fn grants_nothing(entry: &Entry, tag: Tag) -> bool
-    ensures { IsTrue result ↔ (entry.now ≡ entry_of tag 0) }
-{
-    entry.tag == tag && entry.perms.bits() == 0
+    let nothing = [
+        Entry::from_digit(Tag::UserObj, 0),
+        Entry::from_digit(Tag::GroupObj, 0),
+        Entry::from_digit(Tag::Other, 0),
+    ];
+    acl.entries() == nothing.as_slice()
 }
 
 impl Replica {
     /// Whether this is a valid copy.
     pub fn is_valid(&self) -> bool
-        ensures { IsTrue result ↔ IsCopy self.now }
+        ensures copy { IsTrue result ↔ IsCopy self.now }
+        ensures test { result ≡ test.is_valid_copy self.now }
     {
         let kinds_agree = holds(self.prefix.kind, &self.content);
         let made = self.dver > 0;
@@ -118,7 +114,8 @@ impl Replica {
 
 /// Whether what has a prefix of this kind holds such a content.
 fn holds(kind: PrefixKind, content: &Content) -> bool
-    ensures { IsTrue result ↔ (kind_of content.now ≡ held_by kind) }
+    ensures kind { IsTrue result ↔ (kind_of content.now ≡ held_by kind) }
+    ensures test { result ≡ test.holds kind content.now }
 {
     match kind {
         PrefixKind::Absent | PrefixKind::File => content.kind() == Kind::File,
@@ -128,7 +125,8 @@ fn holds(kind: PrefixKind, content: &Content) -> bool
 
 /// Whether a content is empty.
 fn is_empty(content: &Content) -> bool
-    ensures { IsTrue result ↔ (content.now ≡ empty_content (kind_of content.now)) }
+    ensures empty { IsTrue result ↔ (content.now ≡ empty_content (kind_of content.now)) }
+    ensures test { result ≡ test.is_empty content.now }
 {
     match content {
         Content::Bytes(bytes) => bytes.is_empty(),
@@ -138,7 +136,8 @@ fn is_empty(content: &Content) -> bool
 
 /// Whether a content is within its limits.
 fn is_within_limits(content: &Content) -> bool
-    ensures { IsTrue result ↔ IsContent content.now }
+    ensures content { IsTrue result ↔ IsContent content.now }
+    ensures test { result ≡ test.is_within_limits content.now }
 {
     match content {
         Content::Bytes(bytes) => is_file(bytes.as_slice()),
@@ -148,7 +147,8 @@ fn is_within_limits(content: &Content) -> bool
 
 /// Whether a file may hold these bytes.
 fn is_file(bytes: &[u8]) -> bool
-    ensures { IsTrue result ↔ IsFile bytes.now }
+    ensures file { IsTrue result ↔ IsFile bytes.now }
+    ensures test { result ≡ nat_le (length bytes.now) longest_content }
 {
     bytes.len() <= LONGEST_CONTENT
 }
@@ -156,7 +156,8 @@ fn is_file(bytes: &[u8]) -> bool
 /// Whether a folder may hold these names.
 fn is_folder(names: &[(Name, u64)]) -> bool
     requires { IsFolder names.now }
-    ensures { IsTrue result ↔ IsFolderContent names.now }
+    ensures folder { IsTrue result ↔ IsFolderContent names.now }
+    ensures test { result ≡ nat_le (length names.now) most_names }
 {
     names_fit(names);
     names.len() <= MOST_NAMES

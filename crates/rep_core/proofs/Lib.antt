@@ -1,0 +1,9 @@
+pub mod Effects
+pub mod Intentions
+pub mod Soundness
+pub mod FittingReplies
+mod Members
+mod Alone
+mod Stays
+mod Reached
+mod Example

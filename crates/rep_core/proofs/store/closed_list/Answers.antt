@@ -1,0 +1,9 @@
+use Rattle.std.proofs.Common.{ℕ, subst}
+use Rattle.std.specs.Prelude.{IfOk, ◌≡◌}
+use Rattle.acl_core.specs.Modes.{minimal_list}
+use Rattle.rep_core.proofs.store.closed_list.Goals as goal
+
+pub returns : goal.returns
+returns c =
+    let value : c.unwrap-mode.result ≡ 0 = rw c.unwrap-mode.ensures at c.new.ensures.value in
+    subst (λ (mode : ℕ). IfOk c.from_mode.result (λ acl. acl ≡ minimal_list mode)) value c.from_mode.ensures.list

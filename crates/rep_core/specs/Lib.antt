@@ -1,0 +1,9 @@
+pub mod Locks
+pub mod Store
+pub mod StoreFields
+pub mod State
+pub mod ServerFields
+pub mod Service
+pub mod Serving
+pub mod Fits
+pub mod Laws

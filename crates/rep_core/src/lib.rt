@@ -1,0 +1,42 @@
+//! One server of a replicated file service, as a sequential object.
+//!
+//! A [`Server`] has copies of files and folders, locks of transactions on them, what prepared
+//! transactions will make of them (their intentions), the verdicts of the transactions whose home it is,
+//! an audit of denials, and a stamp by Lamport's logical clock. It takes one request at a time
+//! ([`Server::serve`]), answers at once, and waits for nobody: a lock that stands in the way is answered
+//! Busy. What each request is answered and what it changes are two functions of a state and a request,
+//! `reply_of` and `after` (`specs/Service.antt`); `answer_of`, `served` and `is_full`
+//! (`specs/Serving.antt`) put the stamps round them. The contract of `serve` is these, exactly, and it
+//! says more: each reply fits its request ([`Request::fits`]), and Finish, Break, Crash and Return take
+//! no memory, since a Prepare makes the room that its Finish needs.
+//!
+//! What a caller owes: each server of a service is opened with its own number and the same settings; a
+//! crash is a request like the others, and what it keeps (copies, intentions, prepared locks, verdicts,
+//! audit, stamp) is what has to be kept on stable storage. That a transaction sends its requests in a
+//! sensible order is nowhere presumed.
+#![tactic(auto)]
+
+mod copying;
+mod effect;
+mod fitting;
+mod intention;
+mod laws;
+mod lock;
+mod locks;
+mod reply;
+mod request;
+mod server;
+mod stamped;
+mod store;
+
+pub use effect::finish_keeps_effect;
+pub use laws::{exclusive_stands_alone, prepared_stands, some_server_stands};
+pub use lock::{Lock, Mode};
+pub use reply::{LockList, Reply, Verdict};
+pub use request::{Decision, Part, Parts, Request, Take};
+pub use server::Server;
+pub use stamped::{Lack, Stamped};
+pub use store::MOST_SUITES;
+
+#[cfg(test)]
+mod tests;

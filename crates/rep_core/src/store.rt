@@ -1,0 +1,488 @@
+//! Stored copies and intentions. Nothing else touches them.
+
+ghost use Rattle.std.specs.Prelude.{◌≡◌, ◌≤◌, ◌<◌, ◌+◌, ◌==◌, ◌&&◌, not, length, [], IfOk, OnOk, OnErr, IsTrue, IsSome, IfSome, true, false, unwrap_or, None, Some, nat_le, min, count_by, find, option_map};
+ghost use Rattle.std.specs.List.{list_any, list_all};
+ghost use Rattle.std.specs.Option.{option_copied};
+ghost use Rattle.std.specs.Ordering.{nat_cmp};
+ghost use Rattle.sorted_map.specs.SortedMap.{IsOrdered, get, remove};
+ghost use Rattle.acl_core.specs.Modes.{minimal_list};
+ghost use Rattle.vote_core.specs.Quorums.{Configuration};
+ghost use Rattle.suite_prefix.specs.declared.copies.Replica.{Replica};
+ghost use Rattle.suite_prefix.specs.Copies.{held_by};
+ghost use Rattle.suite_prefix.specs.Tests.{is_absent};
+ghost use Rattle.rep_core.specs.declared.intention.Intention.{Intention};
+ghost use Rattle.rep_core.specs.Locks.{with_prepared};
+ghost use Rattle.rep_core.specs.Service.{held, given};
+ghost use Rattle.rep_core.specs.Store as store;
+
+use crate::copying::copied;
+use crate::intention::Intention;
+use crate::lock::Lock;
+use crate::locks::{is_exclusive, prepare};
+use crate::reply::Reply;
+use crate::request::{Part, Take};
+use acl_core::{Acl, Mode};
+use sorted_map::RoomyMap;
+use std::alloc::{AllocError, Global};
+use std::marker::Model;
+use suite_content::{Content, Kind};
+use suite_prefix::{Prefix, PrefixKind, Replica, Settings};
+use vote_core::Votes;
+
+/// The most suites that a server has a copy or an intention of.
+pub const MOST_SUITES: usize = 4_096;
+
+/// The number of the root folder.
+const ROOT: u64 = 0;
+
+/// The copies and the intentions of a server, by suite, with room for the copies that the intentions
+/// will be; and the prefix of what was never made.
+#[derive(Drop)]
+pub(crate) struct Store {
+    alloc: Global,
+    absent: Prefix,
+    copies: RoomyMap<u64, Replica>,
+    intentions: RoomyMap<u64, Intention>,
+}
+
+impl Model for Store {
+    ghost use Rattle.std.specs.Prelude.{◌≡◌, ◌≤◌, length};
+    ghost use Rattle.rep_core.specs.Store.{Store, absent_prefix, IsSound};
+    ghost use Rattle.rep_core.specs.StoreFields.{store_of};
+
+    ghost Value = { Store };
+
+    ghost view = { store_of };
+
+    ghost invariant = { λ fields. (fields.absent ≡ absent_prefix fields.absent.votes) × (length fields.intentions.pairs ≤ fields.copies.room) × IsSound (store_of fields) };
+}
+
+impl Store {
+    /// The store of the server of this number as a service opens: a representative of the opening votes
+    /// has the root.
+    pub(crate) fn opening(
+        alloc: Global,
+        index: u8,
+        settings: &Settings,
+    ) -> Result<Store, AllocError>
+        ensures { IfOk result (λ made. made ≡ store.opening_store index settings.now) }
+    {
+        let mut copies = RoomyMap::new(alloc);
+        if is_representative(settings.c0(), index) {
+            let root = root_copy(alloc, settings)?;
+            copies.insert(ROOT, root)?;
+        }
+        let absent = absent_prefix(alloc, *settings.c0())?;
+        Ok(Store {
+            alloc,
+            absent,
+            copies,
+            intentions: RoomyMap::new(alloc),
+        })
+    }
+
+    /// A law: each copy is sound, and so is what each intention leaves of it. It does nothing.
+    pub(crate) fn sound(&self)
+        ensures { store.IsSound self.now }
+    {
+        let _ = &self.absent;
+    }
+
+    /// An equal store.
+    pub(crate) fn copy(&self) -> Result<Store, AllocError>
+        ensures { IfOk result (λ made. made ≡ self.now) }
+    {
+        let intentions = copied(self.alloc, self.intentions.as_slice())?;
+        let mut copies = copied(self.alloc, self.copies.as_slice())?;
+        copies.reserve(intentions.len())?;
+        let absent = self.absent.clone()?;
+        Ok(Store {
+            alloc: self.alloc,
+            absent,
+            copies,
+            intentions,
+        })
+    }
+
+    /// That a suite is held: the prefix of its copy, and the version of the content.
+    pub(crate) fn held(&self, suite: u64) -> Result<Reply, AllocError>
+        ensures { IfOk result (λ reply. reply ≡ held (store.copy_of self.now suite)) }
+    {
+        match self.copies.get(&suite) {
+            Some(copy) => {
+                let prefix = copy.prefix.clone()?;
+                Ok(Reply::Held {
+                    prefix,
+                    dver: copy.dver,
+                })
+            }
+            None => {
+                let prefix = self.absent.clone()?;
+                Ok(Reply::Held { prefix, dver: 0 })
+            }
+        }
+    }
+
+    /// The content of a suite's copy, and its version.
+    pub(crate) fn given(&self, suite: u64) -> Result<Reply, AllocError>
+        ensures { IfOk result (λ reply. reply ≡ given (store.copy_of self.now suite)) }
+    {
+        match self.copies.get(&suite) {
+            Some(copy) => {
+                let content = copy.content.clone()?;
+                Ok(Reply::Given {
+                    dver: copy.dver,
+                    content,
+                })
+            }
+            None => Ok(Reply::Given {
+                dver: 0,
+                content: Content::empty(self.alloc, Kind::File),
+            }),
+        }
+    }
+
+    /// Whether a part may be prepared.
+    pub(crate) fn is_sound_part(&self, part: &Part) -> bool
+        ensures { result ≡ store.is_sound_part self.now part.now }
+    {
+        (is_keep(&part.take) || is_exclusive(part.mode)) && self.goes_with(part.suite, &part.take)
+    }
+
+    /// Whether what is taken goes with the copy of a suite.
+    fn goes_with(&self, suite: u64, what: &Take) -> bool
+        ensures { result ≡ store.goes_with what.now (store.copy_of self.now suite) }
+    {
+        match what {
+            Take::Keep => true,
+            Take::Prefix(prefix) => {
+                prefix.is_valid()
+                    && !is_absent(prefix.kind)
+                    && may_become(self.kind_of(suite), prefix.kind)
+            }
+            Take::Whole(replica) => replica.is_valid(),
+        }
+    }
+
+    /// The kind of a suite's copy.
+    fn kind_of(&self, suite: u64) -> PrefixKind
+        ensures { result ≡ (store.copy_of self.now suite).prefix.kind }
+    {
+        match self.copies.get(&suite) {
+            Some(copy) => copy.prefix.kind,
+            None => self.absent.kind,
+        }
+    }
+
+    /// Whether the parts' intentions are too much.
+    pub(crate) fn overfills(&self, parts: &[Part]) -> bool
+        ensures { result ≡ store.overfills self.now parts.now }
+    {
+        any_holds_last(parts) || self.suites_with(parts) > MOST_SUITES
+    }
+
+    /// How many suites have a copy or an intention, once the parts' intentions are kept.
+    fn suites_with(&self, parts: &[Part]) -> usize
+        ensures { result ≡ min (store.suites_with self.now parts.now) usize.MAX }
+    {
+        let planned = self.intentions.as_slice();
+        let without_copy = planned
+            .iter()
+            .filter(|pair| !self.copies.contains_key(&pair.0))
+            .count();
+        let new = parts.iter().filter(|part| self.takes_new(part)).count();
+        self.copies
+            .len()
+            .saturating_add(without_copy)
+            .saturating_add(new)
+    }
+
+    /// Whether a part takes a suite of which there is neither a copy nor an intention.
+    fn takes_new(&self, part: &Part) -> bool
+        ensures { result ≡ store.takes_new self.now part.now }
+    {
+        !is_keep(&part.take)
+            && !self.copies.contains_key(&part.suite)
+            && !self.intentions.contains_key(&part.suite)
+    }
+
+    /// Keeps the intentions of a Prepare, makes room for the copies that they will be, and makes the
+    /// transaction's locks on the parts' suites prepared.
+    pub(crate) fn intend(
+        &mut self,
+        locks: &mut [Lock],
+        t: u64,
+        parts: Vec<Part>,
+    ) -> Result<(), AllocError>
+        requires sound { list_all (store.is_sound_part self.old) parts.items ≡ true }
+        requires few { store.overfills self.old parts.items ≡ false }
+        ensures ok { OnOk result (self.new ≡ store.intended t parts.items self.old) }
+        ensures locks { OnOk result (locks.new ≡ with_prepared t parts.items locks.old) }
+        ensures err { OnErr result (self.new ≡ self.old) }
+        ensures locks_stay { OnErr result (locks.new ≡ locks.old) }
+    {
+        self.copies
+            .reserve(self.intentions.as_slice().len() + parts.len())?;
+        self.intentions.reserve(parts.len())?;
+        prepare(locks, t, &parts);
+        keep_all(&mut self.intentions, t, parts);
+        Ok(())
+    }
+
+    /// Lets the intentions of a transaction go. Where it was answered they become copies.
+    pub(crate) fn finish(&mut self, t: u64, answered: bool)
+        ensures { self.new ≡ store.finished t answered self.old }
+    {
+        if answered {
+            install(self.alloc, &mut self.copies, &mut self.intentions, t);
+        } else {
+            forget(&mut self.intentions, t);
+        }
+    }
+}
+
+/// Whether a server is a representative of some votes.
+fn is_representative(votes: &Votes, index: u8) -> bool
+    ensures { result ≡ list_any (λ rep. rep.0 == index) votes.now.reps }
+{
+    votes.reps().iter().any(|rep| rep.0 == index)
+}
+
+/// The root folder as a service opens.
+fn root_copy(alloc: Global, settings: &Settings) -> Result<Replica, AllocError>
+    ensures { IfOk result (λ root. root ≡ store.root_copy settings.now) }
+{
+    let acl = settings.root_acl().clone()?;
+    Ok(Replica {
+        prefix: Prefix {
+            pver: 1,
+            kind: PrefixKind::Folder,
+            owner: settings.root_owner(),
+            group: settings.root_group(),
+            acl,
+            votes: *settings.c0(),
+        },
+        dver: 1,
+        content: Content::empty(alloc, Kind::Folder),
+    })
+}
+
+/// The prefix of what was never made.
+fn absent_prefix(alloc: Global, votes: Votes) -> Result<Prefix, AllocError>
+    ensures { IfOk result (λ prefix. prefix ≡ store.absent_prefix votes) }
+{
+    let acl = closed_list(alloc)?;
+    Ok(Prefix {
+        pver: 0,
+        kind: PrefixKind::Absent,
+        owner: 0,
+        group: 0,
+        acl,
+        votes,
+    })
+}
+
+/// The list of mode 000.
+fn closed_list(alloc: Global) -> Result<Acl, AllocError>
+    ensures { IfOk result (λ acl. acl ≡ minimal_list 0) }
+{
+    let mode = Mode::new(0).unwrap();
+    Acl::from_mode(alloc, mode)
+}
+
+/// Whether nothing is taken.
+fn is_keep(what: &Take) -> bool
+    ensures { result ≡ store.is_keep what.now }
+{
+    match what {
+        Take::Keep => true,
+        Take::Prefix(_) | Take::Whole(_) => false,
+    }
+}
+
+fn is_absent(kind: PrefixKind) -> bool
+    ensures { result ≡ is_absent kind }
+{
+    match kind {
+        PrefixKind::Absent => true,
+        PrefixKind::File | PrefixKind::Folder => false,
+    }
+}
+
+/// Whether a copy of a kind may get a prefix of another kind: any where nothing was made, and else its
+/// own.
+fn may_become(kind: PrefixKind, next: PrefixKind) -> bool
+    ensures { result ≡ store.may_become kind next }
+{
+    match kind {
+        PrefixKind::Absent => true,
+        PrefixKind::File | PrefixKind::Folder => kind == next,
+    }
+}
+
+/// Whether a version is used up.
+pub(crate) fn is_used_up(number: u64) -> bool
+    ensures { result ≡ store.is_used_up number }
+{
+    number >= u64::MAX
+}
+
+/// Whether what is taken holds a version that is used up.
+fn holds_last(what: &Take) -> bool
+    ensures { result ≡ store.holds_last what.now }
+{
+    match what {
+        Take::Keep => false,
+        Take::Prefix(prefix) => is_used_up(prefix.pver),
+        Take::Whole(replica) => is_used_up(replica.prefix.pver) || is_used_up(replica.dver),
+    }
+}
+
+fn any_holds_last(parts: &[Part]) -> bool
+    ensures { result ≡ list_any (λ part. store.holds_last part.take) parts.now }
+{
+    parts.iter().any(|part| holds_last(&part.take))
+}
+
+/// Keeps the intentions of parts, for which there is room.
+fn keep_all(intentions: &mut RoomyMap<u64, Intention>, t: u64, parts: Vec<Part>)
+    requires { length parts.items ≤ intentions.old.room }
+    ensures pairs { intentions.new.pairs ≡ store.with_intentions t parts.items intentions.old.pairs }
+    ensures few { length intentions.new.pairs ≤ length intentions.old.pairs + length parts.items }
+    ensures rising { IsOrdered nat_cmp intentions.new.pairs }
+{
+    for part in parts {
+        keep(intentions, t, part);
+    }
+    let _ = intentions.len();
+}
+
+/// Keeps the intention of a part.
+fn keep(intentions: &mut RoomyMap<u64, Intention>, t: u64, part: Part)
+    requires { 0 < intentions.old.room }
+    ensures pairs { intentions.new.pairs ≡ store.with_intention t part intentions.old.pairs }
+    ensures few { length intentions.new.pairs ≤ length intentions.old.pairs + 1 }
+    ensures room { intentions.old.room ≤ intentions.new.room + 1 }
+{
+    let Part { suite, take, .. } = part;
+    if is_keep(&take) {
+        return;
+    }
+    intentions.insert_in_room(suite, Intention { t, take });
+}
+
+/// The first suite with an intention of a transaction.
+fn next_of(intentions: &[(u64, Intention)], t: u64) -> Option<u64>
+    ensures { result ≡ option_map (λ pair. pair.0) (find (λ pair. pair.1.t == t) intentions.now) }
+{
+    intentions
+        .iter()
+        .find(|pair| pair.1.t == t)
+        .map(|pair| pair.0)
+}
+
+/// Makes the intentions of a transaction copies, in the room that there is.
+fn install(
+    alloc: Global,
+    copies: &mut RoomyMap<u64, Replica>,
+    intentions: &mut RoomyMap<u64, Intention>,
+    t: u64,
+)
+    requires { length intentions.old.pairs ≤ copies.old.room }
+    ensures copies { (c0 : Configuration) → copies.new.pairs ≡ store.with_copies c0 t intentions.old.pairs copies.old.pairs }
+    ensures others { intentions.new.pairs ≡ store.without_intentions t intentions.old.pairs }
+    ensures room { length intentions.new.pairs ≤ copies.new.room }
+    ensures rising { IsOrdered nat_cmp intentions.new.pairs }
+{
+    while let Some(suite) = next_of(intentions.as_slice(), t) {
+        install_at(alloc, copies, intentions, suite);
+    }
+}
+
+/// Makes the intention on a suite a copy.
+fn install_at(
+    alloc: Global,
+    copies: &mut RoomyMap<u64, Replica>,
+    intentions: &mut RoomyMap<u64, Intention>,
+    suite: u64,
+)
+    requires there { IsSome (get nat_cmp intentions.old.pairs suite) }
+    requires room { 0 < copies.old.room }
+    ensures copies { IfSome (get nat_cmp intentions.old.pairs suite) (λ intention. (c0 : Configuration) → copies.new.pairs ≡ store.with_taken c0 suite intention.take copies.old.pairs) }
+    ensures intentions { intentions.new.pairs ≡ remove nat_cmp intentions.old.pairs suite }
+    ensures room { copies.old.room ≤ copies.new.room + 1 }
+{
+    if let Some(intention) = intentions.remove(&suite) {
+        put(alloc, copies, suite, intention.take);
+    }
+}
+
+/// Drops the intentions of a transaction.
+fn forget(intentions: &mut RoomyMap<u64, Intention>, t: u64)
+    ensures others { intentions.new.pairs ≡ store.without_intentions t intentions.old.pairs }
+    ensures fewer { length intentions.new.pairs ≤ length intentions.old.pairs }
+    ensures rising { IsOrdered nat_cmp intentions.new.pairs }
+{
+    while let Some(suite) = next_of(intentions.as_slice(), t) {
+        forget_at(intentions, suite);
+    }
+}
+
+/// Drops the intention on a suite.
+fn forget_at(intentions: &mut RoomyMap<u64, Intention>, suite: u64)
+    ensures { intentions.new.pairs ≡ remove nat_cmp intentions.old.pairs suite }
+{
+    intentions.remove(&suite);
+}
+
+/// Leaves of a suite's copy what is taken. Where the copy is new, there is room for it.
+fn put(alloc: Global, copies: &mut RoomyMap<u64, Replica>, suite: u64, what: Take)
+    requires { 0 < copies.old.room }
+    ensures copies { (c0 : Configuration) → copies.new.pairs ≡ store.with_taken c0 suite what copies.old.pairs }
+    ensures room { copies.old.room ≤ copies.new.room + 1 }
+{
+    match what {
+        Take::Keep => {}
+        Take::Prefix(prefix) => match copies.get_mut(&suite) {
+            Some(copy) => change_prefix(alloc, copy, prefix),
+            None => {
+                copies.insert_in_room(suite, first_copy(alloc, prefix));
+            }
+        },
+        Take::Whole(replica) => {
+            copies.insert_in_room(suite, replica);
+        }
+    }
+}
+
+/// Puts a copy under another prefix.
+fn change_prefix(alloc: Global, copy: &mut Replica, prefix: Prefix)
+    ensures { copy.new ≡ store.with_prefix prefix copy.old }
+{
+    if is_absent(copy.prefix.kind) {
+        copy.content = Content::empty(alloc, held_by(prefix.kind));
+    }
+    copy.prefix = prefix;
+}
+
+/// What a prefix makes of what was never made.
+fn first_copy(alloc: Global, prefix: Prefix) -> Replica
+    ensures { (c0 : Configuration) → result ≡ store.with_prefix prefix (store.absent_copy c0) }
+{
+    let content = Content::empty(alloc, held_by(prefix.kind));
+    Replica {
+        prefix,
+        dver: 0,
+        content,
+    }
+}
+
+/// What is held under a prefix of a kind.
+fn held_by(kind: PrefixKind) -> Kind
+    ensures { result ≡ held_by kind }
+{
+    match kind {
+        PrefixKind::Absent | PrefixKind::File => Kind::File,
+        PrefixKind::Folder => Kind::Folder,
+    }
+}
