@@ -1,0 +1,29 @@
+"""Builds a program of this folder (NAME.rattle) that is no crate of the repository: as a crate of a scratch copy of it, by `rt run`."""
+import os
+import shutil
+import subprocess
+import sys
+
+BENCH = os.path.dirname(os.path.abspath(__file__))
+TOP = os.path.join(BENCH, "..")
+
+
+def built(folder, name, crates):
+    """A copy of the repository in this folder, in which bench/NAME.rattle is a program that stands on these crates; its folder."""
+    shutil.copytree(os.path.join(TOP, "crates"), os.path.join(folder, "crates"))
+    shutil.copy(os.path.join(TOP, "crates.txt"), folder)
+    with open(os.path.join(folder, "crates.txt"), "a", encoding="utf-8") as listed:
+        listed.write(f"{name}_bench: {crates}\n")
+    crate = os.path.join(folder, "crates", f"{name}_bench")
+    os.makedirs(os.path.join(crate, "src"))
+    shutil.copy(os.path.join(BENCH, f"{name}.rattle"), os.path.join(crate, "src", "main.rt"))
+    return crate
+
+
+def lines(crate, kinds):
+    """The words of each line of a run that begins with one of these words."""
+    done = subprocess.run(["rt", "run"], cwd=crate, capture_output=True, text=True, check=False)
+    found = [words for words in map(str.split, done.stdout.splitlines()) if words and words[0] in kinds]
+    if not found:
+        sys.exit(done.stdout + done.stderr)
+    return found
