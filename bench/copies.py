@@ -7,8 +7,6 @@ best of five runs).
 
 The program (bench/copies.rattle) is no crate of the repository: it is built in a scratch copy of it, by `rt run`.
 """
-import tempfile
-
 import scratch
 
 KINDS = ("encode", "decode", "plain")
@@ -16,11 +14,9 @@ TIMES = 2000
 
 
 def main():
-    with tempfile.TemporaryDirectory() as folder:
-        crate = scratch.built(folder, "copies", "acl_core suite_content suite_prefix vote_core")
-        runs = [scratch.lines(crate, KINDS) for _ in range(5)]
+    timed = scratch.runs("copies", "acl_core suite_content suite_prefix vote_core", KINDS)
     print(f"{'':8}{'copy':8}{'bytes':>8}{'us':>9}{'MB/s':>9}")
-    for line in zip(*runs):
+    for line in timed:
         kind, what, size = line[0][0], line[0][1], int(line[0][2])
         nanos = min(int(one[3]) for one in line) / TIMES
         print(f"{kind:8}{what:8}{size:8}{nanos / 1000:9.1f}{1000 * size / nanos:9.0f}")

@@ -3,6 +3,7 @@ import os
 import shutil
 import subprocess
 import sys
+import tempfile
 
 BENCH = os.path.dirname(os.path.abspath(__file__))
 TOP = os.path.join(BENCH, "..")
@@ -27,3 +28,10 @@ def lines(crate, kinds):
     if not found:
         sys.exit(done.stdout + done.stderr)
     return found
+
+
+def runs(name, crates, kinds, times=5):
+    """For each line of bench/NAME.rattle that begins with one of these words, its words in each of some runs."""
+    with tempfile.TemporaryDirectory() as folder:
+        crate = built(folder, name, crates)
+        return list(zip(*(lines(crate, kinds) for _ in range(times))))

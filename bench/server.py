@@ -8,7 +8,6 @@ among the others and not behind them). The figure that counts is how the time of
 The program (bench/server.rattle) is no crate of the repository: it is built in a scratch copy of it, by `rt run`.
 """
 import sys
-import tempfile
 
 import scratch
 
@@ -16,11 +15,9 @@ KINDS = ("copies", "told", "recorded")
 
 
 def main():
-    with tempfile.TemporaryDirectory() as folder:
-        crate = scratch.built(folder, "server", "acl_core file_ops rep_core suite_content suite_prefix vote_core")
-        runs = [scratch.lines(crate, KINDS) for _ in range(5)]
+    timed = scratch.runs("server", "acl_core file_ops rep_core suite_content suite_prefix vote_core", KINDS)
     print(f"{'':10}{'there':>10}{'us a request':>14}{'requests a second':>19}")
-    for line in zip(*runs):
+    for line in timed:
         if any(one[4] != "true" for one in line):
             sys.exit(f"a request was answered otherwise: {line}")
         kind, there, served = line[0][0], int(line[0][1]), int(line[0][2])

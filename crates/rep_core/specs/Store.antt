@@ -166,7 +166,6 @@ abbrev pub with_taken : Configuration → ℕ → Take → List (ℕ × Replica)
 with_taken c0 suite what copies = if is_keep what then copies else insert nat_cmp copies suite (left_by what (copy_in c0 copies suite))
 
 -- the copies once the transaction's intentions have become copies
-
 abbrev pub with_copies : Configuration → ℕ → List (ℕ × Intention) → List (ℕ × Replica) → List (ℕ × Replica)
 with_copies c0 t [] copies = copies
 with_copies c0 t (pair ∷ intentions) copies =

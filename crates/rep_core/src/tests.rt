@@ -5,7 +5,7 @@
 
 use crate::{
     Decision, Lack, Mode, Part, Parts, Reply, Request, Server, Stamped, Take, Verdict,
-    finish_keeps_effect,
+    exclusive_stands_alone, finish_keeps_effect, prepared_stands, some_server_stands,
 };
 use acl_core::{Acl, Decider, Perms};
 use file_ops::{Answers, Denial, Refusal, Why};
@@ -393,6 +393,9 @@ fn a_denial_is_kept_once(rt: HostRuntime) -> Result<(), Fail> {
     assert_eq!(rt; (item.t, item.uid, item.op), (6, 2000, 1));
     server.copies_are_sound();
     finish_keeps_effect();
+    exclusive_stands_alone();
+    prepared_stands();
+    some_server_stands();
     Ok(())
 }
 
