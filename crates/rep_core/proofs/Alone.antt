@@ -3,14 +3,15 @@ use Rattle.std.proofs.Common.{◌≡◌, ℕ, Bool, true, false, cond, ◌⊎◌
 use Rattle.std.specs.Prelude.{find, filter, insert}
 use Rattle.std.proofs.lemmas.Bool.Decides.{nat_tests}
 use Rattle.file_ops.specs.declared.audit.AuditItem.{AuditItem}
-use Rattle.rep_core.specs.declared.lock.Mode.{Mode}
-use Rattle.rep_core.specs.declared.lock.Mode.TheVariants.{Shared, Exclusive}
+use Rattle.suite_prefix.specs.declared.lock_mode.LockMode.{LockMode}
+use Rattle.suite_prefix.specs.declared.lock_mode.LockMode.TheVariants.{Shared, Exclusive}
 use Rattle.rep_core.specs.declared.lock.Lock.{Lock}
 use Rattle.rep_core.specs.declared.request.Part.{Part}
 use Rattle.rep_core.specs.declared.request.Request.{Request}
 use Rattle.rep_core.specs.declared.request.Request.TheVariants as request
 use Rattle.rep_core.specs.declared.reply.Verdict.{Verdict}
-use Rattle.rep_core.specs.Locks.{is_exclusive, conflicts, in_the_way, is_own, has_lock, stronger, raised_lock, raised, place_of, with_lock, locked, prepared_lock, with_prepared}
+use Rattle.suite_prefix.specs.LockModes.{is_exclusive, stronger}
+use Rattle.rep_core.specs.Locks.{conflicts, in_the_way, is_own, has_lock, raised_lock, raised, place_of, with_lock, locked, prepared_lock, with_prepared}
 use Rattle.rep_core.specs.Store.{intended}
 use Rattle.rep_core.specs.State.{State}
 use Rattle.rep_core.specs.Service.{after, after_up, after_down, after_locking, after_poll, after_upgrade, prepares, after_prepare, after_record}
@@ -38,10 +39,10 @@ alone_no_new old new from alone a b has_a has_b same exclusive =
     x.2.t ∙ one ∙ sym y.2.t
 
 -- a lock that does not conflict
-no_conflict : (t s : ℕ) (m : Mode) (l : Lock) → conflicts t s m l ≡ false → l.suite ≡ s → (is_exclusive m ≡ true) ⊎ (is_exclusive l.mode ≡ true) → l.t ≡ t
+no_conflict : (t s : ℕ) (m : LockMode) (l : Lock) → conflicts t s m l ≡ false → l.suite ≡ s → (is_exclusive m ≡ true) ⊎ (is_exclusive l.mode ≡ true) → l.t ≡ t
 no_conflict t s m l e = grind (arith, nat_tests)
 
-alone_insert : (t s : ℕ) (m : Mode) (ls : List Lock) (place : ℕ) → find (conflicts t s m) ls ≡ None → Alone ls → Alone (insert ls place (record { t = t; suite = s; mode = m; prepared = false }))
+alone_insert : (t s : ℕ) (m : LockMode) (ls : List Lock) (place : ℕ) → find (conflicts t s m) ls ≡ None → Alone ls → Alone (insert ls place (record { t = t; suite = s; mode = m; prepared = false }))
 alone_insert t s m ls place none alone a b has_a has_b same exclusive =
     elim (has_insert ls place _ a has_a) [
       | inl old_a ↦ elim (has_insert ls place _ b has_b) [
@@ -57,19 +58,19 @@ alone_insert t s m ls place none alone a b has_a has_b same exclusive =
 own_is : (t s : ℕ) (l : Lock) → is_own t s l ≡ true → (l.t ≡ t) × (l.suite ≡ s)
 own_is t s l e = (grind (arith, nat_tests), grind (arith, nat_tests))
 
-stronger_exclusive : (a b : Mode) → is_exclusive (stronger a b) ≡ true → (is_exclusive a ≡ true) ⊎ (is_exclusive b ≡ true)
+stronger_exclusive : (a b : LockMode) → is_exclusive (stronger a b) ≡ true → (is_exclusive a ≡ true) ⊎ (is_exclusive b ≡ true)
 stronger_exclusive Shared b e = inr e
 stronger_exclusive Exclusive b e = inl e
 
 -- what is exclusive once it is raised
-raised_exclusive : (t s : ℕ) (m : Mode) (l : Lock) → is_exclusive (raised_lock t s m l).mode ≡ true → (is_exclusive l.mode ≡ true) ⊎ ((l.t ≡ t) × (l.suite ≡ s) × (is_exclusive m ≡ true))
+raised_exclusive : (t s : ℕ) (m : LockMode) (l : Lock) → is_exclusive (raised_lock t s m l).mode ≡ true → (is_exclusive l.mode ≡ true) ⊎ ((l.t ≡ t) × (l.suite ≡ s) × (is_exclusive m ≡ true))
 raised_exclusive t s m l e =
     elim (is_own t s l) as (λ b. is_own t s l ≡ b → is_exclusive (cond b (stronger l.mode m) l.mode) ≡ true → (is_exclusive l.mode ≡ true) ⊎ ((l.t ≡ t) × (l.suite ≡ s) × (is_exclusive m ≡ true))) [
       | true ↦ λ own e. elim (stronger_exclusive l.mode m e) [ inl old ↦ inl old | inr new ↦ inr ((own_is t s l own).0, (own_is t s l own).1, new) ]
       | false ↦ λ _ e. inl e
     ] refl e
 
-alone_raised : (t s : ℕ) (m : Mode) (ls : List Lock) → find (conflicts t s m) ls ≡ None → Alone ls → Alone (raised t s m ls)
+alone_raised : (t s : ℕ) (m : LockMode) (ls : List Lock) → find (conflicts t s m) ls ≡ None → Alone ls → Alone (raised t s m ls)
 alone_raised t s m ls none alone a b has_a has_b same exclusive =
     let x = has_map (raised_lock t s m) ls a has_a in
     let y = has_map (raised_lock t s m) ls b has_b in
@@ -82,7 +83,7 @@ alone_raised t s m ls none alone a b has_a has_b same exclusive =
     ] in
     ap (λ (l : Lock). l.t) (sym x.2) ∙ one ∙ ap (λ (l : Lock). l.t) y.2
 
-alone_locked : (t s : ℕ) (m : Mode) (ls : List Lock) → find (conflicts t s m) ls ≡ None → Alone ls → Alone (locked t s m ls)
+alone_locked : (t s : ℕ) (m : LockMode) (ls : List Lock) → find (conflicts t s m) ls ≡ None → Alone ls → Alone (locked t s m ls)
 alone_locked t s m ls none alone =
     let new : Lock = record { t = t; suite = s; mode = m; prepared = false } in
     elim (has_lock t s ls) as (λ b. Alone (cond b (raised t s m ls) (with_lock new ls))) [
@@ -100,7 +101,7 @@ alone_filter p ls = alone_no_new ls _ (λ x h. (x, (has_filter p ls x h).0, reco
 
 -- ---- each request
 
-alone_locking : (st : State) (t s : ℕ) (m : Mode) (other : Option Lock) → other ≡ in_the_way t s m st.locks → Alone st.locks → Alone (after_locking other t s m st).locks
+alone_locking : (st : State) (t s : ℕ) (m : LockMode) (other : Option Lock) → other ≡ in_the_way t s m st.locks → Alone st.locks → Alone (after_locking other t s m st).locks
 alone_locking st t s m (Some other) e alone = alone
 alone_locking st t s m None e alone = alone_locked t s m st.locks (sym e) alone
 

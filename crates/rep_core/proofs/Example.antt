@@ -1,7 +1,7 @@
 -- A run after which a server that is down has an exclusive lock that is prepared.
 use Rattle.std.proofs.Common.{true, List, [], ◌∷◌, refl, inl}
 use Rattle.suite_prefix.specs.SettingsRules.{Opening}
-use Rattle.rep_core.specs.declared.lock.Mode.TheVariants.{Exclusive}
+use Rattle.suite_prefix.specs.declared.lock_mode.LockMode.TheVariants.{Exclusive}
 use Rattle.rep_core.specs.declared.lock.Lock.{Lock}
 use Rattle.rep_core.specs.declared.request.Take.TheVariants.{Keep}
 use Rattle.rep_core.specs.declared.request.Request.{Request}

@@ -23,7 +23,8 @@ use Rattle.suite_prefix.specs.declared.copies.Replica.{Replica}
 use Rattle.rep_core.specs.declared.intention.Intention.{Intention}
 use Rattle.rep_core.specs.declared.request.Take.{Take}
 use Rattle.rep_core.specs.declared.request.Take.TheVariants as take
-use Rattle.rep_core.specs.Store.{absent_copy, copy_in, left_by, with_prefix, with_taken, with_copies, without_intentions, in_effect}
+use Rattle.suite_prefix.specs.Absent.{absent_copy}
+use Rattle.rep_core.specs.Store.{copy_in, left_by, with_prefix, with_taken, with_copies, without_intentions, in_effect}
 
 same_key : (key other : ℕ) → is_eq (nat_cmp key other) ≡ true → key ≡ other
 same_key key other here = grind (arith, nat_tests)

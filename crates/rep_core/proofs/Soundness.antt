@@ -23,8 +23,9 @@ use Rattle.rep_core.specs.declared.intention.Intention.{Intention}
 use Rattle.rep_core.specs.declared.request.Part.{Part}
 use Rattle.rep_core.specs.declared.request.Take.{Take}
 use Rattle.rep_core.specs.declared.request.Take.TheVariants as take
-use Rattle.rep_core.specs.Locks.{is_exclusive}
-use Rattle.rep_core.specs.Store.{Store, IsSound, is_sound, is_used_up, copy_of, copy_in, left_by, with_prefix, is_keep, may_become, goes_with, holds_last, is_sound_part, with_intention, with_intentions, intended, overfills, suites_with, most_suites, root_copy, absent_copy, opening_store, finished, without_intentions, in_effect}
+use Rattle.suite_prefix.specs.LockModes.{is_exclusive}
+use Rattle.suite_prefix.specs.Absent.{absent_copy}
+use Rattle.rep_core.specs.Store.{Store, IsSound, is_sound, is_used_up, copy_of, copy_in, left_by, with_prefix, is_keep, may_become, goes_with, holds_last, is_sound_part, with_intention, with_intentions, intended, overfills, suites_with, most_suites, root_copy, opening_store, finished, without_intentions, in_effect}
 use Rattle.rep_core.proofs.Intentions.{copy_in-with_copies, get-without}
 
 -- ---- what a take leaves

@@ -4,14 +4,15 @@ use Rattle.std.specs.Prelude.{filter, not, ◌==◌, ◌&&◌, ◌||◌}
 use Rattle.std.specs.List.{list_any}
 use Rattle.std.proofs.lemmas.Bool.Decides.{nat_tests}
 use Rattle.file_ops.specs.declared.audit.AuditItem.{AuditItem}
-use Rattle.rep_core.specs.declared.lock.Mode.{Mode}
-use Rattle.rep_core.specs.declared.lock.Mode.TheVariants.{Shared, Exclusive}
+use Rattle.suite_prefix.specs.declared.lock_mode.LockMode.{LockMode}
+use Rattle.suite_prefix.specs.declared.lock_mode.LockMode.TheVariants.{Shared, Exclusive}
 use Rattle.rep_core.specs.declared.lock.Lock.{Lock}
 use Rattle.rep_core.specs.declared.request.Part.{Part}
 use Rattle.rep_core.specs.declared.request.Request.{Request}
 use Rattle.rep_core.specs.declared.request.Request.TheVariants as request
 use Rattle.rep_core.specs.declared.reply.Verdict.{Verdict}
-use Rattle.rep_core.specs.Locks.{serves, stronger, is_own, in_the_way, has_lock, raised_lock, raised, place_of, with_lock, locked, prepared_lock, with_prepared}
+use Rattle.suite_prefix.specs.LockModes.{serves, stronger}
+use Rattle.rep_core.specs.Locks.{is_own, in_the_way, has_lock, raised_lock, raised, place_of, with_lock, locked, prepared_lock, with_prepared}
 use Rattle.rep_core.specs.Store.{intended}
 use Rattle.rep_core.specs.State.{State}
 use Rattle.rep_core.specs.Service.{after, after_up, after_down, after_locking, after_poll, after_upgrade, prepares, after_prepare, after_record}
@@ -22,16 +23,16 @@ use Rattle.rep_core.proofs.Members.{Has, filter_has, map_has, insert_has}
 abbrev pub Stands : List Lock → Lock → Type 0
 Stands locks lock = (later : Lock) × Has locks later × StillPrepared lock later
 
-serves_itself : (m : Mode) → serves m m ≡ true
+serves_itself : (m : LockMode) → serves m m ≡ true
 serves_itself Shared = refl
 serves_itself Exclusive = refl
 
-serves_raised : (m want : Mode) → serves (stronger m want) m ≡ true
+serves_raised : (m want : LockMode) → serves (stronger m want) m ≡ true
 serves_raised Shared Shared = refl
 serves_raised Shared Exclusive = refl
 serves_raised Exclusive want = refl
 
-serves_on : (a b c : Mode) → serves b a ≡ true → serves c b ≡ true → serves c a ≡ true
+serves_on : (a b c : LockMode) → serves b a ≡ true → serves c b ≡ true → serves c a ≡ true
 serves_on Shared b Shared h k = refl
 serves_on Shared b Exclusive h k = refl
 serves_on Exclusive b Exclusive h k = refl
@@ -57,10 +58,10 @@ stands_on locks first later one more = (
 stands_filter : (p : Lock → Bool) (ls : List Lock) (l : Lock) → Has ls l → l.prepared ≡ true → p l ≡ true → Stands (filter p ls) l
 stands_filter p ls l has prepared passes = (l, filter_has p ls l has passes, itself l prepared)
 
-raised_serves : (t s : ℕ) (m : Mode) (l : Lock) → serves (raised_lock t s m l).mode l.mode ≡ true
+raised_serves : (t s : ℕ) (m : LockMode) (l : Lock) → serves (raised_lock t s m l).mode l.mode ≡ true
 raised_serves t s m l = elim (is_own t s l) as (λ b. serves (cond b (stronger l.mode m) l.mode) l.mode ≡ true) [ true ↦ serves_raised l.mode m | false ↦ serves_itself l.mode ]
 
-stands_locked : (t s : ℕ) (m : Mode) (ls : List Lock) (l : Lock) → Has ls l → l.prepared ≡ true → Stands (locked t s m ls) l
+stands_locked : (t s : ℕ) (m : LockMode) (ls : List Lock) (l : Lock) → Has ls l → l.prepared ≡ true → Stands (locked t s m ls) l
 stands_locked t s m ls l has prepared =
     let new : Lock = record { t = t; suite = s; mode = m; prepared = false } in
     elim (has_lock t s ls) as (λ b. Stands (cond b (raised t s m ls) (with_lock new ls)) l) [
@@ -86,7 +87,7 @@ kept_by_break t s l p = grind (arith, nat_tests)
 same : (st : State) (l : Lock) → Has st.locks l → l.prepared ≡ true → Stands st.locks l
 same st l has prepared = (l, has, itself l prepared)
 
-locking_stands : (st : State) (t s : ℕ) (m : Mode) (other : Option Lock) (l : Lock) → Has st.locks l → l.prepared ≡ true → Stands (after_locking other t s m st).locks l
+locking_stands : (st : State) (t s : ℕ) (m : LockMode) (other : Option Lock) (l : Lock) → Has st.locks l → l.prepared ≡ true → Stands (after_locking other t s m st).locks l
 locking_stands st t s m (Some other) l has prepared = same st l has prepared
 locking_stands st t s m None l has prepared = stands_locked t s m st.locks l has prepared
 

@@ -6,7 +6,7 @@ use Rattle.rep_core.specs.declared.lock.Lock.{Lock}
 use Rattle.rep_core.specs.declared.request.Request.{Request}
 use Rattle.rep_core.specs.declared.request.Request.TheVariants as request
 use Rattle.rep_core.specs.declared.stamped.Stamped.{Stamped}
-use Rattle.rep_core.specs.Locks.{is_exclusive, serves}
+use Rattle.suite_prefix.specs.LockModes.{is_exclusive, serves}
 use Rattle.rep_core.specs.State.{State, opening}
 use Rattle.rep_core.specs.Serving.{step}
 

@@ -1,33 +1,21 @@
 -- Locks, in the order of their transactions and, in one transaction, of their suites. A transaction has at most one lock on a suite.
 use Rattle.std.specs.Prelude.{ℕ, ◌+◌, ◌==◌, nat_lt, Bool, true, false, ◌&&◌, ◌||◌, not, if◌then◌else◌, List, [], ◌∷◌, map, insert, filter, find, Option}
 use Rattle.std.specs.List.{list_any}
-use Rattle.rep_core.specs.declared.lock.Mode.{Mode}
-use Rattle.rep_core.specs.declared.lock.Mode.TheVariants.{Shared, Exclusive}
+use Rattle.suite_prefix.specs.declared.lock_mode.LockMode.{LockMode}
+use Rattle.suite_prefix.specs.LockModes.{is_exclusive, serves, stronger}
 use Rattle.rep_core.specs.declared.lock.Lock.{Lock}
 use Rattle.rep_core.specs.declared.request.Part.{Part}
-
-abbrev pub is_exclusive : Mode → Bool
-is_exclusive Shared = false
-is_exclusive Exclusive = true
-
--- a lock in the first mode serves where one in the second is wanted
-abbrev pub serves : Mode → Mode → Bool
-serves have want = is_exclusive have || not (is_exclusive want)
-
-abbrev pub stronger : Mode → Mode → Mode
-stronger Shared want = want
-stronger Exclusive want = Exclusive
 
 -- the transaction's own lock on the suite
 abbrev pub is_own : ℕ → ℕ → Lock → Bool
 is_own t suite lock = (lock.t == t) && (lock.suite == suite)
 
 -- another transaction's lock on the suite, where one of the two modes is exclusive
-abbrev pub conflicts : ℕ → ℕ → Mode → Lock → Bool
+abbrev pub conflicts : ℕ → ℕ → LockMode → Lock → Bool
 conflicts t suite mode lock = (lock.suite == suite) && not (lock.t == t) && (is_exclusive mode || is_exclusive lock.mode)
 
 -- the lock of the least transaction that stands in the way of a lock in this mode
-abbrev pub in_the_way : ℕ → ℕ → Mode → List Lock → Option Lock
+abbrev pub in_the_way : ℕ → ℕ → LockMode → List Lock → Option Lock
 in_the_way t suite mode locks = find (conflicts t suite mode) locks
 
 abbrev pub has_lock : ℕ → ℕ → List Lock → Bool
@@ -55,14 +43,14 @@ abbrev pub with_lock : Lock → List Lock → List Lock
 with_lock lock locks = insert locks (place_of lock locks) lock
 
 -- the locks with the transaction's own one in the stronger of its mode and this one
-abbrev pub raised_lock : ℕ → ℕ → Mode → Lock → Lock
+abbrev pub raised_lock : ℕ → ℕ → LockMode → Lock → Lock
 raised_lock t suite mode lock = record lock { mode = if is_own t suite lock then stronger lock.mode mode else lock.mode }
 
-abbrev pub raised : ℕ → ℕ → Mode → List Lock → List Lock
+abbrev pub raised : ℕ → ℕ → LockMode → List Lock → List Lock
 raised t suite mode locks = map (raised_lock t suite mode) locks
 
 -- the locks once the transaction has one on the suite in this mode or a stronger one
-abbrev pub locked : ℕ → ℕ → Mode → List Lock → List Lock
+abbrev pub locked : ℕ → ℕ → LockMode → List Lock → List Lock
 locked t suite mode locks =
     if has_lock t suite locks
     then raised t suite mode locks

@@ -8,8 +8,8 @@ use Rattle.file_ops.specs.declared.audit.AuditItem.{AuditItem}
 use Rattle.file_ops.specs.declared.refusal.Why.{Why}
 use Rattle.file_ops.specs.declared.refusal.Why.TheVariants.{Denied}
 use Rattle.rep_core.specs.declared.lock.Lock.{Lock}
-use Rattle.rep_core.specs.declared.lock.Mode.{Mode}
-use Rattle.rep_core.specs.declared.lock.Mode.TheVariants.{Exclusive}
+use Rattle.suite_prefix.specs.declared.lock_mode.LockMode.{LockMode}
+use Rattle.suite_prefix.specs.declared.lock_mode.LockMode.TheVariants.{Exclusive}
 use Rattle.rep_core.specs.declared.request.Part.{Part}
 use Rattle.rep_core.specs.declared.request.Decision.{Decision}
 use Rattle.rep_core.specs.declared.request.Decision.TheVariants as decision
@@ -36,14 +36,14 @@ abbrev pub locking_reply : Option Lock → Replica → Reply
 locking_reply (Some other) copy = reply.Busy other.t other.prepared
 locking_reply None copy = held copy
 
-abbrev pub after_locking : Option Lock → ℕ → ℕ → Mode → State → State
+abbrev pub after_locking : Option Lock → ℕ → ℕ → LockMode → State → State
 after_locking (Some other) t suite mode st = st
 after_locking None t suite mode st = record st { locks = locked t suite mode st.locks }
 
-abbrev pub poll_reply : State → ℕ → ℕ → Mode → Reply
+abbrev pub poll_reply : State → ℕ → ℕ → LockMode → Reply
 poll_reply st t suite mode = locking_reply (in_the_way t suite mode st.locks) (copy_of st.store suite)
 
-abbrev pub after_poll : State → ℕ → ℕ → Mode → State
+abbrev pub after_poll : State → ℕ → ℕ → LockMode → State
 after_poll st t suite mode = after_locking (in_the_way t suite mode st.locks) t suite mode st
 
 abbrev pub upgrade_reply : State → ℕ → ℕ → Reply

@@ -3,7 +3,6 @@ use Rattle.std.specs.Prelude.{◌≡◌, ℕ, ◌+◌, ◌-◌, ◌^◌, ◌==�
 use Rattle.std.specs.List.{list_any}
 use Rattle.std.specs.Ordering.{nat_cmp}
 use Rattle.sorted_map.specs.SortedMap.{IsOrdered, get, insert}
-use Rattle.acl_core.specs.Modes.{minimal_list}
 use Rattle.vote_core.specs.Quorums.{Configuration}
 use Rattle.suite_content.specs.declared.content.Kind.TheVariants as holds
 use Rattle.suite_content.specs.Contents.{empty_content}
@@ -13,8 +12,9 @@ use Rattle.suite_prefix.specs.declared.copies.Prefix.{Prefix}
 use Rattle.suite_prefix.specs.declared.copies.Replica.{Replica}
 use Rattle.suite_prefix.specs.Copies.{held_by}
 use Rattle.suite_prefix.specs.Tests.{is_valid_prefix, is_valid_copy, is_absent}
+use Rattle.suite_prefix.specs.Absent.{absent_copy}
+use Rattle.suite_prefix.specs.LockModes.{is_exclusive}
 use Rattle.suite_prefix.specs.SettingsRules.{Opening}
-use Rattle.rep_core.specs.Locks.{is_exclusive}
 use Rattle.rep_core.specs.declared.request.Take.{Take}
 use Rattle.rep_core.specs.declared.request.Take.TheVariants as take
 use Rattle.rep_core.specs.declared.request.Part.{Part}
@@ -43,13 +43,6 @@ opening_store index given = record {
   copies = if list_any (λ rep. rep.0 == index) given.c0.reps then (0, root_copy given) ∷ [] else [];
   intentions = [];
 }
-
--- what a suite that was never made stands for
-abbrev pub absent_prefix : Configuration → Prefix
-absent_prefix c0 = record { pver = 0; kind = Absent; owner = 0; group = 0; acl = minimal_list 0; votes = c0 }
-
-abbrev pub absent_copy : Configuration → Replica
-absent_copy c0 = record { prefix = absent_prefix c0; dver = 0; content = empty_content holds.File }
 
 -- the copy of a suite
 abbrev pub copy_in : Configuration → List (ℕ × Replica) → ℕ → Replica

@@ -31,7 +31,7 @@ mod store;
 
 pub use effect::finish_keeps_effect;
 pub use laws::{exclusive_stands_alone, prepared_stands, some_server_stands};
-pub use lock::{Lock, Mode};
+pub use lock::Lock;
 pub use reply::{LockList, Reply, Verdict};
 pub use request::{Decision, Part, Parts, Request, Take};
 pub use server::Server;

@@ -5,29 +5,13 @@ ghost use Rattle.std.specs.Prelude.{◌≡◌, ◌≤◌, length, OnOk, OnErr, O
 ghost use Rattle.std.specs.List.{list_any};
 ghost use Rattle.rep_core.specs.Locks as locking;
 
-use crate::lock::{Lock, Mode};
+use crate::lock::Lock;
 use crate::request::Part;
 use std::alloc::AllocError;
-
-/// Whether a lock in the first mode serves where one in the second is wanted.
-fn serves(have: Mode, want: Mode) -> bool
-    ensures { result ≡ locking.serves have want }
-{
-    is_exclusive(have) || !is_exclusive(want)
-}
-
-/// Whether a mode is exclusive.
-pub(crate) fn is_exclusive(mode: Mode) -> bool
-    ensures { result ≡ locking.is_exclusive mode }
-{
-    match mode {
-        Mode::Shared => false,
-        Mode::Exclusive => true,
-    }
-}
+use suite_prefix::LockMode;
 
 /// The lock of the least transaction that stands in the way of a lock in this mode.
-pub(crate) fn in_the_way(locks: &[Lock], t: u64, suite: u64, mode: Mode) -> Option<Lock>
+pub(crate) fn in_the_way(locks: &[Lock], t: u64, suite: u64, mode: LockMode) -> Option<Lock>
     ensures { result ≡ locking.in_the_way t suite mode locks.now }
 {
     for lock in locks {
@@ -38,10 +22,10 @@ pub(crate) fn in_the_way(locks: &[Lock], t: u64, suite: u64, mode: Mode) -> Opti
     None
 }
 
-fn conflicts(t: u64, suite: u64, mode: Mode, lock: &Lock) -> bool
+fn conflicts(t: u64, suite: u64, mode: LockMode, lock: &Lock) -> bool
     ensures { result ≡ locking.conflicts t suite mode lock.now }
 {
-    lock.suite == suite && lock.t != t && (is_exclusive(mode) || is_exclusive(lock.mode))
+    lock.suite == suite && lock.t != t && (mode.is_exclusive() || lock.mode.is_exclusive())
 }
 
 /// Whether a transaction has a lock on a suite.
@@ -63,7 +47,7 @@ pub(crate) fn has_lock_for(locks: &[Lock], t: u64, part: &Part) -> bool
     ensures { result ≡ locking.has_lock_for t locks.now part.now }
 {
     let (suite, mode) = (part.suite, part.mode);
-    locks.iter().any(|lock| lock.t == t && lock.suite == suite && serves(lock.mode, mode))
+    locks.iter().any(|lock| lock.t == t && lock.suite == suite && lock.mode.serves(mode))
 }
 
 /// Sets a lock, or makes the transaction's own one stronger.
@@ -71,7 +55,7 @@ pub(crate) fn set_lock(
     locks: &mut Vec<Lock>,
     t: u64,
     suite: u64,
-    mode: Mode,
+    mode: LockMode,
 ) -> Result<(), AllocError>
     ensures ok { OnOk result (locks.new.items ≡ locking.locked t suite mode locks.old.items) }
     ensures err { OnErr result (locks.new.items ≡ locks.old.items) }
@@ -111,7 +95,7 @@ fn stands_before(one: &Lock, other: &Lock) -> bool
 }
 
 /// Makes the transaction's own lock stronger.
-fn raise(locks: &mut [Lock], t: u64, suite: u64, mode: Mode)
+fn raise(locks: &mut [Lock], t: u64, suite: u64, mode: LockMode)
     ensures { locks.new ≡ locking.raised t suite mode locks.old }
 {
     for lock in locks.iter_mut() {
@@ -119,25 +103,16 @@ fn raise(locks: &mut [Lock], t: u64, suite: u64, mode: Mode)
     }
 }
 
-fn raised_lock(t: u64, suite: u64, mode: Mode, lock: Lock) -> Lock
+fn raised_lock(t: u64, suite: u64, mode: LockMode, lock: Lock) -> Lock
     ensures { result ≡ locking.raised_lock t suite mode lock }
 {
     if lock.t == t && lock.suite == suite {
         Lock {
-            mode: stronger(lock.mode, mode),
+            mode: lock.mode.stronger(mode),
             ..lock
         }
     } else {
         lock
-    }
-}
-
-fn stronger(have: Mode, want: Mode) -> Mode
-    ensures { result ≡ locking.stronger have want }
-{
-    match have {
-        Mode::Shared => want,
-        Mode::Exclusive => Mode::Exclusive,
     }
 }
 

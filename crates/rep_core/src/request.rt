@@ -1,11 +1,10 @@
 //! What a server is asked.
 
-use crate::lock::Mode;
 use crate::reply::Verdict;
 use file_ops::{Answers, Refusal};
 use std::alloc::AllocError;
 use std::marker::Model;
-use suite_prefix::{Prefix, Replica};
+use suite_prefix::{LockMode, Prefix, Replica};
 
 /// What a transaction leaves of a suite at a server once it is decided.
 #[derive(Debug, Drop)]
@@ -37,7 +36,7 @@ impl Clone for Take {
 #[derive(Debug, Drop)]
 pub struct Part {
     pub suite: u64,
-    pub mode: Mode,
+    pub mode: LockMode,
     pub take: Take,
 }
 
@@ -95,7 +94,7 @@ pub enum Decision {
 #[derive(Debug, Drop)]
 pub enum Request {
     /// To lock a suite.
-    Poll { t: u64, suite: u64, mode: Mode },
+    Poll { t: u64, suite: u64, mode: LockMode },
     /// To make a shared lock exclusive.
     Upgrade { t: u64, suite: u64 },
     /// The content of a suite that is locked.

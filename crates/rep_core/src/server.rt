@@ -10,7 +10,7 @@ ghost use Rattle.rep_core.specs.Service as service;
 ghost use Rattle.rep_core.specs.Serving as serving;
 ghost use Rattle.rep_core.specs.Store as store;
 
-use crate::lock::{Lock, Mode};
+use crate::lock::Lock;
 use crate::locks;
 use crate::reply::{LockList, Reply, Verdict};
 use crate::request::{Decision, Part, Parts, Request};
@@ -20,7 +20,7 @@ use file_ops::{AuditItem, Why};
 use std::alloc::{AllocError, Global};
 use std::collections::BTreeMap;
 use std::marker::Model;
-use suite_prefix::Settings;
+use suite_prefix::{LockMode, Settings};
 
 /// A server: copies, locks, intentions, verdicts, the denials that it recorded, and its stamp.
 #[derive(Drop)]
@@ -184,7 +184,7 @@ impl Server {
         }
     }
 
-    fn poll_reply(&self, t: u64, suite: u64, mode: Mode) -> Result<Reply, AllocError>
+    fn poll_reply(&self, t: u64, suite: u64, mode: LockMode) -> Result<Reply, AllocError>
         ensures { IfOk result (λ reply. reply ≡ service.poll_reply self.now t suite mode) }
     {
         match locks::in_the_way(&self.locks, t, suite, mode) {
@@ -200,7 +200,7 @@ impl Server {
         ensures { IfOk result (λ reply. reply ≡ service.upgrade_reply self.now t suite) }
     {
         if locks::has_lock(&self.locks, t, suite) {
-            self.poll_reply(t, suite, Mode::Exclusive)
+            self.poll_reply(t, suite, LockMode::Exclusive)
         } else {
             Ok(Reply::Lost)
         }
@@ -322,7 +322,7 @@ impl Server {
         }
     }
 
-    fn poll(&mut self, t: u64, suite: u64, mode: Mode) -> Result<(), AllocError>
+    fn poll(&mut self, t: u64, suite: u64, mode: LockMode) -> Result<(), AllocError>
         ensures state { OnOk result (self.new ≡ service.after_poll self.old t suite mode) }
         ensures err { OnErr result (self.new ≡ self.old) }
     {
@@ -337,7 +337,7 @@ impl Server {
         ensures err { OnErr result (self.new ≡ self.old) }
     {
         if locks::has_lock(&self.locks, t, suite) {
-            self.poll(t, suite, Mode::Exclusive)
+            self.poll(t, suite, LockMode::Exclusive)
         } else {
             Ok(())
         }

@@ -5,11 +5,9 @@ ghost use Rattle.std.specs.List.{list_any, list_all};
 ghost use Rattle.std.specs.Option.{option_copied};
 ghost use Rattle.std.specs.Ordering.{nat_cmp};
 ghost use Rattle.sorted_map.specs.SortedMap.{IsOrdered, get, remove};
-ghost use Rattle.acl_core.specs.Modes.{minimal_list};
 ghost use Rattle.vote_core.specs.Quorums.{Configuration};
 ghost use Rattle.suite_prefix.specs.declared.copies.Replica.{Replica};
-ghost use Rattle.suite_prefix.specs.Copies.{held_by};
-ghost use Rattle.suite_prefix.specs.Tests.{is_absent};
+ghost use Rattle.suite_prefix.specs.Absent.{absent_copy};
 ghost use Rattle.rep_core.specs.declared.intention.Intention.{Intention};
 ghost use Rattle.rep_core.specs.Locks.{with_prepared};
 ghost use Rattle.rep_core.specs.Service.{held, given};
@@ -18,10 +16,9 @@ ghost use Rattle.rep_core.specs.Store as store;
 use crate::copying::copied;
 use crate::intention::Intention;
 use crate::lock::Lock;
-use crate::locks::{is_exclusive, prepare};
+use crate::locks::prepare;
 use crate::reply::Reply;
 use crate::request::{Part, Take};
-use acl_core::{Acl, Mode};
 use sorted_map::RoomyMap;
 use std::alloc::{AllocError, Global};
 use std::marker::Model;
@@ -47,7 +44,8 @@ pub(crate) struct Store {
 
 impl Model for Store {
     ghost use Rattle.std.specs.Prelude.{◌≡◌, ◌≤◌, length};
-    ghost use Rattle.rep_core.specs.Store.{Store, absent_prefix, IsSound};
+    ghost use Rattle.suite_prefix.specs.Absent.{absent_prefix};
+    ghost use Rattle.rep_core.specs.Store.{Store, IsSound};
     ghost use Rattle.rep_core.specs.StoreFields.{store_of};
 
     ghost Value = { Store };
@@ -72,7 +70,7 @@ impl Store {
             let root = root_copy(alloc, settings)?;
             copies.insert(ROOT, root)?;
         }
-        let absent = absent_prefix(alloc, *settings.c0())?;
+        let absent = Prefix::absent(alloc, *settings.c0())?;
         Ok(Store {
             alloc,
             absent,
@@ -146,7 +144,7 @@ impl Store {
     pub(crate) fn is_sound_part(&self, part: &Part) -> bool
         ensures { result ≡ store.is_sound_part self.now part.now }
     {
-        (is_keep(&part.take) || is_exclusive(part.mode)) && self.goes_with(part.suite, &part.take)
+        (is_keep(&part.take) || part.mode.is_exclusive()) && self.goes_with(part.suite, &part.take)
     }
 
     /// Whether what is taken goes with the copy of a suite.
@@ -157,7 +155,7 @@ impl Store {
             Take::Keep => true,
             Take::Prefix(prefix) => {
                 prefix.is_valid()
-                    && !is_absent(prefix.kind)
+                    && !prefix.kind.is_absent()
                     && may_become(self.kind_of(suite), prefix.kind)
             }
             Take::Whole(replica) => replica.is_valid(),
@@ -267,29 +265,6 @@ fn root_copy(alloc: Global, settings: &Settings) -> Result<Replica, AllocError>
     })
 }
 
-/// The prefix of what was never made.
-fn absent_prefix(alloc: Global, votes: Votes) -> Result<Prefix, AllocError>
-    ensures { IfOk result (λ prefix. prefix ≡ store.absent_prefix votes) }
-{
-    let acl = closed_list(alloc)?;
-    Ok(Prefix {
-        pver: 0,
-        kind: PrefixKind::Absent,
-        owner: 0,
-        group: 0,
-        acl,
-        votes,
-    })
-}
-
-/// The list of mode 000.
-fn closed_list(alloc: Global) -> Result<Acl, AllocError>
-    ensures { IfOk result (λ acl. acl ≡ minimal_list 0) }
-{
-    let mode = Mode::new(0).unwrap();
-    Acl::from_mode(alloc, mode)
-}
-
 /// Whether nothing is taken.
 fn is_keep(what: &Take) -> bool
     ensures { result ≡ store.is_keep what.now }
@@ -297,15 +272,6 @@ fn is_keep(what: &Take) -> bool
     match what {
         Take::Keep => true,
         Take::Prefix(_) | Take::Whole(_) => false,
-    }
-}
-
-fn is_absent(kind: PrefixKind) -> bool
-    ensures { result ≡ is_absent kind }
-{
-    match kind {
-        PrefixKind::Absent => true,
-        PrefixKind::File | PrefixKind::Folder => false,
     }
 }
 
@@ -459,30 +425,20 @@ fn put(alloc: Global, copies: &mut RoomyMap<u64, Replica>, suite: u64, what: Tak
 fn change_prefix(alloc: Global, copy: &mut Replica, prefix: Prefix)
     ensures { copy.new ≡ store.with_prefix prefix copy.old }
 {
-    if is_absent(copy.prefix.kind) {
-        copy.content = Content::empty(alloc, held_by(prefix.kind));
+    if copy.prefix.kind.is_absent() {
+        copy.content = Content::empty(alloc, prefix.kind.held());
     }
     copy.prefix = prefix;
 }
 
 /// What a prefix makes of what was never made.
 fn first_copy(alloc: Global, prefix: Prefix) -> Replica
-    ensures { (c0 : Configuration) → result ≡ store.with_prefix prefix (store.absent_copy c0) }
+    ensures { (c0 : Configuration) → result ≡ store.with_prefix prefix (absent_copy c0) }
 {
-    let content = Content::empty(alloc, held_by(prefix.kind));
+    let content = Content::empty(alloc, prefix.kind.held());
     Replica {
         prefix,
         dver: 0,
         content,
-    }
-}
-
-/// What is held under a prefix of a kind.
-fn held_by(kind: PrefixKind) -> Kind
-    ensures { result ≡ held_by kind }
-{
-    match kind {
-        PrefixKind::Absent | PrefixKind::File => Kind::File,
-        PrefixKind::Folder => Kind::Folder,
     }
 }

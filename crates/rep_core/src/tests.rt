@@ -4,7 +4,7 @@
 //! A request that memory was refused to is made again, so that each allocation can be refused in turn.
 
 use crate::{
-    Decision, Lack, Mode, Part, Parts, Reply, Request, Server, Stamped, Take, Verdict,
+    Decision, Lack, Part, Parts, Reply, Request, Server, Stamped, Take, Verdict,
     exclusive_stands_alone, finish_keeps_effect, prepared_stands, some_server_stands,
 };
 use acl_core::{Acl, Decider, Perms};
@@ -13,7 +13,7 @@ use std::alloc::Global;
 use std::process::Abort;
 use std::test::Fail;
 use suite_content::{Content, FileBytes};
-use suite_prefix::{Prefix, PrefixKind, Replica, Settings};
+use suite_prefix::{LockMode, Prefix, PrefixKind, Replica, Settings};
 use vote_core::Votes;
 
 /// The list of a mode.
@@ -71,10 +71,10 @@ enum What {
 /// A request, in a word. Decide, Finish and Prepare have one form each here.
 #[derive(Clone, Copy, Debug, PartialEq, Eq)]
 enum Ask {
-    Poll(u64, u64, Mode),
+    Poll(u64, u64, LockMode),
     Upgrade(u64, u64),
     Fetch(u64, u64),
-    Prepare(u64, u64, Mode, What),
+    Prepare(u64, u64, LockMode, What),
     /// A Prepare that lists a suite twice, to keep it.
     Twice(u64, u64),
     Answer(u64),
@@ -95,7 +95,7 @@ fn take(alloc: Global, what: What) -> Result<Take, Fail> {
     }
 }
 
-fn parts(alloc: Global, suite: u64, mode: Mode, what: What) -> Result<Parts, Fail> {
+fn parts(alloc: Global, suite: u64, mode: LockMode, what: What) -> Result<Parts, Fail> {
     let mut parts = Vec::new(alloc);
     let take = take(alloc, what)?;
     parts.push(Part { suite, mode, take })?;
@@ -105,7 +105,7 @@ fn parts(alloc: Global, suite: u64, mode: Mode, what: What) -> Result<Parts, Fai
 fn twice(alloc: Global, suite: u64) -> Result<Parts, Fail> {
     let mut parts = Vec::new(alloc);
     for _ in 0..2 {
-        let (mode, take) = (Mode::Shared, Take::Keep);
+        let (mode, take) = (LockMode::Shared, Take::Keep);
         parts.push(Part { suite, mode, take })?;
     }
     Ok(Parts::from_vec(parts))
@@ -236,9 +236,9 @@ fn play(rt: &(impl Abort + AllocGlobal), server: &mut Server, steps: &[Step]) ->
     Ok(())
 }
 
-const SHARED: Mode = Mode::Shared;
+const SHARED: LockMode = LockMode::Shared;
 
-const EXCLUSIVE: Mode = Mode::Exclusive;
+const EXCLUSIVE: LockMode = LockMode::Exclusive;
 
 const RUN: [Step; 17] = [
     Step(0, Ask::Poll(5, 0, SHARED), "1: Held Folder 1 1"),
@@ -412,7 +412,7 @@ fn lock_and_take(
     let taken = file(alloc, 1, 1)?;
     for i in 0..count {
         let suite = u64::from(i).wrapping_add(first);
-        let mode = Mode::Exclusive;
+        let mode = LockMode::Exclusive;
         let value = Request::Poll { t, suite, mode };
         let outcome = server.serve(Stamped { stamp: 0, value });
         assert!(rt; outcome.is_ok());

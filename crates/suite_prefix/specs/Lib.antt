@@ -1,5 +1,7 @@
 pub mod Copies
 pub mod Tests
+pub mod Absent
+pub mod LockModes
 pub mod Bytes
 pub mod Reading
 pub mod Faults

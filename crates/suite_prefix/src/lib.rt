@@ -9,9 +9,11 @@
 //! In a contract a prefix and a copy are the records of their fields, and `≡` compares them.
 #![tactic(auto)]
 
+mod absent;
 mod copies;
 mod decoding;
 mod faults;
+mod lock_mode;
 mod reading;
 mod settings;
 mod shapes;
@@ -21,7 +23,8 @@ mod writing;
 pub use copies::{Prefix, PrefixKind, Replica};
 pub use decoding::{decode, faults_tell_apart, fronts_are_short};
 pub use faults::{CopyFault, DecodeError};
-pub use settings::{Settings, SettingsFault};
+pub use lock_mode::LockMode;
+pub use settings::{LARGEST_CACHE, MAX_AGENTS, MOST_SLOTS, Settings, SettingsFault};
 pub use suite_content::Content;
 pub use writing::{encode, no_bytes_begin_others};
 

@@ -1,7 +1,7 @@
 use Rattle.std.proofs.Common.{ℕ, subst}
 use Rattle.std.specs.Prelude.{IfOk, ◌≡◌}
 use Rattle.acl_core.specs.Modes.{minimal_list}
-use Rattle.rep_core.proofs.store.closed_list.Goals as goal
+use Rattle.suite_prefix.proofs.absent.closed_list.Goals as goal
 
 pub returns : goal.returns
 returns c =
