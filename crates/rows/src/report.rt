@@ -30,7 +30,7 @@ impl<'a> Place<'a> {
 pub(crate) struct Report {
     text: Vec<u8>,
     rows: u64,
-    differing: u64,
+    differences: u64,
 }
 
 impl Report {
@@ -39,7 +39,7 @@ impl Report {
         Report {
             text: Vec::new(alloc),
             rows: 0,
-            differing: 0,
+            differences: 0,
         }
     }
 
@@ -58,7 +58,7 @@ impl Report {
     ) -> Result<(), AllocError> {
         let Place { line, title } = place;
         let head = format!(in alloc; "line {line}: {title}: status {status}, and printed\n")?;
-        self.differing = self.differing.saturating_add(1);
+        self.differences = self.differences.saturating_add(1);
         self.text.extend_from_slice(head.as_bytes())?;
         self.text.extend_from_slice(printed)
     }
@@ -71,17 +71,17 @@ impl Report {
     ) -> Result<(), AllocError> {
         let Place { line, title } = place;
         let head = format!(in alloc; "line {line}: {title}: no row\n")?;
-        self.differing = self.differing.saturating_add(1);
+        self.differences = self.differences.saturating_add(1);
         self.text.extend_from_slice(head.as_bytes())
     }
 
     /// Adds the last line, which counts the rows.
     pub(crate) fn finish(&mut self, alloc: Global) -> Result<(), AllocError> {
-        let (rows, differing) = (self.rows, self.differing);
-        let last = if differing == 0 {
+        let (rows, differences) = (self.rows, self.differences);
+        let last = if differences == 0 {
             format!(in alloc; "{rows} rows\n")?
         } else {
-            format!(in alloc; "{rows} rows, {differing} differ\n")?
+            format!(in alloc; "{rows} rows, {differences} differences\n")?
         };
         self.text.extend_from_slice(last.as_bytes())
     }
@@ -93,9 +93,9 @@ impl Report {
 
     /// The exit status: 1 where a row differs.
     pub(crate) fn status(&self) -> u8
-        ensures differs { 0 < self.now.differing → result ≡ 1 }
-        ensures agrees { self.now.differing ≡ 0 → result ≡ 0 }
+        ensures differs { 0 < self.now.differences → result ≡ 1 }
+        ensures agrees { self.now.differences ≡ 0 → result ≡ 0 }
     {
-        u8::from(self.differing > 0)
+        u8::from(self.differences > 0)
     }
 }
