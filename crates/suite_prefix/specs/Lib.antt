@@ -10,3 +10,4 @@ pub mod Judging
 pub mod SettingsRules
 pub mod SettingsView
 pub mod Equality
+pub mod SettingsEquality
