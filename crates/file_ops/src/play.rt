@@ -4,7 +4,7 @@ ghost use Rattle.std.specs.Prelude.{◌+◌, ◌<◌, ◌≤◌, ◌^◌, length
 ghost use Rattle.file_ops.specs.Stored.{plain};
 ghost use Rattle.file_ops.specs.Restored.{Restores};
 ghost use Rattle.file_ops.specs.Transactions.{play};
-ghost use Rattle.file_ops.specs.Done.{Plays};
+ghost use Rattle.file_ops.specs.Done.{Plays, AnswersFirst};
 
 use crate::act::{Done, OpError, Transaction, operate};
 use crate::answer::{Answers, Replies};
@@ -25,6 +25,7 @@ pub(crate) fn play(
     requires number { transaction.t < 2 ^ 60 }
     requires few { at + length ops.now ≤ 8 }
     ensures plays { Plays result rows.new (play transaction.entry.service.now (record { answers = answers.old; rows = plain rows.old }) transaction.entry.t at transaction.entry.caller.now ops.now) }
+    ensures first { AnswersFirst result at (play transaction.entry.service.now (record { answers = answers.old; rows = plain rows.old }) transaction.entry.t at transaction.entry.caller.now ops.now) }
     ensures err { OnErr result (Restores rows.old rows.new) }
 {
     let Some((op, later)) = ops.split_first() else {

@@ -41,7 +41,7 @@ impl Model for Table {
 }
 
 impl Table {
-    ghost use Rattle.file_ops.specs.Transactions.{IsUnlessMemory, transaction, replies, table_after, left_by};
+    ghost use Rattle.file_ops.specs.Transactions.{IsUnlessMemory, RefusesFirst, transaction, replies, table_after, left_by};
     ghost use Rattle.file_ops.specs.Rows.{opening};
 
     /// The table that settings open: the root folder alone, without names.
@@ -74,6 +74,7 @@ impl Table {
     pub fn apply(&mut self, t: u64, caller: &Caller, ops: &[Op]) -> Result<Answers, ApplyError>
         requires { t < 2 ^ 60 }
         ensures answer { IsUnlessMemory result (replies (transaction self.old.service self.old.rows t caller.now ops.now)) }
+        ensures first { RefusesFirst result (transaction self.old.service self.old.rows t caller.now ops.now) }
         ensures after { self.new ≡ left_by result self.old (table_after self.old t caller.now (transaction self.old.service self.old.rows t caller.now ops.now)) }
     {
         if ops.is_empty() || ops.len() > MOST_OPERATIONS {
@@ -99,6 +100,7 @@ impl Table {
     /// Keeps a denial, and answers a refusal.
     fn refuse(&mut self, t: u64, caller: &Caller, refusal: Refusal) -> ApplyError
         ensures answer { IsUnlessMemory (Err result) (Err refusal) }
+        ensures first { RefusesFirst (Err result) (Err refusal) }
         ensures after { self.new ≡ left_by (Err result) self.old (table_after self.old t caller.now (Err refusal)) }
     {
         if let Why::Denied(denial) = refusal.why {
