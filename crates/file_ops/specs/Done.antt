@@ -11,7 +11,7 @@ use Rattle.file_ops.specs.declared.refusal.Why.{Why}
 use Rattle.file_ops.specs.Rows.{Rows}
 use Rattle.file_ops.specs.Operations.{Done}
 use Rattle.file_ops.specs.Stored.{StoredRows, plain}
-use Rattle.file_ops.specs.Changes.{TakesBack}
+use Rattle.file_ops.specs.Undo.{TakesBack}
 use Rattle.file_ops.specs.Transactions.{Played}
 
 -- its reply, with the rows that it leaves, or its refusal; memory runs out only where nothing is refused
@@ -20,10 +20,10 @@ Does (Ok answer) rows done = done ≡ Ok (record { answer = answer; rows = rows 
 Does (Err (Refused why)) rows done = done ≡ Err why
 Does (Err Memory) rows done = IsOk done
 
--- the same of an operation that changes the rows, with a change that can be taken back
+-- the same of an operation that changes the rows, with how that is undone
 pub record ActsWith (acted : Acted) (before after : StoredRows) (done : Result Done Why) : Type 0 where
   pub does : done ≡ Ok (record { answer = acted.answer; rows = plain after })
-  pub takes_back : TakesBack acted.change before after
+  pub takes_back : TakesBack acted.undo before after
 
 abbrev pub Acts : Result Acted OpError → StoredRows → StoredRows → Result Done Why → Type 0
 Acts (Ok acted) before after done = ActsWith acted before after done

@@ -10,6 +10,7 @@ use Rattle.file_ops.specs.declared.refusal.Refusal.{Refusal}
 use Rattle.file_ops.specs.declared.refusal.Why.{Why}
 use Rattle.file_ops.specs.declared.refusal.Why.TheVariants as why
 use Rattle.file_ops.specs.declared.service.Service.{Service}
+pub use Rattle.file_ops.specs.Limits.{most_operations}
 use Rattle.file_ops.specs.Steps.{◌>>=◌, ◌>>◌}
 use Rattle.file_ops.specs.Rows.{Rows, PlainTable}
 use Rattle.file_ops.specs.Operations.{Done, operation}
@@ -30,10 +31,6 @@ play service played t at caller [] = Ok played
 play service played t at caller (op ∷ ops) = do
   done ← after played.answers at (operation service played.rows t at caller op)
   play service done t (at + 1) caller ops
-
--- the most operations of a transaction; a limit of this project
-abbrev pub most_operations : ℕ
-most_operations = 8
 
 -- whether there are too few or too many operations
 abbrev pub is_miscounted : List Op → Bool

@@ -5,7 +5,7 @@ ghost use Rattle.std.specs.Prelude.{◌≡◌, ◌<◌, ◌^◌, [], ◌∷◌, 
 use crate::act::Transaction;
 use crate::answer::{Answers, Replies};
 use crate::audit::AuditItem;
-use crate::operation::Op;
+use crate::operation::{MOST_OPERATIONS, Op};
 use crate::play::play;
 use crate::refusal::{ApplyError, Refusal, Why};
 use crate::service::Service;
@@ -17,9 +17,6 @@ use std::alloc::{AllocError, Global};
 use std::marker::Model;
 use suite_content::Kind;
 use suite_prefix::Settings;
-
-/// The most operations of a transaction.
-pub const MOST_OPERATIONS: usize = 8;
 
 /// A table of files and folders, and the denials that it has answered.
 #[derive(Drop)]
