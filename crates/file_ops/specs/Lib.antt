@@ -1,4 +1,5 @@
 pub mod Steps
+pub mod Limits
 pub mod Paths
 pub mod Lists
 pub mod Rows
@@ -10,7 +11,7 @@ pub mod Transactions
 pub mod Edits
 pub mod Capacity
 pub mod Restored
-pub mod Changes
+pub mod Undo
 pub mod Found
 pub mod Done
 pub mod AnswerEquality

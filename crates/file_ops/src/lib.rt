@@ -11,7 +11,6 @@
 mod act;
 mod answer;
 mod audit;
-mod change;
 mod edit;
 mod operation;
 mod path;
@@ -20,15 +19,16 @@ mod refusal;
 mod service;
 mod stored;
 mod table;
+mod undo;
 mod walk;
 
 pub use answer::{Answer, Answers};
 pub use audit::AuditItem;
-pub use operation::{Action, Init, Op};
+pub use operation::{Action, Init, MOST_OPERATIONS, Op};
 pub use path::PathText;
 pub use refusal::{ApplyError, Denial, Refusal, Why};
 pub use service::Service;
-pub use table::{MOST_OPERATIONS, Table};
+pub use table::Table;
 
 #[cfg(test)]
 mod tests;

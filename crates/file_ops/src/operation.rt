@@ -9,6 +9,9 @@ use std::alloc::{AllocError, Global};
 use suite_content::{FileBytes, Kind};
 use vote_core::Votes;
 
+/// The most operations of a transaction.
+pub const MOST_OPERATIONS: usize = 8;
+
 /// The access list that a new file or folder gets.
 #[derive(Debug, Drop)]
 pub enum Init {

@@ -52,23 +52,24 @@ impl PathText {
 }
 
 /// The most names of a path.
-const MOST_NAMES: usize = 8;
+const MOST_PATH_NAMES: usize = 8;
 
 /// The names that a path leads through, from the root folder down.
 #[derive(Drop)]
 pub(crate) struct Path {
-    array: [Name; 8],
+    array: [Name; MOST_PATH_NAMES],
     count: usize,
 }
 
 impl Model for Path {
     ghost use Rattle.std.specs.Prelude.{ℕ, ◌≤◌, List, take};
+    ghost use Rattle.file_ops.specs.Limits.{most_path_names};
 
     ghost Value = { List (List ℕ) };
 
     ghost view = { λ path. take path.count path.array };
 
-    ghost invariant = { λ path. path.count ≤ 8 };
+    ghost invariant = { λ path. path.count ≤ most_path_names };
 }
 
 impl Path {
@@ -79,7 +80,7 @@ impl Path {
         let rest = text.strip_prefix(b"/")?;
         if rest.is_empty() {
             return Some(Path {
-                array: [blank(); 8],
+                array: [blank(); MOST_PATH_NAMES],
                 count: 0,
             });
         }
@@ -94,14 +95,14 @@ impl Path {
     }
 }
 
-/// The names between the slashes of a text, where there are no more than 8 parts, and each is a name.
+/// The names between the slashes of a text, where there are no more parts than a path has names, and each is a name.
 fn collect(text: &[u8]) -> Option<Path>
     ensures { result ≡ some_names (slice_split is_slash text.now) }
 {
-    let mut array = [blank(); 8];
+    let mut array = [blank(); MOST_PATH_NAMES];
     let mut count = 0;
     for part in text.split(|byte| *byte == b'/') {
-        if count == MOST_NAMES {
+        if count == MOST_PATH_NAMES {
             return None;
         }
         array[count] = Name::new(part)?;

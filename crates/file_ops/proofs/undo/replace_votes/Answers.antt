@@ -2,7 +2,7 @@ use Rattle.std.proofs.Common.{refl, ap, ◌∙◌}
 use Rattle.file_ops.specs.Edits.{put_votes}
 use Rattle.file_ops.specs.Stored.{plain, with_stored_votes}
 use Rattle.file_ops.proofs.TakingBack.{plain-exchanged, voted_taken}
-use Rattle.file_ops.proofs.change.Change.vote.Goals as goal
+use Rattle.file_ops.proofs.undo.replace_votes.Goals as goal
 
 pub returns-in-Some-clause-rows : goal.returns-in-Some-clause-rows
 returns-in-Some-clause-rows c =

@@ -2,7 +2,7 @@ use Rattle.std.proofs.Common.{refl, ap, ◌∙◌}
 use Rattle.file_ops.specs.Edits.{put_content}
 use Rattle.file_ops.specs.Stored.{plain, plain_content, with_stored_content}
 use Rattle.file_ops.proofs.TakingBack.{plain-exchanged, held_taken}
-use Rattle.file_ops.proofs.change.Change.hold.Goals as goal
+use Rattle.file_ops.proofs.undo.replace_content.Goals as goal
 
 pub returns-in-Some-clause-rows : goal.returns-in-Some-clause-rows
 returns-in-Some-clause-rows c =

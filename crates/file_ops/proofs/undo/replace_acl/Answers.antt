@@ -2,7 +2,7 @@ use Rattle.std.proofs.Common.{refl, ap, ◌∙◌}
 use Rattle.file_ops.specs.Edits.{put_acl}
 use Rattle.file_ops.specs.Stored.{plain, with_stored_acl}
 use Rattle.file_ops.proofs.TakingBack.{plain-exchanged, listed_taken}
-use Rattle.file_ops.proofs.change.Change.list.Goals as goal
+use Rattle.file_ops.proofs.undo.replace_acl.Goals as goal
 
 pub returns-in-Some-clause-rows : goal.returns-in-Some-clause-rows
 returns-in-Some-clause-rows c =

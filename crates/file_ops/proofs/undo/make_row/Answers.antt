@@ -1,5 +1,5 @@
 use Rattle.file_ops.proofs.TakingBack.{made_taken}
-use Rattle.file_ops.proofs.change.Change.make.Goals as goal
+use Rattle.file_ops.proofs.undo.make_row.Goals as goal
 
 pub returns-clause-back : goal.returns-clause-back
 returns-clause-back c =
