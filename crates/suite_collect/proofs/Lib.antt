@@ -1,0 +1,3 @@
+mod Walks
+mod Finding
+mod Collected

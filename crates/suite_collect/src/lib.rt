@@ -1,0 +1,15 @@
+//! The collector of one suite.
+#![tactic(auto)]
+
+mod collect;
+mod heard;
+mod laws;
+mod log;
+mod members;
+mod next;
+mod told;
+
+pub use collect::Collect;
+pub use laws::{current_is_a_quorum, nobody_is_asked_twice};
+pub use next::{Members, Next};
+pub use told::{Said, Told};
