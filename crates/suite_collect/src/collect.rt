@@ -1,6 +1,6 @@
 //! The collector.
 
-ghost use Rattle.std.specs.Prelude.{◌≡◌, ◌<◌, ℕ, find, option_map, IsSome, IfSome};
+ghost use Rattle.std.specs.Prelude.{◌≡◌, ◌<◌, ℕ, find, option_map, is_some, IsSome, IfSome};
 ghost use Rattle.std.specs.FinSet.{contains};
 ghost use Rattle.suite_collect.specs.Collecting as spec;
 ghost use Rattle.suite_collect.specs.Telling as telling;
@@ -116,6 +116,21 @@ impl Collect {
         }
     }
 
+    /// Whether a reply answers what was asked next, and the collector goes on with it. After any other
+    /// the transaction ends: a lock is lost, or the server of a lock is down.
+    pub fn accepts(&self, reply: &Reply) -> bool
+        ensures { result ≡ is_some (spec.told_by (spec.next self.now.collector) reply.now) }
+    {
+        let Next::Ask { request, .. } = self.next() else {
+            return false;
+        };
+        match reply {
+            Reply::Held { .. } | Reply::Busy { .. } => true,
+            Reply::Down => matches!(request, Request::Poll { .. }),
+            _ => false,
+        }
+    }
+
     /// Takes the reply to what was asked next.
     pub fn take(&mut self, reply: Reply)
         requires { IsSome (spec.told_by (spec.next self.old.collector) reply) }
@@ -131,6 +146,13 @@ impl Collect {
             _ => Said::Down,
         };
         self.tell(Told { server, mode, said });
+    }
+
+    /// Whether a server holds a lock for the transaction, in this mode or a stronger one.
+    pub fn holds(&self, mode: LockMode, server: u8) -> bool
+        ensures { result ≡ telling.holds mode (spec.all_told self.now.collector) server }
+    {
+        self.heard().holds(mode, server)
     }
 
     /// The first member, in listed order, that showed the version of the content, before a widening.
@@ -232,7 +254,7 @@ impl Collect {
         ensures { let c = self.now.collector in result ≡ spec.request_for self.now.t self.now.suite (spec.asked_of c server) }
     {
         let (t, suite) = (self.t, self.suite);
-        if self.heard().holds(LockMode::Shared, server) {
+        if self.holds(LockMode::Shared, server) {
             Request::Upgrade { t, suite }
         } else {
             let mode = self.wanted();
@@ -244,7 +266,7 @@ impl Collect {
     fn mode_asked(&self, server: u8) -> LockMode
         ensures { let c = self.now.collector in result ≡ spec.mode_asked (spec.asked_of c server) }
     {
-        if self.heard().holds(LockMode::Shared, server) {
+        if self.holds(LockMode::Shared, server) {
             LockMode::Exclusive
         } else {
             self.wanted()
