@@ -12,9 +12,9 @@ use Rattle.suite_collect.specs.declared.told.Said.{Said}
 use Rattle.suite_collect.specs.declared.told.Said.TheVariants.{Held, Busy, Down}
 use Rattle.suite_collect.specs.declared.told.Told.{Told}
 use Rattle.suite_collect.proofs.Finding.{Has, has_from, find_passes}
-use Rattle.suite_collect.specs.Telling.{is_held, newer, newest, has_told, holds, has_refused}
+use Rattle.suite_collect.specs.Telling.{is_held, newer, newest, has_told, holds, has_refused, greatest}
 use Rattle.suite_collect.specs.Collecting.{Widening, Collector, told_since, all_told, votes_or, counted, wanted, mode_or, needed, needed_of, got, is_member, is_left, members_of, version, asked_of, ask_or_short, Asked, Poll, Upgrade, Current, Ask, next}
-use Rattle.suite_collect.specs.Laws.{among, IsCurrent, CurrentIsAQuorum, NobodyIsAskedTwice}
+use Rattle.suite_collect.specs.Laws.{among, IsCurrent, CurrentIsAQuorum, WidenedIsAWriteQuorum, NobodyIsAskedTwice}
 
 -- ---- the newest prefix
 
@@ -88,39 +88,75 @@ votes_le (rep ∷ reps) f g h =
 
 -- ---- next
 
+-- what stands behind a Current
+record Gives (c : Collector) (prefix : Prefix) (dver : ℕ) (members : List ℕ) : Type 0 where
+  enough : needed c ≤ got c
+  prefix_is : newest c.start c.told ≡ prefix
+  version_is : version c ≡ dver
+  members_are : members_of (counted c) (is_member c) ≡ members
+
 current_of : (c : Collector) (b : Bool) (prefix : Prefix) (dver : ℕ) (members : List ℕ) → nat_le (needed c) (got c) ≡ b
     → cond b (Current (newest c.start c.told) (version c) (members_of (counted c) (is_member c))) (ask_or_short c (find (is_left c) (counted c).reps)) ≡ Current prefix dver members
-    → (needed c ≤ got c) × (newest c.start c.told ≡ prefix) × (members_of (counted c) (is_member c) ≡ members)
-current_of c true prefix dver members enough is = (grind (arith, nat_tests), cc, cc)
+    → Gives c prefix dver members
+current_of c true prefix dver members enough is = record { enough = grind (arith, nat_tests); prefix_is = cc; version_is = cc; members_are = cc }
 current_of c false prefix dver members enough is = absurd (none (find (is_left c) (counted c).reps) is)
   where
     none : (found : Option Representative) → ask_or_short c found ≡ Current prefix dver members → ⊥
     none (Some rep) is = cc
     none None is = cc
 
+-- the members that are given have all votes that are held
+members_enough : (needed : ℕ) (votes : Configuration) (held : ℕ → Bool) (members : List ℕ) → members_of votes held ≡ members → needed ≤ votes_in votes.reps held → needed ≤ votes_in votes.reps (among members)
+members_enough needed votes held members are enough =
+    subst (λ members. needed ≤ votes_in votes.reps (among members)) are
+    (let more = votes_le votes.reps held (among (members_of votes held)) (among_members votes.reps held) in omega arith)
+
+each_held : (votes : Configuration) (held : ℕ → Bool) (members : List ℕ) → members_of votes held ≡ members → (server : ℕ) → among members server ≡ true → held server ≡ true
+each_held votes held members are server in' = members_held votes.reps held server (ap (λ members. among members server) are ∙ in')
+
 pub current_is_a_quorum : CurrentIsAQuorum
 current_is_a_quorum c prefix dver members narrow is = at c.widening refl narrow
   where
-    at : (w : Option Widening) → c.widening ≡ w → w ≡ None → IsCurrent c prefix members
+    at : (w : Option Widening) → c.widening ≡ w → w ≡ None → IsCurrent c prefix dver members
     at (Some w) same none = cc
     at None same none =
-        let was = current_of c (nat_le (needed c) (got c)) prefix dver members refl is in
+        let gives = current_of c (nat_le (needed c) (got c)) prefix dver members refl is in
         let told : all_told c ≡ c.told = ap (λ w. told_since w ++ c.told) same in
         let mode : wanted c ≡ c.mode = ap (λ w. mode_or w c.mode) same in
-        let votes : counted c ≡ (newest c.start c.told).votes = ap (λ w. votes_or w (newest c.start c.told)) same in
+        let votes : counted c ≡ prefix.votes = ap (λ w. votes_or w (newest c.start c.told)) same ∙ ap (λ (prefix : Prefix). prefix.votes) gives.prefix_is in
         let held : is_member c ≡ holds c.mode c.told = ap (λ mode. holds mode (all_told c)) mode ∙ ap (holds c.mode) told in
-        let all : members_of (newest c.start c.told).votes (holds c.mode c.told) ≡ members = ap (λ votes. members_of votes (holds c.mode c.told)) (sym votes) ∙ ap (members_of (counted c)) (sym held) ∙ was.2 in
-        let enough : needed_of c.mode (newest c.start c.told).votes ≤ votes_in (newest c.start c.told).votes.reps (holds c.mode c.told) =
-        subst (λ (mode : LockMode). needed_of mode (newest c.start c.told).votes ≤ votes_in (newest c.start c.told).votes.reps (holds c.mode c.told)) mode
+        let are : members_of prefix.votes (holds c.mode c.told) ≡ members = ap (λ votes. members_of votes (holds c.mode c.told)) (sym votes) ∙ ap (members_of (counted c)) (sym held) ∙ gives.members_are in
+        let enough : needed_of c.mode prefix.votes ≤ votes_in prefix.votes.reps (holds c.mode c.told) =
+        subst (λ (mode : LockMode). needed_of mode prefix.votes ≤ votes_in prefix.votes.reps (holds c.mode c.told)) mode
         (subst (λ (votes : Configuration). needed_of (wanted c) votes ≤ votes_in votes.reps (holds c.mode c.told)) votes
-        (subst (λ held. needed c ≤ votes_in (counted c).reps held) held was.0)) in
-        let more = votes_le (newest c.start c.told).votes.reps (holds c.mode c.told) (among (members_of (newest c.start c.told).votes (holds c.mode c.told))) (among_members (newest c.start c.told).votes.reps (holds c.mode c.told)) in
+        (subst (λ held. needed c ≤ votes_in (counted c).reps held) held gives.enough)) in
         record {
-          quorum = subst (λ (prefix : Prefix). needed_of c.mode prefix.votes ≤ votes_in prefix.votes.reps (among members)) was.1
-              (subst (λ members. needed_of c.mode (newest c.start c.told).votes ≤ votes_in (newest c.start c.told).votes.reps (among members)) all (omega (arith, enough, more)));
-          held = λ server in'. members_held (newest c.start c.told).votes.reps (holds c.mode c.told) server (ap (λ members. among members server) all ∙ in');
-          newest = λ one other dver there said. subst (λ (prefix : Prefix). other.pver ≤ prefix.pver) was.1 (newest_above c.start c.told one other dver (has_from c.told one there) said);
+          quorum = members_enough (needed_of c.mode prefix.votes) prefix.votes (holds c.mode c.told) members are enough;
+          held = each_held prefix.votes (holds c.mode c.told) members are;
+          newest = λ one other dver there said. subst (λ (prefix : Prefix). other.pver ≤ prefix.pver) gives.prefix_is (newest_above c.start c.told one other dver (has_from c.told one there) said);
+          latest =
+              sym gives.version_is
+              ∙ ap (λ (prefix : Prefix). greatest c.told (members_of prefix.votes (holds c.mode c.told))) gives.prefix_is
+              ∙ ap (greatest c.told) are;
         }
+
+pub widened_is_a_write_quorum : WidenedIsAWriteQuorum
+widened_is_a_write_quorum c widening prefix dver members wide is =
+    let gives = current_of c (nat_le (needed c) (got c)) prefix dver members refl is in
+    let mode : wanted c ≡ Exclusive = ap (λ w. mode_or w c.mode) wide in
+    let votes : counted c ≡ widening.votes = ap (λ w. votes_or w (newest c.start c.told)) wide in
+    let held : is_member c ≡ holds Exclusive (all_told c) = ap (λ mode. holds mode (all_told c)) mode in
+    let are : members_of widening.votes (holds Exclusive (all_told c)) ≡ members = ap (λ votes. members_of votes (holds Exclusive (all_told c))) (sym votes) ∙ ap (members_of (counted c)) (sym held) ∙ gives.members_are in
+    let enough : widening.votes.w ≤ votes_in widening.votes.reps (holds Exclusive (all_told c)) =
+    subst (λ (mode : LockMode). needed_of mode widening.votes ≤ votes_in widening.votes.reps (holds Exclusive (all_told c))) mode
+    (subst (λ (votes : Configuration). needed_of (wanted c) votes ≤ votes_in votes.reps (holds Exclusive (all_told c))) votes
+    (subst (λ held. needed c ≤ votes_in (counted c).reps held) held gives.enough)) in
+    record {
+      quorum = members_enough widening.votes.w widening.votes (holds Exclusive (all_told c)) members are enough;
+      held = each_held widening.votes (holds Exclusive (all_told c)) members are;
+      prefix_stays = sym gives.prefix_is;
+      version_stays = sym gives.version_is;
+    }
 
 -- ---- whom it asks
 

@@ -1,3 +1,5 @@
 mod Walks
 mod Finding
 mod Collected
+mod Shortness
+mod Fewness

@@ -13,6 +13,16 @@ is_held (Held prefix dver) = true
 is_held (Busy holder) = false
 is_held Down = false
 
+abbrev pub is_down : Said → Bool
+is_down (Held prefix dver) = false
+is_down (Busy holder) = false
+is_down Down = true
+
+abbrev pub is_busy_with : ℕ → Said → Bool
+is_busy_with holder (Held prefix dver) = false
+is_busy_with holder (Busy other) = other == holder
+is_busy_with holder Down = false
+
 -- the newer of two prefixes, the first where neither is
 abbrev pub newer : Prefix → Said → Prefix
 newer prefix (Held other dver) = if nat_lt prefix.pver other.pver then other else prefix

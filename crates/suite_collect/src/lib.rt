@@ -10,6 +10,9 @@ mod next;
 mod told;
 
 pub use collect::Collect;
-pub use laws::{current_is_a_quorum, nobody_is_asked_twice};
+pub use laws::{
+    asks_are_few, current_is_a_quorum, nobody_is_asked_twice, short_has_none_left,
+    widened_is_a_write_quorum,
+};
 pub use next::{Members, Next};
 pub use told::{Said, Told};
