@@ -1,5 +1,5 @@
 mod Walks
-mod Finding
-mod Collected
-mod Shortness
-mod Fewness
+pub mod Finding
+pub mod Collected
+pub mod Shortness
+pub mod Fewness
