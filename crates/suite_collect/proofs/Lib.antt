@@ -1,0 +1,5 @@
+mod Walks
+pub mod Finding
+pub mod Collected
+pub mod Shortness
+pub mod Fewness
