@@ -7,3 +7,4 @@ mod Alone
 mod Stays
 mod Reached
 mod Example
+pub mod Same
