@@ -2,6 +2,8 @@ pub mod Effects
 pub mod Intentions
 pub mod Soundness
 pub mod FittingReplies
+mod Rising
+mod Counting
 mod Members
 mod Alone
 mod Stays
