@@ -4,3 +4,4 @@ pub mod EditLaws
 pub mod LastName
 pub mod CapacityLaws
 pub mod TakingBack
+pub mod Permitting

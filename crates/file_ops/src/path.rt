@@ -56,7 +56,7 @@ const MOST_NAMES: usize = 8;
 
 /// The names that a path leads through, from the root folder down.
 #[derive(Drop)]
-pub(crate) struct Path {
+pub struct Path {
     array: [Name; 8],
     count: usize,
 }
@@ -73,7 +73,7 @@ impl Model for Path {
 
 impl Path {
     /// The names of a path's text, where it is a path.
-    pub(crate) fn parse(text: &[u8]) -> Option<Path>
+    pub fn parse(text: &[u8]) -> Option<Path>
         ensures { result ≡ names_of text.now }
     {
         let rest = text.strip_prefix(b"/")?;
@@ -87,7 +87,7 @@ impl Path {
     }
 
     /// The names.
-    pub(crate) fn names(&self) -> &[Name]
+    pub fn names(&self) -> &[Name]
         ensures { result.now ≡ self.now }
     {
         &self.array[..self.count]
