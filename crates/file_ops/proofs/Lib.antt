@@ -5,3 +5,4 @@ pub mod LastName
 pub mod CapacityLaws
 pub mod TakingBack
 pub mod LaterRefusals
+pub mod Permitting

@@ -5,6 +5,7 @@ pub mod Lists
 pub mod Rows
 pub mod Stored
 pub mod Walks
+pub mod Permitting
 pub mod KnownVotes
 pub mod Operations
 pub mod Transactions

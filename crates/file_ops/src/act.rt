@@ -12,7 +12,7 @@ ghost use Rattle.file_ops.specs.Restored.{Restores};
 ghost use Rattle.file_ops.specs.Done.{Does, Acts};
 
 use crate::answer::Answer;
-use crate::operation::{Action, Init, MOST_OPERATIONS, Op};
+use crate::operation::{Action, Init, Op, made_number};
 use crate::path::Path;
 use crate::refusal::Why;
 use crate::service::Service;
@@ -295,7 +295,7 @@ pub(crate) fn operate(
         Action::SetVotes(votes) => return set_votes(rows, service, caller, names, votes),
         Action::Drop => return drop(rows, caller, names),
         Action::Make(kind, init, votes) => {
-            let number = MOST_OPERATIONS as u64 * t + u64::from(at) + 1;
+            let number = made_number(t, at);
             return make(rows, transaction, number, names, *kind, init, votes);
         }
     };

@@ -12,6 +12,7 @@ mod act;
 mod answer;
 mod audit;
 mod edit;
+mod guarded;
 mod operation;
 mod path;
 mod play;
@@ -24,11 +25,13 @@ mod walk;
 
 pub use answer::{Answer, Answers};
 pub use audit::AuditItem;
-pub use operation::{Action, Init, MOST_OPERATIONS, Op};
-pub use path::PathText;
+pub use guarded::{Guarded, to_change};
+pub use operation::{Action, Init, MOST_OPERATIONS, Op, made_number};
+pub use path::{Path, PathText};
 pub use refusal::{ApplyError, Denial, Refusal, Why};
 pub use service::Service;
 pub use table::Table;
+pub use walk::last_name;
 
 #[cfg(test)]
 mod tests;

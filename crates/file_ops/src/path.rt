@@ -56,7 +56,7 @@ const MOST_PATH_NAMES: usize = 8;
 
 /// The names that a path leads through, from the root folder down.
 #[derive(Drop)]
-pub(crate) struct Path {
+pub struct Path {
     array: [Name; MOST_PATH_NAMES],
     count: usize,
 }
@@ -74,7 +74,7 @@ impl Model for Path {
 
 impl Path {
     /// The names of a path's text, where it is a path.
-    pub(crate) fn parse(text: &[u8]) -> Option<Path>
+    pub fn parse(text: &[u8]) -> Option<Path>
         ensures { result ≡ names_of text.now }
     {
         let rest = text.strip_prefix(b"/")?;
@@ -88,7 +88,7 @@ impl Path {
     }
 
     /// The names.
-    pub(crate) fn names(&self) -> &[Name]
+    pub fn names(&self) -> &[Name]
         ensures { result.now ≡ self.now }
     {
         &self.array[..self.count]
