@@ -2,7 +2,9 @@
 
 ghost use Rattle.std.specs.Prelude.{◌≡◌, ◌<◌, ℕ, find, option_map, is_some, IsSome, IfSome};
 ghost use Rattle.std.specs.FinSet.{contains};
+ghost use Rattle.vote_core.specs.Validity.{IsValid};
 ghost use Rattle.suite_collect.specs.Collecting as spec;
+ghost use Rattle.suite_collect.specs.Laws.{HasSource};
 ghost use Rattle.suite_collect.specs.Telling as telling;
 
 use crate::heard::Heard;
@@ -157,7 +159,8 @@ impl Collect {
 
     /// The first member, in listed order, that showed the version of the content, before a widening.
     pub fn source(&self) -> Option<u8>
-        ensures { result ≡ spec.source self.now.collector }
+        ensures value { result ≡ spec.source self.now.collector }
+        ensures found { HasSource self.now.collector }
     {
         let (members, version) = (self.first_members(), self.version());
         let shows = |server: &u8| self.told.shown(*server) == version;
@@ -275,7 +278,8 @@ impl Collect {
 
     /// The members that are held, before a widening.
     fn first_members(&self) -> Members
-        ensures { result ≡ spec.first_members self.now.collector }
+        ensures members { result ≡ spec.first_members self.now.collector }
+        ensures valid { IsValid (newest self.now.collector.start self.now.collector.told).votes }
     {
         members_of(&self.newest().votes, &self.told.holders(self.mode))
     }
