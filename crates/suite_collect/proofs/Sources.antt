@@ -1,19 +1,18 @@
 -- Where a Current is had, some member showed the version of the content.
-use Rattle.std.proofs.Common.{◌≡◌, ℕ, ◌+◌, ◌<◌, ◌≤◌, Bool, true, false, cond, inl, inr, List, [], ◌∷◌, ◌++◌, Option, Some, None, IsSome, refl, sym, ap, subst, ◌∙◌, rules, arith}
-use Rattle.std.specs.Prelude.{nat_lt, nat_le, ◌&&◌, ◌||◌, ◌==◌, find, filter, map}
+use Rattle.std.proofs.Common.{◌≡◌, ℕ, ◌+◌, ◌<◌, ◌≤◌, Bool, true, false, cond, inl, inr, List, [], ◌∷◌, ◌++◌, Some, IsSome, refl, sym, ap, subst, ◌∙◌, rules, arith}
+use Rattle.std.specs.Prelude.{nat_lt, ◌&&◌, ◌||◌, ◌==◌, find, filter, map}
 use Rattle.std.specs.List.{list_any}
 use Rattle.std.proofs.lemmas.Bool.Decides.{nat_tests}
 use Rattle.std.proofs.lemmas.Bool.{cases_lt, eq-eqb}
 use Rattle.vote_core.specs.Quorums.{Representative, Configuration, votes_in}
 use Rattle.vote_core.specs.Validity.{IsValid}
-use Rattle.suite_prefix.specs.declared.copies.Prefix.{Prefix}
 use Rattle.suite_prefix.specs.declared.lock_mode.LockMode.{LockMode}
 use Rattle.suite_prefix.specs.declared.lock_mode.LockMode.TheVariants.{Shared, Exclusive}
 use Rattle.suite_collect.specs.declared.told.Told.{Told}
 use Rattle.suite_collect.specs.Telling.{newest, holds, shown, greatest}
-use Rattle.suite_collect.specs.Collecting.{Collector, told_since, all_told, votes_or, counted, mode_or, wanted, needed_of, needed, is_member, got, members_of, first_members, source, Current, next}
+use Rattle.suite_collect.specs.Collecting.{Collector, told_since, all_told, votes_or, counted, mode_or, wanted, needed_of, needed, is_member, first_members, source, next}
 use Rattle.suite_collect.specs.Laws.{HasSource}
-use Rattle.suite_collect.proofs.Collected.{Gives, gives_of}
+use Rattle.suite_collect.proofs.Collected.{gives_of}
 
 -- what is found by its test
 some_found : {X : Type 0} (p : X → Bool) (xs : List X) → list_any p xs ≡ true → IsSome (find p xs)
@@ -58,9 +57,6 @@ some_needed Exclusive votes valid = valid.w_in_range.0
 pub has_source : (c : Collector) → IsValid (newest c.start c.told).votes → HasSource c
 has_source c valid prefix dver members narrow is = at (first_members c) refl
   where
-    votes : Configuration
-    votes = (newest c.start c.told).votes
-
     enough : 0 < votes_in (newest c.start c.told).votes.reps (holds c.mode c.told)
     enough =
         let gives = gives_of c prefix dver members is in

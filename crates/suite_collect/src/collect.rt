@@ -17,11 +17,13 @@ use std::marker::Model;
 use suite_prefix::{LockMode, Prefix};
 use vote_core::{MAX_SERVERS, Votes};
 
-/// Other votes that are gathered too, all that was told, and what was told since.
+/// Other votes that are gathered too.
 #[derive(Drop)]
 struct Widening {
     votes: Votes,
+    /// All that was told.
     all: Heard,
+    /// What was told since.
     since: Log<Told>,
 }
 
@@ -33,7 +35,9 @@ pub struct Collect {
     suite: u64,
     mode: LockMode,
     start: Prefix,
+    /// The newest prefix seen, where one is newer than the start.
     newer: Option<Prefix>,
+    /// What was told before a widening.
     told: Heard,
     widening: Option<Widening>,
 }
