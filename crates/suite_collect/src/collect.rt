@@ -154,6 +154,16 @@ impl Collect {
         self.tell(Told { server, mode, said });
     }
 
+    /// The newest prefix seen. A widening leaves it as it was.
+    pub fn newest(&self) -> &Prefix
+        ensures { result.now ≡ newest self.now.collector.start self.now.collector.told }
+    {
+        match &self.newer {
+            Some(prefix) => prefix,
+            None => &self.start,
+        }
+    }
+
     /// Whether a server holds a lock for the transaction, in this mode or a stronger one.
     pub fn holds(&self, mode: LockMode, server: u8) -> bool
         ensures { result ≡ telling.holds mode (spec.all_told self.now.collector) server }
@@ -187,16 +197,6 @@ impl Collect {
             if prefix.pver > newest {
                 self.newer = Some(prefix);
             }
-        }
-    }
-
-    /// The newest prefix seen.
-    fn newest(&self) -> &Prefix
-        ensures { result.now ≡ newest self.now.collector.start self.now.collector.told }
-    {
-        match &self.newer {
-            Some(prefix) => prefix,
-            None => &self.start,
         }
     }
 
