@@ -6,4 +6,5 @@ pub mod ServerFields
 pub mod Service
 pub mod Serving
 pub mod Fits
+pub mod Consistency
 pub mod Laws
