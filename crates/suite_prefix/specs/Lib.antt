@@ -1,5 +1,6 @@
 pub mod Copies
 pub mod Tests
+pub mod TestsExact
 pub mod Absent
 pub mod LockModes
 pub mod Bytes
