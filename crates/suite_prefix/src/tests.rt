@@ -68,20 +68,24 @@ fn sevens(rt: &(impl Abort + AllocGlobal), len: usize) -> Vec<u8> {
     vec![in rt.alloc(); 7; len].expect(rt, "memory")
 }
 
+/// The bytes of a copy, which is valid.
+fn written(rt: &(impl Abort + AllocGlobal), copy: &Replica) -> Vec<u8> {
+    assert!(rt; copy.is_valid());
+    encode(rt.alloc(), copy).expect(rt, "memory")
+}
+
 /// A copy is valid, is written in these bytes, and is read from them.
 fn is_spelled(rt: &(impl Abort + AllocGlobal), copy: &Replica, bytes: &[u8]) {
-    assert!(rt; copy.is_valid());
-    let written = encode(rt.alloc(), copy).expect(rt, "memory");
-    assert_eq!(rt; written.as_slice(), bytes);
+    assert_eq!(rt; written(rt, copy).as_slice(), bytes);
     let read = decode(rt.alloc(), bytes).ok().expect(rt, "a copy");
     assert!(rt; read == *copy);
 }
 
 /// A copy is valid, is written in so many bytes, and is read from them.
 fn is_spelled_in(rt: &(impl Abort + AllocGlobal), copy: &Replica, len: usize) {
-    let written = encode(rt.alloc(), copy).expect(rt, "memory");
-    assert_eq!(rt; written.len(), len);
-    is_spelled(rt, copy, &written);
+    let bytes = written(rt, copy);
+    assert_eq!(rt; bytes.len(), len);
+    is_spelled(rt, copy, &bytes);
 }
 
 /// Bytes are refused for this fault.
