@@ -128,3 +128,91 @@ put_found limits n site suite e c h =
           ] refl h'
       | false ↦ λ room. others (ap (find p) (sym (put_none limits n c room)) ∙ h)
     ] refl
+
+-- ---- a content that is found is used
+
+find_passes : (q : Entry → Bool) (c : Cache) (x : Entry) → find q c ≡ Some x → q x ≡ true
+find_passes q [] x h = absurd (none_is_no_entry x h)
+find_passes q (e ∷ c) x h =
+    elim (q e) as (λ t. q e ≡ t → cond t (Some e) (find q c) ≡ Some x → q x ≡ true) [
+      | true ↦ λ own h. ap q (sym (some_same e x h)) ∙ own
+      | false ↦ λ _ h. find_passes q c x h
+    ] refl h
+
+same_key : (site suite other number : ℕ) (y : Entry) → is_of site suite y ≡ true → is_of other number y ≡ true → (site ≡ other) × (suite ≡ number)
+same_key site suite other number y own theirs =
+    let a = both (y.site == site) (y.suite == suite) own in
+    let b = both (y.site == other) (y.suite == number) theirs in
+    (sym (eqb-true y.site site a.0) ∙ eqb-true y.site other b.0, sym (eqb-true y.suite suite a.1) ∙ eqb-true y.suite number b.1)
+
+in_front_found : (site suite other number : ℕ) (c : Cache) (o : Option Entry) → entry_of c other number ≡ o → entry_of (in_front o other number c) site suite ≡ entry_of c site suite
+in_front_found site suite other number c None h = refl
+in_front_found site suite other number c (Some x) h =
+    let p : Entry → Bool = is_of site suite in
+    let q : Entry → Bool = is_of other number in
+    let theirs : q x ≡ true = find_passes q c x h in
+    elim (p x) as (λ t. p x ≡ t → cond t (Some x) (find p (without other number c)) ≡ find p c) [
+      | true ↦ λ own.
+          let same = same_key site suite other number x own theirs in
+          sym (ap (λ s. entry_of c s suite) same.0 ∙ ap (λ u. entry_of c other u) same.1 ∙ h)
+      | false ↦ λ apart.
+          let keeps : (y : Entry) → p y ≡ true → not (q y) ≡ true = λ y own.
+          elim (q y) as (λ t. q y ≡ t → not t ≡ true) [
+            | true ↦ λ both'.
+                let same = same_key site suite other number y own both' in
+                absurd (false≢true (sym apart ∙ ap (λ s. is_of s suite x) same.0 ∙ ap (λ u. is_of other u x) same.1 ∙ theirs))
+            | false ↦ λ _. refl
+          ] refl in
+          find_kept p (λ y. not (q y)) keeps c
+    ] refl
+
+searched_found : (site suite other number dver : ℕ) (c : Cache) → entry_of (searched other number dver c) site suite ≡ entry_of c site suite
+searched_found site suite other number dver c =
+    elim (is_some (content_at c other number dver)) as (λ t. entry_of (cond t (used other number c) c) site suite ≡ entry_of c site suite) [
+      | true ↦ in_front_found site suite other number c (entry_of c other number) refl
+      | false ↦ refl
+    ]
+
+-- ---- lists of calls
+
+after_found : (limits : Limits) (call : Call) (site suite : ℕ) (e : Entry) (c : Cache) → entry_of (after limits call c) site suite ≡ Some e → IsFrom site suite e call c
+after_found limits (ContentAt other number dver) site suite e c h = inl (sym (searched_found site suite other number dver c) ∙ h, refl)
+after_found limits (Put n) site suite e c h = put_found limits n site suite e c h
+after_found limits (Forget other) site suite e c h = inl (found_forgotten site suite other e c h)
+
+run_found : (limits : Limits) (calls : List Call) (c : Cache) (site suite : ℕ) (e : Entry) → entry_of (run limits calls c) site suite ≡ Some e → ((entry_of c site suite ≡ Some e) × (list_all (spares site suite) calls ≡ true)) ⊎ WasPut site suite e calls
+run_found limits [] c site suite e h = inl (h, refl)
+run_found limits (call ∷ calls) c site suite e h =
+    elim (run_found limits calls (after limits call c) site suite e h) [
+      | inl r ↦ elim (after_found limits call site suite e c r.0) [
+        | inl a ↦ inl (a.0, both_true a.1 r.1)
+        | inr b ↦ inr (record { before = []; since = calls; parts = ap (λ k. k ∷ calls) b.0; own = b.1; spared = r.1 })
+      ]
+      | inr w ↦ inr (record { before = call ∷ w.before; since = w.since; parts = ap (λ l. call ∷ l) w.parts; own = w.own; spared = w.spared })
+    ]
+
+put_there : (limits : Limits) (calls : List Call) (site suite : ℕ) (e : Entry) → entry_of (run limits calls []) site suite ≡ Some e → WasPut site suite e calls
+put_there limits calls site suite e h = elim (run_found limits calls [] site suite e h) [ inl r ↦ absurd (none_is_no_entry e r.0) | inr w ↦ w ]
+
+none_is_none : {X : Type 0} (x : X) → None ≡ Some x → ⊥
+none_is_none x h = cc h
+
+hint_was_put : HintWasPut
+hint_was_put limits calls site suite prefix h =
+    elim (entry_of (run limits calls []) site suite) as (λ o. entry_of (run limits calls []) site suite ≡ o → option_map (λ (e : Entry). e.prefix) o ≡ Some prefix → (e : Entry) × WasPut site suite e calls × (e.prefix ≡ prefix)) [
+      | None ↦ λ _ h. absurd (none_is_none prefix h)
+      | Some e ↦ λ there h. (e, put_there limits calls site suite e there, some_same e.prefix prefix h)
+    ] refl h
+
+content_was_put : ContentWasPut
+content_was_put limits calls site suite dver content h =
+    elim (entry_of (run limits calls []) site suite) as (λ o. entry_of (run limits calls []) site suite ≡ o → at_version dver o ≡ Some content → (e : Entry) × WasPut site suite e calls × (e.dver ≡ dver) × (e.content ≡ content)) [
+      | None ↦ λ _ h. absurd (none_is_none content h)
+      | Some e ↦ λ there h. elim (e.dver == dver) as (λ t. (e.dver == dver) ≡ t → cond t (Some e.content) None ≡ Some content → (e : Entry) × WasPut site suite e calls × (e.dver ≡ dver) × (e.content ≡ content)) [
+        | true ↦ λ same h. (e, put_there limits calls site suite e there, eqb-true e.dver dver same, some_same e.content content h)
+        | false ↦ λ _ h. absurd (none_is_none content h)
+      ] refl h
+    ] refl h
+
+pub found_was_put : FoundWasPut
+found_was_put = record { hint = hint_was_put; content = content_was_put }

@@ -16,9 +16,11 @@
 
 mod cache;
 mod entry;
+mod laws;
 mod list;
 
 pub use cache::WeakCache;
+pub use laws::found_was_put;
 pub use list::Entries;
 
 #[cfg(test)]

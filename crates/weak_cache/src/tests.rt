@@ -58,49 +58,49 @@ fn stand(rt: &impl Abort, alloc: Global, cache: &WeakCache, want: &str) -> Resul
 }
 
 /// A put of a file in the table: its key, how many bytes it has, and the entries after it.
-struct Put {
+struct Row {
     key: (u8, u64),
     length: usize,
     want: &'static str,
 }
 
-const BEFORE_USE: [Put; 3] = [
-    Put {
+const BEFORE_USE: [Row; 3] = [
+    Row {
         key: (0, 1),
         length: 4,
         want: "(0,1)",
     },
-    Put {
+    Row {
         key: (0, 2),
         length: 4,
         want: "(0,2)",
     },
-    Put {
+    Row {
         key: (1, 1),
         length: 6,
         want: "(1,1)(0,2)",
     },
 ];
 
-const AFTER_USE: [Put; 3] = [
-    Put {
+const AFTER_USE: [Row; 3] = [
+    Row {
         key: (2, 5),
         length: 1,
         want: "(2,5)(0,2)",
     },
-    Put {
+    Row {
         key: (0, 3),
         length: 7,
         want: "(2,5)(0,2)",
     },
-    Put {
+    Row {
         key: (0, 2),
         length: 7,
         want: "(2,5)",
     },
 ];
 
-fn puts(rt: &impl Abort, alloc: Global, cache: &mut WeakCache, rows: &[Put]) -> Result<(), Fail> {
+fn puts(rt: &impl Abort, alloc: Global, cache: &mut WeakCache, rows: &[Row]) -> Result<(), Fail> {
     for row in rows {
         let before = entries(alloc, cache)?;
         if put(rt, alloc, cache, row.key, 1, row.length).is_err() {
