@@ -1,5 +1,5 @@
 //! Every talk of up to four acts that is possible, with what comes next after it, as a program in another
-//! language found it, which knows the rules and nothing of this code.
+//! language found it (`tests/collector-talks.py`), which shares nothing with this code.
 //!
 //! It begins with one vote each at servers 0 and 1, one to read and two to write. The acts: `h` held, at
 //! versions 1; `n` held, at prefix version 2, which gives server 1 one vote and server 2 two, two to read
