@@ -1,6 +1,6 @@
 -- Operations from a place on are refused by a number above that place, so a refusal of the first operation is that of the first one played.
-use Rattle.std.proofs.Common.{◌≡◌, ℕ, ◌+◌, ◌<◌, ◌≤◌, false, List, [], ◌∷◌, ◌++◌, Result, Ok, Err, arith}
-use Rattle.std.specs.Prelude.{IfErr, IsOk, IsTrue}
+use Rattle.std.proofs.Common.{◌≡◌, ℕ, ◌+◌, ◌<◌, false, List, [], ◌∷◌, ◌++◌, Result, Ok, Err, arith}
+use Rattle.std.specs.Prelude.{IfErr, IsOk}
 use Rattle.std.proofs.lemmas.Bool.{false≢true}
 use Rattle.std.proofs.lemmas.Grind.{common_steps}
 use Rattle.acl_core.specs.Identity.{Identity}
@@ -13,7 +13,7 @@ use Rattle.file_ops.specs.declared.service.Service.{Service}
 use Rattle.file_ops.specs.Steps.{◌>>=◌}
 use Rattle.file_ops.specs.Rows.{Rows}
 use Rattle.file_ops.specs.Operations.{Done, operation}
-use Rattle.file_ops.specs.Transactions.{Played, after, play, transaction, is_miscounted, needs_no_memory, RefusesFirst}
+use Rattle.file_ops.specs.Transactions.{Played, after, play, transaction, is_miscounted, RefusesFirst}
 use Rattle.file_ops.specs.Done.{AnswersFirst}
 
 abbrev IsAbove : ℕ → Result Played Refusal → Type 0

@@ -1,5 +1,5 @@
 -- What the rules of permission look at, seen as a place of any votes and any content.
-use Rattle.std.specs.Prelude.{◌≡◌, ◌==◌, if◌then◌else◌, Result, Ok, Err}
+use Rattle.std.specs.Prelude.{◌==◌, if◌then◌else◌, Result, Ok, Err}
 use Rattle.acl_core.specs.Identity.{Identity}
 use Rattle.acl_core.specs.Checks.{check_of}
 use Rattle.acl_core.specs.declared.perms.Perms.{Perms}
