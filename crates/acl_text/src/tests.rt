@@ -61,9 +61,7 @@ u::r,u:00004294967295:,g::,m::---,o: = user::r--,user:4294967295:---,group::---,
 
 /// The list that a text spells.
 fn spelled(rt: &(impl Abort + AllocGlobal), text: &[u8], names: &Names) -> Acl {
-    read_acl(rt.alloc(), text, names)
-        .ok()
-        .expect(rt, "a list")
+    read_acl(rt.alloc(), text, names).ok().expect(rt, "a list")
 }
 
 /// The short text of a list.

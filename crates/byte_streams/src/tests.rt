@@ -24,7 +24,10 @@ fn reads(
     let told = read_all(rt.alloc(), &mut stream, limit as usize).map(|bytes| bytes.len());
     assert!(rt; told == want, "{len} bytes, {limit}, {failing}");
     let failures = u64::from(told == Err(ReadError::Failed));
-    assert!(rt; stream.failed_reads() == failures, "{len} bytes, {limit}, {failing}");
+    assert!(rt;
+        stream.failed_reads() == failures,
+        "{len} bytes, {limit}, {failing}"
+    );
 }
 
 /// A text of 16,384 bytes is read in one piece, one of 100,000 in seven; another read finds the end.

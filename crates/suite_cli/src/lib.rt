@@ -12,8 +12,6 @@ mod outcome;
 mod root;
 mod script;
 mod table;
-#[cfg(test)]
-mod tests;
 mod votes;
 mod word;
 

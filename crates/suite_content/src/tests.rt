@@ -152,7 +152,10 @@ fn file(rt: &(impl Abort + AllocGlobal), bytes: &[u8]) -> FileBytes {
 
 #[test]
 fn a_file_has_at_most_65536_bytes(rt: HostRuntime) {
-    let long = done(&rt, [7u8].as_slice().repeat(rt.alloc(), LONGEST_CONTENT + 1));
+    let long = done(
+        &rt,
+        [7u8].as_slice().repeat(rt.alloc(), LONGEST_CONTENT + 1),
+    );
     let fits = file(&rt, long.get(1..).unwrap_or_default());
     assert!(rt; !fits.is_too_long());
     assert!(rt; done(&rt, fits.clone()).len() == LONGEST_CONTENT);

@@ -139,7 +139,10 @@ fn share(votes: &Votes, a: &ServerSet, b: &ServerSet) -> bool {
 fn meet_in(rt: &impl Abort, votes: &Votes, first: u8, second: u8) {
     let (a, b) = (set_of_bits(first), set_of_bits(second));
     let quorums = votes.is_write(&b) && (votes.is_read(&a) || votes.is_write(&a));
-    assert!(rt; share(votes, &a, &b) || !quorums, "{first:04b} and {second:04b}");
+    assert!(rt;
+        share(votes, &a, &b) || !quorums,
+        "{first:04b} and {second:04b}"
+    );
 }
 
 /// All quorums of these votes meet, by the two laws and by trying all.

@@ -1,8 +1,8 @@
-//! What no row of `crates/rows` can say: streams that fail, inputs that a loop makes, and that help is told.
+//! What no row can say: streams that fail, inputs that a loop makes, and that help is told.
 
-use crate::run;
 use byte_streams::{MemoryIn, MemoryOut};
 use std::process::Abort;
+use suite_cli::run;
 
 /// Runs a command, and gives its exit status and what it wrote.
 fn played(
