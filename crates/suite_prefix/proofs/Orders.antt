@@ -1,5 +1,5 @@
 -- Entries of which each stands before the next are in canonical order, and names of which each is below the next are a folder's.
-use Rattle.std.proofs.Common.{◌≡◌, ℕ, suc, true, eqb, List, [], ◌∷◌, ◌++◌, map, Less, refl, ap, arith}
+use Rattle.std.proofs.Common.{◌≡◌, ℕ, suc, true, eqb, List, [], ◌∷◌, map, Less, refl, ap, arith}
 use Rattle.std.specs.Prelude.{All}
 use Rattle.std.specs.List.{AllByRecursion}
 use Rattle.std.specs.List.Sorted.{IsStrictlySortedBy}
@@ -90,14 +90,3 @@ above_if_sorted first (next ∷ names) sorted =
 pub rise_if_folder : (names : List (List ℕ × ℕ)) → IsFolder names → names_rise names ≡ true
 rise_if_folder [] folder = refl
 rise_if_folder (first ∷ names) folder = above_if_sorted first names folder
-
--- ---- a name behind others
-
-at_middle : (P : List ℕ → Type 0) (front : List (List ℕ × ℕ)) (entry : List ℕ × ℕ) (rest : List (List ℕ × ℕ)) → AllByRecursion P (keys_of (front ++ entry ∷ rest)) → P entry.0
-at_middle P [] entry rest all = all.0
-at_middle P (e ∷ front) entry rest all = at_middle P front entry rest all.1
-
-pub front_below : (front : List (List ℕ × ℕ)) (entry : List ℕ × ℕ) (rest : List (List ℕ × ℕ)) → IsFolder (front ++ entry ∷ rest) → AllByRecursion (λ q. name_cmp q entry.0 ≡ Less) (keys_of front)
-unfolding IsStrictlySortedBy
-front_below [] entry rest sorted = tt
-front_below (e ∷ front) entry rest sorted = (at_middle (λ (q : List ℕ). name_cmp e.0 q ≡ Less) front entry rest sorted.0, front_below front entry rest sorted.1)
