@@ -6,6 +6,9 @@ pub mod Alone
 pub mod Stays
 pub mod Least
 pub mod LockLookups
+pub mod PreparedLocks
+pub mod Quiet
+pub mod Told
 pub mod Intentions
 pub mod IntentionLookups
 pub mod Effects
@@ -16,4 +19,5 @@ pub mod Consistent
 pub mod Records
 pub mod FittingReplies
 pub mod Reached
+pub mod Validity
 mod Example

@@ -7,4 +7,6 @@ pub mod Service
 pub mod Serving
 pub mod Fits
 pub mod Consistency
+pub mod Steps
 pub mod Laws
+pub mod ValidCopies

@@ -10,6 +10,9 @@
 //! says more: each reply fits its request ([`Request::fits`]), and Finish, Break, Crash and Return take
 //! no memory, since a Prepare makes the room that its Finish needs.
 //!
+//! What holds of every server, whatever it was asked, are laws: functions that do nothing, whose contract is
+//! the law ([`exclusive_stands_alone`], [`prepared_stands`], [`copies_are_valid`] and others).
+//!
 //! What a caller owes: each server of a service is opened with its own number and the same settings; a
 //! crash is a request like the others, and what it keeps (copies, intentions, prepared locks, verdicts,
 //! audit, stamp) is what has to be kept on stable storage. That a transaction sends its requests in a
@@ -31,9 +34,10 @@ mod store;
 
 pub use effect::finish_keeps_effect;
 pub use laws::{
-    busy_names_the_least, consistency_is_kept, exclusive_stands_alone, intentions_have_locks,
-    locks_rise, prepared_stands, some_server_stands, stores_are_sound, suites_are_few,
-    verdicts_are_written_once,
+    busy_names_the_least, consistency_is_kept, copies_are_valid, exclusive_stands_alone,
+    intentions_have_locks, locks_rise, prepared_by_prepare, prepared_stands,
+    quiet_replies_change_nothing, some_copy_is_changed, some_server_stands, stores_are_sound,
+    suites_are_few, verdicts_are_written_once,
 };
 pub use lock::Lock;
 pub use reply::{LockList, Reply, Verdict};
