@@ -71,8 +71,8 @@ of_others = entry_of Other 0
 closed_canonical : IsCanonical (minimal_list 0)
 closed_canonical =
     AllPairs-cons stands_ahead (entry_of UserObj 0) (of_group ∷ of_others ∷ [])
-      (All-cons (stands_ahead (entry_of UserObj 0)) of_group (of_others ∷ []) refl (All-cons (stands_ahead (entry_of UserObj 0)) of_others [] refl (All-nil (stands_ahead (entry_of UserObj 0)))))
-      (AllPairs-cons stands_ahead of_group (of_others ∷ []) (All-cons (stands_ahead of_group) of_others [] refl (All-nil (stands_ahead of_group))) (AllPairs-cons stands_ahead of_others [] (All-nil (stands_ahead of_others)) (λ i j d below within. absurd (omega arith))))
+    (All-cons (stands_ahead (entry_of UserObj 0)) of_group (of_others ∷ []) refl (All-cons (stands_ahead (entry_of UserObj 0)) of_others [] refl (All-nil (stands_ahead (entry_of UserObj 0)))))
+    (AllPairs-cons stands_ahead of_group (of_others ∷ []) (All-cons (stands_ahead of_group) of_others [] refl (All-nil (stands_ahead of_group))) (AllPairs-cons stands_ahead of_others [] (All-nil (stands_ahead of_others)) (λ i j d below within. absurd (omega arith))))
 
 pub closed_acl : IsAcl (minimal_list 0)
 closed_acl = record {
@@ -131,6 +131,7 @@ module _ (P : Replica → Type 0) where
     where
       same : (a b : ℕ) → (a == b) ≡ true → a ≡ b
       same a b e = grind (arith, nat_tests)
+
       by_part : (suite : ℕ) (intention : Intention) (o : Option Part) → part_of suite parts ≡ o → planned t o (get nat_cmp store.intentions suite) ≡ Some intention → P (left_by intention.take (copy_of store suite))
       by_part suite intention None is was = each.1 suite intention was
       by_part suite intention (Some part) is was =
@@ -206,6 +207,7 @@ fit_opening index given fits = let copies : Bool → List (ℕ × Replica) = λ 
   where
     root : CopyFits (root_copy given)
     root = record { prefix = fits.root; dver = lit< tt; content = empty_fits Folder }
+
     absent : CopyFits (absent_copy given.c0)
     absent = absent_fits given.c0 fits.root.votes fits.root.r fits.root.w
 
@@ -272,7 +274,7 @@ fit_all (first ∷ later) st is fit all = fit_all later (step st first) (consist
 reached_valid : (index : ℕ) (given : Opening) (asked : List (Stamped Request)) → OpeningFits given → All (λ asked. RequestFits asked.value) asked → HasValidCopies (reached index given asked).store
 reached_valid index given asked opens all =
     valid_copies (reached index given asked).store (always_consistent index given asked).sound
-      (fit_all asked (opening index given) (consistent_opening index given) (fit_opening index given opens) (all_has (λ (one : Stamped Request). RequestFits one.value) asked all))
+    (fit_all asked (opening index given) (consistent_opening index given) (fit_opening index given opens) (all_has (λ (one : Stamped Request). RequestFits one.value) asked all))
 
 pub copies_are_valid : CopiesAreValid
 copies_are_valid = record {
