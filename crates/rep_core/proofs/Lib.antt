@@ -10,3 +10,5 @@ mod Stays
 mod Reached
 mod Example
 pub mod Same
+pub mod Changes
+mod Searching

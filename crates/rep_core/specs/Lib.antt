@@ -1,5 +1,6 @@
 pub mod Locks
 pub mod Store
+pub mod Holding
 pub mod StoreFields
 pub mod State
 pub mod ServerFields
@@ -8,3 +9,5 @@ pub mod Serving
 pub mod Fits
 pub mod Laws
 pub mod Equality
+pub mod Given
+pub mod Changing

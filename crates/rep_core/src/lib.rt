@@ -19,10 +19,12 @@
 mod copying;
 mod effect;
 mod fitting;
+mod holdings;
 mod intention;
 mod laws;
 mod lock;
 mod locks;
+mod plan;
 mod reply;
 mod request;
 mod server;
