@@ -7,6 +7,7 @@ pub mod ServerFields
 pub mod Service
 pub mod Serving
 pub mod Fits
+pub mod Consistency
 pub mod Laws
 pub mod Equality
 pub mod Given
