@@ -62,12 +62,12 @@ module _ (t suite : ℕ) where
   p lock = stands_before t suite lock
 
   none_behind : (x : Lock) (ls : List Lock) → p x ≡ false → list_all (before x) ls ≡ true → (has_lock t suite ls ≡ false) × (count_by p ls ≡ 0)
-  none_behind x [] no all = (refl, refl)
-  none_behind x (y ∷ ls) no all =
+  none_behind x [] fails all = (refl, refl)
+  none_behind x (y ∷ ls) fails all =
       let parts = and_parts (before x y) (list_all (before x) ls) all in
-      let rest = none_behind x ls no parts.1 in (
-        (λ i. behind_not_own t suite x y no parts.0 i || rest.0 i),
-        count_cons p y ls ∙ (λ i. cond (behind_not_before t suite x y no parts.0 i) 1 0 + rest.1 i),
+      let rest = none_behind x ls fails parts.1 in (
+        (λ i. behind_not_own t suite x y fails parts.0 i || rest.0 i),
+        count_cons p y ls ∙ (λ i. cond (behind_not_before t suite x y fails parts.0 i) 1 0 + rest.1 i),
       )
 
   -- a transaction has a lock on a suite where the one at its place is it

@@ -8,7 +8,8 @@
 //! `reply_of` and `after` (`specs/Service.antt`); `answer_of`, `served` and `is_full`
 //! (`specs/Serving.antt`) put the stamps round them. The contract of `serve` is these, exactly, and it
 //! says more: each reply fits its request ([`Request::fits`]), and Finish, Break, Crash and Return take
-//! no memory, since a Prepare makes the room that its Finish needs.
+//! no memory, since a Prepare makes the room that its Finish needs. [`Server::serve_then`] gives the reply
+//! to a taker before anything is changed for good: where the taker refuses it, nothing was served.
 //!
 //! What a caller owes: each server of a service is opened with its own number and the same settings; a
 //! crash is a request like the others, and what it keeps (copies, intentions, prepared locks, verdicts,

@@ -84,12 +84,12 @@ impl Server {
         self.held.begin(&change)?;
         let stamp = plan.reply.stamp;
         let told = take(taker, plan.reply);
-        if told.is_ok() {
-            self.held.complete(change);
-            self.held.stamp = stamp;
-        } else {
+        if told.is_err() {
             self.held.take_back(&change);
+            return Ok(told);
         }
+        self.held.complete(change);
+        self.held.stamp = stamp;
         Ok(told)
     }
 

@@ -8,8 +8,10 @@ mod asking;
 
 use self::asking::{Ask, What, add, file, request, server};
 use crate::{
-    Lack, Part, Parts, Reply, Request, Server, Stamped, Take, exclusive_stands_alone,
-    finish_keeps_effect, prepared_stands, some_server_stands,
+    Lack, Part, Parts, Reply, Request, Server, Stamped, Take, busy_names_the_least,
+    consistency_is_kept, exclusive_stands_alone, finish_keeps_effect, intentions_have_locks,
+    locks_rise, prepared_stands, some_server_stands, stores_are_sound, suites_are_few,
+    verdicts_are_written_once,
 };
 use std::process::Abort;
 use suite_prefix::{LockMode, PrefixKind};
@@ -245,8 +247,15 @@ fn no_audit(rt: &impl Abort, server: &Server) {
 fn laws(server: &Server) {
     server.copies_are_sound();
     finish_keeps_effect();
+    consistency_is_kept();
     exclusive_stands_alone();
+    locks_rise();
+    busy_names_the_least();
     prepared_stands();
+    intentions_have_locks();
+    verdicts_are_written_once();
+    stores_are_sound();
+    suites_are_few();
     some_server_stands();
 }
 
