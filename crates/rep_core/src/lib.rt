@@ -8,7 +8,8 @@
 //! `reply_of` and `after` (`specs/Service.antt`); `answer_of`, `served` and `is_full`
 //! (`specs/Serving.antt`) put the stamps round them. The contract of `serve` is these, exactly, and it
 //! says more: each reply fits its request ([`Request::fits`]), and Finish, Break, Crash and Return take
-//! no memory, since a Prepare makes the room that its Finish needs.
+//! no memory, since a Prepare makes the room that its Finish needs. [`Server::serve_then`] gives the reply
+//! to a taker before anything is changed for good: where the taker refuses it, nothing was served.
 //!
 //! What holds of every server, whatever it was asked, are laws: functions that do nothing, whose contract is
 //! the law ([`exclusive_stands_alone`], [`prepared_stands`], [`copies_are_valid`] and others).
@@ -22,10 +23,12 @@
 mod copying;
 mod effect;
 mod fitting;
+mod holdings;
 mod intention;
 mod laws;
 mod lock;
 mod locks;
+mod plan;
 mod reply;
 mod request;
 mod server;
@@ -48,3 +51,5 @@ pub use store::MOST_SUITES;
 
 #[cfg(test)]
 mod tests;
+#[cfg(test)]
+mod uses;
