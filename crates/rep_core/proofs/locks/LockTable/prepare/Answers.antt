@@ -1,6 +1,6 @@
 use Rattle.std.proofs.Common.{ap, ◌∙◌}
 use Rattle.std.proofs.lemmas.List.{with_items_is}
-use Rattle.rep_core.specs.Locks.{rise, with_prepared}
+use Rattle.rep_core.specs.Locks.{rise}
 use Rattle.rep_core.proofs.Rising.{rise_prepared}
 use Rattle.rep_core.proofs.locks.LockTable.prepare.Goals as goal
 

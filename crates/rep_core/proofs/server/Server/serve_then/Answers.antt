@@ -1,4 +1,4 @@
-use Rattle.std.proofs.Common.{◌≡◌, Ok, Err, refl, ap, subst, ◌∙◌}
+use Rattle.std.proofs.Common.{Ok, Err, refl, ap, subst, ◌∙◌}
 use Rattle.std.specs.Prelude.{Result, OnErr}
 use Rattle.rep_core.specs.declared.reply.Reply.{Reply}
 use Rattle.rep_core.specs.declared.stamped.Stamped.{Stamped}
