@@ -4,6 +4,7 @@
 ghost use Rattle.std.specs.Prelude.{◌≡◌, ◌≤◌, ◌<◌, [], length, IsTrue, IfOk, OnOk, find, filter, count_by, not, nat_lt, ◌==◌, ◌&&◌, ◌||◌};
 ghost use Rattle.std.specs.List.{list_any};
 ghost use Rattle.std.specs.Vec.{vec_len, vec_capacity};
+ghost use Rattle.suite_prefix.specs.LockModes.{serves};
 ghost use Rattle.rep_core.specs.Locks as locking;
 
 use crate::lock::Lock;
@@ -142,10 +143,21 @@ pub(crate) fn has_prepared(locks: &[Lock], t: u64) -> bool
 
 /// Whether a transaction has a lock on a part's suite, in the part's mode or a stronger one.
 pub(crate) fn has_lock_for(locks: &[Lock], t: u64, part: &Part) -> bool
+    requires { IsTrue (locking.rise locks.now) }
     ensures { result ≡ locking.has_lock_for t locks.now part.now }
 {
-    let (suite, mode) = (part.suite, part.mode);
-    locks.iter().any(|lock| lock.t == t && lock.suite == suite && lock.mode.serves(mode))
+    let at = place_of(locks, t, part.suite);
+    if at < locks.len() {
+        is_lock_for(&locks[at], t, part)
+    } else {
+        false
+    }
+}
+
+fn is_lock_for(lock: &Lock, t: u64, part: &Part) -> bool
+    ensures { result ≡ (locking.is_own t part.now.suite lock.now && serves lock.now.mode part.now.mode) }
+{
+    is_own(lock, t, part.suite) && lock.mode.serves(part.mode)
 }
 
 /// Sets a lock, for which there is room, or makes the transaction's own one stronger.
@@ -185,11 +197,15 @@ fn is_own(lock: &Lock, t: u64, suite: u64) -> bool
 
 /// Makes the transaction's own lock stronger.
 fn raise(locks: &mut [Lock], t: u64, suite: u64, mode: LockMode)
+    requires { IsTrue (locking.rise locks.old) }
     ensures { locks.new ≡ locking.raised t suite mode locks.old }
 {
-    for lock in locks.iter_mut() {
-        *lock = raised_lock(t, suite, mode, *lock);
+    let at = place_of(locks, t, suite);
+    if at >= locks.len() {
+        return;
     }
+    let lock = locks[at];
+    locks[at] = raised_lock(t, suite, mode, lock);
 }
 
 fn raised_lock(t: u64, suite: u64, mode: LockMode, lock: Lock) -> Lock

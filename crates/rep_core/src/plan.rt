@@ -249,6 +249,7 @@ fn plan_down(request: Request) -> (Reply, Change)
 
 /// Whether a transaction has the lock of each part.
 fn has_locks_for(locks: &[Lock], t: u64, parts: &[Part]) -> bool
+    requires { IsTrue (locking.rise locks.now) }
     ensures { result ≡ list_all (locking.has_lock_for t locks.now) parts.now }
 {
     parts.iter().all(|part| locks::has_lock_for(locks, t, part))
