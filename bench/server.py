@@ -1,7 +1,8 @@
 #!/usr/bin/env python3
 """bench/server.py
 
-Times one server: transactions of four requests with 10, 1,000 and 4,096 copies; verdicts that stand and verdicts that
+Times one server: transactions of four requests with 10, 1,000 and 4,096 copies, and with 10 and 1,000 locks of other
+transactions; verdicts that are refused by who takes the reply, and taken; verdicts that stand and verdicts that
 are newly recorded, with 1,000 and 1,000,000 verdicts there, the new ones of an agent that began late (so that they land
 among the others and not behind them). The figure that counts is how the time of a request grows (the best of five runs).
 
@@ -11,7 +12,7 @@ import sys
 
 import scratch
 
-KINDS = ("copies", "told", "recorded")
+KINDS = ("copies", "locks", "told", "recorded", "refused", "taken")
 
 
 def main():

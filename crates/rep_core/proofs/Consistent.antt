@@ -100,7 +100,7 @@ locked_finish : (st : State) (t : ℕ) (answered : Bool) → IsOrdered nat_cmp s
 locked_finish st t answered rising locks suite intention has =
     let was = get-without t st.store.intentions suite intention rising has in
     beside_later st.locks (released t st.locks) intention.t suite (locks suite intention was.0)
-      (λ l there p is. stands_filter (λ l. not (l.t == t)) st.locks l there p (other_than t intention.t l was.1 is))
+    (λ l there p is. stands_filter (λ l. not (l.t == t)) st.locks l there p (other_than t intention.t l was.1 is))
 
 locked_filter : (st : State) (q : Lock → Bool) → ((l : Lock) → l.prepared ≡ true → q l ≡ true) → (up : Bool) → IntentionsLocked st → IntentionsLocked (record st { locks = filter q st.locks; up = up })
 locked_filter st q spares up locks suite intention has =
@@ -143,6 +143,7 @@ locked_prepare st t parts sees locks suite intention has = by_part (part_of suit
   where
     old : get nat_cmp st.store.intentions suite ≡ Some intention → HasPreparedLock (with_prepared t parts st.locks) intention.t suite
     old was = beside_later st.locks (with_prepared t parts st.locks) intention.t suite (locks suite intention was) (λ l there p _. still_prepared t parts st.locks l there p)
+
     by_part : (o : Option Part) → part_of suite parts ≡ o → planned t o (get nat_cmp st.store.intentions suite) ≡ Some intention → HasPreparedLock (with_prepared t parts st.locks) intention.t suite
     by_part None is was = old was
     by_part (Some part) is was =
@@ -171,10 +172,10 @@ ordered-with_intentions : (t : ℕ) (parts : List Part) (intentions : List (ℕ 
 ordered-with_intentions t [] intentions rising = rising
 ordered-with_intentions t (part ∷ parts) intentions rising =
     ordered-with_intentions t parts (with_intention t part intentions)
-      (elim (is_keep part.take) as (λ b. IsOrdered nat_cmp (cond b intentions (insert nat_cmp intentions part.suite (record { t = t; take = part.take })))) [
-        | true ↦ rising
-        | false ↦ IsOrdered-insert nat_cmp_total intentions part.suite (record { t = t; take = part.take }) rising
-      ])
+    (elim (is_keep part.take) as (λ b. IsOrdered nat_cmp (cond b intentions (insert nat_cmp intentions part.suite (record { t = t; take = part.take })))) [
+      | true ↦ rising
+      | false ↦ IsOrdered-insert nat_cmp_total intentions part.suite (record { t = t; take = part.take }) rising
+    ])
 
 module _ {V : Type 0} (q : ℕ × V → Bool) where
   below-filter : (a : ℕ) (pairs : List (ℕ × V)) → AllByRecursion (λ b. nat_cmp a b ≡ Less) (keys_of pairs) → AllByRecursion (λ b. nat_cmp a b ≡ Less) (keys_of (filter q pairs))

@@ -1,40 +1,131 @@
--- A run after which a server that is down has an exclusive lock that is prepared.
-use Rattle.std.proofs.Common.{true, List, [], ◌∷◌, refl, inl}
+-- A run after which a server has a copy that a transaction changed, and one after which a server that is down has an exclusive lock
+-- that is prepared.
+use Rattle.std.proofs.Common.{true, ◌<◌, List, [], ◌∷◌, ◌++◌, refl, inl, lit<, arith}
+use Rattle.std.specs.List.{IsDistinct}
+use Rattle.std.proofs.lemmas.List.Elements.{All-nil, All-cons}
+use Rattle.acl_core.specs.Modes.{minimal_list}
+use Rattle.vote_core.specs.Quorums.{Representative, Configuration}
+use Rattle.vote_core.specs.declared.TheConstants.{MAX_SERVERS}
+use Rattle.vote_core.specs.Validity.{IsValid}
+use Rattle.suite_prefix.specs.declared.copies.Prefix.{Prefix}
+use Rattle.suite_prefix.specs.declared.copies.PrefixKind.TheVariants.{Folder}
+use Rattle.suite_prefix.specs.Copies.{PrefixFits}
 use Rattle.suite_prefix.specs.SettingsRules.{Opening}
 use Rattle.suite_prefix.specs.declared.lock_mode.LockMode.TheVariants.{Exclusive}
+use Rattle.rep_core.specs.declared.intention.Intention.{Intention}
 use Rattle.rep_core.specs.declared.lock.Lock.{Lock}
-use Rattle.rep_core.specs.declared.request.Take.TheVariants.{Keep}
+use Rattle.rep_core.specs.declared.request.Part.{Part}
+use Rattle.rep_core.specs.declared.request.Take.TheVariants as take
 use Rattle.rep_core.specs.declared.request.Request.{Request}
 use Rattle.rep_core.specs.declared.request.Request.TheVariants as request
+use Rattle.rep_core.specs.declared.reply.Verdict.TheVariants as verdict
 use Rattle.rep_core.specs.declared.stamped.Stamped.{Stamped}
 use Rattle.rep_core.specs.Laws.{reached, SomeServerStands}
+use Rattle.rep_core.specs.ValidCopies.{TakeFits, RequestFits, OpeningFits, SomeCopyIsChanged}
 use Rattle.rep_core.proofs.Members.{contains_from}
+use Rattle.rep_core.proofs.Validity.{closed_acl, nobody}
+
+votes : Configuration
+votes = record { reps = (0, 1) ∷ []; r = 1; w = 1 }
 
 settings : Opening
+unfolding votes
 settings = record {
   servers = 1;
   agents = 1;
-  c0 = record { reps = (0, 1) ∷ []; r = 1; w = 1 };
+  c0 = votes;
   root_owner = 0;
   root_group = 0;
-  root_acl = [];
+  root_acl = minimal_list 0;
   budget = 0;
   quota = 0;
   slots = 0;
 }
 
+polled : Stamped Request
+polled = record { stamp = 0; value = request.Poll 5 0 Exclusive }
+
+-- ---- a copy
+
+valid_votes : IsValid votes
+unfolding votes IsDistinct
+valid_votes = record {
+  some_listed = omega arith;
+  numbered = All-cons (λ (rep : Representative). rep.0 < MAX_SERVERS) (0, 1) [] (lit< tt) (All-nil (λ (rep : Representative). rep.0 < MAX_SERVERS));
+  few_votes = All-cons (λ (rep : Representative). rep.1 < 256) (0, 1) [] (lit< tt) (All-nil (λ (rep : Representative). rep.1 < 256));
+  listed_once = (tt, tt);
+  some_votes = omega arith;
+  r_in_range = (omega arith, omega arith);
+  w_in_range = (omega arith, omega arith);
+  reads_meet_writes = omega arith;
+  writes_meet = omega arith;
+}
+
+next_prefix : Prefix
+unfolding votes
+next_prefix = record { pver = 2; kind = Folder; owner = 0; group = 0; acl = minimal_list 0; votes = votes }
+
+next_fits : PrefixFits next_prefix
+unfolding next_prefix votes
+next_fits = record { acl = closed_acl; votes = valid_votes; pver = lit< tt; owner = lit< tt; group = lit< tt; qualifiers = nobody; r = lit< tt; w = lit< tt }
+
+settings_fit : OpeningFits settings
+unfolding settings votes
+settings_fit = record {
+  accepted = record {
+    some_servers = (omega arith, omega arith);
+    some_agents = (omega arith, omega arith);
+    known_servers = All-cons (λ (rep : Representative). rep.0 < 1) (0, 1) [] (lit< tt) (All-nil (λ (rep : Representative). rep.0 < 1));
+    budget_fits = omega arith;
+    quota_fits = omega arith;
+    slots_fit = omega arith;
+  };
+  root = record { acl = closed_acl; votes = valid_votes; pver = lit< tt; owner = lit< tt; group = lit< tt; qualifiers = nobody; r = lit< tt; w = lit< tt };
+}
+
+new_part : Part
+new_part = record { suite = 0; mode = Exclusive; take = take.Prefix next_prefix }
+
+prepared : Stamped Request
+prepared = record { stamp = 0; value = request.Prepare 5 (new_part ∷ []) }
+
+finished : Stamped Request
+finished = record { stamp = 0; value = request.Finish 5 (verdict.Answered []) }
+
+abbrev fits : Stamped Request → Type 0
+fits asked = RequestFits asked.value
+
+abbrev part_fits : Part → Type 0
+part_fits part = TakeFits part.take
+
+pub some_copy_is_changed : SomeCopyIsChanged
+unfolding votes polled settings next_prefix new_part prepared finished
+some_copy_is_changed = record {
+  index = 0;
+  given = settings;
+  asked = polled ∷ prepared ∷ finished ∷ [];
+  opening_fits = settings_fit;
+  requests_fit = All-cons fits polled (prepared ∷ finished ∷ []) tt (All-cons fits prepared (finished ∷ []) (All-cons part_fits new_part [] next_fits (All-nil part_fits)) (All-cons fits finished [] tt (All-nil fits)));
+  suite = 0;
+  changed = refl;
+}
+
+-- ---- a lock
+
 asked : List (Stamped Request)
-asked =
-    record { stamp = 0; value = request.Poll 5 0 Exclusive }
-    ∷ record { stamp = 0; value = request.Prepare 5 (record { suite = 0; mode = Exclusive; take = Keep } ∷ []) }
-    ∷ record { stamp = 0; value = request.Crash }
-    ∷ []
+asked = polled ∷ prepared ∷ record { stamp = 0; value = request.Resolve 4 } ∷ []
+
+crash : List (Stamped Request)
+crash = record { stamp = 0; value = request.Crash } ∷ []
 
 held : Lock
 held = record { t = 5; suite = 0; mode = Exclusive; prepared = true }
 
+kept : Intention
+kept = record { t = 5; take = take.Prefix next_prefix }
+
 pub some_server_stands : SomeServerStands
-unfolding asked settings held
+unfolding votes next_prefix new_part polled prepared asked crash settings held kept
 some_server_stands = record {
   index = 0;
   given = settings;
@@ -43,5 +134,14 @@ some_server_stands = record {
   there = contains_from (reached 0 settings asked).locks held (inl refl);
   prepared = refl;
   exclusive = refl;
+  intention = kept;
+  intended = contains_from (reached 0 settings asked).store.intentions (0, kept) (inl refl);
+  ended = 4;
+  verdict = verdict.Aborted;
+  recorded = refl;
+  waiting = 7;
+  busy = refl;
+  crash = crash;
+  still_there = contains_from (reached 0 settings (asked ++ crash)).locks held (inl refl);
   down = refl;
 }

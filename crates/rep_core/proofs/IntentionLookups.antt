@@ -76,7 +76,7 @@ get-with_intentions t (part ∷ parts) intentions suite once =
     let both = or_parts (list_any (λ later. later.suite == part.suite) parts) (lists_twice parts) once in
     elim (part.suite == suite) as (λ b. (part.suite == suite) ≡ b → get nat_cmp (with_intentions t parts (with_intention t part intentions)) suite ≡ planned t (cond b (Some part) (part_of suite parts)) (get nat_cmp intentions suite)) [
       | true ↦ λ is. subst (λ suite. get nat_cmp (with_intentions t parts (with_intention t part intentions)) suite ≡ planned t (Some part) (get nat_cmp intentions suite)) (same_suite part.suite suite is)
-        (get_unnamed t parts (with_intention t part intentions) part.suite both.0 ∙ kept_here t part intentions)
+          (get_unnamed t parts (with_intention t part intentions) part.suite both.0 ∙ kept_here t part intentions)
       | false ↦ λ apart. get-with_intentions t parts (with_intention t part intentions) suite both.1 ∙ ap (planned t (part_of suite parts)) (kept_apart t part intentions suite apart)
     ] refl
 

@@ -6,6 +6,9 @@ pub mod Alone
 pub mod Stays
 pub mod Least
 pub mod LockLookups
+pub mod PreparedLocks
+pub mod Quiet
+pub mod Told
 pub mod Intentions
 pub mod IntentionLookups
 pub mod Effects
@@ -16,5 +19,8 @@ pub mod Consistent
 pub mod Records
 pub mod FittingReplies
 pub mod Reached
+pub mod Validity
 mod Example
 pub mod Same
+pub mod Changes
+mod Searching

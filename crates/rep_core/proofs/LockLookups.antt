@@ -43,6 +43,7 @@ one_each t suite (l ∷ ls) up =
   where
     apart : (l x : Lock) → is_own t suite l ≡ true → before l x ≡ true → is_own t suite x ≡ false
     apart l x own is = grind (arith, nat_tests)
+
     none_behind : (l : Lock) (xs : List Lock) → is_own t suite l ≡ true → list_all (before l) xs ≡ true → find (is_own t suite) xs ≡ None
     none_behind l [] own all = refl
     none_behind l (x ∷ xs) own all =
@@ -116,15 +117,19 @@ lock_at-prepared t parts ls u z = find_map (is_own u z) (prepared_lock t parts) 
     none : (b : Bool) → None ≡ cond b (option_map ready None) None
     none true = refl
     none false = refl
+
     or_true : (p : Bool) → (p || true) ≡ true
     or_true true = refl
     or_true false = refl
+
     or_false : (p : Bool) → (p || false) ≡ p
     or_false true = refl
     or_false false = refl
+
     some : (l : Lock) (b : Bool) → Some (record l { prepared = l.prepared || b }) ≡ cond b (Some (ready l)) (Some l)
     some l true = λ i. Some (record l { prepared = or_true l.prepared i })
     some l false = λ i. Some (record l { prepared = or_false l.prepared i })
+
     by : (o : Option Lock) → lock_at u z ls ≡ o → option_map (prepared_lock t parts) o ≡ cond ((u == t) && names z parts) (option_map ready o) o
     by None is = none ((u == t) && names z parts)
     by (Some l) is =
@@ -167,6 +172,7 @@ lock_at-broken t s ls up u z =
     spared : (b : Bool) → not (true && not b) ≡ b
     spared true = refl
     spared false = refl
+
     by : ((u == t) && (z == s)) ≡ true → (o : Option Lock) → lock_at u z ls ≡ o → if_passes (λ l. not (is_own t s l && not l.prepared)) o ≡ if_prepared o
     by e None is = refl
     by e (Some l) is =

@@ -65,7 +65,7 @@ stands_step st asked l has prepared other =
     elim (is_full st asked) as (λ b. is_full st asked ≡ b → Stands (cond b st (served st asked)).locks l) [
       | true ↦ λ _. (l, has, itself l prepared)
       | false ↦ λ none. by_request st (λ request new. (st.up ≡ true → is_finish l.t request ≡ true → ⊥) → Stands new.locks l) (stays_ways st l has prepared) asked.value (room st asked none)
-        (λ up is. not_all (is_finish l.t asked.value) st.up (is_full st asked) other none up is)
+          (λ up is. not_all (is_finish l.t asked.value) st.up (is_full st asked) other none up is)
     ] refl
 
 pub stands_all : (asked : List (Stamped Request)) (st : State) (l : Lock) → Has st.locks l → l.prepared ≡ true → finished_by l.t st asked ≡ false → Stands (after_all st asked).locks l

@@ -126,7 +126,8 @@ SuitesAreFew = (index : ℕ) (given : Opening) (asked : List (Stamped Request)) 
 
 -- ---- the laws speak of something
 
--- some server has an exclusive lock that is prepared, while it is down
+-- some server that is up has an exclusive lock that is prepared, an intention beside it and a verdict, and answers Busy; and once it is
+-- down, the lock is there
 pub record SomeServerStands : Type 0 where
   pub index : ℕ
   pub given : Opening
@@ -135,4 +136,13 @@ pub record SomeServerStands : Type 0 where
   pub there : Contains (reached index given asked).locks lock
   pub prepared : lock.prepared ≡ true
   pub exclusive : is_exclusive lock.mode ≡ true
-  pub down : (reached index given asked).up ≡ false
+  pub intention : Intention
+  pub intended : Contains (reached index given asked).store.intentions (lock.suite, intention)
+  pub ended : ℕ
+  pub verdict : Verdict
+  pub recorded : record_of (reached index given asked) ended ≡ Some verdict
+  pub waiting : ℕ
+  pub busy : reply_of (reached index given asked) (request.Poll waiting lock.suite Exclusive) ≡ reply.Busy lock.t true
+  pub crash : List (Stamped Request)
+  pub still_there : Contains (reached index given (asked ++ crash)).locks lock
+  pub down : (reached index given (asked ++ crash)).up ≡ false

@@ -1,5 +1,6 @@
 pub mod Locks
 pub mod Store
+pub mod Holding
 pub mod StoreFields
 pub mod State
 pub mod ServerFields
@@ -7,5 +8,9 @@ pub mod Service
 pub mod Serving
 pub mod Fits
 pub mod Consistency
+pub mod Steps
 pub mod Laws
+pub mod ValidCopies
 pub mod Equality
+pub mod Given
+pub mod Changing

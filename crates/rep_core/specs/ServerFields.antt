@@ -1,13 +1,13 @@
--- The fields of a `Server` as contracts see them.
-use Rattle.rep_core.specs.declared.server.Server.TheInside.{Inside}
+-- What a server holds, as contracts see it.
+use Rattle.rep_core.specs.declared.holdings.Holdings.{Holdings}
 use Rattle.rep_core.specs.State.{State}
 
-abbrev pub state_of : Inside → State
-state_of fields = record {
-  store = fields.store;
-  locks = fields.locks.items;
-  verdicts = fields.verdicts.entries;
-  audit = fields.audit.items;
-  stamp = fields.stamp;
-  up = fields.up;
+abbrev pub state_of : Holdings → State
+state_of held = record {
+  store = held.store.store;
+  locks = held.locks.locks;
+  verdicts = held.verdicts.entries;
+  audit = held.audit.items;
+  stamp = held.stamp;
+  up = held.up;
 }

@@ -1,6 +1,8 @@
 //! What holds of every server, whatever it was asked.
 
+ghost use Rattle.rep_core.specs.ValidCopies.{CopiesAreValid, SomeCopyIsChanged};
 ghost use Rattle.rep_core.specs.Laws.{ConsistencyIsKept, ExclusiveStandsAlone, LocksRise, BusyNamesTheLeast, PreparedStands, IntentionsHaveLocks, VerdictsAreWrittenOnce, StoresAreSound, SuitesAreFew, SomeServerStands};
+ghost use Rattle.rep_core.specs.Steps.{PreparedByPrepare, QuietRepliesChangeNothing};
 
 /// A law: a server opens consistent, and stays so whatever it is asked: its locks and its copies stand
 /// in their orders, exclusive locks stand alone, each intention stands beside its transaction's prepared
@@ -52,10 +54,32 @@ pub fn stores_are_sound()
     ensures { StoresAreSound }
 {}
 
+/// A law: where the settings and the requests fit their types, every copy that a server has, that is in
+/// effect there, or of which it tells, is a valid copy. It does nothing.
+pub fn copies_are_valid()
+    ensures { CopiesAreValid }
+{}
+
 /// A law: no server that was opened has a copy or an intention of more suites than
 /// [`crate::MOST_SUITES`]. It does nothing.
 pub fn suites_are_few()
     ensures { SuitesAreFew }
+{}
+
+/// A law: a lock becomes prepared by a Prepare of its transaction only. It does nothing.
+pub fn prepared_by_prepare()
+    ensures { PreparedByPrepare }
+{}
+
+/// A law: a server that answers Busy, Lost, Given, Locked or Down stays as it was. It does nothing.
+pub fn quiet_replies_change_nothing()
+    ensures { QuietRepliesChangeNothing }
+{}
+
+/// A law: there is a copy that a transaction changed, at a server whose settings and requests fit their
+/// types, so that the law of valid copies says something. It does nothing.
+pub fn some_copy_is_changed()
+    ensures { SomeCopyIsChanged }
 {}
 
 /// A law: there are servers with such locks, so that the laws above say something. It does nothing.

@@ -8,7 +8,11 @@
 //! `reply_of` and `after` (`specs/Service.antt`); `answer_of`, `served` and `is_full`
 //! (`specs/Serving.antt`) put the stamps round them. The contract of `serve` is these, exactly, and it
 //! says more: each reply fits its request ([`Request::fits`]), and Finish, Break, Crash and Return take
-//! no memory, since a Prepare makes the room that its Finish needs.
+//! no memory, since a Prepare makes the room that its Finish needs. [`Server::serve_then`] gives the reply
+//! to a taker before anything is changed for good: where the taker refuses it, nothing was served.
+//!
+//! What holds of every server, whatever it was asked, are laws: functions that do nothing, whose contract is
+//! the law ([`exclusive_stands_alone`], [`prepared_stands`], [`copies_are_valid`] and others).
 //!
 //! What a caller owes: each server of a service is opened with its own number and the same settings; a
 //! crash is a request like the others, and what it keeps (copies, intentions, prepared locks, verdicts,
@@ -19,10 +23,12 @@
 mod copying;
 mod effect;
 mod fitting;
+mod holdings;
 mod intention;
 mod laws;
 mod lock;
 mod locks;
+mod plan;
 mod reply;
 mod request;
 mod server;
@@ -31,9 +37,10 @@ mod store;
 
 pub use effect::finish_keeps_effect;
 pub use laws::{
-    busy_names_the_least, consistency_is_kept, exclusive_stands_alone, intentions_have_locks,
-    locks_rise, prepared_stands, some_server_stands, stores_are_sound, suites_are_few,
-    verdicts_are_written_once,
+    busy_names_the_least, consistency_is_kept, copies_are_valid, exclusive_stands_alone,
+    intentions_have_locks, locks_rise, prepared_by_prepare, prepared_stands,
+    quiet_replies_change_nothing, some_copy_is_changed, some_server_stands, stores_are_sound,
+    suites_are_few, verdicts_are_written_once,
 };
 pub use lock::Lock;
 pub use reply::{LockList, Reply, Verdict};

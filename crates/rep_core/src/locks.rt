@@ -1,14 +1,107 @@
 //! Searches and changes of a server's locks, which stand in the order of their transactions and, in
 //! one transaction, of their suites.
 
-ghost use Rattle.std.specs.Prelude.{◌≡◌, ◌≤◌, length, IsTrue, OnOk, OnErr, OnSome, find, filter, count_by, not, ◌==◌, ◌&&◌, option_map};
+ghost use Rattle.std.specs.Prelude.{◌≡◌, ◌≤◌, ◌<◌, [], length, IsTrue, IfOk, OnOk, find, filter, count_by, not, nat_lt, ◌==◌, ◌&&◌, ◌||◌};
 ghost use Rattle.std.specs.List.{list_any};
+ghost use Rattle.std.specs.Vec.{vec_len, vec_capacity};
+ghost use Rattle.suite_prefix.specs.LockModes.{serves};
 ghost use Rattle.rep_core.specs.Locks as locking;
 
 use crate::lock::Lock;
 use crate::request::Part;
-use std::alloc::AllocError;
+use std::alloc::{AllocError, Global};
+use std::marker::Model;
 use suite_prefix::LockMode;
+
+/// The locks of a server. It shows how many new ones it takes without memory.
+#[derive(Drop)]
+pub(crate) struct LockTable {
+    locks: Vec<Lock>,
+}
+
+impl Model for LockTable {
+    ghost use Rattle.std.specs.Prelude.{◌-◌, IsTrue};
+    ghost use Rattle.std.specs.Vec.{vec_len, vec_capacity};
+    ghost use Rattle.rep_core.specs.Locks.{rise};
+    ghost use Rattle.rep_core.specs.Holding.{Locking};
+
+    ghost Value = { Locking };
+
+    ghost view = { λ table. record { locks = table.locks.items; room = vec_capacity table.locks - vec_len table.locks } };
+
+    ghost invariant = { λ table. IsTrue (rise table.locks.items) };
+}
+
+impl LockTable {
+    /// No locks.
+    pub(crate) fn new(alloc: Global) -> LockTable
+        ensures { result.locks ≡ [] }
+    {
+        LockTable {
+            locks: Vec::new(alloc),
+        }
+    }
+
+    /// An equal table, but for its room.
+    pub(crate) fn copy(&self) -> Result<LockTable, AllocError>
+        ensures { IfOk result (λ table. table.locks ≡ self.now.locks) }
+    {
+        let locks = Vec::from_slice(*self.locks.allocator(), &self.locks)?;
+        Ok(LockTable { locks })
+    }
+
+    /// The locks.
+    pub(crate) fn as_slice(&self) -> &[Lock]
+        ensures locks { result.now ≡ self.now.locks }
+        ensures rising { IsTrue (locking.rise result.now) }
+    {
+        &self.locks
+    }
+
+    /// Makes room for a new lock.
+    pub(crate) fn make_room(&mut self) -> Result<(), AllocError>
+        ensures ok { OnOk result (0 < self.new.room) }
+        ensures locks { self.new.locks ≡ self.old.locks }
+    {
+        self.locks.reserve(1)
+    }
+
+    /// Sets a lock, for which there is room, or makes the transaction's own one stronger.
+    pub(crate) fn set(&mut self, t: u64, suite: u64, mode: LockMode)
+        requires { 0 < self.old.room }
+        ensures { self.new.locks ≡ locking.locked t suite mode self.old.locks }
+    {
+        set_lock(&mut self.locks, t, suite, mode);
+    }
+
+    /// Makes the transaction's locks on the parts' suites prepared.
+    pub(crate) fn prepare(&mut self, t: u64, parts: &[Part])
+        ensures { self.new.locks ≡ locking.with_prepared t parts.now self.old.locks }
+    {
+        prepare(&mut self.locks, t, parts);
+    }
+
+    /// Lets go all but the prepared locks.
+    pub(crate) fn keep_prepared(&mut self)
+        ensures { self.new.locks ≡ locking.prepared_locks self.old.locks }
+    {
+        self.locks.retain(|lock| lock.prepared);
+    }
+
+    /// Lets a transaction's locks go.
+    pub(crate) fn release(&mut self, t: u64)
+        ensures { self.new.locks ≡ locking.released t self.old.locks }
+    {
+        self.locks.retain(|lock| lock.t != t);
+    }
+
+    /// Lets a lock go that is not prepared.
+    pub(crate) fn break_lock(&mut self, t: u64, suite: u64)
+        ensures { self.new.locks ≡ locking.broken t suite self.old.locks }
+    {
+        self.locks.retain(|lock| !(lock.t == t && lock.suite == suite && !lock.prepared));
+    }
+}
 
 /// The lock of the least transaction that stands in the way of a lock in this mode.
 pub(crate) fn in_the_way(locks: &[Lock], t: u64, suite: u64, mode: LockMode) -> Option<Lock>
@@ -30,9 +123,15 @@ fn conflicts(t: u64, suite: u64, mode: LockMode, lock: &Lock) -> bool
 
 /// Whether a transaction has a lock on a suite.
 pub(crate) fn has_lock(locks: &[Lock], t: u64, suite: u64) -> bool
+    requires { IsTrue (locking.rise locks.now) }
     ensures { result ≡ locking.has_lock t suite locks.now }
 {
-    locks.iter().any(|lock| lock.t == t && lock.suite == suite)
+    let at = place_of(locks, t, suite);
+    if at < locks.len() {
+        is_own(&locks[at], t, suite)
+    } else {
+        false
+    }
 }
 
 /// Whether a transaction has a prepared lock.
@@ -44,26 +143,32 @@ pub(crate) fn has_prepared(locks: &[Lock], t: u64) -> bool
 
 /// Whether a transaction has a lock on a part's suite, in the part's mode or a stronger one.
 pub(crate) fn has_lock_for(locks: &[Lock], t: u64, part: &Part) -> bool
+    requires { IsTrue (locking.rise locks.now) }
     ensures { result ≡ locking.has_lock_for t locks.now part.now }
 {
-    let (suite, mode) = (part.suite, part.mode);
-    locks.iter().any(|lock| lock.t == t && lock.suite == suite && lock.mode.serves(mode))
+    let at = place_of(locks, t, part.suite);
+    if at < locks.len() {
+        is_lock_for(&locks[at], t, part)
+    } else {
+        false
+    }
 }
 
-/// Sets a lock, or makes the transaction's own one stronger.
-pub(crate) fn set_lock(
-    locks: &mut Vec<Lock>,
-    t: u64,
-    suite: u64,
-    mode: LockMode,
-) -> Result<(), AllocError>
-    requires { IsTrue (locking.rise locks.old.items) }
-    ensures ok { OnOk result (locks.new.items ≡ locking.locked t suite mode locks.old.items) }
-    ensures err { OnErr result (locks.new.items ≡ locks.old.items) }
+fn is_lock_for(lock: &Lock, t: u64, part: &Part) -> bool
+    ensures { result ≡ (locking.is_own t part.now.suite lock.now && serves lock.now.mode part.now.mode) }
+{
+    is_own(lock, t, part.suite) && lock.mode.serves(part.mode)
+}
+
+/// Sets a lock, for which there is room, or makes the transaction's own one stronger.
+fn set_lock(locks: &mut Vec<Lock>, t: u64, suite: u64, mode: LockMode)
+    requires rising { IsTrue (locking.rise locks.old.items) }
+    requires room { vec_len locks.old < vec_capacity locks.old }
+    ensures { locks.new.items ≡ locking.locked t suite mode locks.old.items }
 {
     if has_lock(locks, t, suite) {
         raise(locks, t, suite, mode);
-        return Ok(());
+        return;
     }
     let new = Lock {
         t,
@@ -71,35 +176,36 @@ pub(crate) fn set_lock(
         mode,
         prepared: false,
     };
-    let at = place_of(locks, &new);
-    locks.insert(at, new)?;
-    Ok(())
+    let at = place_of(locks, t, suite);
+    locks.insert(at, new).unwrap();
 }
 
-/// How many locks stand before a new one.
-fn place_of(locks: &[Lock], lock: &Lock) -> usize
-    ensures place { result ≡ count_by (λ other. locking.before other lock.now) locks.now }
+/// How many locks stand before a transaction's lock on a suite: where it is, or would be.
+fn place_of(locks: &[Lock], t: u64, suite: u64) -> usize
+    requires { IsTrue (locking.rise locks.now) }
+    ensures place { result ≡ count_by (λ lock. nat_lt lock.t t || ((lock.t == t) && nat_lt lock.suite suite)) locks.now }
     ensures within { result ≤ length locks.now }
 {
-    locks
-        .iter()
-        .filter(|other| stands_before(other, lock))
-        .count()
+    locks.partition_point(|lock| lock.t < t || lock.t == t && lock.suite < suite)
 }
 
-fn stands_before(one: &Lock, other: &Lock) -> bool
-    ensures { result ≡ locking.before one.now other.now }
+fn is_own(lock: &Lock, t: u64, suite: u64) -> bool
+    ensures { result ≡ locking.is_own t suite lock.now }
 {
-    one.t < other.t || one.t == other.t && one.suite < other.suite
+    lock.t == t && lock.suite == suite
 }
 
 /// Makes the transaction's own lock stronger.
 fn raise(locks: &mut [Lock], t: u64, suite: u64, mode: LockMode)
+    requires { IsTrue (locking.rise locks.old) }
     ensures { locks.new ≡ locking.raised t suite mode locks.old }
 {
-    for lock in locks.iter_mut() {
-        *lock = raised_lock(t, suite, mode, *lock);
+    let at = place_of(locks, t, suite);
+    if at >= locks.len() {
+        return;
     }
+    let lock = locks[at];
+    locks[at] = raised_lock(t, suite, mode, lock);
 }
 
 fn raised_lock(t: u64, suite: u64, mode: LockMode, lock: Lock) -> Lock
@@ -116,7 +222,7 @@ fn raised_lock(t: u64, suite: u64, mode: LockMode, lock: Lock) -> Lock
 }
 
 /// Makes the transaction's locks on the parts' suites prepared.
-pub(crate) fn prepare(locks: &mut [Lock], t: u64, parts: &[Part])
+fn prepare(locks: &mut [Lock], t: u64, parts: &[Part])
     ensures { locks.new ≡ locking.with_prepared t parts.now locks.old }
 {
     for lock in locks.iter_mut() {
@@ -138,25 +244,4 @@ fn is_named(parts: &[Part], suite: u64) -> bool
     ensures { result ≡ list_any (λ part. part.suite == suite) parts.now }
 {
     parts.iter().any(|part| part.suite == suite)
-}
-
-/// Lets go all but the prepared locks.
-pub(crate) fn keep_prepared(locks: &mut Vec<Lock>)
-    ensures { locks.new.items ≡ locking.prepared_locks locks.old.items }
-{
-    locks.retain(|lock| lock.prepared);
-}
-
-/// Lets a transaction's locks go.
-pub(crate) fn release(locks: &mut Vec<Lock>, t: u64)
-    ensures { locks.new.items ≡ locking.released t locks.old.items }
-{
-    locks.retain(|lock| lock.t != t);
-}
-
-/// Lets a lock go that is not prepared.
-pub(crate) fn break_lock(locks: &mut Vec<Lock>, t: u64, suite: u64)
-    ensures { locks.new.items ≡ locking.broken t suite locks.old.items }
-{
-    locks.retain(|lock| !(lock.t == t && lock.suite == suite && !lock.prepared));
 }

@@ -9,14 +9,11 @@ ghost use Rattle.vote_core.specs.Quorums.{Configuration};
 ghost use Rattle.suite_prefix.specs.declared.copies.Replica.{Replica};
 ghost use Rattle.suite_prefix.specs.Absent.{absent_copy};
 ghost use Rattle.rep_core.specs.declared.intention.Intention.{Intention};
-ghost use Rattle.rep_core.specs.Locks.{with_prepared};
 ghost use Rattle.rep_core.specs.Service.{held, given};
 ghost use Rattle.rep_core.specs.Store as store;
 
 use crate::copying::copied;
 use crate::intention::Intention;
-use crate::lock::Lock;
-use crate::locks::prepare;
 use crate::reply::Reply;
 use crate::request::{Part, Take};
 use sorted_map::RoomyMap;
@@ -33,7 +30,8 @@ pub const MOST_SUITES: usize = 4_096;
 const ROOT: u64 = 0;
 
 /// The copies and the intentions of a server, by suite, with room for the copies that the intentions
-/// will be; and the prefix of what was never made.
+/// will be; and the prefix of what was never made. It shows how many more intentions it takes without
+/// memory.
 #[derive(Drop)]
 pub(crate) struct Store {
     alloc: Global,
@@ -45,12 +43,13 @@ pub(crate) struct Store {
 impl Model for Store {
     ghost use Rattle.std.specs.Prelude.{◌≡◌, ◌≤◌, length};
     ghost use Rattle.suite_prefix.specs.Absent.{absent_prefix};
-    ghost use Rattle.rep_core.specs.Store.{Store, IsSound};
-    ghost use Rattle.rep_core.specs.StoreFields.{store_of};
+    ghost use Rattle.rep_core.specs.Store.{IsSound};
+    ghost use Rattle.rep_core.specs.Holding.{Storing};
+    ghost use Rattle.rep_core.specs.StoreFields.{store_of, storing_of};
 
-    ghost Value = { Store };
+    ghost Value = { Storing };
 
-    ghost view = { store_of };
+    ghost view = { storing_of };
 
     ghost invariant = { λ fields. (fields.absent ≡ absent_prefix fields.absent.votes) × (length fields.intentions.pairs ≤ fields.copies.room) × IsSound (store_of fields) };
 }
@@ -63,7 +62,7 @@ impl Store {
         index: u8,
         settings: &Settings,
     ) -> Result<Store, AllocError>
-        ensures { IfOk result (λ made. made ≡ store.opening_store index settings.now) }
+        ensures { IfOk result (λ made. made.store ≡ store.opening_store index settings.now) }
     {
         let mut copies = RoomyMap::new(alloc);
         if is_representative(settings.c0(), index) {
@@ -81,14 +80,14 @@ impl Store {
 
     /// A law: each copy is sound, and so is what each intention leaves of it. It does nothing.
     pub(crate) fn sound(&self)
-        ensures { store.IsSound self.now }
+        ensures { store.IsSound self.now.store }
     {
         let _ = &self.absent;
     }
 
     /// An equal store.
     pub(crate) fn copy(&self) -> Result<Store, AllocError>
-        ensures { IfOk result (λ made. made ≡ self.now) }
+        ensures { IfOk result (λ made. made.store ≡ self.now.store) }
     {
         let intentions = copied(self.alloc, self.intentions.as_slice())?;
         let mut copies = copied(self.alloc, self.copies.as_slice())?;
@@ -104,7 +103,7 @@ impl Store {
 
     /// That a suite is held: the prefix of its copy, and the version of the content.
     pub(crate) fn held(&self, suite: u64) -> Result<Reply, AllocError>
-        ensures { IfOk result (λ reply. reply ≡ held (store.copy_of self.now suite)) }
+        ensures { IfOk result (λ reply. reply ≡ held (store.copy_of self.now.store suite)) }
     {
         match self.copies.get(&suite) {
             Some(copy) => {
@@ -123,7 +122,7 @@ impl Store {
 
     /// The content of a suite's copy, and its version.
     pub(crate) fn given(&self, suite: u64) -> Result<Reply, AllocError>
-        ensures { IfOk result (λ reply. reply ≡ given (store.copy_of self.now suite)) }
+        ensures { IfOk result (λ reply. reply ≡ given (store.copy_of self.now.store suite)) }
     {
         match self.copies.get(&suite) {
             Some(copy) => {
@@ -142,14 +141,14 @@ impl Store {
 
     /// Whether a part may be prepared.
     pub(crate) fn is_sound_part(&self, part: &Part) -> bool
-        ensures { result ≡ store.is_sound_part self.now part.now }
+        ensures { result ≡ store.is_sound_part self.now.store part.now }
     {
         (is_keep(&part.take) || part.mode.is_exclusive()) && self.goes_with(part.suite, &part.take)
     }
 
     /// Whether what is taken goes with the copy of a suite.
     fn goes_with(&self, suite: u64, what: &Take) -> bool
-        ensures { result ≡ store.goes_with what.now (store.copy_of self.now suite) }
+        ensures { result ≡ store.goes_with what.now (store.copy_of self.now.store suite) }
     {
         match what {
             Take::Keep => true,
@@ -164,7 +163,7 @@ impl Store {
 
     /// The kind of a suite's copy.
     fn kind_of(&self, suite: u64) -> PrefixKind
-        ensures { result ≡ (store.copy_of self.now suite).prefix.kind }
+        ensures { result ≡ (store.copy_of self.now.store suite).prefix.kind }
     {
         match self.copies.get(&suite) {
             Some(copy) => copy.prefix.kind,
@@ -175,15 +174,15 @@ impl Store {
     /// Whether the intentions of a Prepare are too much.
     pub(crate) fn overfills(&self, parts: &[Part]) -> bool
         requires { store.lists_twice parts.now ≡ false }
-        ensures { (t : ℕ) → result ≡ store.overfills t self.now parts.now }
+        ensures { (t : ℕ) → result ≡ store.overfills t self.now.store parts.now }
     {
         any_holds_last(parts) || self.suites_with(parts) > MOST_SUITES
     }
 
     /// How many suites have a copy or an intention, and how many parts take another.
     fn suites_with(&self, parts: &[Part]) -> usize
-        ensures rising { IsOrdered nat_cmp self.now.intentions }
-        ensures count { result ≡ min (store.suites_with self.now + count_by (λ part. not (store.is_keep part.take) && not (store.has_copy self.now part.suite) && not (is_some (get nat_cmp self.now.intentions part.suite))) parts.now) usize.MAX }
+        ensures rising { IsOrdered nat_cmp self.now.store.intentions }
+        ensures count { result ≡ min (store.suites_with self.now.store + count_by (λ part. not (store.is_keep part.take) && not (store.has_copy self.now.store part.suite) && not (is_some (get nat_cmp self.now.store.intentions part.suite))) parts.now) usize.MAX }
     {
         let planned = self.intentions.as_slice();
         let without_copy = planned
@@ -199,39 +198,36 @@ impl Store {
 
     /// Whether a part takes a suite of which there is neither a copy nor an intention.
     fn takes_new(&self, part: &Part) -> bool
-        ensures { result ≡ (not (store.is_keep part.now.take) && not (store.has_copy self.now part.now.suite) && not (is_some (get nat_cmp self.now.intentions part.now.suite))) }
+        ensures { result ≡ (not (store.is_keep part.now.take) && not (store.has_copy self.now.store part.now.suite) && not (is_some (get nat_cmp self.now.store.intentions part.now.suite))) }
     {
         !is_keep(&part.take)
             && !self.copies.contains_key(&part.suite)
             && !self.intentions.contains_key(&part.suite)
     }
 
-    /// Keeps the intentions of a Prepare, makes room for the copies that they will be, and makes the
-    /// transaction's locks on the parts' suites prepared.
-    pub(crate) fn intend(
-        &mut self,
-        locks: &mut [Lock],
-        t: u64,
-        parts: Vec<Part>,
-    ) -> Result<(), AllocError>
-        requires sound { list_all (store.is_sound_part self.old) parts.items ≡ true }
-        requires few { store.overfills t self.old parts.items ≡ false }
-        ensures ok { OnOk result (self.new ≡ store.intended t parts.items self.old) }
-        ensures locks { OnOk result (locks.new ≡ with_prepared t parts.items locks.old) }
-        ensures err { OnErr result (self.new ≡ self.old) }
-        ensures locks_stay { OnErr result (locks.new ≡ locks.old) }
+    /// Makes room for the intentions of a Prepare, and for the copies that they will be.
+    pub(crate) fn make_room(&mut self, parts: &[Part]) -> Result<(), AllocError>
+        ensures ok { OnOk result (length parts.now ≤ self.new.room) }
+        ensures store { self.new.store ≡ self.old.store }
     {
         self.copies
             .reserve(self.intentions.as_slice().len() + parts.len())?;
-        self.intentions.reserve(parts.len())?;
-        prepare(locks, t, &parts);
+        self.intentions.reserve(parts.len())
+    }
+
+    /// Keeps the intentions of a Prepare, for which there is room.
+    pub(crate) fn intend(&mut self, t: u64, parts: Vec<Part>)
+        requires sound { list_all (store.is_sound_part self.old.store) parts.items ≡ true }
+        requires few { store.overfills t self.old.store parts.items ≡ false }
+        requires room { length parts.items ≤ self.old.room }
+        ensures { self.new.store ≡ store.intended t parts.items self.old.store }
+    {
         keep_all(&mut self.intentions, t, parts);
-        Ok(())
     }
 
     /// Lets the intentions of a transaction go. Where it was answered they become copies.
     pub(crate) fn finish(&mut self, t: u64, answered: bool)
-        ensures { self.new ≡ store.finished t answered self.old }
+        ensures { self.new.store ≡ store.finished t answered self.old.store }
     {
         if answered {
             install(self.alloc, &mut self.copies, &mut self.intentions, t);

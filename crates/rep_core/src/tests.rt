@@ -1,201 +1,77 @@
 //! A server as its users meet it: a run of requests with their replies and stamps, a Prepare that is
-//! lost for each cause, and a server with no place left.
+//! lost for each cause, a reply that its taker refuses, and a server with no place left.
 //!
 //! A request that memory was refused to is made again, so that each allocation can be refused in turn.
+//! What a test itself lacks stops it.
 
+mod asking;
+
+use self::asking::{Ask, What, add, file, request, server};
 use crate::{
-    Decision, Lack, Part, Parts, Reply, Request, Server, Stamped, Take, Verdict,
-    exclusive_stands_alone, finish_keeps_effect, prepared_stands, some_server_stands,
+    Lack, Part, Parts, Reply, Request, Server, Stamped, Take, busy_names_the_least,
+    consistency_is_kept, copies_are_valid, exclusive_stands_alone, finish_keeps_effect,
+    intentions_have_locks, locks_rise, prepared_by_prepare, prepared_stands,
+    quiet_replies_change_nothing, some_copy_is_changed, some_server_stands, stores_are_sound,
+    suites_are_few, verdicts_are_written_once,
 };
-use acl_core::{Acl, Decider, Perms};
-use file_ops::{Answers, Denial, Refusal, Why};
-use std::alloc::Global;
 use std::process::Abort;
-use std::test::Fail;
-use suite_content::{Content, FileBytes};
-use suite_prefix::{LockMode, Prefix, PrefixKind, Replica, Settings};
-use vote_core::Votes;
-
-/// The list of a mode.
-fn list(alloc: Global, bits: u16) -> Result<Acl, Fail> {
-    let mode = acl_core::Mode::new(bits).ok_or("a mode")?;
-    Ok(Acl::from_mode(alloc, mode)?)
-}
-
-/// One vote each for servers 0 to 2.
-fn votes() -> Result<Votes, Fail> {
-    let made = Votes::new(3, &[(0, 1), (1, 1), (2, 1)], 2, 2);
-    Ok(made.ok().ok_or("votes")?)
-}
-
-/// Server 0 of three.
-fn server(alloc: Global) -> Result<Server, Fail> {
-    let acl = list(alloc, 0o777)?;
-    let made = Settings::new(3, 2, votes()?, 1000, 100, acl, 0, 0, 0);
-    let settings = made.ok().ok_or("settings")?;
-    Ok(Server::opening(alloc, 0, &settings)?)
-}
-
-/// A prefix of this version and kind.
-fn prefix(alloc: Global, pver: u64, kind: PrefixKind) -> Result<Prefix, Fail> {
-    Ok(Prefix {
-        pver,
-        kind,
-        owner: 1000,
-        group: 100,
-        acl: list(alloc, 0o644)?,
-        votes: votes()?,
-    })
-}
-
-/// A file of these versions, with one byte where the content has a version.
-fn file(alloc: Global, pver: u64, dver: u64) -> Result<Replica, Fail> {
-    let bytes: &[u8] = if dver == 0 { &[] } else { &[7] };
-    Ok(Replica {
-        prefix: prefix(alloc, pver, PrefixKind::File)?,
-        dver,
-        content: Content::Bytes(FileBytes::from_slice(alloc, bytes)?),
-    })
-}
-
-/// What a transaction takes, in a word.
-#[derive(Clone, Copy, Debug, PartialEq, Eq)]
-enum What {
-    Keep,
-    /// A prefix of this version and kind.
-    Prefix(u64, PrefixKind),
-    /// A file of these versions.
-    File(u64, u64),
-}
-
-/// A request, in a word. Decide, Finish and Prepare have one form each here.
-#[derive(Clone, Copy, Debug, PartialEq, Eq)]
-enum Ask {
-    Poll(u64, u64, LockMode),
-    Upgrade(u64, u64),
-    Fetch(u64, u64),
-    Prepare(u64, u64, LockMode, What),
-    /// A Prepare that lists a suite twice, to keep it.
-    Twice(u64, u64),
-    Answer(u64),
-    Deny(u64),
-    Resolve(u64),
-    Finish(u64, bool),
-    Break(u64, u64),
-    Locks,
-    Crash,
-    Return,
-}
-
-fn take(alloc: Global, what: What) -> Result<Take, Fail> {
-    match what {
-        What::Keep => Ok(Take::Keep),
-        What::Prefix(pver, kind) => Ok(Take::Prefix(prefix(alloc, pver, kind)?)),
-        What::File(pver, dver) => Ok(Take::Whole(file(alloc, pver, dver)?)),
-    }
-}
-
-fn parts(alloc: Global, suite: u64, mode: LockMode, what: What) -> Result<Parts, Fail> {
-    let mut parts = Vec::new(alloc);
-    let take = take(alloc, what)?;
-    parts.push(Part { suite, mode, take })?;
-    Ok(Parts::from_vec(parts))
-}
-
-fn twice(alloc: Global, suite: u64) -> Result<Parts, Fail> {
-    let mut parts = Vec::new(alloc);
-    for _ in 0..2 {
-        let (mode, take) = (LockMode::Shared, Take::Keep);
-        parts.push(Part { suite, mode, take })?;
-    }
-    Ok(Parts::from_vec(parts))
-}
-
-/// The refusal of user 2000 at operation 1.
-fn denial() -> Refusal {
-    let denial = Denial {
-        suite: 1,
-        wanted: Perms::READ,
-        decider: Decider::Other,
-    };
-    Refusal {
-        op: 1,
-        why: Why::Denied(denial),
-    }
-}
-
-fn decision(alloc: Global, denied: bool) -> Result<Decision, Fail> {
-    if denied {
-        return Ok(Decision::Refused {
-            uid: 2000,
-            refusal: denial(),
-        });
-    }
-    Ok(Decision::Answered(Answers::from_vec(Vec::new(alloc))?))
-}
-
-fn verdict(alloc: Global, answered: bool) -> Result<Verdict, Fail> {
-    if answered {
-        return Ok(Verdict::Answered(Answers::from_vec(Vec::new(alloc))?));
-    }
-    Ok(Verdict::Aborted)
-}
-
-fn request(alloc: Global, ask: Ask) -> Result<Request, Fail> {
-    Ok(match ask {
-        Ask::Poll(t, suite, mode) => Request::Poll { t, suite, mode },
-        Ask::Upgrade(t, suite) => Request::Upgrade { t, suite },
-        Ask::Fetch(t, suite) => Request::Fetch { t, suite },
-        Ask::Prepare(t, suite, mode, what) => {
-            let parts = parts(alloc, suite, mode, what)?;
-            Request::Prepare { t, parts }
-        }
-        Ask::Twice(t, suite) => {
-            let parts = twice(alloc, suite)?;
-            Request::Prepare { t, parts }
-        }
-        Ask::Answer(t) => {
-            let decision = decision(alloc, false)?;
-            Request::Decide { t, decision }
-        }
-        Ask::Deny(t) => {
-            let decision = decision(alloc, true)?;
-            Request::Decide { t, decision }
-        }
-        Ask::Resolve(t) => Request::Resolve { t },
-        Ask::Finish(t, answered) => {
-            let verdict = verdict(alloc, answered)?;
-            Request::Finish { t, verdict }
-        }
-        Ask::Break(t, suite) => Request::Break { t, suite },
-        Ask::Locks => Request::Locks,
-        Ask::Crash => Request::Crash,
-        Ask::Return => Request::Return,
-    })
-}
+use suite_prefix::{LockMode, PrefixKind};
 
 /// What is answered, in words.
-fn words(alloc: Global, outcome: &Result<Stamped<Reply>, Lack>) -> Result<String, Fail> {
-    let reply = match outcome {
-        Ok(reply) => reply,
-        Err(lack) => return Ok(format!(in alloc; "{lack:?}")?),
-    };
-    let stamp = reply.stamp;
-    Ok(match &reply.value {
+fn words(rt: &(impl Abort + AllocGlobal), outcome: &Result<Stamped<Reply>, Lack>) -> String {
+    match outcome {
+        Ok(reply) => reply_words(rt, reply.stamp, &reply.value),
+        Err(lack) => format!(in rt.alloc(); "{lack:?}").expect(rt, "memory"),
+    }
+}
+
+fn reply_words(rt: &(impl Abort + AllocGlobal), stamp: u64, reply: &Reply) -> String {
+    let made = match reply {
         Reply::Held { prefix, dver } => {
             let (kind, pver) = (prefix.kind, prefix.pver);
-            format!(in alloc; "{stamp}: Held {kind:?} {pver} {dver}")?
+            format!(in rt.alloc(); "{stamp}: Held {kind:?} {pver} {dver}")
         }
         Reply::Busy { holder, prepared } => {
-            format!(in alloc; "{stamp}: Busy {holder} {prepared}")?
+            format!(in rt.alloc(); "{stamp}: Busy {holder} {prepared}")
         }
-        Reply::Given { dver, content } => format!(in alloc; "{stamp}: Given {dver} {content:?}")?,
+        Reply::Given { dver, content } => {
+            format!(in rt.alloc(); "{stamp}: Given {dver} {content:?}")
+        }
         Reply::Locked(locks) => {
             let count = locks.as_slice().len();
-            format!(in alloc; "{stamp}: Locked {count}")?
+            format!(in rt.alloc(); "{stamp}: Locked {count}")
         }
-        other => format!(in alloc; "{stamp}: {other:?}")?,
-    })
+        other => format!(in rt.alloc(); "{stamp}: {other:?}"),
+    };
+    made.expect(rt, "memory")
+}
+
+/// Compares two texts.
+fn same(rt: &impl Abort, got: &str, want: &str) {
+    assert_eq!(rt; got, want);
+}
+
+/// The reply fits its request.
+fn fits(rt: &impl Abort, request: &Request, outcome: &Result<Stamped<Reply>, Lack>) {
+    if let Ok(reply) = outcome {
+        assert!(rt; request.fits(&reply.value));
+    }
+}
+
+/// Serves a request, and once more where memory was refused to it.
+fn served(
+    rt: &(impl Abort + AllocGlobal),
+    server: &mut Server,
+    stamp: u64,
+    ask: Ask,
+) -> Result<Stamped<Reply>, Lack> {
+    let value = request(rt, ask);
+    let outcome = server.serve(Stamped { stamp, value });
+    if let Err(Lack::Memory) = outcome {
+        let value = request(rt, ask);
+        return server.serve(Stamped { stamp, value });
+    }
+    outcome
 }
 
 /// Serves a request that comes with a stamp, and compares what is answered. What memory was refused to
@@ -206,34 +82,20 @@ fn expect_at(
     stamp: u64,
     ask: Ask,
     want: &str,
-) -> Result<(), Fail> {
-    let alloc = rt.alloc();
-    let value = request(alloc, ask)?;
-    let mut outcome = server.serve(Stamped { stamp, value });
-    let again = request(alloc, ask)?;
-    if let Err(Lack::Memory) = outcome {
-        outcome = server.serve(Stamped {
-            stamp,
-            value: again,
-        });
-    } else if let Ok(reply) = &outcome {
-        let fits = again.fits(&reply.value);
-        assert!(rt; fits, "the reply to {ask:?}");
-    }
-    let got = words(alloc, &outcome)?;
-    assert_eq!(rt; got.as_str(), want, "to {ask:?}");
-    Ok(())
+) {
+    let outcome = served(rt, server, stamp, ask);
+    fits(rt, &request(rt, ask), &outcome);
+    same(rt, words(rt, &outcome).as_str(), want);
 }
 
 /// A request with the stamp that it comes with, and what is answered.
 struct Step(u64, Ask, &'static str);
 
 /// Asks one request after the other.
-fn play(rt: &(impl Abort + AllocGlobal), server: &mut Server, steps: &[Step]) -> Result<(), Fail> {
+fn play(rt: &(impl Abort + AllocGlobal), server: &mut Server, steps: &[Step]) {
     for Step(stamp, ask, want) in steps {
-        expect_at(rt, server, *stamp, *ask, want)?;
+        expect_at(rt, server, *stamp, *ask, want);
     }
-    Ok(())
 }
 
 const SHARED: LockMode = LockMode::Shared;
@@ -261,9 +123,9 @@ const RUN: [Step; 17] = [
 ];
 
 #[test]
-fn requests_are_answered_with_their_stamps(rt: HostRuntime) -> Result<(), Fail> {
-    let mut server = server(rt.alloc())?;
-    play(&rt, &mut server, &RUN)
+fn requests_are_answered_with_their_stamps(rt: HostRuntime) {
+    let mut server = server(&rt);
+    play(&rt, &mut server, &RUN);
 }
 
 const NEW_FILE: What = What::File(1, 1);
@@ -305,9 +167,9 @@ const CHANGES: [Step; 17] = [
 ];
 
 #[test]
-fn a_prepared_change_takes_effect_at_its_finish(rt: HostRuntime) -> Result<(), Fail> {
-    let mut server = server(rt.alloc())?;
-    play(&rt, &mut server, &CHANGES)
+fn a_prepared_change_takes_effect_at_its_finish(rt: HostRuntime) {
+    let mut server = server(&rt);
+    play(&rt, &mut server, &CHANGES);
 }
 
 const NEXT_FOLDER: What = What::Prefix(2, PrefixKind::Folder);
@@ -338,11 +200,11 @@ const LOST: [Step; 12] = [
 ];
 
 #[test]
-fn a_prepare_is_lost_for_each_cause(rt: HostRuntime) -> Result<(), Fail> {
-    let mut server = server(rt.alloc())?;
-    play(&rt, &mut server, &LOST)?;
+fn a_prepare_is_lost_for_each_cause(rt: HostRuntime) {
+    let mut server = server(&rt);
+    play(&rt, &mut server, &LOST);
     let ask = Ask::Prepare(5, 0, EXCLUSIVE, NEXT_FOLDER);
-    expect_at(&rt, &mut server, 0, ask, "12: Prepared")
+    expect_at(&rt, &mut server, 0, ask, "12: Prepared");
 }
 
 const DENIED: [Step; 5] = [
@@ -361,42 +223,68 @@ const DENIED: [Step; 5] = [
     Step(0, Ask::Return, "5: Done"),
 ];
 
-/// What is answered to the same request by `answer` and by `serve`.
-fn told_and_served(alloc: Global, server: &mut Server, ask: Ask) -> Result<(String, String), Fail> {
-    let value = request(alloc, ask)?;
-    let asked = Stamped { stamp: 0, value };
-    let told = server.answer(&asked);
-    let told = words(alloc, &told)?;
-    let served = server.serve(asked);
-    Ok((told, words(alloc, &served)?))
+/// What is answered to the same request by `answer` and by `serve` is the same.
+fn told_is_served(rt: &(impl Abort + AllocGlobal), server: &mut Server, ask: Ask) {
+    let value = request(rt, ask);
+    let told = words(rt, &server.answer(Stamped { stamp: 0, value }));
+    let value = request(rt, ask);
+    let served = words(rt, &server.serve(Stamped { stamp: 0, value }));
+    same(rt, told.as_str(), served.as_str());
 }
 
-#[test]
-fn a_denial_is_kept_once(rt: HostRuntime) -> Result<(), Fail> {
-    let alloc = rt.alloc();
-    let mut server = server(alloc)?;
-    play(&rt, &mut server, &DENIED)?;
-    assert!(rt; server.audit().is_empty());
-    let (told, served) = told_and_served(alloc, &mut server, Ask::Deny(6))?;
-    assert_eq!(rt; told, served);
-    let copy = server.copy()?;
-    expect_at(
-        &rt,
-        &mut server,
-        0,
-        Ask::Deny(6),
-        "7: Verdict(Refused(Refusal { op: 1, why: Denied(Denial { suite: 1, wanted: Perms(4), decider: Other }) }))",
-    )?;
-    assert_eq!(rt; copy.audit(), server.audit());
-    assert_eq!(rt; copy.audit().len(), 1);
+/// Both audits have one item, of user 2000.
+fn audits(rt: &impl Abort, copy: &Server, server: &Server) {
+    assert!(rt; copy.audit() == server.audit());
+    assert!(rt; copy.audit().len() == 1);
     let item = copy.audit()[0];
-    assert_eq!(rt; (item.t, item.uid, item.op), (6, 2000, 1));
+    assert!(rt; item.t == 6 && item.uid == 2000 && item.op == 1);
+}
+
+fn no_audit(rt: &impl Abort, server: &Server) {
+    assert!(rt; server.audit().is_empty());
+}
+
+/// The laws can be called.
+fn laws(server: &Server) {
     server.copies_are_sound();
     finish_keeps_effect();
+    consistency_is_kept();
     exclusive_stands_alone();
+    locks_rise();
+    busy_names_the_least();
     prepared_stands();
+    intentions_have_locks();
+    verdicts_are_written_once();
+    stores_are_sound();
+    copies_are_valid();
+    suites_are_few();
+    prepared_by_prepare();
+    quiet_replies_change_nothing();
+    some_copy_is_changed();
     some_server_stands();
-    Ok(())
+}
+
+const KEPT: &str =
+    "7: Verdict(Refused(Refusal { op: 1, why: Denied(Denial { suite: 1, wanted: Perms(4), decider: Other }) }))";
+
+#[test]
+fn a_denial_is_kept_once(rt: HostRuntime) {
+    let mut server = server(&rt);
+    play(&rt, &mut server, &DENIED);
+    no_audit(&rt, &server);
+    told_is_served(&rt, &mut server, Ask::Deny(6));
+    let copy = server.copy().ok().expect(&rt, "memory");
+    expect_at(&rt, &mut server, 0, Ask::Deny(6), KEPT);
+    audits(&rt, &copy, &server);
+    laws(&server);
+}
+
+/// Locks a suite.
+fn lock(rt: &impl Abort, server: &mut Server, t: u64, suite: u64) {
+    let mode = LockMode::Exclusive;
+    let value = Request::Poll { t, suite, mode };
+    let outcome = server.serve(Stamped { stamp: 0, value });
+    assert!(rt; outcome.is_ok());
 }
 
 /// Locks this many suites for a transaction, and gives a part for each that takes a file.
@@ -406,20 +294,17 @@ fn lock_and_take(
     t: u64,
     first: u64,
     count: u16,
-) -> Result<Parts, Fail> {
-    let alloc = rt.alloc();
-    let mut parts = Vec::new(alloc);
-    let taken = file(alloc, 1, 1)?;
+) -> Parts {
+    let mut parts = Vec::new(rt.alloc());
+    let taken = file(rt, 1, 1);
     for i in 0..count {
         let suite = u64::from(i).wrapping_add(first);
+        lock(rt, server, t, suite);
+        let take = Take::Whole(taken.clone().expect(rt, "memory"));
         let mode = LockMode::Exclusive;
-        let value = Request::Poll { t, suite, mode };
-        let outcome = server.serve(Stamped { stamp: 0, value });
-        assert!(rt; outcome.is_ok());
-        let take = Take::Whole(taken.clone()?);
-        parts.push(Part { suite, mode, take })?;
+        add(rt, &mut parts, Part { suite, mode, take });
     }
-    Ok(Parts::from_vec(parts))
+    Parts::from_vec(parts)
 }
 
 /// Makes all of them prepared.
@@ -430,13 +315,11 @@ fn take_files(
     first: u64,
     count: u16,
     want: &str,
-) -> Result<(), Fail> {
-    let parts = lock_and_take(rt, server, t, first, count)?;
+) {
+    let parts = lock_and_take(rt, server, t, first, count);
     let value = Request::Prepare { t, parts };
     let outcome = server.serve(Stamped { stamp: 0, value });
-    let got = words(rt.alloc(), &outcome)?;
-    assert_eq!(rt; got.as_str(), want);
-    Ok(())
+    same(rt, words(rt, &outcome).as_str(), want);
 }
 
 const LAST_PLACE: [Step; 12] = [
@@ -471,10 +354,36 @@ const LAST_PLACE: [Step; 12] = [
 ];
 
 #[test]
-fn copies_and_intentions_have_4096_places(rt: HostRuntime) -> Result<(), Fail> {
-    let mut server = server(rt.alloc())?;
-    take_files(&rt, &mut server, 1, 1, 2000, "2001: Prepared")?;
-    expect_at(&rt, &mut server, 0, Ask::Finish(1, true), "2002: Done")?;
-    take_files(&rt, &mut server, 2, 2001, 2094, "4097: Prepared")?;
-    play(&rt, &mut server, &LAST_PLACE)
+fn copies_and_intentions_have_4096_places(rt: HostRuntime) {
+    let mut server = server(&rt);
+    take_files(&rt, &mut server, 1, 1, 2000, "2001: Prepared");
+    expect_at(&rt, &mut server, 0, Ask::Finish(1, true), "2002: Done");
+    take_files(&rt, &mut server, 2, 2001, 2094, "4097: Prepared");
+    play(&rt, &mut server, &LAST_PLACE);
+}
+
+/// A taker that refuses what it is given.
+fn refuse(told: &mut u64, reply: Stamped<Reply>) -> Result<(), ()> {
+    *told = reply.stamp;
+    Err(())
+}
+
+/// What a taker refuses was not served.
+fn refused(rt: &(impl Abort + AllocGlobal), server: &mut Server, ask: Ask, stamp: u64) {
+    let mut told = 0;
+    let value = request(rt, ask);
+    let outcome = server.serve_then(Stamped { stamp: 0, value }, &mut told, refuse);
+    assert!(rt; matches!(&outcome, Ok(Err(()))));
+    assert!(rt; told == stamp);
+}
+
+#[test]
+fn a_reply_that_is_refused_was_not_served(rt: HostRuntime) {
+    let mut server = server(&rt);
+    refused(&rt, &mut server, Ask::Poll(5, 0, EXCLUSIVE), 1);
+    expect_at(&rt, &mut server, 0, Ask::Locks, "1: Locked 0");
+    refused(&rt, &mut server, Ask::Deny(5), 2);
+    no_audit(&rt, &server);
+    refused(&rt, &mut server, Ask::Crash, 2);
+    expect_at(&rt, &mut server, 0, Ask::Resolve(5), "2: Verdict(Aborted)");
 }

@@ -1,10 +1,16 @@
-use Rattle.std.proofs.Common.{◌<◌, length, arith}
-use Rattle.std.proofs.lemmas.List.Edits.{map_over_more}
-use Rattle.std.proofs.lemmas.List.{get_or_default}
-use Rattle.rep_core.specs.Locks.{raised_lock}
+use Rattle.std.proofs.Common.{◌<◌, ◌≤◌, length, set, sym, ap, ◌∙◌, arith}
+use Rattle.rep_core.proofs.Searching.{has_lock-end, raised-none, raised-at}
 use Rattle.rep_core.proofs.locks.raise.Goals as goal
 
-pub loop-lock-preserved : goal.loop-lock-preserved
-loop-lock-preserved c =
-    let in_range : c.loop-lock.lock-index < length c.loop-lock.locks = omega arith in
-    rw c.raised_lock.ensures (map_over_more (raised_lock c.args.t c.args.suite c.args.mode) c.args.locks.now _ _ _ c.loop-lock-test.true c.loop-lock.invariant (get_or_default _ _ _ _ in_range))
+pub returns-then-at-locks : goal.returns-then-at-locks
+returns-then-at-locks c =
+    let locks = c.args.locks.now in
+    let over : length locks ≤ c.place_of-at.result = omega (arith, c.if-at-locks.true) in
+    sym (raised-none c.args.t c.args.suite c.args.mode locks (has_lock-end c.args.t c.args.suite locks c.place_of-at.result c.requires c.place_of-at.ensures.place over))
+
+pub returns : goal.returns
+returns c =
+    let locks = c.args.locks.now in
+    let within : c.place_of-at.result < length locks = omega (arith, c.if-at-locks.false) in
+    ap (λ lock. set locks c.place_of-at.result lock) c.raised_lock.ensures
+    ∙ raised-at c.args.t c.args.suite c.args.mode locks c.place_of-at.result _ c.requires c.place_of-at.ensures.place within

@@ -7,7 +7,7 @@ use Rattle.rep_core.proofs.store.Store.overfills.Goals as goal
 
 pub returns-else-any_holds_last : goal.returns-else-any_holds_last
 returns-else-any_holds_last c = λ t.
-    let store : Store = c.args.self.now in
+    let store : Store = c.args.self.now.store in
     let parts = c.args.parts.now in
     let counted : suites_with (intended t parts store) ≡ suites_with store + count_by (takes_new store) parts = suites_intended store t parts c.requires c.suites_with.ensures.rising in
     let none : list_any (λ part. holds_last part.take) parts ≡ false = sym c.any_holds_last.ensures ∙ c.if-any_holds_last.false in

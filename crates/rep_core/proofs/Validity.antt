@@ -1,0 +1,283 @@
+-- Copies that fit their types stay so; and sound copies that fit are valid.
+use Rattle.std.proofs.Common.{◌≡◌, ℕ, ◌<◌, ◌^◌, lit<, inl, inr, Bool, true, false, cond, List, [], ◌∷◌, Option, Some, None, refl, sym, ap, subst, ◌∙◌, arith}
+use Rattle.std.specs.Prelude.{◌==◌, ◌&&◌, ◌||◌, not, All, IsTrue, unwrap_or}
+use Rattle.std.specs.List.{list_any}
+use Rattle.std.specs.BTreeMap.{is_at}
+use Rattle.std.proofs.lemmas.Bool.Decides.{nat_tests}
+use Rattle.std.specs.List.Sorted.{IsStrictlySortedBy}
+use Rattle.std.specs.Ordering.{nat_cmp}
+use Rattle.std.proofs.lemmas.Bool.{and_parts}
+use Rattle.std.proofs.lemmas.List.Elements.{All-nil, All-cons, All-contains}
+use Rattle.std.proofs.lemmas.List.Kept.{AllPairs-cons}
+use Rattle.std.proofs.lemmas.Option.{same_Some, none-some}
+use Rattle.sorted_map.specs.SortedMap.{get}
+use Rattle.acl_core.specs.declared.entry.Entry.{Entry}
+use Rattle.acl_core.specs.declared.entry.Tag.TheVariants.{UserObj, GroupObj, Other}
+use Rattle.acl_core.specs.Entries.{entry_of}
+use Rattle.acl_core.specs.AccessLists.{IsAcl, IsCanonical}
+use Rattle.acl_core.specs.Modes.{minimal_list}
+use Rattle.acl_core.specs.Tags.{precedes, qualifier}
+use Rattle.vote_core.specs.Quorums.{Configuration}
+use Rattle.vote_core.specs.Validity.{IsValid}
+use Rattle.suite_content.specs.declared.content.Content.{Content}
+use Rattle.suite_content.specs.Names.{IsName}
+use Rattle.suite_content.specs.Contents.{empty_content}
+use Rattle.suite_prefix.specs.declared.copies.PrefixKind.{PrefixKind}
+use Rattle.suite_prefix.specs.declared.copies.PrefixKind.TheVariants.{Absent, File, Folder}
+use Rattle.suite_prefix.specs.declared.copies.Replica.{Replica}
+use Rattle.suite_prefix.specs.Absent.{absent_copy}
+use Rattle.suite_prefix.specs.Copies.{IsCopy, held_by}
+use Rattle.suite_prefix.specs.SettingsRules.{Opening}
+use Rattle.suite_prefix.specs.Tests.{is_absent, is_valid_copy}
+use Rattle.suite_prefix.specs.TestsExact.{ContentFits, CopyFits}
+use Rattle.suite_prefix.proofs.TestsExact.{valid_copy_if_passes}
+use Rattle.rep_core.specs.declared.intention.Intention.{Intention}
+use Rattle.rep_core.specs.declared.request.Part.{Part}
+use Rattle.rep_core.specs.declared.request.Take.{Take}
+use Rattle.rep_core.specs.declared.request.Take.TheVariants as take
+use Rattle.rep_core.specs.declared.request.Request.{Request}
+use Rattle.rep_core.specs.declared.request.Request.TheVariants as request
+use Rattle.rep_core.specs.declared.reply.Reply.TheVariants as reply
+use Rattle.rep_core.specs.declared.lock.Lock.{Lock}
+use Rattle.rep_core.specs.declared.stamped.Stamped.{Stamped}
+use Rattle.rep_core.specs.Store.{Store, IsSound, is_sound, is_used_up, copy_of, copy_in, left_by, is_keep, lists_twice, intended, finished, in_effect, root_copy, opening_store}
+use Rattle.rep_core.specs.State.{State, opening}
+use Rattle.rep_core.specs.Serving.{step}
+use Rattle.rep_core.specs.Laws.{after_all, reached}
+use Rattle.rep_core.specs.ValidCopies.{TakeFits, RequestFits, OpeningFits, HasValidCopies, TellsOfValid, CopiesAreValid}
+use Rattle.rep_core.specs.Consistency.{IsConsistent}
+use Rattle.suite_prefix.specs.declared.lock_mode.LockMode.TheVariants.{Exclusive}
+use Rattle.rep_core.specs.Locks.{in_the_way, has_lock}
+use Rattle.rep_core.specs.Service.{is_answered, given, locking_reply, poll_reply, stands_prepared, can_prepare, reply_up, reply_down, reply_of}
+use Rattle.rep_core.proofs.Reached.{always_consistent}
+use Rattle.rep_core.proofs.Finding.{find_some}
+use Rattle.rep_core.proofs.Members.{Has, contains_from}
+use Rattle.rep_core.proofs.Intentions.{get-without}
+use Rattle.rep_core.proofs.IntentionLookups.{part_of, planned, get-with_intentions, copy_finished}
+use Rattle.rep_core.proofs.Ways.{Ways, by_step}
+use Rattle.rep_core.proofs.Consistent.{looked, consistent_step, consistent_opening}
+
+-- ---- what was never made fits
+
+abbrev stands_ahead : Entry → Entry → Type 0
+stands_ahead a b = IsTrue (precedes a.tag b.tag)
+
+abbrev of_group : Entry
+of_group = entry_of GroupObj 0
+
+abbrev of_others : Entry
+of_others = entry_of Other 0
+
+closed_canonical : IsCanonical (minimal_list 0)
+closed_canonical =
+    AllPairs-cons stands_ahead (entry_of UserObj 0) (of_group ∷ of_others ∷ [])
+    (All-cons (stands_ahead (entry_of UserObj 0)) of_group (of_others ∷ []) refl (All-cons (stands_ahead (entry_of UserObj 0)) of_others [] refl (All-nil (stands_ahead (entry_of UserObj 0)))))
+    (AllPairs-cons stands_ahead of_group (of_others ∷ []) (All-cons (stands_ahead of_group) of_others [] refl (All-nil (stands_ahead of_group))) (AllPairs-cons stands_ahead of_others [] (All-nil (stands_ahead of_others)) (λ i j d below within. absurd (omega arith))))
+
+pub closed_acl : IsAcl (minimal_list 0)
+closed_acl = record {
+  accepted = record {
+    valid = record {
+      one_user_obj = refl;
+      one_group_obj = refl;
+      one_other = refl;
+      one_mask_at_most = omega arith;
+      mask_if_named = λ named. absurd cc;
+      users_apart = λ user. omega arith;
+      groups_apart = λ group. omega arith;
+    };
+    few = omega arith;
+  };
+  canonical = closed_canonical;
+}
+
+-- its entries name nobody
+abbrev small : Entry → Type 0
+small entry = qualifier entry.tag < 2 ^ 32
+
+pub nobody : All (λ (entry : Entry). qualifier entry.tag < 2 ^ 32) (minimal_list 0)
+nobody = All-cons small (entry_of UserObj 0) (of_group ∷ of_others ∷ []) (lit< tt) (All-cons small of_group (of_others ∷ []) (lit< tt) (All-cons small of_others [] (lit< tt) (All-nil small)))
+
+abbrev is_byte : ℕ → Type 0
+is_byte byte = byte < 256
+
+abbrev is_small : List ℕ × ℕ → Type 0
+is_small entry = entry.1 < 2 ^ 64
+
+abbrev is_named : List ℕ × ℕ → Type 0
+is_named entry = IsName entry.0
+
+absent_fits : (c0 : Configuration) → IsValid c0 → c0.r < 2 ^ 16 → c0.w < 2 ^ 16 → CopyFits (absent_copy c0)
+absent_fits c0 valid r w = record {
+  prefix = record { acl = closed_acl; votes = valid; pver = lit< tt; owner = lit< tt; group = lit< tt; qualifiers = nobody; r = r; w = w };
+  dver = lit< tt;
+  content = All-nil is_byte;
+}
+
+empty_fits : (kind : PrefixKind) → ContentFits (empty_content (held_by kind))
+unfolding IsStrictlySortedBy
+empty_fits Absent = All-nil is_byte
+empty_fits File = All-nil is_byte
+empty_fits Folder = record { rising = tt; are_names = All-nil is_named; suites_fit = All-nil is_small }
+
+-- ---- what holds of each copy, and of what each intention leaves of it
+
+module _ (P : Replica → Type 0) where
+  abbrev pub Each : Store → Type 0
+  Each store = ((suite : ℕ) → P (copy_of store suite)) × ((suite : ℕ) (intention : Intention) → get nat_cmp store.intentions suite ≡ Some intention → P (left_by intention.take (copy_of store suite)))
+
+  each_intended : (store : Store) (t : ℕ) (parts : List Part) → lists_twice parts ≡ false → ((part : Part) → Has parts part → P (left_by part.take (copy_of store part.suite))) → Each store → Each (intended t parts store)
+  each_intended store t parts once new each = (each.0, λ suite intention has. by_part suite intention (part_of suite parts) refl (sym (get-with_intentions t parts store.intentions suite once) ∙ has))
+    where
+      same : (a b : ℕ) → (a == b) ≡ true → a ≡ b
+      same a b e = grind (arith, nat_tests)
+
+      by_part : (suite : ℕ) (intention : Intention) (o : Option Part) → part_of suite parts ≡ o → planned t o (get nat_cmp store.intentions suite) ≡ Some intention → P (left_by intention.take (copy_of store suite))
+      by_part suite intention None is was = each.1 suite intention was
+      by_part suite intention (Some part) is was =
+          let found = find_some (λ part. part.suite == suite) parts part is in
+          elim (is_keep part.take) as (λ b. cond b (get nat_cmp store.intentions suite) (Some (record { t = t; take = part.take })) ≡ Some intention → P (left_by intention.take (copy_of store suite))) [
+            | true ↦ λ was. each.1 suite intention was
+            | false ↦ λ kept.
+                let is_new = same_Some (record { t = t; take = part.take }) intention kept in
+                let of_part : P (left_by part.take (copy_of store suite)) = subst (λ z. P (left_by part.take (copy_of store z))) (same part.suite suite found.1) (new part found.0) in
+                subst (λ (x : Intention). P (left_by x.take (copy_of store suite))) is_new of_part
+          ] was
+
+  each_effect : (store : Store) (decided : ℕ → Bool) (suite : ℕ) (o : Option Intention) → Each store → get nat_cmp store.intentions suite ≡ o → P (in_effect o decided (copy_of store suite))
+  each_effect store decided suite None each is = each.0 suite
+  each_effect store decided suite (Some intention) each is =
+      elim (decided intention.t) as (λ b. P (cond b (left_by intention.take (copy_of store suite)) (copy_of store suite))) [ true ↦ each.1 suite intention is | false ↦ each.0 suite ]
+
+  each_finished : (store : Store) (t : ℕ) (answered : Bool) → IsSound store → Each store → Each (finished t answered store)
+  each_finished store t false sound each = (each.0, λ suite intention has. each.1 suite intention (get-without t store.intentions suite intention sound.rising has).0)
+  each_finished store t true sound each = (
+    λ suite. subst P (sym (copy_finished store t true suite sound)) (each_effect store (λ u. u == t) suite (get nat_cmp store.intentions suite) each refl),
+    λ suite intention has.
+        let was = get-without t store.intentions suite intention sound.rising has in
+        let stays : copy_of (finished t true store) suite ≡ copy_of store suite =
+        copy_finished store t true suite sound
+        ∙ ap (λ o. in_effect o (λ u. u == t) (copy_of store suite)) was.0
+        ∙ ap (λ b. cond b (left_by intention.take (copy_of store suite)) (copy_of store suite)) was.1 in
+        subst (λ copy. P (left_by intention.take copy)) (sym stays) (each.1 suite intention was.0),
+  )
+
+-- ---- a take that fits leaves what fits
+
+kept_fits : (kind next : PrefixKind) (content : Content) → ContentFits content → ContentFits (cond (is_absent kind) (empty_content (held_by next)) content)
+kept_fits Absent next content fits = empty_fits next
+kept_fits File next content fits = fits
+kept_fits Folder next content fits = fits
+
+left_fits : (what : Take) (copy : Replica) → TakeFits what → CopyFits copy → CopyFits (left_by what copy)
+left_fits take.Keep copy takes fits = fits
+left_fits (take.Prefix prefix) copy takes fits = record { prefix = takes; dver = fits.dver; content = kept_fits copy.prefix.kind prefix.kind copy.content fits.content }
+left_fits (take.Whole replica) copy takes fits = takes
+
+all_has : {X : Type 0} (P : X → Type 0) (xs : List X) → All P xs → (x : X) → Has xs x → P x
+all_has P xs all x there = All-contains P xs x all (contains_from xs x there)
+
+fit_ways : (st : State) → IsSound st.store → Each CopyFits st.store → Ways st (λ asked new. RequestFits asked → Each CopyFits new.store)
+fit_ways st sound fit = record {
+  same = λ _ _. fit;
+  poll = λ t suite mode free _. fit;
+  upgrade = λ t suite has free _. fit;
+  prepare = λ t parts does few fits. each_intended CopyFits st.store t parts (looked st t parts does).once (λ part there. left_fits part.take (copy_of st.store part.suite) (all_has (λ (part : Part). TakeFits part.take) parts fits part there) (fit.0 part.suite)) fit;
+  decide = λ t decision none _. fit;
+  resolve = λ t none _. fit;
+  finish = λ t verdict is _. each_finished CopyFits st.store t (is_answered verdict) sound fit;
+  break = λ t suite _. fit;
+  crash = λ _. fit;
+  return = λ _. fit;
+}
+
+-- one request after the other
+pub fit_step : (st : State) (asked : Stamped Request) → IsConsistent st → Each CopyFits st.store → RequestFits asked.value → Each CopyFits (step st asked).store
+fit_step st asked is fit fits = by_step st (λ request new. RequestFits request → Each CopyFits new.store) (fit_ways st is.sound fit) (λ _ _ _ holds. holds) asked fits
+
+pub fit_opening : (index : ℕ) (given : Opening) → OpeningFits given → Each CopyFits (opening_store index given)
+unfolding IsStrictlySortedBy
+fit_opening index given fits = let copies : Bool → List (ℕ × Replica) = λ b. cond b ((0, root_copy given) ∷ []) [] in (
+  λ suite. elim (list_any (λ rep. rep.0 == index) given.c0.reps) as (λ b. CopyFits (copy_in given.c0 (copies b) suite)) [
+    | true ↦ elim (is_at (nat_cmp suite) 0) as (λ b. CopyFits (unwrap_or (cond b (Some (root_copy given)) None) (absent_copy given.c0))) [ true ↦ root | false ↦ absent ]
+    | false ↦ absent
+  ],
+  λ suite intention has. absurd (none-some intention has),
+)
+  where
+    root : CopyFits (root_copy given)
+    root = record { prefix = fits.root; dver = lit< tt; content = empty_fits Folder }
+
+    absent : CopyFits (absent_copy given.c0)
+    absent = absent_fits given.c0 fits.root.votes fits.root.r fits.root.w
+
+-- ---- a sound copy that fits is valid
+
+sound_valid : (copy : Replica) → is_sound copy ≡ true → CopyFits copy → IsCopy copy
+sound_valid copy sound fits =
+    let ends = and_parts (is_valid_copy copy && not (is_used_up copy.prefix.pver)) (not (is_used_up copy.dver)) sound in
+    valid_copy_if_passes copy fits (and_parts (is_valid_copy copy) (not (is_used_up copy.prefix.pver)) ends.0).0
+
+both : (store : Store) → IsSound store → Each CopyFits store → Each IsCopy store
+both store sound fit = (
+  λ suite. sound_valid (copy_of store suite) (sound.copies suite) (fit.0 suite),
+  λ suite intention has. sound_valid (left_by intention.take (copy_of store suite)) (sound.intentions suite intention has) (fit.1 suite intention has),
+)
+
+pub valid_copies : (store : Store) → IsSound store → Each CopyFits store → HasValidCopies store
+valid_copies store sound fit =
+    let each = both store sound fit in
+    record { stored = each.0; in_effect = λ decided suite. each_effect IsCopy store decided suite (get nat_cmp store.intentions suite) each refl }
+
+-- ---- what is told
+
+module _ (st : State) (valid : (suite : ℕ) → IsCopy (copy_of st.store suite)) where
+  locking_tells : (o : Option Lock) (suite : ℕ) → TellsOfValid (locking_reply o (copy_of st.store suite))
+  locking_tells (Some other) suite = tt
+  locking_tells None suite = (copy_of st.store suite, valid suite, refl, refl)
+
+  tells_up : (asked : Request) → TellsOfValid (reply_up st asked)
+  tells_up (request.Poll t suite mode) = locking_tells (in_the_way t suite mode st.locks) suite
+  tells_up (request.Upgrade t suite) = elim (has_lock t suite st.locks) as (λ b. TellsOfValid (cond b (poll_reply st t suite Exclusive) reply.Lost)) [ true ↦ locking_tells (in_the_way t suite Exclusive st.locks) suite | false ↦ tt ]
+  tells_up (request.Fetch t suite) = elim (has_lock t suite st.locks) as (λ b. TellsOfValid (cond b (given (copy_of st.store suite)) reply.Lost)) [ true ↦ (copy_of st.store suite, valid suite, refl, refl) | false ↦ tt ]
+  tells_up (request.Prepare t parts) = elim (stands_prepared st t parts || can_prepare st t parts) as (λ b. TellsOfValid (cond b reply.Prepared reply.Lost)) [ true ↦ tt | false ↦ tt ]
+  tells_up (request.Decide t decision) = tt
+  tells_up (request.Resolve t) = tt
+  tells_up (request.Finish t verdict) = tt
+  tells_up (request.Break t suite) = tt
+  tells_up request.Locks = tt
+  tells_up request.Crash = tt
+  tells_up request.Return = tt
+
+  tells_down : (asked : Request) → TellsOfValid (reply_down asked)
+  tells_down (request.Poll t suite mode) = tt
+  tells_down (request.Upgrade t suite) = tt
+  tells_down (request.Fetch t suite) = tt
+  tells_down (request.Prepare t parts) = tt
+  tells_down (request.Decide t decision) = tt
+  tells_down (request.Resolve t) = tt
+  tells_down (request.Finish t verdict) = tt
+  tells_down (request.Break t suite) = tt
+  tells_down request.Locks = tt
+  tells_down request.Crash = tt
+  tells_down request.Return = tt
+
+  pub tells_of_valid : (asked : Request) → TellsOfValid (reply_of st asked)
+  tells_of_valid asked = elim (st.up) as (λ b. TellsOfValid (cond b (reply_up st asked) (reply_down asked))) [ true ↦ tells_up asked | false ↦ tells_down asked ]
+
+-- ---- whole runs
+
+fit_all : (asked : List (Stamped Request)) (st : State) → IsConsistent st → Each CopyFits st.store → ((one : Stamped Request) → Has asked one → RequestFits one.value) → Each CopyFits (after_all st asked).store
+fit_all [] st is fit all = fit
+fit_all (first ∷ later) st is fit all = fit_all later (step st first) (consistent_step st first is) (fit_step st first is fit (all first (inl refl))) (λ one there. all one (inr there))
+
+reached_valid : (index : ℕ) (given : Opening) (asked : List (Stamped Request)) → OpeningFits given → All (λ asked. RequestFits asked.value) asked → HasValidCopies (reached index given asked).store
+reached_valid index given asked opens all =
+    valid_copies (reached index given asked).store (always_consistent index given asked).sound
+    (fit_all asked (opening index given) (consistent_opening index given) (fit_opening index given opens) (all_has (λ (one : Stamped Request). RequestFits one.value) asked all))
+
+pub copies_are_valid : CopiesAreValid
+copies_are_valid = record {
+  has = reached_valid;
+  tells = λ index given asked opens all next. tells_of_valid (reached index given asked) (reached_valid index given asked opens all).stored next;
+}

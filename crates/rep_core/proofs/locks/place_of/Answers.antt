@@ -1,0 +1,12 @@
+use Rattle.std.proofs.Common.{rules}
+use Rattle.std.proofs.lemmas.List.Sorted.{IsPartitionPoint-from_clause}
+use Rattle.rep_core.proofs.Searching.{stands_before, before_down, partitioned, count_point}
+use Rattle.rep_core.proofs.locks.place_of.Goals as goal
+
+pub returns-clause-place : goal.returns-clause-place
+returns-clause-place c =
+    let locks = c.args.locks.now in
+    count_point (stands_before c.args.t c.args.suite) locks c.partition_point.result c.partition_point.ensures.bound
+    (IsPartitionPoint-from_clause (stands_before c.args.t c.args.suite) locks c.partition_point.result c.partition_point.ensures.partitioned
+    (partitioned (stands_before c.args.t c.args.suite) (before_down c.args.t c.args.suite) locks c.requires)
+    (λ a r f' k. search rules))

@@ -1,0 +1,32 @@
+use Rattle.std.proofs.Common.{Ok, Err, refl, ap, subst, ◌∙◌}
+use Rattle.std.specs.Prelude.{Result, OnErr}
+use Rattle.rep_core.specs.declared.reply.Reply.{Reply}
+use Rattle.rep_core.specs.declared.stamped.Stamped.{Stamped}
+use Rattle.rep_core.specs.Changing.{taken_back}
+use Rattle.rep_core.specs.Given.{Gives}
+use Rattle.rep_core.specs.ServerFields.{state_of}
+use Rattle.rep_core.specs.Serving.{answer_of}
+use Rattle.rep_core.specs.State.{State}
+use Rattle.rep_core.proofs.Changes.{taken_back-begun}
+use Rattle.rep_core.proofs.server.Server.serve_then.Goals as goal
+
+on_err : {T E : Type 0} (result : Result T E) (P : Type 0) → P → OnErr result P
+on_err (Ok value) P holds = tt
+on_err (Err why) P holds = holds
+
+pub returns-then-is_err-clause-given : goal.returns-then-is_err-clause-given
+returns-then-is_err-clause-given g c =
+    subst (λ (reply : Stamped Reply). Gives g.F.FnOnce c.args.take c.args.taker.now reply c.take-told.result c.take-told.new.arg2)
+    (c.in_ok-plan.ensures.reply ∙ ap (λ (st : State). answer_of st c.args.request) c.self.view_is)
+    (record { lent = _; shows = refl; back = _; met = c.take-told.ensures; leaves = refl })
+
+pub returns-then-is_err-clause-refused : goal.returns-then-is_err-clause-refused
+returns-then-is_err-clause-refused g c =
+    let change = c.in_ok-plan.plan.change in
+    on_err c.take-told.result _ (c.take_back.ensures ∙ ap (taken_back change) c.in_ok-begin.ensures.ok ∙ taken_back-begun change (state_of c.self.inside.held) c.in_ok-plan.ensures.first ∙ c.self.view_is)
+
+pub returns-clause-given : goal.returns-clause-given
+returns-clause-given g c =
+    subst (λ (reply : Stamped Reply). Gives g.F.FnOnce c.args.take c.args.taker.now reply c.take-told.result c.take-told.new.arg2)
+    (c.in_ok-plan.ensures.reply ∙ ap (λ (st : State). answer_of st c.args.request) c.self.view_is)
+    (record { lent = _; shows = refl; back = _; met = c.take-told.ensures; leaves = refl })
