@@ -1,0 +1,5 @@
+pub mod Alike
+pub mod OnTable
+pub mod Unmet
+pub mod Running
+pub mod Steps

@@ -1,0 +1,9 @@
+pub mod Prefixes
+pub mod Courses
+pub mod Following
+pub mod Operations
+pub mod Known
+pub mod Runs
+pub mod Overlay
+pub mod Steps
+pub mod Changes

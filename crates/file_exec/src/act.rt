@@ -1,0 +1,268 @@
+//! The operations of a transaction on what is known.
+
+ghost use Rattle.std.specs.Prelude.{◌≡◌, ◌<◌, ◌^◌, IfOk};
+ghost use Rattle.file_ops.specs.Rows.{new_row};
+ghost use Rattle.file_exec.specs.Courses.{set};
+ghost use Rattle.file_exec.specs.Operations.{bytes_read, names_listed, list_shown, votes_shown, bytes_written, list_set, votes_set, made, refuse_used, dropped, operation};
+ghost use Rattle.file_exec.specs.Overlay.{seen_head};
+ghost use Rattle.file_exec.specs.Steps.{Runs, Sees};
+
+use crate::known::Known;
+use crate::log::{Edit, Log};
+use crate::need::Need;
+use crate::row::KnownRow;
+use crate::seen::Seen;
+use crate::stop::Stop;
+use crate::view::View;
+use acl_core::{Acl, Caller, Perms};
+use file_ops::{Action, Answer, Init, Op, Path, Why, last_name, made_number};
+use std::alloc::{AllocError, Global};
+use suite_content::{Content, FileBytes, Kind, Name};
+use suite_prefix::LockMode;
+use vote_core::Votes;
+
+/// What the operations of a transaction share: memory, what is known, the transaction's number, and
+/// its caller.
+#[derive(Clone, Copy)]
+pub(crate) struct Transaction<'a> {
+    pub(crate) alloc: Global,
+    pub(crate) known: &'a Known,
+    pub(crate) t: u64,
+    pub(crate) caller: &'a Caller,
+}
+
+/// The bytes of a file.
+fn read(view: View<'_>, caller: &Caller, names: &[Name]) -> Result<Answer, Stop>
+    ensures { Sees (λ answer. answer) result view.entry (bytes_read caller.now names.now) }
+{
+    let place = view.reach(caller, names, LockMode::Shared)?;
+    place.permit(caller, Perms::READ)?;
+    place.file()?;
+    let bytes = view.bytes_at(place.suite)?;
+    Ok(Answer::Read(bytes))
+}
+
+/// The names of a folder.
+fn list(view: View<'_>, caller: &Caller, names: &[Name]) -> Result<Answer, Stop>
+    ensures { Sees (λ answer. answer) result view.entry (names_listed caller.now names.now) }
+{
+    let place = view.reach(caller, names, LockMode::Shared)?;
+    place.permit(caller, Perms::READ)?;
+    place.folder()?;
+    let entries = view.names_at(place.suite)?;
+    let list = entries.names()?;
+    Ok(Answer::List(list))
+}
+
+/// The access list of a file or folder.
+fn get_acl(view: View<'_>, caller: &Caller, names: &[Name]) -> Result<Answer, Stop>
+    ensures { Sees (λ answer. answer) result view.entry (list_shown caller.now names.now) }
+{
+    let place = view.shown(caller, names)?;
+    let acl = place.row.acl.clone()?;
+    Ok(Answer::Acl(acl))
+}
+
+/// The votes of a file or folder.
+fn get_votes(view: View<'_>, caller: &Caller, names: &[Name]) -> Result<Answer, Stop>
+    ensures { Sees (λ answer. answer) result view.entry (votes_shown caller.now names.now) }
+{
+    let place = view.shown(caller, names)?;
+    Ok(Answer::Votes(*place.row.votes))
+}
+
+/// Sets something of a suite, which is to be held exclusively.
+fn set(known: &Known, log: &mut Log, suite: u64, edit: Edit) -> Result<(), Stop>
+    ensures { Runs (λ done. done) result known.now.suites log.old log.new (set suite edit) }
+{
+    if !known.holds(suite, LockMode::Exclusive) {
+        return Err(Stop::Needs(Need::Hold(suite, LockMode::Exclusive)));
+    }
+    log.set(suite, edit)?;
+    Ok(())
+}
+
+/// Puts other bytes in a file.
+fn write(
+    known: &Known,
+    log: &mut Log,
+    caller: &Caller,
+    names: &[Name],
+    bytes: &FileBytes,
+) -> Result<Answer, Stop>
+    ensures { Runs (λ answer. answer) result known.now.suites log.old log.new (bytes_written caller.now names.now bytes.now) }
+{
+    if bytes.is_too_long() {
+        return Err(Stop::Refused(Why::TooLong));
+    }
+    let place = View { known, log }.reach(caller, names, LockMode::Exclusive)?;
+    place.permit(caller, Perms::WRITE)?;
+    place.file()?;
+    let suite = place.suite;
+    let bytes = bytes.clone()?;
+    set(known, log, suite, Edit::SetContent(Content::Bytes(bytes)))?;
+    Ok(Answer::Wrote)
+}
+
+/// Gives a file or folder another access list.
+fn set_acl(
+    known: &Known,
+    log: &mut Log,
+    caller: &Caller,
+    names: &[Name],
+    acl: &Acl,
+) -> Result<Answer, Stop>
+    ensures { Runs (λ answer. answer) result known.now.suites log.old log.new (list_set caller.now names.now acl.now) }
+{
+    let suite = View { known, log }.owned(caller, names)?.suite;
+    let acl = acl.clone()?;
+    set(known, log, suite, Edit::SetAcl(acl))?;
+    Ok(Answer::Set)
+}
+
+/// Gives a file or folder other votes. Its content is to be known: whoever gets a vote gets the whole
+/// copy.
+fn set_votes(
+    known: &Known,
+    log: &mut Log,
+    caller: &Caller,
+    names: &[Name],
+    given: &Votes,
+) -> Result<Answer, Stop>
+    ensures { Runs (λ answer. answer) result known.now.suites log.old log.new (votes_set known.now.service caller.now names.now given.now) }
+{
+    let votes = known.service().known_votes(given)?;
+    let view = View { known, log };
+    let suite = view.owned(caller, names)?.suite;
+    view.read(suite)?;
+    set(known, log, suite, Edit::SetVotes(votes))?;
+    Ok(Answer::Set)
+}
+
+/// Puts a name in a folder, for a new file or folder of this number.
+fn make(
+    transaction: Transaction<'_>,
+    log: &mut Log,
+    number: u64,
+    names: &[Name],
+    kind: Kind,
+    init: &Init,
+    given: &Option<Votes>,
+) -> Result<Answer, Stop>
+    ensures { Runs (λ answer. answer) result transaction.entry.known.now.suites log.old log.new (made transaction.entry.known.now.service number transaction.entry.caller.now names.now kind init.now given.now) }
+{
+    let Transaction {
+        alloc,
+        known,
+        caller,
+        ..
+    } = transaction;
+    let (name, folders) = last_name(names)?;
+    let votes = known.service().votes_of_new(given)?;
+    let view = View { known, log };
+    let parent = view.parent_of(caller, folders)?;
+    if parent.names.get(name).is_some() {
+        return Err(Stop::Refused(Why::Exists));
+    }
+    if parent.names.is_full() {
+        return Err(Stop::Refused(Why::FolderFull));
+    }
+    view.look(number, LockMode::Exclusive)?;
+    let folder = parent.place.suite;
+    let mut names = parent.names.clone()?;
+    names.insert(*name, number)?;
+    let row = new_row(alloc, kind, init, votes, caller)?;
+    set(known, log, folder, Edit::SetContent(Content::Names(names)))?;
+    set(known, log, number, Edit::Make(row))?;
+    Ok(Answer::Made(number))
+}
+
+/// The row of a new file or folder.
+fn new_row(
+    alloc: Global,
+    kind: Kind,
+    init: &Init,
+    votes: Votes,
+    caller: &Caller,
+) -> Result<KnownRow, AllocError>
+    ensures { IfOk result (λ row. row ≡ new_row kind init.now votes caller.now) }
+{
+    let acl = init.list(alloc)?;
+    Ok(KnownRow {
+        owner: caller.uid(),
+        group: caller.gid(),
+        acl,
+        votes,
+        content: Content::empty(alloc, kind),
+    })
+}
+
+/// Refuses to drop a folder that has names. Of anything else the content is not read.
+fn refuse_used(view: View<'_>, suite: u64, row: Option<Seen<'_>>) -> Result<(), Stop>
+    ensures { Sees (λ done. done) result view.entry (refuse_used suite (seen_head row.entry)) }
+{
+    let Some(row) = row else {
+        return Ok(());
+    };
+    if let Content::Bytes(_) = row.content {
+        return Ok(());
+    }
+    let content = view.read(suite)?;
+    match content {
+        Some(Content::Names(names)) if !names.is_empty() => Err(Stop::Refused(Why::NotEmpty)),
+        _ => Ok(()),
+    }
+}
+
+/// Takes a name out of a folder.
+fn drop(
+    known: &Known,
+    log: &mut Log,
+    caller: &Caller,
+    names: &[Name],
+) -> Result<Answer, Stop>
+    ensures { Runs (λ answer. answer) result known.now.suites log.old log.new (dropped caller.now names.now) }
+{
+    let (name, folders) = last_name(names)?;
+    let view = View { known, log };
+    let parent = view.parent_of(caller, folders)?;
+    let number = parent.names.get(name).ok_or(Why::NoName)?;
+    let row = view.look(number, LockMode::Shared)?;
+    refuse_used(view, number, row)?;
+    let folder = parent.place.suite;
+    let mut names = parent.names.clone()?;
+    names.remove(name)?;
+    set(known, log, folder, Edit::SetContent(Content::Names(names)))?;
+    Ok(Answer::Dropped)
+}
+
+/// An operation of a transaction, at a place counted from 0.
+pub(crate) fn operate(
+    transaction: Transaction<'_>,
+    log: &mut Log,
+    at: u8,
+    op: &Op,
+) -> Result<Answer, Stop>
+    requires { transaction.t < 2 ^ 60 }
+    ensures { Runs (λ answer. answer) result transaction.entry.known.now.suites log.old log.new (operation transaction.entry.known.now.service transaction.entry.t at transaction.entry.caller.now op.now) }
+{
+    let path = Path::parse(op.path.as_bytes()).ok_or(Why::BadPath)?;
+    let names = path.names();
+    let Transaction {
+        known, t, caller, ..
+    } = transaction;
+    match &op.action {
+        Action::Read => read(View { known, log }, caller, names),
+        Action::List => list(View { known, log }, caller, names),
+        Action::GetAcl => get_acl(View { known, log }, caller, names),
+        Action::GetVotes => get_votes(View { known, log }, caller, names),
+        Action::Write(bytes) => write(known, log, caller, names, bytes),
+        Action::SetAcl(acl) => set_acl(known, log, caller, names, acl),
+        Action::SetVotes(votes) => set_votes(known, log, caller, names, votes),
+        Action::Drop => drop(known, log, caller, names),
+        Action::Make(kind, init, votes) => {
+            let number = made_number(t, at);
+            make(transaction, log, number, names, *kind, init, votes)
+        }
+    }
+}

@@ -1,0 +1,23 @@
+//! The executor: what a transaction asks for on its way, and what it is answered on rows that are known in part.
+#![tactic(auto)]
+
+mod act;
+mod changes;
+mod executor;
+mod known;
+mod laws;
+mod log;
+mod need;
+mod row;
+mod seen;
+mod stop;
+mod view;
+
+pub use changes::{Change, Changes};
+pub use executor::{Outcome, exec};
+pub use known::{Known, KnownSuite};
+pub use laws::{
+    exec_runs, goes_as_on_the_table, is_the_transaction, needs_what_is_unmet, sets_what_is_held,
+};
+pub use need::Need;
+pub use row::KnownRow;
