@@ -1,10 +1,11 @@
 -- The code of a course step by step.
-use Rattle.std.proofs.Common.{◌≡◌, Result, Ok, Err, refl, sym, ap, subst, ◌∙◌}
+use Rattle.std.proofs.Common.{◌≡◌, ℕ, Result, Ok, Err, refl, sym, ap, subst, ◌∙◌}
 use Rattle.std.specs.Result.{IsErr, IsErrAnd}
 use Rattle.file_ops.specs.declared.refusal.Why.{Why}
 use Rattle.file_exec.specs.declared.stop.Stop.{Stop}
 use Rattle.file_exec.specs.declared.stop.Stop.TheVariants as stop
-use Rattle.file_exec.specs.Courses.{Course, ◌>>=◌, rule}
+use Rattle.file_exec.specs.declared.log.Edit.{Edit}
+use Rattle.file_exec.specs.Courses.{Course, Set, ◌>>=◌, rule, set}
 use Rattle.file_exec.specs.Following.{Edits}
 use Rattle.file_exec.specs.Known.{Known}
 use Rattle.file_exec.specs.Runs.{run, then_run}
@@ -60,3 +61,17 @@ module _ {B C D : Type 0} {r : Result B Why} {known : Known} {before after : Edi
 
   pub overruled : {why : Why} (next : B → Course D Why) {see' : C → D} {result : Result C Stop} → r ≡ Err why → Fails result (stop.Refused why) → Runs see' result known before after (◌>>=◌ (rule r) next)
   overruled {why = why} next {result = result} is fails = rw (failed result (stop.Refused why) fails, is) (record { told = refl })
+
+-- an edit in other words
+pub same_set : {A : Type 0} {see : A → Unit {0}} {result : Result A Stop} {known : Known} {before after : Edits} {suite : ℕ} {edit other : Edit}
+    → edit ≡ other → Runs see result known before after (set suite edit) → Runs see result known before after (set suite other)
+same_set {see = see} {result = result} {known = known} {before = before} {after = after} {suite = suite} same runs = subst (λ edit. Runs see result known before after (set suite edit)) same runs
+
+-- an edit, and what follows on it
+module _ {A C D : Type 0} {see : A → Unit {0}} {known : Known} {before middle : Edits} {suite : ℕ} {edit : Edit} {later : Course D Why} where
+  pub after_set : {x : A} {after : Edits} {see' : C → D} {result : Result C Stop} → Runs see (Ok x) known before middle (set suite edit) → Runs see' result known middle after later
+      → Runs see' result known before after (Set suite edit later)
+  after_set gave rest = goes (λ _. later) gave rest
+
+  pub stopped_set : {e : Stop} {after : Edits} {see' : C → D} {result : Result C Stop} → Runs see (Err e) known before middle (set suite edit) → Fails result e → Runs see' result known before after (Set suite edit later)
+  stopped_set stopped fails = stops (λ _. later) stopped fails

@@ -1,6 +1,11 @@
 //! The operations of a transaction on what is known.
 
-ghost use Rattle.std.specs.Prelude.{◌≡◌, ◌<◌, ◌^◌, IfOk};
+ghost use Rattle.std.specs.Prelude.{◌≡◌, ◌<◌, ◌^◌, nat_lt, nat_le, length, is_some, IfOk};
+ghost use Rattle.suite_content.specs.Folders.{number_of, with_name, without_name};
+ghost use Rattle.suite_content.specs.Limits.{longest_content, most_names};
+ghost use Rattle.file_ops.specs.declared.refusal.Why.TheVariants as why;
+ghost use Rattle.file_ops.specs.Operations.{refuse_if};
+ghost use Rattle.file_ops.specs.Steps.{found_or};
 ghost use Rattle.file_ops.specs.Rows.{new_row};
 ghost use Rattle.file_exec.specs.Courses.{set};
 ghost use Rattle.file_exec.specs.Operations.{bytes_read, names_listed, list_shown, votes_shown, bytes_written, list_set, votes_set, made, refuse_used, dropped, operation};
@@ -17,7 +22,7 @@ use crate::view::View;
 use acl_core::{Acl, Caller, Perms};
 use file_ops::{Action, Answer, Init, Op, Path, Why, last_name, made_number};
 use std::alloc::{AllocError, Global};
-use suite_content::{Content, FileBytes, Kind, Name};
+use suite_content::{Content, FileBytes, FolderNames, Kind, Name};
 use suite_prefix::LockMode;
 use vote_core::Votes;
 
@@ -29,6 +34,64 @@ pub(crate) struct Transaction<'a> {
     pub(crate) known: &'a Known,
     pub(crate) t: u64,
     pub(crate) caller: &'a Caller,
+}
+
+/// Whether a file may hold these bytes.
+fn fits(bytes: &FileBytes) -> Result<(), Why>
+    ensures { result ≡ refuse_if (nat_lt longest_content (length bytes.now)) why.TooLong }
+{
+    if bytes.is_too_long() {
+        return Err(Why::TooLong);
+    }
+    Ok(())
+}
+
+/// Whether a folder lacks a name.
+fn lacks(names: &FolderNames, name: &Name) -> Result<(), Why>
+    ensures { result ≡ refuse_if (is_some (number_of names.now name.now)) why.Exists }
+{
+    match names.get(name) {
+        Some(_) => Err(Why::Exists),
+        None => Ok(()),
+    }
+}
+
+/// Whether a folder may have one more name.
+fn has_room(names: &FolderNames) -> Result<(), Why>
+    ensures { result ≡ refuse_if (nat_le most_names (length names.now)) why.FolderFull }
+{
+    if names.is_full() {
+        return Err(Why::FolderFull);
+    }
+    Ok(())
+}
+
+/// The number of a name in a folder.
+fn number_in(names: &FolderNames, name: &Name) -> Result<u64, Why>
+    ensures { result ≡ found_or (number_of names.now name.now) why.NoName }
+{
+    match names.get(name) {
+        Some(number) => Ok(number),
+        None => Err(Why::NoName),
+    }
+}
+
+/// A folder's names with one more, in a copy where the names are shared.
+fn with_name(names: &FolderNames, name: &Name, number: u64) -> Result<FolderNames, AllocError>
+    ensures { IfOk result (λ folder. folder ≡ with_name names.now name.now number) }
+{
+    let mut folder = names.clone()?;
+    folder.insert(*name, number)?;
+    Ok(folder)
+}
+
+/// A folder's names without one, in a copy where the names are shared.
+fn without_name(names: &FolderNames, name: &Name) -> Result<FolderNames, AllocError>
+    ensures { IfOk result (λ folder. folder ≡ without_name names.now name.now) }
+{
+    let mut folder = names.clone()?;
+    folder.remove(name)?;
+    Ok(folder)
 }
 
 /// The bytes of a file.
@@ -92,9 +155,7 @@ fn write(
 ) -> Result<Answer, Stop>
     ensures { Runs (λ answer. answer) result known.now.suites log.old log.new (bytes_written caller.now names.now bytes.now) }
 {
-    if bytes.is_too_long() {
-        return Err(Stop::Refused(Why::TooLong));
-    }
+    fits(bytes)?;
     let place = View { known, log }.reach(caller, names, LockMode::Exclusive)?;
     place.permit(caller, Perms::WRITE)?;
     place.file()?;
@@ -131,7 +192,8 @@ fn set_votes(
 ) -> Result<Answer, Stop>
     ensures { Runs (λ answer. answer) result known.now.suites log.old log.new (votes_set known.now.service caller.now names.now given.now) }
 {
-    let votes = known.service().known_votes(given)?;
+    let service = known.service();
+    let votes = service.known_votes(given)?;
     let view = View { known, log };
     let suite = view.owned(caller, names)?.suite;
     view.read(suite)?;
@@ -158,21 +220,17 @@ fn make(
         ..
     } = transaction;
     let (name, folders) = last_name(names)?;
-    let votes = known.service().votes_of_new(given)?;
+    let service = known.service();
+    let votes = service.votes_of_new(given)?;
     let view = View { known, log };
     let parent = view.parent_of(caller, folders)?;
-    if parent.names.get(name).is_some() {
-        return Err(Stop::Refused(Why::Exists));
-    }
-    if parent.names.is_full() {
-        return Err(Stop::Refused(Why::FolderFull));
-    }
+    lacks(parent.names, name)?;
+    has_room(parent.names)?;
     view.look(number, LockMode::Exclusive)?;
     let folder = parent.place.suite;
-    let mut names = parent.names.clone()?;
-    names.insert(*name, number)?;
+    let entries = with_name(parent.names, name, number)?;
     let row = new_row(alloc, kind, init, votes, caller)?;
-    set(known, log, folder, Edit::SetContent(Content::Names(names)))?;
+    set(known, log, folder, Edit::SetContent(Content::Names(entries)))?;
     set(known, log, number, Edit::Make(row))?;
     Ok(Answer::Made(number))
 }
@@ -226,13 +284,12 @@ fn drop(
     let (name, folders) = last_name(names)?;
     let view = View { known, log };
     let parent = view.parent_of(caller, folders)?;
-    let number = parent.names.get(name).ok_or(Why::NoName)?;
+    let number = number_in(parent.names, name)?;
     let row = view.look(number, LockMode::Shared)?;
     refuse_used(view, number, row)?;
     let folder = parent.place.suite;
-    let mut names = parent.names.clone()?;
-    names.remove(name)?;
-    set(known, log, folder, Edit::SetContent(Content::Names(names)))?;
+    let entries = without_name(parent.names, name)?;
+    set(known, log, folder, Edit::SetContent(Content::Names(entries)))?;
     Ok(Answer::Dropped)
 }
 

@@ -5,7 +5,7 @@ ghost use Rattle.std.specs.Option.{option_copied};
 ghost use Rattle.file_exec.specs.Changes.{changes_at, change_of};
 
 use crate::known::Known;
-use crate::log::{Edit, Log, is_set, seen};
+use crate::log::{Edit, Log, makes, seen, sets_acl, sets_content, sets_votes};
 use crate::row::KnownRow;
 use sorted_map::SortedMap;
 use std::alloc::{AllocError, Global};
@@ -96,10 +96,10 @@ fn change_of(known: &Known, log: &Log, suite: u64) -> Result<Option<Change>, All
     };
     let row = row.own()?;
     Ok(Some(Change {
-        made: edits.iter().any(|(of, edit)| *of == suite && edit.makes()),
-        acl: edits.iter().any(|(of, edit)| *of == suite && edit.sets_acl()),
-        votes: edits.iter().any(|(of, edit)| *of == suite && edit.sets_votes()),
-        content: is_set(edits, suite),
+        made: makes(edits, suite),
+        acl: sets_acl(edits, suite),
+        votes: sets_votes(edits, suite),
+        content: sets_content(edits, suite),
         row,
     }))
 }

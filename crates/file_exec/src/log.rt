@@ -3,7 +3,7 @@
 ghost use Rattle.std.specs.Prelude.{◌≡◌, ◌∷◌, [], OnOk, OnErr};
 ghost use Rattle.std.specs.Option.{option_map};
 ghost use Rattle.file_exec.specs.Following.{changed, seen, sets_content, is_set};
-ghost use Rattle.file_exec.specs.Changes.{makes, sets_acl, sets_votes};
+ghost use Rattle.file_exec.specs.Changes.{makes, sets_acl, sets_votes, some};
 ghost use Rattle.file_exec.specs.Overlay.{seen_row};
 
 use crate::row::KnownRow;
@@ -122,10 +122,37 @@ pub(crate) fn seen<'a>(
 }
 
 /// Whether the edits set the content of a suite.
-pub(crate) fn is_set(edits: &[(u64, Edit)], suite: u64) -> bool
+pub(crate) fn sets_content(edits: &[(u64, Edit)], suite: u64) -> bool
     ensures { result ≡ is_set edits.now suite }
 {
     edits
         .iter()
         .any(|(of, edit)| *of == suite && edit.sets_content())
+}
+
+/// Whether the edits make a suite.
+pub(crate) fn makes(edits: &[(u64, Edit)], suite: u64) -> bool
+    ensures { result ≡ some makes edits.now suite }
+{
+    edits
+        .iter()
+        .any(|(of, edit)| *of == suite && edit.makes())
+}
+
+/// Whether the edits set the list of a suite.
+pub(crate) fn sets_acl(edits: &[(u64, Edit)], suite: u64) -> bool
+    ensures { result ≡ some sets_acl edits.now suite }
+{
+    edits
+        .iter()
+        .any(|(of, edit)| *of == suite && edit.sets_acl())
+}
+
+/// Whether the edits set the votes of a suite.
+pub(crate) fn sets_votes(edits: &[(u64, Edit)], suite: u64) -> bool
+    ensures { result ≡ some sets_votes edits.now suite }
+{
+    edits
+        .iter()
+        .any(|(of, edit)| *of == suite && edit.sets_votes())
 }

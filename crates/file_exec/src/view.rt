@@ -10,7 +10,7 @@ ghost use Rattle.file_exec.specs.Overlay.{seen_row, seen_head, seen_place, seen_
 ghost use Rattle.file_exec.specs.Steps.{Sees};
 
 use crate::known::Known;
-use crate::log::{Log, is_set, seen};
+use crate::log::{Log, seen, sets_content};
 use crate::need::Need;
 use crate::seen::Seen;
 use crate::stop::Stop;
@@ -117,7 +117,7 @@ impl<'a> View<'a> {
         ensures { Sees seen_content result self.entry (read suite) }
     {
         let edits = self.log.as_slice();
-        if !is_set(edits, suite) && !self.known.is_open(suite) {
+        if !sets_content(edits, suite) && !self.known.is_open(suite) {
             return Err(Stop::Needs(Need::Know(suite)));
         }
         Ok(seen(edits, suite, self.known.row(suite)).map(|row| row.content))
