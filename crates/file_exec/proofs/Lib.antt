@@ -3,3 +3,4 @@ pub mod OnTable
 pub mod Unmet
 pub mod Running
 pub mod Steps
+pub mod Playing

@@ -7,3 +7,4 @@ pub mod Runs
 pub mod Overlay
 pub mod Steps
 pub mod Changes
+pub mod Ends

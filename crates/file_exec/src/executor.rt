@@ -1,9 +1,11 @@
 //! A transaction on what is known.
 
 ghost use Rattle.std.specs.Prelude.{◌≡◌, ◌<◌, ◌^◌, true, Ok, IfOk};
+ghost use Rattle.std.specs.Result.{result_ok};
 ghost use Rattle.file_ops.specs.Transactions.{is_miscounted};
 ghost use Rattle.file_ops.specs.declared.refusal.Why.TheVariants as why;
 ghost use Rattle.file_exec.specs.Changes.{answered};
+ghost use Rattle.file_exec.specs.Ends.{end_of};
 ghost use Rattle.file_exec.specs.Known.{exec_of};
 ghost use Rattle.file_exec.specs.declared.executor.Outcome.TheVariants as told;
 
@@ -61,13 +63,23 @@ pub fn exec(
     for op in ops {
         match operate(transaction, &mut log, at, op) {
             Ok(answer) => answers.push(answer)?,
-            Err(Stop::Needs(need)) => return Ok(Outcome::Need(need)),
-            Err(Stop::Refused(why)) => return Ok(Outcome::Refused(Refusal { op: at + 1, why })),
-            Err(Stop::Memory) => return Err(AllocError),
+            Err(stop) => return end(at, stop),
         }
         at += 1;
     }
     let answers = Answers::from_vec(answers)?;
     let changes = Changes::of(alloc, known, &log)?;
     Ok(Outcome::Done(answers, changes))
+}
+
+/// What a transaction comes to whose operation at a place, counted from 0, does not go on.
+fn end(at: u8, stop: Stop) -> Result<Outcome, AllocError>
+    requires { at < 255 }
+    ensures { result_ok result ≡ end_of at stop }
+{
+    match stop {
+        Stop::Needs(need) => Ok(Outcome::Need(need)),
+        Stop::Refused(why) => Ok(Outcome::Refused(Refusal { op: at + 1, why })),
+        Stop::Memory => Err(AllocError),
+    }
 }
