@@ -44,7 +44,7 @@ content_changed (SetVotes votes) (Some a) (Some b) same before = before refl
 content_changed (SetContent content) (Some a) (Some b) same before = refl
 content_changed (Make made) (Some a) (Some b) same before = refl
 
-content_seen : (edits : Edits) (suite : ℕ) (a b : Option Row) → head a ≡ head b → is_set edits suite ≡ true → content_in (seen edits suite a) ≡ content_in (seen edits suite b)
+pub content_seen : (edits : Edits) (suite : ℕ) (a b : Option Row) → head a ≡ head b → is_set edits suite ≡ true → content_in (seen edits suite a) ≡ content_in (seen edits suite b)
 content_seen [] suite a b same set = cc
 content_seen (e ∷ edits) suite a b same set =
     elim (e.0 == suite) as (λ here. ((here && sets_content e.1) || is_set edits suite) ≡ true → content_in (cond here (changed e.1 (seen edits suite a)) (seen edits suite a)) ≡ content_in (cond here (changed e.1 (seen edits suite b)) (seen edits suite b))) [
@@ -59,7 +59,7 @@ abbrev Goes : {A E : Type 0} → Known → (ℕ → Option Row) → Edits → Co
 Goes known rows edits course = heard (first_unmet known (needs rows edits course)) (ending rows edits course)
 
 -- a suite that is held shows the same, and one that is opened is the same
-held_head : (mode : LockMode) (known : Option KnownSuite) (row : Option Row) → IsSoAt known row → is_held mode known ≡ true → head (row_in known) ≡ head row
+pub held_head : (mode : LockMode) (known : Option KnownSuite) (row : Option Row) → IsSoAt known row → is_held mode known ≡ true → head (row_in known) ≡ head row
 held_head mode (Some known) row so held = so.head
 held_head mode None row so held = cc
 

@@ -4,3 +4,5 @@ pub mod Unmet
 pub mod Running
 pub mod Steps
 pub mod Playing
+pub mod More
+pub mod Leading

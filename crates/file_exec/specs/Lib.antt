@@ -8,3 +8,4 @@ pub mod Overlay
 pub mod Steps
 pub mod Changes
 pub mod Ends
+pub mod Laws

@@ -1,6 +1,7 @@
 //! What holds of the executor.
 
 ghost use Rattle.file_exec.specs.Known.{GoesAsOnTheTable, IsTheTransaction, SetsWhatIsHeld, NeedsWhatIsUnmet};
+ghost use Rattle.file_exec.specs.Laws.{DoneIsTheTables, ChangesLeadOn, MoreKnownChangesNothing, AMetNeedIsProgress};
 ghost use Rattle.file_exec.specs.Runs.{ExecRuns};
 
 /// A law: on what is known of any table the executor goes as on the table. It does nothing.
@@ -26,4 +27,25 @@ pub fn needs_what_is_unmet()
 /// A law: the executor runs the course of the transaction. It does nothing.
 pub fn exec_runs()
     ensures { ExecRuns }
+{}
+
+/// A law: where the executor is done, the table's own transaction ends so. It does nothing.
+pub fn done_is_the_tables()
+    ensures { DoneIsTheTables }
+{}
+
+/// A law: the changes that are answered lead from the table's rows to those after the transaction. It
+/// does nothing.
+pub fn changes_lead_on()
+    ensures { ChangesLeadOn }
+{}
+
+/// A law: knowing more changes nothing of what was done. It does nothing.
+pub fn more_known_changes_nothing()
+    ensures { MoreKnownChangesNothing }
+{}
+
+/// A law: each need that is met leaves fewer unmet. It does nothing.
+pub fn a_met_need_is_progress()
+    ensures { AMetNeedIsProgress }
 {}

@@ -17,7 +17,8 @@ pub use changes::{Change, Changes};
 pub use executor::{Outcome, exec};
 pub use known::{Known, KnownSuite};
 pub use laws::{
-    exec_runs, goes_as_on_the_table, is_the_transaction, needs_what_is_unmet, sets_what_is_held,
+    a_met_need_is_progress, changes_lead_on, done_is_the_tables, exec_runs, goes_as_on_the_table,
+    is_the_transaction, more_known_changes_nothing, needs_what_is_unmet, sets_what_is_held,
 };
 pub use need::Need;
 pub use row::KnownRow;
