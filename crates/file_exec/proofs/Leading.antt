@@ -2,7 +2,7 @@
 use Rattle.std.proofs.Common.{◌≡◌, ℕ, Bool, true, false, cond, List, [], ◌∷◌, Option, Some, None, Result, Ok, refl, sym, ap, subst, ◌∙◌}
 use Rattle.std.specs.Prelude.{◌==◌, ◌&&◌, ◌||◌, option_map}
 use Rattle.suite_content.specs.declared.content.Content.{Content}
-use Rattle.std.specs.List.{list_all, list_any}
+use Rattle.std.specs.List.{list_all}
 use Rattle.std.specs.Cmp.{unsigned_tied}
 use Rattle.std.specs.Ordering.{nat_cmp}
 use Rattle.std.proofs.lemmas.Bool.{eqb-true}
@@ -16,17 +16,13 @@ use Rattle.file_exec.specs.declared.changes.Change.{Change}
 use Rattle.file_exec.specs.declared.known.KnownSuite.{KnownSuite}
 use Rattle.file_exec.specs.declared.log.Edit.{Edit}
 use Rattle.file_exec.specs.declared.log.Edit.TheVariants.{SetAcl, SetVotes, SetContent, Make}
-use Rattle.file_exec.specs.Changes.{makes, sets_acl, sets_votes, some, change_of, changes_at, changes_of, with_change}
+use Rattle.file_exec.specs.Changes.{touches, makes, sets_acl, sets_votes, some, change_of, changes_at, changes_of, with_change}
 use Rattle.file_exec.specs.Following.{Edits, changed, seen, sets_content, is_set, emptied, head, content_in, with_edits}
 use Rattle.file_exec.specs.Known.{Known, known_of, row_in, known_rows, is_held, is_held_for, IsSoAt, AgreesWith}
-use Rattle.file_exec.specs.Laws.{Tells, TellsAt, ChangesLeadOn}
+use Rattle.file_exec.specs.Laws.{Tells, TellsAt, ChangesBySuite, ChangesLeadOn}
 use Rattle.file_exec.proofs.Alike.{head_seen, content_seen, held_head}
 use Rattle.file_exec.proofs.OnTable.{row_of-with_edits}
 use Rattle.file_exec.proofs.Unmet.{sets_what_is_held}
-
--- whether an edit is of a suite
-abbrev touches : Edits → ℕ → Bool
-touches edits suite = list_any (λ e. e.0 == suite) edits
 
 abbrev if_touched : Bool → Option Change → Option Change
 if_touched true change = change
@@ -170,3 +166,10 @@ changes_lead_on service known rows t caller ops ended suite agrees is =
     by_touch false not = untouched ended.edits suite (row_of rows suite) not
     by_touch true touched =
         of_row (held_head Exclusive (known_of known suite) (row_of rows suite) (agrees suite) (touched_held known ended.edits suite (sets_what_is_held service known t caller ops ended is) touched)) (seen ended.edits suite (known_rows known suite)) refl
+
+pub changes_by_suite : ChangesBySuite
+changes_by_suite known edits suite = found (change_of known edits) edits suite ∙ same (touches edits suite)
+  where
+    same : (b : Bool) → if_touched b (change_of known edits suite) ≡ cond b (change_of known edits suite) None
+    same true = refl
+    same false = refl

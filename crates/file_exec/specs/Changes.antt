@@ -32,7 +32,11 @@ makes (SetVotes votes) = false
 makes (SetContent content) = false
 makes (Make made) = true
 
--- whether one of the edits is of a suite and of a kind
+-- whether one of the edits is of a suite
+abbrev pub touches : Edits → ℕ → Bool
+touches edits suite = list_any (λ e. e.0 == suite) edits
+
+-- whether one of them is of a suite and of a kind
 abbrev pub some : (Edit → Bool) → Edits → ℕ → Bool
 some kind edits suite = list_any (λ e. (e.0 == suite) && kind e.1) edits
 

@@ -1,5 +1,5 @@
 -- What holds of the executor beside a table, and of what it is told more.
-use Rattle.std.specs.Prelude.{◌≡◌, ℕ, ◌<◌, Bool, true, false, not, List, [], length, filter, Option, Some, None, Result, Ok, Err}
+use Rattle.std.specs.Prelude.{◌≡◌, ℕ, ◌<◌, Bool, true, false, not, if◌then◌else◌, List, [], length, filter, Option, Some, None, Result, Ok, Err}
 use Rattle.std.specs.Ordering.{nat_cmp}
 use Rattle.sorted_map.specs.SortedMap.{get}
 use Rattle.suite_prefix.specs.LockModes.{serves}
@@ -13,8 +13,8 @@ use Rattle.file_ops.specs.Transactions as plain
 use Rattle.file_exec.specs.declared.changes.Change.{Change}
 use Rattle.file_exec.specs.declared.known.KnownSuite.{KnownSuite}
 use Rattle.file_exec.specs.declared.need.Need.{Need}
-use Rattle.file_exec.specs.Changes.{changes_of}
-use Rattle.file_exec.specs.Following.{Ended, head, content_in, needs, with_edits}
+use Rattle.file_exec.specs.Changes.{touches, change_of, changes_of}
+use Rattle.file_exec.specs.Following.{Edits, Ended, head, content_in, needs, with_edits}
 use Rattle.file_exec.specs.Known.{Known, known_of, is_met, Needs, Done, exec_of, AgreesWith, on_table}
 use Rattle.file_exec.specs.Operations.{transaction}
 
@@ -26,6 +26,12 @@ DoneIsTheTables =
     → plain.transaction service rows t caller ops ≡ on_table rows result
 
 -- ---- what was set
+
+-- what edits come to has, of each suite that they are of and that has a row, what they set of it
+abbrev pub ChangesBySuite : Type 0
+ChangesBySuite =
+    (known : Known) (edits : Edits) (suite : ℕ)
+    → get nat_cmp (changes_of known edits) suite ≡ (if touches edits suite then change_of known edits suite else None)
 
 -- What a change says of a suite's row before and after: of a suite without a change the row stays. Else the new row is the one that
 -- the change tells, but for the content, which it tells where that was set; elsewhere the content stays.

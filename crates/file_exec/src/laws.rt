@@ -1,7 +1,7 @@
 //! What holds of the executor.
 
 ghost use Rattle.file_exec.specs.Known.{GoesAsOnTheTable, IsTheTransaction, SetsWhatIsHeld, NeedsWhatIsUnmet};
-ghost use Rattle.file_exec.specs.Laws.{DoneIsTheTables, ChangesLeadOn, MoreKnownChangesNothing, AMetNeedIsProgress};
+ghost use Rattle.file_exec.specs.Laws.{DoneIsTheTables, ChangesBySuite, ChangesLeadOn, MoreKnownChangesNothing, AMetNeedIsProgress};
 ghost use Rattle.file_exec.specs.Runs.{ExecRuns};
 
 /// A law: on what is known of any table the executor goes as on the table. It does nothing.
@@ -32,6 +32,11 @@ pub fn exec_runs()
 /// A law: where the executor is done, the table's own transaction ends so. It does nothing.
 pub fn done_is_the_tables()
     ensures { DoneIsTheTables }
+{}
+
+/// A law: what the changes have of a suite. It does nothing.
+pub fn changes_by_suite()
+    ensures { ChangesBySuite }
 {}
 
 /// A law: the changes that are answered lead from the table's rows to those after the transaction. It
