@@ -22,3 +22,6 @@ pub use laws::{
 };
 pub use need::Need;
 pub use row::KnownRow;
+
+#[cfg(test)]
+mod tests;
