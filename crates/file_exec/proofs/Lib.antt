@@ -6,3 +6,4 @@ pub mod Steps
 pub mod Playing
 pub mod More
 pub mod Leading
+pub mod Meeting

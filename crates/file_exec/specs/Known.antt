@@ -40,12 +40,12 @@ pub record Knowledge : Type 0 where
 
 -- A suite is held in a mode, or in the stronger one of this and its mode before. Of a suite that was not held the prefix is known
 -- from now on; a suite that was keeps what was known of it first.
+abbrev pub held_by : Option KnownSuite → Known → ℕ → LockMode → Prefix → Known
+held_by (Some held) known suite mode prefix = replace nat_cmp known suite (record held { mode = stronger held.mode mode })
+held_by None known suite mode prefix = insert nat_cmp known suite (record { mode = mode; row = row_of_prefix prefix; opened = false })
+
 abbrev pub held_suite : Known → ℕ → LockMode → Prefix → Known
-held_suite known suite mode prefix = of (known_of known suite)
-  where
-    of : Option KnownSuite → Known
-    of (Some held) = replace nat_cmp known suite (record held { mode = stronger held.mode mode })
-    of None = insert nat_cmp known suite (record { mode = mode; row = row_of_prefix prefix; opened = false })
+held_suite known suite mode prefix = held_by (known_of known suite) known suite mode prefix
 
 -- a content that is known; where there is no row, there is none
 abbrev pub opened : KnownSuite → Content → KnownSuite

@@ -2,7 +2,11 @@
 use Rattle.std.specs.Prelude.{◌≡◌, ℕ, ◌<◌, Bool, true, false, not, if◌then◌else◌, List, [], length, filter, Option, Some, None, Result, Ok, Err}
 use Rattle.std.specs.Ordering.{nat_cmp}
 use Rattle.sorted_map.specs.SortedMap.{get}
+use Rattle.suite_prefix.specs.declared.copies.Prefix.{Prefix}
+use Rattle.suite_prefix.specs.declared.lock_mode.LockMode.{LockMode}
 use Rattle.suite_prefix.specs.LockModes.{serves}
+use Rattle.suite_content.specs.Contents.{kind_of}
+use Rattle.suite_content.specs.declared.content.Content.{Content}
 use Rattle.acl_core.specs.Identity.{Identity}
 use Rattle.file_ops.specs.declared.answer.Answer.{Answer}
 use Rattle.file_ops.specs.declared.operation.Op.{Op}
@@ -13,9 +17,10 @@ use Rattle.file_ops.specs.Transactions as plain
 use Rattle.file_exec.specs.declared.changes.Change.{Change}
 use Rattle.file_exec.specs.declared.known.KnownSuite.{KnownSuite}
 use Rattle.file_exec.specs.declared.need.Need.{Need}
+use Rattle.file_exec.specs.declared.need.Need.TheVariants.{Hold, Know}
 use Rattle.file_exec.specs.Changes.{touches, change_of, changes_of}
 use Rattle.file_exec.specs.Following.{Edits, Ended, head, content_in, needs, with_edits}
-use Rattle.file_exec.specs.Known.{Known, known_of, is_met, Needs, Done, exec_of, AgreesWith, on_table}
+use Rattle.file_exec.specs.Known.{Known, known_of, held_suite, opened_suite, is_met, Needs, Done, exec_of, AgreesWith, on_table}
 use Rattle.file_exec.specs.Operations.{transaction}
 
 -- With every table that agrees with what is known: where the executor is done, the table's own transaction ends so, rows included.
@@ -85,3 +90,26 @@ AMetNeedIsProgress =
     (service : Service) (less more : Known) (rows : Rows) (t : ℕ) (caller : Identity) (ops : List Op) (need : Need)
     → AgreesWith less (row_of rows) → MoreKnown less more → exec_of service less t caller ops ≡ Needs need → is_met more need ≡ true
     → length (unmet service more rows t caller ops) < length (unmet service less rows t caller ops)
+
+-- ---- the caller's steps
+
+-- to hold a suite meets the need, and tells more
+pub record IsStep (less more : Known) (need : Need) : Type 0 where
+  pub more_known : MoreKnown less more
+  pub met : is_met more need ≡ true
+
+abbrev pub HoldingMeets : Type 0
+HoldingMeets =
+    (known : Known) (suite : ℕ) (mode : LockMode) (prefix : Prefix)
+    → IsStep known (held_suite known suite mode prefix) (Hold suite mode)
+
+-- to open a suite that is held and was not opened meets the need, and tells more, where the content is of the row's kind
+abbrev pub FitsRow : Option Row → Content → Type 0
+FitsRow (Some row) content = kind_of row.content ≡ kind_of content
+FitsRow None content = Unit {0}
+
+abbrev pub OpeningMeets : Type 0
+OpeningMeets =
+    (known : Known) (suite : ℕ) (held : KnownSuite) (content : Content)
+    → known_of known suite ≡ Some held → held.opened ≡ false → FitsRow held.row content
+    → IsStep known (opened_suite known suite content) (Know suite)

@@ -1,7 +1,7 @@
 //! What holds of the executor.
 
 ghost use Rattle.file_exec.specs.Known.{GoesAsOnTheTable, IsTheTransaction, SetsWhatIsHeld, NeedsWhatIsUnmet};
-ghost use Rattle.file_exec.specs.Laws.{DoneIsTheTables, ChangesBySuite, ChangesLeadOn, MoreKnownChangesNothing, AMetNeedIsProgress};
+ghost use Rattle.file_exec.specs.Laws.{DoneIsTheTables, ChangesBySuite, ChangesLeadOn, MoreKnownChangesNothing, AMetNeedIsProgress, HoldingMeets, OpeningMeets};
 ghost use Rattle.file_exec.specs.Runs.{ExecRuns};
 
 /// A law: on what is known of any table the executor goes as on the table. It does nothing.
@@ -53,4 +53,14 @@ pub fn more_known_changes_nothing()
 /// A law: each need that is met leaves fewer unmet. It does nothing.
 pub fn a_met_need_is_progress()
     ensures { AMetNeedIsProgress }
+{}
+
+/// A law: to hold a suite meets the need, and tells more. It does nothing.
+pub fn holding_meets()
+    ensures { HoldingMeets }
+{}
+
+/// A law: to open a suite meets the need, and tells more. It does nothing.
+pub fn opening_meets()
+    ensures { OpeningMeets }
 {}

@@ -18,7 +18,8 @@ pub use executor::{Outcome, exec};
 pub use known::{Known, KnownSuite};
 pub use laws::{
     a_met_need_is_progress, changes_by_suite, changes_lead_on, done_is_the_tables, exec_runs, goes_as_on_the_table,
-    is_the_transaction, more_known_changes_nothing, needs_what_is_unmet, sets_what_is_held,
+    holding_meets, is_the_transaction, more_known_changes_nothing, needs_what_is_unmet,
+    opening_meets, sets_what_is_held,
 };
 pub use need::Need;
 pub use row::KnownRow;
