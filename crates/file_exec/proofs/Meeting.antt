@@ -1,5 +1,5 @@
 -- What the caller's steps come to.
-use Rattle.std.proofs.Common.{◌≡◌, ℕ, Bool, true, false, cond, List, Option, Some, None, arith, refl, sym, ap, subst, ◌∙◌}
+use Rattle.std.proofs.Common.{◌≡◌, ℕ, Bool, true, false, cond, Option, Some, None, arith, refl, sym, ap, subst, ◌∙◌}
 use Rattle.std.specs.Prelude.{◌==◌, option_map}
 use Rattle.std.specs.Option.{option_map_or}
 use Rattle.std.specs.Cmp.{unsigned_tied}
@@ -8,18 +8,16 @@ use Rattle.std.proofs.lemmas.Bool.{eqb-true}
 use Rattle.std.proofs.lemmas.Bool.Decides.{nat_tests}
 use Rattle.std.proofs.lemmas.Cmp.{nat_cmp_total}
 use Rattle.sorted_map.specs.Laws.{get-insert, get-replace}
-use Rattle.sorted_map.specs.SortedMap.{get, insert, replace}
-use Rattle.suite_content.specs.Contents.{kind_of, empty_content}
-use Rattle.suite_content.specs.declared.content.Content.{Content}
-use Rattle.suite_prefix.specs.declared.copies.Prefix.{Prefix}
+use Rattle.sorted_map.specs.SortedMap.{insert, replace}
+use Rattle.suite_content.specs.Contents.{empty_content}
 use Rattle.suite_prefix.specs.declared.lock_mode.LockMode.{LockMode}
 use Rattle.suite_prefix.specs.declared.lock_mode.LockMode.TheVariants.{Shared, Exclusive}
 use Rattle.suite_prefix.specs.LockModes.{serves, stronger}
 use Rattle.file_ops.specs.Rows.{Row, with_content}
 use Rattle.file_exec.specs.declared.known.KnownSuite.{KnownSuite}
 use Rattle.file_exec.specs.declared.need.Need.TheVariants.{Hold, Know}
-use Rattle.file_exec.specs.Following.{head, emptied}
-use Rattle.file_exec.specs.Known.{Known, known_of, held_by, held_suite, opened, opened_suite, is_held, is_opened, is_met}
+use Rattle.file_exec.specs.Following.{head}
+use Rattle.file_exec.specs.Known.{Known, known_of, held_by, opened, is_held, is_opened}
 use Rattle.file_exec.specs.Laws.{IsMore, IsMoreAt, MoreKnown, IsStep, HoldingMeets, FitsRow, OpeningMeets}
 use Rattle.file_exec.specs.Prefixes.{row_of_prefix}
 

@@ -299,7 +299,11 @@ fn line(rt: &(impl Abort + AllocGlobal), text: &str) {
             outcome = executed(rt, &known, &caller, &ops);
         }
     }
-    same(rt, needs.as_str().trim(), parts.next().unwrap_or_default().trim());
+    same(
+        rt,
+        needs.as_str().trim(),
+        parts.next().unwrap_or_default().trim(),
+    );
     let end = end_text(alloc, &outcome).expect(rt, "memory");
     same(rt, end.as_str(), parts.next().unwrap_or_default().trim());
 }
