@@ -1,0 +1,11 @@
+pub mod Prefixes
+pub mod Courses
+pub mod Following
+pub mod Operations
+pub mod Known
+pub mod Runs
+pub mod Overlay
+pub mod Steps
+pub mod Changes
+pub mod Ends
+pub mod Laws
