@@ -129,7 +129,7 @@ put_found limits n site suite e c h =
 
 -- ---- a content that is found is used
 
-find_passes : (q : Entry → Bool) (c : Cache) (x : Entry) → find q c ≡ Some x → q x ≡ true
+pub find_passes : (q : Entry → Bool) (c : Cache) (x : Entry) → find q c ≡ Some x → q x ≡ true
 find_passes q [] x h = absurd (none_is_no_entry x h)
 find_passes q (e ∷ c) x h =
     elim (q e) as (λ t. q e ≡ t → cond t (Some e) (find q c) ≡ Some x → q x ≡ true) [

@@ -79,7 +79,7 @@ quota_fewer site room (e ∷ c) =
       | false ↦ fewer_more e _ c (quota_fewer site room c)
     ]
 
-forgotten_list : (site : ℕ) (c : Cache) → list_of site (forgotten site c) ≡ []
+pub forgotten_list : (site : ℕ) (c : Cache) → list_of site (forgotten site c) ≡ []
 forgotten_list site [] = refl
 forgotten_list site (e ∷ c) =
     elim (is_at site e) as (λ b. is_at site e ≡ b → filter (is_at site) (cond (not b) (e ∷ forgotten site c) (forgotten site c)) ≡ []) [
