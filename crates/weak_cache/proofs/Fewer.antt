@@ -1,8 +1,8 @@
 -- A list with fewer entries than another is within what that one is within.
-use Rattle.std.proofs.Common.{◌≡◌, ℕ, ◌+◌, ◌-◌, ◌<◌, ◌≤◌, Bool, true, false, cond, List, [], ◌∷◌, ◌++◌, length, refl, sym, ap, ◌∙◌, arith, length-append}
+use Rattle.std.proofs.Common.{◌≡◌, ℕ, ◌+◌, ◌≤◌, Bool, true, false, cond, [], ◌∷◌, ◌++◌, length, refl, ap, arith}
 use Rattle.std.specs.Prelude.{filter}
 use Rattle.weak_cache.specs.Entries.{Entry, Cache, size_of, sum_of, is_at, is_of, list_of}
-use Rattle.weak_cache.specs.Cache.{Limits, Limited, IsWithin}
+use Rattle.weak_cache.specs.Cache.{Limits, IsWithin}
 
 -- what entries come to together
 abbrev pub total : (Entry → ℕ) → Cache → ℕ

@@ -1,12 +1,10 @@
 -- What is found was put.
-use Rattle.std.proofs.Common.{◌≡◌, ℕ, ◌-◌, leb, ltb, Bool, true, false, cond, not, ◌&&◌, ◌⊎◌, inl, inr, Option, None, Some, List, [], ◌∷◌, ◌++◌, refl, sym, ap, ◌∙◌}
+use Rattle.std.proofs.Common.{◌≡◌, ℕ, ◌-◌, leb, ltb, Bool, true, false, cond, not, ◌&&◌, ◌⊎◌, inl, inr, Option, None, Some, List, [], ◌∷◌, refl, sym, ap, ◌∙◌}
 use Rattle.std.specs.Prelude.{◌==◌, filter, find, is_some, option_map}
 use Rattle.std.specs.List.{list_all}
 use Rattle.std.proofs.lemmas.Bool.{eqb-true, false≢true}
-use Rattle.suite_content.specs.declared.content.Content.{Content}
-use Rattle.suite_prefix.specs.declared.copies.Prefix.{Prefix}
 use Rattle.weak_cache.specs.Entries.{Entry, Cache, size_of, is_at, is_of, forgotten, entry_of, without}
-use Rattle.weak_cache.specs.Cache.{Limits, hint, content_at, at_version, in_front, used, searched, has_room, put, within_quota, within_budget}
+use Rattle.weak_cache.specs.Cache.{Limits, content_at, at_version, in_front, used, searched, has_room, put, within_quota, within_budget}
 use Rattle.weak_cache.specs.Calls.{Call, ContentAt, Put, Forget, after, run, spares, WasPut}
 use Rattle.weak_cache.specs.Laws.{HintWasPut, ContentWasPut, FoundWasPut}
 use Rattle.weak_cache.proofs.Keeping.{both}
@@ -131,7 +129,7 @@ put_found limits n site suite e c h =
 
 -- ---- a content that is found is used
 
-find_passes : (q : Entry → Bool) (c : Cache) (x : Entry) → find q c ≡ Some x → q x ≡ true
+pub find_passes : (q : Entry → Bool) (c : Cache) (x : Entry) → find q c ≡ Some x → q x ≡ true
 find_passes q [] x h = absurd (none_is_no_entry x h)
 find_passes q (e ∷ c) x h =
     elim (q e) as (λ t. q e ≡ t → cond t (Some e) (find q c) ≡ Some x → q x ≡ true) [

@@ -1,8 +1,8 @@
 -- What is left where the oldest entries go.
-use Rattle.std.proofs.Common.{◌≡◌, ℕ, ◌+◌, ◌-◌, ◌<◌, ◌≤◌, leb, ltb, Bool, true, false, cond, not, ◌&&◌, ◌⊎◌, inl, inr, List, [], ◌∷◌, ◌++◌, length, refl, sym, ap, ◌∙◌, arith, length-append}
+use Rattle.std.proofs.Common.{◌≡◌, ℕ, ◌+◌, ◌-◌, ◌<◌, ◌≤◌, leb, ltb, Bool, true, false, cond, not, ◌&&◌, ◌⊎◌, inl, inr, [], ◌∷◌, ◌++◌, length, refl, sym, ap, ◌∙◌, arith}
 use Rattle.std.specs.Prelude.{filter}
 use Rattle.std.proofs.lemmas.List.Elements.{filter-append}
-use Rattle.std.proofs.lemmas.Bool.{le-leb, leb-true, lt-ltb, ltb-true, ltb-false}
+use Rattle.std.proofs.lemmas.Bool.{le-leb, leb-true, lt-ltb, ltb-true}
 use Rattle.weak_cache.specs.Entries.{Entry, Cache, size_of, sum_of, is_at, list_of, forgotten}
 use Rattle.weak_cache.specs.Cache.{within_quota, within_budget}
 use Rattle.weak_cache.specs.Places.{EvictsLastOf}
@@ -79,7 +79,7 @@ quota_fewer site room (e ∷ c) =
       | false ↦ fewer_more e _ c (quota_fewer site room c)
     ]
 
-forgotten_list : (site : ℕ) (c : Cache) → list_of site (forgotten site c) ≡ []
+pub forgotten_list : (site : ℕ) (c : Cache) → list_of site (forgotten site c) ≡ []
 forgotten_list site [] = refl
 forgotten_list site (e ∷ c) =
     elim (is_at site e) as (λ b. is_at site e ≡ b → filter (is_at site) (cond (not b) (e ∷ forgotten site c) (forgotten site c)) ≡ []) [

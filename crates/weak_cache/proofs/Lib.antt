@@ -3,3 +3,5 @@ pub mod Keeping
 pub mod Cuts
 pub mod Puts
 pub mod Found
+pub mod LettingGo
+pub mod SiteLists

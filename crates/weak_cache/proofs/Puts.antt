@@ -1,10 +1,10 @@
 -- What a cache is after a put.
-use Rattle.std.proofs.Common.{◌≡◌, ℕ, ◌+◌, ◌-◌, ◌<◌, ◌≤◌, leb, ltb, Bool, true, false, cond, not, ◌&&◌, List, [], ◌∷◌, ◌++◌, length, refl, sym, ap, ◌∙◌, arith, length-append, eq-eqb}
+use Rattle.std.proofs.Common.{◌≡◌, ℕ, ◌-◌, ◌≤◌, leb, ltb, true, false, cond, not, ◌&&◌, [], ◌∷◌, ◌++◌, length, refl, ap, arith, eq-eqb}
 use Rattle.std.specs.Prelude.{◌==◌, filter}
 use Rattle.std.proofs.lemmas.Bool.{leb-true, ltb-true, eqb-true}
 use Rattle.weak_cache.specs.Entries.{Entry, Cache, size_of, sum_of, is_at, is_of, list_of, without}
-use Rattle.weak_cache.specs.Cache.{Limits, Limited, IsWithin, has_room, put, within_quota, within_budget}
-use Rattle.weak_cache.proofs.Fewer.{Fewer, fewer_filter, fewer_then, fewer_moved, within_fewer, sum_fewer, list_fewer, length_fewer, once_fewer}
+use Rattle.weak_cache.specs.Cache.{Limits, IsWithin, has_room, put, within_quota, within_budget}
+use Rattle.weak_cache.proofs.Fewer.{Fewer, fewer_filter, fewer_then, fewer_moved, within_fewer, list_fewer, once_fewer}
 use Rattle.weak_cache.proofs.Keeping.{both, quota_fewer, quota_sum, budget_fewer, budget_sum}
 
 pub within_moved : (limits : Limits) (c moved newer : Cache) (e : Entry) (older : Cache) → c ≡ newer ++ e ∷ older → moved ≡ e ∷ newer ++ older → IsWithin (record { limits = limits; entries = c }) → IsWithin (record { limits = limits; entries = moved })

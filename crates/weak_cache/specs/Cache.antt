@@ -1,5 +1,5 @@
 -- A cache as one list, the newest entry first: what is found there, and what a call leaves of it.
-use Rattle.std.specs.Prelude.{ℕ, ◌-◌, ◌≤◌, ◌==◌, nat_lt, nat_le, Bool, ◌&&◌, if◌then◌else◌, List, [], ◌∷◌, length, filter, option_map, is_some, Option, Some, None}
+use Rattle.std.specs.Prelude.{ℕ, ◌-◌, ◌≤◌, ◌==◌, nat_lt, nat_le, Bool, ◌&&◌, if◌then◌else◌, [], ◌∷◌, length, filter, option_map, is_some, Option, Some, None}
 use Rattle.suite_content.specs.declared.content.Content.{Content}
 use Rattle.suite_prefix.specs.declared.copies.Prefix.{Prefix}
 use Rattle.weak_cache.specs.Entries.{Entry, Cache, size_of, sum_of, is_at, is_of, list_of, forgotten, entry_of, without}

@@ -6,3 +6,5 @@ pub mod Loans
 pub mod Places
 pub mod Calls
 pub mod Laws
+pub mod LettingGo
+pub mod SiteLists

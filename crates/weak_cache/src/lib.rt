@@ -20,7 +20,7 @@ mod laws;
 mod list;
 
 pub use cache::WeakCache;
-pub use laws::found_was_put;
+pub use laws::{found_was_put, oldest_go, site_lists};
 pub use list::Entries;
 
 #[cfg(test)]

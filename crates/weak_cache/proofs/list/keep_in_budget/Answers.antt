@@ -1,4 +1,4 @@
-use Rattle.std.proofs.Common.{◌≡◌, ◌<◌, ◌⊎◌, inl, inr, length, ◌∙◌, sym, arith}
+use Rattle.std.proofs.Common.{◌<◌, ◌⊎◌, inl, inr, length, ◌∙◌, sym, arith}
 use Rattle.weak_cache.specs.Entries.{sum_of}
 use Rattle.weak_cache.proofs.Keeping.{budget_fits, budget_step}
 use Rattle.weak_cache.proofs.list.keep_in_budget.Goals as goal

@@ -1,4 +1,4 @@
-use Rattle.std.proofs.Common.{sym, ◌∙◌, ap, Some, refl}
+use Rattle.std.proofs.Common.{sym, ◌∙◌}
 use Rattle.weak_cache.proofs.Cuts.{place_from, other_version, no_place}
 use Rattle.weak_cache.proofs.list.place_at.Goals as goal
 

@@ -1,8 +1,8 @@
-use Rattle.std.proofs.Common.{◌≡◌, ◌+◌, length, length-append, get_or, refl, ◌∙◌, sym, ap, Some, arith, ◌∷◌, ◌++◌}
+use Rattle.std.proofs.Common.{◌≡◌, length, length-append, get_or, refl, ◌∙◌, sym, ap, Some, arith, ◌∷◌, ◌++◌}
 use Rattle.std.proofs.lemmas.List.{with_items_is}
 use Rattle.std.specs.Vec.{with_items}
 use Rattle.weak_cache.specs.Entries.{Entry, Cache}
-use Rattle.weak_cache.specs.Cache.{Limits, Limited, content_at}
+use Rattle.weak_cache.specs.Cache.{Limits}
 use Rattle.weak_cache.specs.Places.{CutAt}
 use Rattle.weak_cache.proofs.Puts.{within_moved}
 use Rattle.weak_cache.proofs.Cuts.{cut_content, cut_searched}

@@ -1,6 +1,6 @@
-use Rattle.std.proofs.Common.{◌≡◌, ◌≤◌, ◌<◌, ◌-◌, ◌^◌, ◌∷◌, true, refl, ◌∙◌, sym, ap, arith}
-use Rattle.weak_cache.specs.Entries.{Entry, Cache, sum_of, list_of, without, size_of}
-use Rattle.weak_cache.specs.Cache.{Limits, Limited, has_room, within_quota, within_budget}
+use Rattle.std.proofs.Common.{◌≡◌, ◌≤◌, ◌-◌, ◌∷◌, true, ◌∙◌, ap, arith}
+use Rattle.weak_cache.specs.Entries.{Entry, Cache, sum_of, list_of, without}
+use Rattle.weak_cache.specs.Cache.{Limits, Limited, has_room, within_quota}
 use Rattle.weak_cache.proofs.Fewer.{fewer_filter, within_fewer, list_fewer, sum_fewer, fewer_then}
 use Rattle.weak_cache.proofs.Keeping.{quota_fewer}
 use Rattle.weak_cache.proofs.Puts.{beside, put_steps, within_put}
