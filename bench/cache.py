@@ -1,14 +1,15 @@
 #!/usr/bin/env python3
 """bench/cache.py
 
-Times one cache with 16, 256 and 4,096 entries of one byte: puts, of which each lets the oldest entry go, and looks for the
-oldest content, which is then the newest. The figure that counts is how the time of a call grows (the best of five runs).
+Times one cache with 16, 256 and 4,096 entries of one byte: puts, of which each lets the oldest entry go, looks for the
+oldest content, which is then the newest, and hints of each in turn. The figure that counts is how the time of a call grows
+(the best of five runs).
 
 The program (bench/cache.rattle) is no crate of the repository: it is built in a scratch copy of it, by `rt run`.
 """
 import scratch
 
-KINDS = ("put", "used")
+KINDS = ("put", "used", "hint")
 
 
 def main():

@@ -10,10 +10,18 @@ TOP = os.path.join(BENCH, "..")
 
 
 def built(folder, name, crates):
-    """A copy of the repository in this folder, in which bench/NAME.rattle is a program that stands on these crates; its folder."""
-    shutil.copytree(os.path.join(TOP, "crates"), os.path.join(folder, "crates"))
-    shutil.copy(os.path.join(TOP, "crates.txt"), folder)
-    with open(os.path.join(folder, "crates.txt"), "a", encoding="utf-8") as listed:
+    """A copy of these crates and of those below them in this folder, in which bench/NAME.rattle is a program that stands on these crates; its folder."""
+    with open(os.path.join(TOP, "crates.txt"), encoding="utf-8") as listed:
+        below = {line.partition(":")[0]: line.partition(":")[2].split() for line in listed if line.strip()}
+    wanted, copied = crates.split(), set()
+    while wanted:
+        one = wanted.pop()
+        if one in below and one not in copied:
+            copied.add(one)
+            wanted += below[one]
+            shutil.copytree(os.path.join(TOP, "crates", one), os.path.join(folder, "crates", one))
+    with open(os.path.join(folder, "crates.txt"), "w", encoding="utf-8") as listed:
+        listed.writelines(f"{one}: {' '.join(below[one])}\n" for one in sorted(copied))
         listed.write(f"{name}_bench: {crates}\n")
     crate = os.path.join(folder, "crates", f"{name}_bench")
     os.makedirs(os.path.join(crate, "src"))
