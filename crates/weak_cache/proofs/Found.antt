@@ -40,7 +40,7 @@ find_gone p r drops (e ∷ c) =
 at_same : (site suite other : ℕ) (x : Entry) → is_of site suite x ≡ true → is_at other x ≡ (site == other)
 at_same site suite other x own = ap (λ s. s == other) (eqb-true x.site site (both (x.site == site) (x.suite == suite) own).0)
 
-of_same : (site suite other number : ℕ) (x : Entry) → is_of site suite x ≡ true → is_of other number x ≡ ((site == other) && (suite == number))
+pub of_same : (site suite other number : ℕ) (x : Entry) → is_of site suite x ≡ true → is_of other number x ≡ ((site == other) && (suite == number))
 of_same site suite other number x own =
     let key = both (x.site == site) (x.suite == suite) own in
     ap (λ s. (s == other) && (x.suite == number)) (eqb-true x.site site key.0) ∙ ap (λ u. (site == other) && (u == number)) (eqb-true x.suite suite key.1)

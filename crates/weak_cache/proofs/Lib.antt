@@ -5,3 +5,4 @@ pub mod Puts
 pub mod Found
 pub mod LettingGo
 pub mod SiteLists
+pub mod Beside

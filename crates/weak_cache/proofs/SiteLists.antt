@@ -1,5 +1,5 @@
 -- What each call finds in a site's list and leaves of it.
-use Rattle.std.proofs.Common.{◌≡◌, ◌≢◌, ℕ, ◌+◌, ◌-◌, ◌<◌, ◌≤◌, leb, ltb, Bool, true, false, cond, not, ◌&&◌, ◌||◌, ◌⊎◌, inl, inr, Option, None, Some, [], ◌∷◌, ◌++◌, length, refl, sym, ap, ◌∙◌, arith}
+use Rattle.std.proofs.Common.{◌≡◌, ◌≢◌, ℕ, ◌-◌, ◌<◌, leb, ltb, Bool, true, false, cond, not, ◌&&◌, ◌||◌, ◌⊎◌, inl, inr, Option, None, Some, [], ◌∷◌, ◌++◌, length, refl, sym, ap, ◌∙◌, arith}
 use Rattle.std.specs.Prelude.{◌==◌, filter, is_some, option_map}
 use Rattle.std.proofs.lemmas.List.{append-nil}
 use Rattle.std.proofs.lemmas.List.Elements.{filter-append}
@@ -190,8 +190,8 @@ budget_goes room slots (e ∷ c) =
         e ∷ c,
         refl,
         λ newest older g.
-          let same : e ≡ newest = head_same e newest c older g in
-          elim (short (leb (size_of e.content) room) (ltb 0 slots) h) [ inl s ↦ inl (omega (arith, leb-false _ _ s, ap (λ (x : Entry). size_of x.content) same)) | inr s ↦ inr (omega (arith, ltb-false _ _ s)) ],
+            let same : e ≡ newest = head_same e newest c older g in
+            elim (short (leb (size_of e.content) room) (ltb 0 slots) h) [ inl s ↦ inl (omega (arith, leb-false _ _ s, ap (λ (x : Entry). size_of x.content) same)) | inr s ↦ inr (omega (arith, ltb-false _ _ s)) ],
       )
     ] refl
 

@@ -8,3 +8,4 @@ pub mod Calls
 pub mod Laws
 pub mod LettingGo
 pub mod SiteLists
+pub mod Beside

@@ -1,11 +1,11 @@
 //! The cache of an agent's sites.
 
-ghost use Rattle.std.specs.Prelude.{◌≡◌, ◌<◌, IfOk, OnOk, OnErr, IsOk, IsTrue, [], false};
+ghost use Rattle.std.specs.Prelude.{◌≡◌, ◌==◌, ◌&&◌, ◌<◌, IfOk, OnOk, OnErr, IsOk, IsTrue, [], false};
 ghost use Rattle.std.specs.Option.{option_copied, SomeIff};
 ghost use Rattle.std.specs.Borrow.{sem};
 
 use crate::entry::{SizedEntry, size_within};
-use crate::list::{self, Entries};
+use crate::list::{self, Beside, Entries};
 use std::alloc::{AllocError, Global};
 use std::marker::Model;
 use suite_content::Content;
@@ -24,6 +24,15 @@ pub struct WeakCache {
     entries: Vec<SizedEntry>,
 }
 
+/// A content that may be put for a site and a suite: it and its version.
+#[derive(Clone, Copy)]
+pub struct NewContent<'a> {
+    pub site: u8,
+    pub suite: u64,
+    pub dver: u64,
+    pub content: &'a Content,
+}
+
 impl Model for WeakCache {
     ghost use Rattle.weak_cache.specs.Cache.{Limited, IsWithin};
     ghost use Rattle.weak_cache.specs.CacheView.{limited_in};
@@ -39,6 +48,7 @@ impl WeakCache {
     ghost use Rattle.weak_cache.specs.Cache.{IsWithin, hint, has_room, put, searched, content_at};
     ghost use Rattle.weak_cache.specs.Entries.{size_of, keys_of, forgotten};
     ghost use Rattle.weak_cache.specs.Loans.{EndsWith};
+    ghost use Rattle.suite_prefix.specs.declared.copies.Prefix.{Prefix};
 
     /// A cache without entries. All sites together may keep as many bytes as the budget says, each site
     /// as many as the quota, and there may be as many entries as there are slots.
@@ -89,6 +99,37 @@ impl WeakCache {
         let at = list::place_at(&self.entries, site, suite, dver)?;
         list::to_front(&mut self.entries, at);
         Some(self.entries[0].content())
+    }
+
+    /// The content that would be found once another was put, of a site and suite at this version. It changes
+    /// nothing and takes no memory.
+    pub fn content_beside<'a>(
+        &'a self,
+        new: NewContent<'a>,
+        site: u8,
+        suite: u64,
+        dver: u64,
+    ) -> Option<&'a Content>
+        ensures { (prefix : Prefix) → option_copied result ≡ content_at (put self.now.limits (record { site = new.entry.site; suite = new.entry.suite; prefix = prefix; dver = new.entry.dver; content = new.entry.content.now }) self.now.entries) site suite dver }
+    {
+        let is_new = is_same(new.site, new.suite, site, suite);
+        let Some(size) = self.size_in_room(new.content) else {
+            if is_new {
+                return None;
+            }
+            return list::find(&self.entries, site, suite)?.content_at(dver);
+        };
+        if is_new {
+            return (new.dver == dver).then_some(new.content);
+        }
+        let beside = Beside {
+            site: new.site,
+            suite: new.suite,
+            quota: self.quota - size,
+            budget: self.budget - size,
+            slots: self.slots - 1,
+        };
+        list::find_beside(&self.entries, beside, site, suite)?.content_at(dver)
     }
 
     /// Keeps a prefix and a content for a site, as the newest, in place of what it kept of the suite; if
@@ -145,4 +186,11 @@ impl WeakCache {
     {
         list::forget(&mut self.entries, site);
     }
+}
+
+/// Whether two sites and suites are the same.
+const fn is_same(site: u8, suite: u64, other: u8, number: u64) -> bool
+    ensures { result ≡ ((site == other) && (suite == number)) }
+{
+    site == other && suite == number
 }

@@ -1,9 +1,10 @@
 //! An entry of a cache, with its size.
 
-ghost use Rattle.std.specs.Prelude.{◌≡◌, ◌==◌, ◌-◌, ◌≤◌, ◌<◌, length};
-ghost use Rattle.std.specs.Option.{SomeIff};
+ghost use Rattle.std.specs.Prelude.{◌≡◌, ◌==◌, ◌-◌, ◌≤◌, ◌<◌, length, Some};
+ghost use Rattle.std.specs.Option.{SomeIff, option_copied};
 ghost use Rattle.std.specs.List.{flat_map};
 ghost use Rattle.suite_prefix.specs.Bytes.{name_bytes};
+ghost use Rattle.weak_cache.specs.Cache.{at_version};
 ghost use Rattle.weak_cache.specs.Entries.{size_of, is_at, is_of};
 
 use std::marker::Model;
@@ -80,6 +81,13 @@ impl SizedEntry {
         ensures { result.now ≡ self.now.content }
     {
         &self.content
+    }
+
+    /// Its content, where it is of this version.
+    pub(crate) fn content_at(&self, dver: u64) -> Option<&Content>
+        ensures { option_copied result ≡ at_version dver (Some self.now) }
+    {
+        self.is_at_version(dver).then_some(&self.content)
     }
 
     /// How many bytes its content takes.

@@ -11,9 +11,9 @@ pub fn found_was_put()
     ensures { FoundWasPut }
 {}
 
-/// A law: what a put leaves is what is there once the site's oldest went while its sum was above the
-/// quota, and then the oldest of all while the whole sum was above the budget or the count above the
-/// slots. It does nothing.
+/// A law: what a put of what has room at all leaves is what is there once the site's oldest went while
+/// its sum was above the quota, and then the oldest of all while the whole sum was above the budget or
+/// the count above the slots. It does nothing.
 pub fn oldest_go()
     ensures { OldestGo }
 {}

@@ -5,6 +5,7 @@ ghost use Rattle.std.specs.List.{position_from};
 ghost use Rattle.std.specs.Option.{option_copied};
 ghost use Rattle.weak_cache.specs.Entries.{Entry, Cache, is_of, sum_of, list_of, forgotten, entry_of, without, keys_of};
 ghost use Rattle.weak_cache.specs.Cache.{content_at, within_quota, within_budget};
+ghost use Rattle.weak_cache.specs.Beside.{room_after};
 ghost use Rattle.weak_cache.specs.Places.{IsPlaceOf, IsLastOf, EvictsLast, EvictsLastOf};
 
 use crate::entry::SizedEntry;
@@ -53,6 +54,61 @@ pub(crate) fn find(entries: &[SizedEntry], site: u8, suite: u64) -> Option<&Size
     ensures { option_copied result ≡ entry_of entries.now site suite }
 {
     entries.iter().find(|entry| entry.is_of(site, suite))
+}
+
+/// What a put of an entry leaves to the others: of which site and suite it is, and how much room there is
+/// beside it.
+#[derive(Clone, Copy)]
+pub(crate) struct Beside {
+    pub(crate) site: u8,
+    pub(crate) suite: u64,
+    pub(crate) quota: usize,
+    pub(crate) budget: usize,
+    pub(crate) slots: usize,
+}
+
+/// What a site would keep of a suite beside an entry that is put.
+pub(crate) fn find_beside(
+    entries: &[SizedEntry],
+    new: Beside,
+    site: u8,
+    suite: u64,
+) -> Option<&SizedEntry>
+    ensures { option_copied result ≡ entry_of (within_budget new.budget new.slots (within_quota new.site new.quota (without new.site new.suite entries.now))) site suite }
+{
+    let mut quota = Some(new.quota);
+    let mut budget = new.budget;
+    let mut slots = new.slots;
+    for entry in entries {
+        if entry.is_of(new.site, new.suite) {
+            continue;
+        }
+        if entry.is_at(new.site) {
+            quota = quota_after(quota, entry.size());
+            if quota.is_none() {
+                continue;
+            }
+        }
+        if slots == 0 || budget < entry.size() {
+            return None;
+        }
+        if entry.is_of(site, suite) {
+            return Some(entry);
+        }
+        slots -= 1;
+        budget -= entry.size();
+    }
+    None
+}
+
+/// What so many bytes leave of a room, if there is still one and they have room there.
+const fn quota_after(room: Option<usize>, size: usize) -> Option<usize>
+    ensures { result ≡ room_after room size }
+{
+    match room {
+        Some(room) => room.checked_sub(size),
+        None => None,
+    }
 }
 
 /// The place of what a site keeps of a suite, if it is of this version.
