@@ -365,6 +365,7 @@ fn settings_are_kept(rt: HostRuntime) {
         .ok()
         .expect(&rt, "settings");
     let kept = made.clone().expect(&rt, "memory");
+    kept.fits();
     assert!(rt; kept == made);
     assert!(rt; kept.servers() == 3 && kept.agents() == 2);
     assert!(rt; kept.root_owner() == 1000 && kept.root_group() == 100);

@@ -7,11 +7,14 @@ ghost use Rattle.suite_content.specs.Limits.{most_names, longest_content};
 ghost use Rattle.suite_content.specs.Names.{IsName};
 ghost use Rattle.suite_content.specs.Contents.{kind_of, empty_content};
 ghost use Rattle.suite_content.specs.Folders.{IsFolder};
+ghost use Rattle.suite_prefix.specs.declared.copies.PrefixKind.TheVariants.{Folder};
 ghost use Rattle.suite_prefix.specs.Copies.{IsPrefix, PrefixFits, IsNothing, IsCopy, IsOfSomeCopy, IsContent, IsFile, IsFolderContent, held_by};
+ghost use Rattle.suite_prefix.specs.SettingsRules.{IsAccepted};
 ghost use Rattle.suite_prefix.specs.Tests as test;
 ghost use Rattle.suite_prefix.specs.TestsExact.{ContentFits, CopyFits, TestsAreExact};
 
 use crate::copies::{Prefix, PrefixKind, Replica};
+use crate::settings::Settings;
 use acl_core::{Acl, Entry, Tag};
 use suite_content::{Content, Kind, LONGEST_CONTENT, MOST_NAMES, Name};
 
@@ -55,6 +58,23 @@ impl Prefix {
 pub fn tests_are_exact()
     ensures { TestsAreExact }
 {}
+
+impl Settings {
+    /// A law: settings are accepted ones, and the root's prefix, which is made of them, fits its types.
+    /// It does nothing.
+    pub fn fits(&self)
+        ensures accepted { IsAccepted self.now }
+        ensures root { PrefixFits (record { pver = 1; kind = Folder; owner = self.now.root_owner; group = self.now.root_group; acl = self.now.root_acl; votes = self.now.c0 }) }
+    {
+        let _servers = self.servers();
+        fits_four(self.root_owner());
+        fits_four(self.root_group());
+        let votes = self.c0();
+        let _thresholds = (votes.r(), votes.w());
+        let _reps = votes.reps();
+        qualifiers_fit(self.root_acl().entries());
+    }
+}
 
 /// Whether a prefix is nobody's and grants nothing.
 fn is_nothing(prefix: &Prefix) -> bool
