@@ -1,4 +1,4 @@
-use Rattle.std.specs.Prelude.{List, [], ◌∷◌}
+use Rattle.std.specs.Prelude.{[], ◌∷◌}
 use Rattle.std.proofs.lemmas.List.Elements.{All-nil, All-cons}
 use Rattle.rep_core.specs.declared.request.Request.{Request}
 use Rattle.rep_core.specs.declared.stamped.Stamped.{Stamped}
