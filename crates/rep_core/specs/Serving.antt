@@ -3,6 +3,7 @@ use Rattle.std.specs.Prelude.{ℕ, ◌+◌, Bool, true, false, ◌&&◌, ◌||�
 use Rattle.rep_core.specs.declared.request.Request.{Request}
 use Rattle.rep_core.specs.declared.request.Request.TheVariants as request
 use Rattle.rep_core.specs.declared.reply.Reply.{Reply}
+use Rattle.rep_core.specs.declared.reply.Reply.TheVariants as reply
 use Rattle.rep_core.specs.declared.stamped.Stamped.{Stamped}
 use Rattle.rep_core.specs.Store.{is_used_up, overfills}
 use Rattle.rep_core.specs.State.{State}
@@ -40,3 +41,11 @@ takes_no_memory (request.Break t suite) = true
 takes_no_memory request.Crash = true
 takes_no_memory request.Return = true
 takes_no_memory _ = false
+
+-- the replies that hold nothing, to requests that keep nothing new: what is answered so takes no memory
+abbrev pub is_bare : Reply → Bool
+is_bare (reply.Busy holder prepared) = true
+is_bare reply.Lost = true
+is_bare reply.Done = true
+is_bare reply.Down = true
+is_bare _ = false

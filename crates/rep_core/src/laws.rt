@@ -55,7 +55,8 @@ pub fn stores_are_sound()
 {}
 
 /// A law: where the settings and the requests fit their types, every copy that a server has, that is in
-/// effect there, or of which it tells, is a valid copy. It does nothing.
+/// effect there, or of which it tells, is a valid copy. That they fit is a law of each of them
+/// ([`crate::settings_fit`], [`crate::Request::takes_fit`]). It does nothing.
 pub fn copies_are_valid()
     ensures { CopiesAreValid }
 {}
@@ -71,7 +72,8 @@ pub fn prepared_by_prepare()
     ensures { PreparedByPrepare }
 {}
 
-/// A law: a server that answers Busy, Lost, Given, Locked or Down stays as it was. It does nothing.
+/// A law: a server that answers Busy, Lost, Given, Locked or Down stays as it was, but for its stamp. It
+/// does nothing.
 pub fn quiet_replies_change_nothing()
     ensures { QuietRepliesChangeNothing }
 {}

@@ -34,6 +34,7 @@ mod request;
 mod server;
 mod stamped;
 mod store;
+mod types_fit;
 
 pub use effect::finish_keeps_effect;
 pub use laws::{
@@ -48,6 +49,7 @@ pub use request::{Decision, Part, Parts, Request, Take};
 pub use server::Server;
 pub use stamped::{Lack, Stamped};
 pub use store::MOST_SUITES;
+pub use types_fit::settings_fit;
 
 #[cfg(test)]
 mod tests;

@@ -1,6 +1,6 @@
 //! What a request is answered and what it changes, found before anything is changed.
 
-ghost use Rattle.std.specs.Prelude.{◌≡◌, ◌≢◌, ◌<◌, ◌==◌, ◌↔◌, ◌&&◌, IfOk, OnOk, OnErr, IsTrue, Err, false, true};
+ghost use Rattle.std.specs.Prelude.{◌≡◌, ◌≢◌, ◌<◌, ◌==◌, ◌↔◌, ◌&&◌, IfOk, IsOk, OnOk, OnErr, IsTrue, Err, false, true};
 ghost use Rattle.std.specs.List.{list_all, list_any};
 ghost use Rattle.rep_core.specs.declared.stamped.Lack.TheVariants.{Full, Memory};
 ghost use Rattle.rep_core.specs.Changing as changing;
@@ -75,6 +75,8 @@ impl Holdings {
         ensures spare { IfOk result (λ plan. IsTrue (serving.takes_no_memory request.value) → changing.takes_room plan.change ≡ false) }
         ensures full { (result ≡ Err Full) ↔ IsTrue (serving.is_full (state_of self.now) request) }
         ensures memory { IsTrue (serving.takes_no_memory request.value) → result ≢ Err Memory }
+        ensures bare { IsTrue (serving.is_bare (service.reply_of (state_of self.now) request.value)) → result ≢ Err Memory }
+        ensures bare_spare { IfOk result (λ plan. IsTrue (serving.is_bare (service.reply_of (state_of self.now) request.value)) → changing.takes_room plan.change ≡ false) }
         ensures fits { IsTrue (fits request.value (service.reply_of (state_of self.now) request.value)) }
     {
         self.store.sound();
@@ -100,6 +102,8 @@ impl Holdings {
         ensures spare { IfOk result (λ plan. IsTrue (serving.takes_no_memory request) → changing.takes_room plan.1 ≡ false) }
         ensures full { (result ≡ Err Full) ↔ IsTrue (serving.asks_too_much (state_of self.now) request) }
         ensures memory { IsTrue (serving.takes_no_memory request) → result ≢ Err Memory }
+        ensures bare { IsTrue (serving.is_bare (service.reply_up (state_of self.now) request)) → result ≢ Err Memory }
+        ensures bare_spare { IfOk result (λ plan. IsTrue (serving.is_bare (service.reply_up (state_of self.now) request)) → changing.takes_room plan.1 ≡ false) }
     {
         match request {
             Request::Poll { t, suite, mode } => Ok(self.plan_lock(t, suite, mode)?),
@@ -127,6 +131,8 @@ impl Holdings {
         ensures change { IfOk result (λ plan. changing.completed plan.1 (changing.begun plan.1 (state_of self.now)) ≡ service.after_poll (state_of self.now) t suite mode) }
         ensures sound { IfOk result (λ plan. changing.IsSoundChange plan.1 (state_of self.now)) }
         ensures first { IfOk result (λ plan. changing.IsFirstRecord plan.1 (state_of self.now)) }
+        ensures bare { IsTrue (serving.is_bare (service.poll_reply (state_of self.now) t suite mode)) → IsOk result }
+        ensures bare_spare { IfOk result (λ plan. IsTrue (serving.is_bare (service.poll_reply (state_of self.now) t suite mode)) → changing.takes_room plan.1 ≡ false) }
     {
         match locks::in_the_way(self.locks.as_slice(), t, suite, mode) {
             Some(other) => {
@@ -145,6 +151,8 @@ impl Holdings {
         ensures change { IfOk result (λ plan. changing.completed plan.1 (changing.begun plan.1 (state_of self.now)) ≡ service.after_upgrade (state_of self.now) t suite) }
         ensures sound { IfOk result (λ plan. changing.IsSoundChange plan.1 (state_of self.now)) }
         ensures first { IfOk result (λ plan. changing.IsFirstRecord plan.1 (state_of self.now)) }
+        ensures bare { IsTrue (serving.is_bare (service.upgrade_reply (state_of self.now) t suite)) → IsOk result }
+        ensures bare_spare { IfOk result (λ plan. IsTrue (serving.is_bare (service.upgrade_reply (state_of self.now) t suite)) → changing.takes_room plan.1 ≡ false) }
     {
         if locks::has_lock(self.locks.as_slice(), t, suite) {
             self.plan_lock(t, suite, LockMode::Exclusive)
@@ -154,7 +162,8 @@ impl Holdings {
     }
 
     fn fetched(&self, t: u64, suite: u64) -> Result<Reply, AllocError>
-        ensures { IfOk result (λ reply. reply ≡ service.fetch_reply (state_of self.now) t suite) }
+        ensures reply { IfOk result (λ reply. reply ≡ service.fetch_reply (state_of self.now) t suite) }
+        ensures bare { IsTrue (serving.is_bare (service.fetch_reply (state_of self.now) t suite)) → IsOk result }
     {
         if locks::has_lock(self.locks.as_slice(), t, suite) {
             self.store.given(suite)
@@ -170,6 +179,7 @@ impl Holdings {
         ensures first { IfOk result (λ plan. changing.IsFirstRecord plan.1 (state_of self.now)) }
         ensures full { (result ≡ Err Full) ↔ IsTrue (service.prepares (state_of self.now) t parts && store.overfills t (state_of self.now).store parts) }
         ensures memory { result ≢ Err Memory }
+        ensures bare_spare { IfOk result (λ plan. IsTrue (serving.is_bare (service.prepare_reply (state_of self.now) t parts)) → changing.takes_room plan.1 ≡ false) }
     {
         if self.stands_prepared(t, parts.as_slice()) {
             return Ok((Reply::Prepared, Change::Nothing));

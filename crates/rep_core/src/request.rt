@@ -312,28 +312,20 @@ impl PartialEq for Request {
             | (Request::Break { t, suite }, Request::Break { t: u, suite: place }) => {
                 t == u && suite == place
             }
-            (
-                Request::Prepare { t, parts },
-                Request::Prepare {
-                    t: u,
-                    parts: theirs,
-                },
-            ) => { t == u && parts == theirs }
+            (Request::Prepare { t, parts }, Request::Prepare { t: u, parts: its }) => {
+                t == u && parts == its
+            }
             (
                 Request::Decide { t, decision },
                 Request::Decide {
                     t: u,
-                    decision: theirs,
+                    decision: its,
                 },
-            ) => t == u && decision == theirs,
+            ) => t == u && decision == its,
             (Request::Resolve { t }, Request::Resolve { t: u }) => t == u,
-            (
-                Request::Finish { t, verdict },
-                Request::Finish {
-                    t: u,
-                    verdict: theirs,
-                },
-            ) => t == u && verdict == theirs,
+            (Request::Finish { t, verdict }, Request::Finish { t: u, verdict: its }) => {
+                t == u && verdict == its
+            }
             (Request::Locks, Request::Locks)
             | (Request::Crash, Request::Crash)
             | (Request::Return, Request::Return) => true,

@@ -43,13 +43,14 @@ impl Server {
     }
 
     /// Serves a request. Where it is not served, nothing has changed. Finish, Break, Crash and Return
-    /// take no memory.
+    /// take no memory, nor does what is answered Busy, Lost, Done or Down.
     pub fn serve(&mut self, request: Stamped<Request>) -> Result<Stamped<Reply>, Lack>
         ensures reply { IfOk result (λ reply. reply ≡ serving.answer_of self.old request) }
         ensures state { OnOk result (self.new ≡ serving.served self.old request) }
         ensures full { (result ≡ Err Full) ↔ IsTrue (serving.is_full self.old request) }
         ensures err { OnErr result (self.new ≡ self.old) }
         ensures memory { IsTrue (serving.takes_no_memory request.value) → result ≢ Err Memory }
+        ensures bare { IsTrue (serving.is_bare (serving.answer_of self.old request).value) → result ≢ Err Memory }
         ensures fits { IfOk result (λ reply. IsTrue (fits request.value reply.value)) }
     {
         let mut nobody = ();
@@ -77,6 +78,7 @@ impl Server {
         ensures err { OnErr result (self.new ≡ self.old) }
         ensures taker { OnErr result (taker.new ≡ taker.old) }
         ensures memory { IsTrue (serving.takes_no_memory request.value) → result ≢ Err Memory }
+        ensures bare { IsTrue (serving.is_bare (serving.answer_of self.old request).value) → result ≢ Err Memory }
         ensures fits { IsTrue (fits request.value (serving.answer_of self.old request).value) }
     {
         let plan = self.held.plan(request)?;
@@ -98,6 +100,7 @@ impl Server {
         ensures reply { IfOk result (λ reply. reply ≡ serving.answer_of self.now request) }
         ensures full { (result ≡ Err Full) ↔ IsTrue (serving.is_full self.now request) }
         ensures memory { IsTrue (serving.takes_no_memory request.value) → result ≢ Err Memory }
+        ensures bare { IsTrue (serving.is_bare (serving.answer_of self.now request).value) → result ≢ Err Memory }
         ensures fits { IfOk result (λ reply. IsTrue (fits request.value reply.value)) }
     {
         Ok(self.held.plan(request)?.reply)

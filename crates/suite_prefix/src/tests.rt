@@ -81,6 +81,16 @@ fn is_spelled(rt: &(impl Abort + AllocGlobal), copy: &Replica, bytes: &[u8]) {
     assert!(rt; read == *copy);
 }
 
+/// The laws can be called: what the tests of a copy are to the definition, with what it says of this one.
+fn laws(copy: &Replica) {
+    copy.prefix.fits();
+    copy.fits();
+    tests_are_exact();
+    no_bytes_begin_others();
+    faults_tell_apart();
+    fronts_are_short();
+}
+
 /// A copy is valid, is written in so many bytes, and is read from them.
 fn is_spelled_in(rt: &(impl Abort + AllocGlobal), copy: &Replica, len: usize) {
     let bytes = written(rt, copy);
@@ -97,11 +107,9 @@ fn is_refused(rt: &(impl Abort + AllocGlobal), bytes: &[u8], fault: CopyFault) {
 
 #[test]
 fn the_worked_copy_has_its_62_bytes(rt: HostRuntime) {
-    is_spelled(&rt, &file(&rt, b"hi"), &WORKED);
-    tests_are_exact();
-    no_bytes_begin_others();
-    faults_tell_apart();
-    fronts_are_short();
+    let copy = file(&rt, b"hi");
+    is_spelled(&rt, &copy, &WORKED);
+    laws(&copy);
 }
 
 /// The worked copy with another byte at a place, and its fault.
@@ -357,6 +365,7 @@ fn settings_are_kept(rt: HostRuntime) {
         .ok()
         .expect(&rt, "settings");
     let kept = made.clone().expect(&rt, "memory");
+    kept.fits();
     assert!(rt; kept == made);
     assert!(rt; kept.servers() == 3 && kept.agents() == 2);
     assert!(rt; kept.root_owner() == 1000 && kept.root_group() == 100);

@@ -7,11 +7,14 @@ ghost use Rattle.suite_content.specs.Limits.{most_names, longest_content};
 ghost use Rattle.suite_content.specs.Names.{IsName};
 ghost use Rattle.suite_content.specs.Contents.{kind_of, empty_content};
 ghost use Rattle.suite_content.specs.Folders.{IsFolder};
+ghost use Rattle.suite_prefix.specs.declared.copies.PrefixKind.TheVariants.{Folder};
 ghost use Rattle.suite_prefix.specs.Copies.{IsPrefix, PrefixFits, IsNothing, IsCopy, IsOfSomeCopy, IsContent, IsFile, IsFolderContent, held_by};
+ghost use Rattle.suite_prefix.specs.SettingsRules.{IsAccepted};
 ghost use Rattle.suite_prefix.specs.Tests as test;
-ghost use Rattle.suite_prefix.specs.TestsExact.{TestsAreExact};
+ghost use Rattle.suite_prefix.specs.TestsExact.{ContentFits, CopyFits, TestsAreExact};
 
 use crate::copies::{Prefix, PrefixKind, Replica};
+use crate::settings::Settings;
 use acl_core::{Acl, Entry, Tag};
 use suite_content::{Content, Kind, LONGEST_CONTENT, MOST_NAMES, Name};
 
@@ -22,8 +25,20 @@ impl Prefix {
         ensures prefix { IsTrue result ↔ IsPrefix self.now }
         ensures test { result ≡ test.is_valid_prefix self.now }
     {
-        fits(self);
+        self.fits();
         self.keeps_rules()
+    }
+
+    /// A law: what the types of a prefix's fields say of it. It does nothing.
+    pub fn fits(&self)
+        ensures { PrefixFits self.now }
+    {
+        fits_eight(self.pver);
+        fits_four(self.owner);
+        fits_four(self.group);
+        let _thresholds = (self.votes.r(), self.votes.w());
+        let _reps = self.votes.reps();
+        qualifiers_fit(self.acl.entries());
     }
 
     fn keeps_rules(&self) -> bool
@@ -39,10 +54,27 @@ impl Prefix {
 }
 
 /// A law: the tests are true of valid prefixes and copies, and of nothing else whose parts fit their
-/// types. It does nothing.
+/// types, as [`Prefix::fits`] and [`Replica::fits`] say of each that a program holds. It does nothing.
 pub fn tests_are_exact()
     ensures { TestsAreExact }
 {}
+
+impl Settings {
+    /// A law: settings are accepted ones, and the root's prefix, which is made of them, fits its types.
+    /// It does nothing.
+    pub fn fits(&self)
+        ensures accepted { IsAccepted self.now }
+        ensures root { PrefixFits (record { pver = 1; kind = Folder; owner = self.now.root_owner; group = self.now.root_group; acl = self.now.root_acl; votes = self.now.c0 }) }
+    {
+        let _servers = self.servers();
+        fits_four(self.root_owner());
+        fits_four(self.root_group());
+        let votes = self.c0();
+        let _thresholds = (votes.r(), votes.w());
+        let _reps = votes.reps();
+        qualifiers_fit(self.root_acl().entries());
+    }
+}
 
 /// Whether a prefix is nobody's and grants nothing.
 fn is_nothing(prefix: &Prefix) -> bool
@@ -50,18 +82,6 @@ fn is_nothing(prefix: &Prefix) -> bool
     ensures test { result ≡ test.is_nothing prefix.now }
 {
     prefix.owner == 0 && prefix.group == 0 && is_closed(&prefix.acl)
-}
-
-/// A law: what the types of a prefix's fields say of it. It does nothing.
-fn fits(prefix: &Prefix)
-    ensures { PrefixFits prefix.now }
-{
-    fits_eight(prefix.pver);
-    fits_four(prefix.owner);
-    fits_four(prefix.group);
-    let _thresholds = (prefix.votes.r(), prefix.votes.w());
-    let _reps = prefix.votes.reps();
-    qualifiers_fit(prefix.acl.entries());
 }
 
 /// A law: a number fits eight bytes. It does nothing.
@@ -103,6 +123,15 @@ fn is_closed(acl: &Acl) -> bool
 }
 
 impl Replica {
+    /// A law: what the types of a copy's fields say of it. It does nothing.
+    pub fn fits(&self)
+        ensures { CopyFits self.now }
+    {
+        self.prefix.fits();
+        fits_eight(self.dver);
+        content_fits(&self.content);
+    }
+
     /// Whether this is a valid copy.
     pub fn is_valid(&self) -> bool
         ensures copy { IsTrue result ↔ IsCopy self.now }
@@ -169,6 +198,21 @@ fn is_folder(names: &[(Name, u64)]) -> bool
     names_fit(names);
     names.len() <= MOST_NAMES
 }
+
+/// A law: what the type of a content says of it. It does nothing.
+fn content_fits(content: &Content)
+    ensures { ContentFits content.now }
+{
+    match content {
+        Content::Bytes(bytes) => bytes_fit(bytes.as_slice()),
+        Content::Names(names) => names_fit(names.as_slice()),
+    }
+}
+
+/// A law: a file's bytes are bytes. It does nothing.
+fn bytes_fit(bytes: &[u8])
+    ensures { All (λ byte. byte < 256) bytes.now }
+{}
 
 /// A law: what a folder has are names, and their numbers fit eight bytes. It does nothing.
 fn names_fit(names: &[(Name, u64)])

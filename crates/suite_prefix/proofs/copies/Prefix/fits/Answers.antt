@@ -1,5 +1,5 @@
 use Rattle.std.proofs.Common.{arith}
-use Rattle.suite_prefix.proofs.validity.fits.Goals as goal
+use Rattle.suite_prefix.proofs.copies.Prefix.fits.Goals as goal
 
 pub returns : goal.returns
 returns c = record {
