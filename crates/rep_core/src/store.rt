@@ -387,16 +387,7 @@ fn forget(intentions: &mut RoomyMap<u64, Intention>, t: u64)
     ensures fewer { length intentions.new.pairs ≤ length intentions.old.pairs }
     ensures rising { IsOrdered nat_cmp intentions.new.pairs }
 {
-    while let Some(suite) = next_of(intentions.as_slice(), t) {
-        forget_at(intentions, suite);
-    }
-}
-
-/// Drops the intention on a suite.
-fn forget_at(intentions: &mut RoomyMap<u64, Intention>, suite: u64)
-    ensures { intentions.new.pairs ≡ remove nat_cmp intentions.old.pairs suite }
-{
-    intentions.remove(&suite);
+    intentions.retain(|pair| pair.1.t != t);
 }
 
 /// Leaves of a suite's copy what is taken. Where the copy is new, there is room for it.

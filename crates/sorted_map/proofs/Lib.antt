@@ -1,1 +1,2 @@
 mod Place
+mod Kept

@@ -3,6 +3,8 @@
 ghost use Rattle.std.specs.Prelude.{◌≡◌, ◌+◌, ◌-◌, ◌<◌, ◌≤◌, ◌↔◌, [], length, IsTrue, IfOk, IfErr, OnOk, OnErr, None, Some, is_some, if◌then◌else◌, vec_capacity, vec_len};
 ghost use Rattle.std.specs.Option.{option_copied, option_copied_mut};
 ghost use Rattle.std.specs.Borrow.{sem};
+ghost use Rattle.std.specs.Fn.{CalledAt};
+ghost use Rattle.std.specs.List.Retain.{IsFiltered};
 ghost use Rattle.sorted_map.specs.SortedMap.{IsOrdered, get, insert, remove};
 ghost use Rattle.sorted_map.specs.Lends.{roomy_lends_value, roomy_lends_get};
 ghost use Rattle.sorted_map.specs.Place.{IsPlaceOf, IsGapFor};
@@ -188,6 +190,20 @@ impl<K: Ord, V> RoomyMap<K, V> {
             }
             Err(_) => None,
         }
+    }
+
+    /// Keeps the pairs that pass a test. The places of the others stay as room.
+    pub fn retain<F: FnMut(&(K, V)) -> bool>(&mut self, keep: F)
+    where
+        K: Drop,
+        V: Drop,
+        requires { F.IsAlwaysCallable keep }
+        ensures pairs { IsFiltered (CalledAt F.FnMut) keep self.old.pairs self.new.pairs }
+        ensures fewer { length self.new.pairs ≤ length self.old.pairs }
+        ensures room { self.new.room + length self.new.pairs ≡ self.old.room + length self.old.pairs }
+        ensures ordered { IsOrdered K.cmp self.new.pairs }
+    {
+        self.pairs.retain(keep);
     }
 
     /// Makes room for this many new keys. An error leaves the map as it was.

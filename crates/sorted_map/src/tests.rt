@@ -95,6 +95,19 @@ fn a_place_that_was_reserved_takes_no_memory(rt: HostRuntime) {
 }
 
 #[test]
+fn pairs_that_pass_a_test_are_kept(rt: HostRuntime) {
+    let mut map = roomy(&rt);
+    let room = map.room();
+    assert!(rt; room >= 3);
+    for (key, value) in [(2, 'b'), (5, 'e'), (7, 'g')] {
+        holds(&rt, map.insert(key, value).is_ok());
+    }
+    map.retain(|pair| pair.0 != 5);
+    same_pairs(&rt, map.as_slice(), &[(2, 'b'), (7, 'g')]);
+    same_count(&rt, map.room(), room - 2);
+}
+
+#[test]
 fn a_roomy_map_is_looked_up(rt: HostRuntime) {
     let mut map = roomy(&rt);
     holds(&rt, map.insert(2, 'b').is_ok());
