@@ -24,3 +24,4 @@ mod Example
 pub mod Same
 pub mod Changes
 mod Searching
+mod Ranges

@@ -48,7 +48,7 @@ stands_before t suite lock = nat_lt lock.t t || ((lock.t == t) && nat_lt lock.su
 pub before_down : (t suite : ℕ) (a b : Lock) → before a b ≡ true → stands_before t suite b ≡ true → stands_before t suite a ≡ true
 before_down t suite a b h k = grind (arith, nat_tests)
 
-before_not_own : (t suite : ℕ) (l : Lock) → stands_before t suite l ≡ true → is_own t suite l ≡ false
+pub before_not_own : (t suite : ℕ) (l : Lock) → stands_before t suite l ≡ true → is_own t suite l ≡ false
 before_not_own t suite l h = grind (arith, nat_tests)
 
 behind_not_own : (t suite : ℕ) (x y : Lock) → stands_before t suite x ≡ false → before x y ≡ true → is_own t suite y ≡ false
@@ -61,7 +61,7 @@ module _ (t suite : ℕ) where
   abbrev p : Lock → Bool
   p lock = stands_before t suite lock
 
-  none_behind : (x : Lock) (ls : List Lock) → p x ≡ false → list_all (before x) ls ≡ true → (has_lock t suite ls ≡ false) × (count_by p ls ≡ 0)
+  pub none_behind : (x : Lock) (ls : List Lock) → p x ≡ false → list_all (before x) ls ≡ true → (has_lock t suite ls ≡ false) × (count_by p ls ≡ 0)
   none_behind x [] fails all = (refl, refl)
   none_behind x (y ∷ ls) fails all =
       let parts = and_parts (before x y) (list_all (before x) ls) all in

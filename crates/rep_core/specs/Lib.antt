@@ -1,6 +1,7 @@
 pub mod Locks
 pub mod Store
 pub mod Holding
+pub mod Ranges
 pub mod StoreFields
 pub mod State
 pub mod ServerFields

@@ -6,6 +6,7 @@ ghost use Rattle.std.specs.List.{list_any};
 ghost use Rattle.std.specs.Vec.{vec_len, vec_capacity};
 ghost use Rattle.suite_prefix.specs.LockModes.{serves};
 ghost use Rattle.rep_core.specs.Locks as locking;
+ghost use Rattle.rep_core.specs.Ranges.{IsRangeOf};
 
 use crate::lock::Lock;
 use crate::request::Part;
@@ -92,14 +93,14 @@ impl LockTable {
     pub(crate) fn release(&mut self, t: u64)
         ensures { self.new.locks ≡ locking.released t self.old.locks }
     {
-        self.locks.retain(|lock| lock.t != t);
+        release(&mut self.locks, t);
     }
 
     /// Lets a lock go that is not prepared.
     pub(crate) fn break_lock(&mut self, t: u64, suite: u64)
         ensures { self.new.locks ≡ locking.broken t suite self.old.locks }
     {
-        self.locks.retain(|lock| !(lock.t == t && lock.suite == suite && !lock.prepared));
+        break_lock(&mut self.locks, t, suite);
     }
 }
 
@@ -136,9 +137,27 @@ pub(crate) fn has_lock(locks: &[Lock], t: u64, suite: u64) -> bool
 
 /// Whether a transaction has a prepared lock.
 pub(crate) fn has_prepared(locks: &[Lock], t: u64) -> bool
+    requires { IsTrue (locking.rise locks.now) }
     ensures { result ≡ locking.has_prepared t locks.now }
 {
-    locks.iter().any(|lock| lock.t == t && lock.prepared)
+    let (start, end) = range_of(locks, t);
+    any_prepared(&locks[start..end])
+}
+
+fn any_prepared(locks: &[Lock]) -> bool
+    ensures { result ≡ list_any (λ lock. lock.prepared) locks.now }
+{
+    locks.iter().any(|lock| lock.prepared)
+}
+
+/// Where a transaction's locks stand: the place of the first, and the place behind the last.
+fn range_of(locks: &[Lock], t: u64) -> (usize, usize)
+    requires { IsTrue (locking.rise locks.now) }
+    ensures { IsRangeOf t locks.now result.0 result.1 }
+{
+    let start = locks.partition_point(|lock| lock.t < t);
+    let end = locks.partition_point(|lock| lock.t <= t);
+    (start, end)
 }
 
 /// Whether a transaction has a lock on a part's suite, in the part's mode or a stronger one.
@@ -223,6 +242,14 @@ fn raised_lock(t: u64, suite: u64, mode: LockMode, lock: Lock) -> Lock
 
 /// Makes the transaction's locks on the parts' suites prepared.
 fn prepare(locks: &mut [Lock], t: u64, parts: &[Part])
+    requires { IsTrue (locking.rise locks.old) }
+    ensures { locks.new ≡ locking.with_prepared t parts.now locks.old }
+{
+    let (start, end) = range_of(locks, t);
+    prepare_each(&mut locks[start..end], t, parts);
+}
+
+fn prepare_each(locks: &mut [Lock], t: u64, parts: &[Part])
     ensures { locks.new ≡ locking.with_prepared t parts.now locks.old }
 {
     for lock in locks.iter_mut() {
@@ -244,4 +271,30 @@ fn is_named(parts: &[Part], suite: u64) -> bool
     ensures { result ≡ list_any (λ part. part.suite == suite) parts.now }
 {
     parts.iter().any(|part| part.suite == suite)
+}
+
+/// Lets a transaction's locks go.
+fn release(locks: &mut Vec<Lock>, t: u64)
+    requires { IsTrue (locking.rise locks.old.items) }
+    ensures { locks.new.items ≡ locking.released t locks.old.items }
+{
+    let (start, end) = range_of(locks, t);
+    locks.drain(start..end);
+}
+
+/// Lets a lock go that is not prepared.
+fn break_lock(locks: &mut Vec<Lock>, t: u64, suite: u64)
+    requires { IsTrue (locking.rise locks.old.items) }
+    ensures { locks.new.items ≡ locking.broken t suite locks.old.items }
+{
+    let at = place_of(locks, t, suite);
+    if at < locks.len() && is_breakable(&locks[at], t, suite) {
+        locks.remove(at);
+    }
+}
+
+fn is_breakable(lock: &Lock, t: u64, suite: u64) -> bool
+    ensures { result ≡ (locking.is_own t suite lock.now && not lock.now.prepared) }
+{
+    is_own(lock, t, suite) && !lock.prepared
 }

@@ -1,10 +1,11 @@
-use Rattle.std.proofs.Common.{◌<◌, length, arith}
-use Rattle.std.proofs.lemmas.List.Edits.{map_over_more}
-use Rattle.std.proofs.lemmas.List.{get_or_default}
-use Rattle.rep_core.specs.Locks.{prepared_lock}
+use Rattle.std.proofs.Common.{◌-◌, ap, sym, ◌∙◌}
+use Rattle.rep_core.proofs.Ranges.{with_prepared_in}
 use Rattle.rep_core.proofs.locks.prepare.Goals as goal
+use borrow.Rule.Slice.PartMut.{put_mid}
 
-pub loop-lock-preserved : goal.loop-lock-preserved
-loop-lock-preserved c =
-    let in_range : c.loop-lock.lock-index < length c.loop-lock.locks = omega arith in
-    rw c.prepared_lock.ensures (map_over_more (prepared_lock c.args.t c.args.parts.now) c.args.locks.now _ _ _ c.loop-lock-test.true c.loop-lock.invariant (get_or_default _ _ _ _ in_range))
+pub returns : goal.returns
+returns c =
+    let locks = c.args.locks.now in
+    let range = c.range_of-start.result in
+    ap (put_mid range.0 (range.1 - range.0) locks) c.prepare_each.ensures
+    ∙ sym (with_prepared_in c.args.t locks range.0 range.1 c.range_of-start.ensures c.args.parts.now)

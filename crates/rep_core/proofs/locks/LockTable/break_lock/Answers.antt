@@ -1,17 +1,8 @@
-use Rattle.std.proofs.Common.{rules, ◌≡◌, ap, ◌∙◌}
+use Rattle.std.proofs.Common.{ap, ◌∙◌}
 use Rattle.std.specs.Prelude.{not, ◌&&◌}
-use Rattle.std.proofs.lemmas.Fn.{filter_same}
-use Rattle.rep_core.specs.Holding.{Locking}
-use Rattle.rep_core.specs.Locks.{is_own, rise, broken}
+use Rattle.rep_core.specs.Locks.{is_own, rise}
 use Rattle.rep_core.proofs.Rising.{rise_filter}
 use Rattle.rep_core.proofs.locks.LockTable.break_lock.Goals as goal
 
 pub invariant_of-self : goal.invariant_of-self
-invariant_of-self c =
-    let kept : c.retain.new.self.items ≡ broken c.args.t c.args.suite c.self.inside.locks.items = filter_same _ _ _ (λ x b f' k. search rules) _ _ c.retain.ensures.filtered in
-    ap rise kept ∙ rise_filter (λ lock. not (is_own c.args.t c.args.suite lock && not lock.prepared)) c.self.inside.locks.items c.self.invariant
-
-pub returns : goal.returns
-returns c =
-    let kept : c.retain.new.self.items ≡ broken c.args.t c.args.suite c.self.inside.locks.items = filter_same _ _ _ (λ x b f' k. search rules) _ _ c.retain.ensures.filtered in
-    kept ∙ ap (λ (table : Locking). broken c.args.t c.args.suite table.locks) c.self.view_is
+invariant_of-self c = ap rise c.break_lock.ensures ∙ rise_filter (λ lock. not (is_own c.args.t c.args.suite lock && not lock.prepared)) c.self.inside.locks.items c.self.invariant
