@@ -74,14 +74,17 @@ impl Collect {
         }
     }
 
-    /// From now on exclusive locks are wanted.
+    /// From now on exclusive locks are wanted. After a widening they are wanted already, and this changes
+    /// nothing.
     pub fn raise(&mut self)
         ensures { self.new ≡ record self.old { collector = spec.raise self.old.collector } }
     {
-        self.mode = LockMode::Exclusive;
+        if self.widening.is_none() {
+            self.mode = LockMode::Exclusive;
+        }
     }
 
-    /// From now on a write quorum of these votes is wanted. Prefix and version stay.
+    /// From now on a write quorum of these votes is wanted. Prefix and version stay, whatever comes later.
     pub fn widen(&mut self, votes: &Votes)
         ensures { self.new ≡ record self.old { collector = spec.widen votes.now self.old.collector } }
     {
