@@ -1,6 +1,6 @@
 -- What the collector's answers mean.
 use Rattle.std.proofs.Common.{◌≡◌, ℕ, ◌+◌, ◌<◌, ◌≤◌, Bool, true, false, cond, ◌⊎◌, inl, inr, List, [], ◌∷◌, Option, Some, None, refl, sym, ap, subst, ◌∙◌, arith}
-use Rattle.std.specs.Prelude.{nat_lt, nat_le, not, ◌&&◌, ◌||◌, ◌==◌, find, filter, map, ◌++◌}
+use Rattle.std.specs.Prelude.{nat_lt, nat_le, not, ◌&&◌, ◌||◌, ◌==◌, find, filter, map, option_map, ◌++◌}
 use Rattle.std.proofs.lemmas.Bool.Decides.{nat_tests}
 use Rattle.std.proofs.lemmas.Bool.{false≢true, eqb-true}
 use Rattle.vote_core.specs.Quorums.{Representative, Configuration, votes_in, votes_at}
@@ -13,7 +13,7 @@ use Rattle.suite_collect.specs.declared.told.Said.TheVariants.{Held, Busy, Down}
 use Rattle.suite_collect.specs.declared.told.Told.{Told}
 use Rattle.suite_collect.proofs.Finding.{Has, has_from, has_to, find_passes}
 use Rattle.suite_collect.specs.Telling.{is_held, newer, newest, has_told, holds, has_refused, greatest}
-use Rattle.suite_collect.specs.Collecting.{Widening, Collector, told_since, all_told, votes_or, counted, wanted, mode_or, needed, needed_of, got, is_member, is_left, members_of, version, asked_of, ask_or_short, Asked, Poll, Upgrade, Current, Ask, next}
+use Rattle.suite_collect.specs.Collecting.{Widening, Collector, told_since, all_told, votes_or, counted, wanted, mode_or, needed, needed_of, got, is_member, is_left, members_of, version, asked_of, mode_asked, ask_or_short, Asked, Poll, Upgrade, Current, Ask, next}
 use Rattle.suite_collect.specs.Laws.{among, WasShown, EachHasAVote, IsCurrent, CurrentIsAQuorum, WidenedIsAWriteQuorum, NobodyIsAskedTwice}
 
 -- ---- the newest prefix
@@ -256,6 +256,27 @@ asked_left c server asked is = at (nat_le (needed c) (got c)) is
     at : (b : Bool) → cond b (Current (newest c.start c.told) (version c) (members_of (counted c) (is_member c))) (ask_or_short c (find (is_left c) (counted c).reps)) ≡ Ask server asked → (is_member c server ≡ false) × (has_refused (all_told c) server ≡ false) × (asked_of c server ≡ asked)
     at true is = cc
     at false is = found_left (find (is_left c) (counted c).reps) refl is
+
+-- and in the mode that is wanted: a lock that is held, and not in that mode, is to become exclusive
+pub asked_as_wanted : (c : Collector) (server : ℕ) → option_map (λ rep. rep.0) (find (is_left c) (counted c).reps) ≡ Some server → mode_asked (asked_of c server) ≡ wanted c
+asked_as_wanted c server is = at (find (is_left c) (counted c).reps) refl is
+  where
+    of : (mode : LockMode) → wanted c ≡ mode → (b : Bool) → holds Shared (all_told c) server ≡ b → holds (wanted c) (all_told c) server ≡ false → mode_asked (cond b Upgrade (Poll (wanted c))) ≡ wanted c
+    of mode want false held left = refl
+    of Exclusive want true held left = sym want
+    of Shared want true held left = absurd (false≢true (sym left ∙ ap (λ mode. holds mode (all_told c) server) want ∙ held))
+
+    parts : (a b d : Bool) → (a && not b && not d) ≡ true → b ≡ false
+    parts true false d is = refl
+    parts true true d is = cc
+    parts false b d is = cc
+
+    at : (found : Option Representative) → find (is_left c) (counted c).reps ≡ found → option_map (λ rep. rep.0) found ≡ Some server → mode_asked (asked_of c server) ≡ wanted c
+    at None was is = cc
+    at (Some rep) was is =
+        let same : rep.0 ≡ server = cc in
+        let left = parts (nat_lt 0 rep.1) (is_member c rep.0) (has_refused (all_told c) rep.0) (find_passes (is_left c) (counted c).reps rep was) in
+        of (wanted c) refl (holds Shared (all_told c) server) refl (ap (is_member c) (sym same) ∙ left)
 
 pub nobody_is_asked_twice : NobodyIsAskedTwice
 nobody_is_asked_twice c server = (
