@@ -1,12 +1,10 @@
 -- What stays of a collector once it is widened.
-use Rattle.std.proofs.Common.{◌≡◌, ℕ, Bool, true, false, List, [], ◌∷◌, Option, Some, None, is_some, refl, sym, ap, ◌∙◌}
-use Rattle.std.specs.Prelude.{option_map}
-use Rattle.vote_core.specs.Quorums.{Configuration}
+use Rattle.std.proofs.Common.{◌≡◌, true, List, [], ◌∷◌, Option, Some, None, is_some, refl, sym, ap, ◌∙◌}
 use Rattle.suite_prefix.specs.declared.copies.Prefix.{Prefix}
 use Rattle.suite_prefix.specs.declared.lock_mode.LockMode.{LockMode}
 use Rattle.suite_collect.specs.declared.told.Told.{Told}
 use Rattle.suite_collect.specs.Telling.{newest}
-use Rattle.suite_collect.specs.Collecting.{Widening, Collector, raised, widen, tell, tell_at, version, source, next, told_by}
+use Rattle.suite_collect.specs.Collecting.{Widening, Collector, raised, widen, tell_at, version, source, next, told_by}
 use Rattle.suite_collect.specs.Laws.{Step, Raise, Widen, Take, told_or, after_step, after_all, IsKept, PrefixAndVersionStay}
 use Rattle.suite_collect.proofs.Collected.{gives_of}
 
