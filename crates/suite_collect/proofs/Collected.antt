@@ -1,9 +1,9 @@
 -- What the collector's answers mean.
-use Rattle.std.proofs.Common.{◌≡◌, ℕ, ◌≤◌, Bool, true, false, cond, inl, inr, List, [], ◌∷◌, Option, Some, None, refl, sym, ap, subst, ◌∙◌, arith}
-use Rattle.std.specs.Prelude.{nat_lt, nat_le, not, ◌&&◌, ◌||◌, ◌==◌, find, filter, map, ◌++◌}
+use Rattle.std.proofs.Common.{◌≡◌, ℕ, ◌+◌, ◌<◌, ◌≤◌, Bool, true, false, cond, ◌⊎◌, inl, inr, List, [], ◌∷◌, Option, Some, None, refl, sym, ap, subst, ◌∙◌, arith}
+use Rattle.std.specs.Prelude.{nat_lt, nat_le, not, ◌&&◌, ◌||◌, ◌==◌, find, filter, map, option_map, ◌++◌}
 use Rattle.std.proofs.lemmas.Bool.Decides.{nat_tests}
 use Rattle.std.proofs.lemmas.Bool.{false≢true, eqb-true}
-use Rattle.vote_core.specs.Quorums.{Representative, Configuration, votes_in}
+use Rattle.vote_core.specs.Quorums.{Representative, Configuration, votes_in, votes_at}
 use Rattle.suite_prefix.specs.declared.copies.Prefix.{Prefix}
 use Rattle.suite_prefix.specs.declared.lock_mode.LockMode.{LockMode}
 use Rattle.suite_prefix.specs.declared.lock_mode.LockMode.TheVariants.{Shared, Exclusive}
@@ -11,10 +11,10 @@ use Rattle.suite_prefix.specs.LockModes.{is_exclusive, serves}
 use Rattle.suite_collect.specs.declared.told.Said.{Said}
 use Rattle.suite_collect.specs.declared.told.Said.TheVariants.{Held, Busy, Down}
 use Rattle.suite_collect.specs.declared.told.Told.{Told}
-use Rattle.suite_collect.proofs.Finding.{Has, has_from, find_passes}
+use Rattle.suite_collect.proofs.Finding.{Has, has_from, has_to, find_passes}
 use Rattle.suite_collect.specs.Telling.{is_held, newer, newest, has_told, holds, has_refused, greatest}
-use Rattle.suite_collect.specs.Collecting.{Widening, Collector, told_since, all_told, votes_or, counted, wanted, mode_or, needed, needed_of, got, is_member, is_left, members_of, version, asked_of, ask_or_short, Asked, Poll, Upgrade, Current, Ask, next}
-use Rattle.suite_collect.specs.Laws.{among, IsCurrent, CurrentIsAQuorum, WidenedIsAWriteQuorum, NobodyIsAskedTwice}
+use Rattle.suite_collect.specs.Collecting.{Widening, Collector, told_since, all_told, votes_or, counted, wanted, mode_or, needed, needed_of, got, is_member, is_left, members_of, version, asked_of, mode_asked, ask_or_short, Asked, Poll, Upgrade, Current, Ask, next}
+use Rattle.suite_collect.specs.Laws.{among, WasShown, EachHasAVote, IsCurrent, CurrentIsAQuorum, WidenedIsAWriteQuorum, NobodyIsAskedTwice}
 
 -- ---- the newest prefix
 
@@ -27,6 +27,10 @@ newer_above prefix (Held other dver) = (newer_pver prefix other (nat_lt prefix.p
 newer_above prefix (Busy holder) = omega arith
 newer_above prefix Down = omega arith
 
+-- a prefix that some copy showed, by recursion
+abbrev Shown : List Told → Prefix → Type 0
+Shown told prefix = (one : Told) × (dver : ℕ) × Has told one × (one.said ≡ Held prefix dver)
+
 pub newest_above : (start : Prefix) (told : List Told) (one : Told) (other : Prefix) (dver : ℕ) → Has told one → one.said ≡ Held other dver → other.pver ≤ (newest start told).pver
 newest_above start [] one other dver has is = absurd has
 newest_above start (last ∷ told) one other dver has is =
@@ -34,6 +38,33 @@ newest_above start (last ∷ told) one other dver has is =
       | inl same ↦ subst (λ said. other.pver ≤ (newer (newest start told) said).pver) (sym (ap (λ (one : Told). one.said) same ∙ is)) (newer_pver (newest start told) other (nat_lt (newest start told).pver other.pver) refl).1
       | inr rest ↦ let old = newest_above start told one other dver rest is in let up = newer_above (newest start told) last.said in omega arith
     ]
+
+-- it is the start or was shown
+newest_known : (start : Prefix) (told : List Told) → (newest start told ≡ start) ⊎ Shown told (newest start told)
+newest_known start [] = inl refl
+newest_known start (last ∷ told) = at last.said refl (newest_known start told)
+  where
+    before : (newest start told ≡ start) ⊎ Shown told (newest start told) → newer (newest start told) last.said ≡ newest start told → (newest start (last ∷ told) ≡ start) ⊎ Shown (last ∷ told) (newest start (last ∷ told))
+    before was same =
+        elim was [
+          | inl first ↦ inl (same ∙ first)
+          | inr shown ↦ inr (shown.0, shown.1, inr shown.2, shown.3 ∙ ap (λ prefix. Held prefix shown.1) (sym same))
+        ]
+
+    shows : (other : Prefix) (dver : ℕ) → last.said ≡ Held other dver → (b : Bool) → nat_lt (newest start told).pver other.pver ≡ b → (newest start told ≡ start) ⊎ Shown told (newest start told) → (newest start (last ∷ told) ≡ start) ⊎ Shown (last ∷ told) (newest start (last ∷ told))
+    shows other dver is true newer_is _ =
+        let same : newest start (last ∷ told) ≡ other = ap (newer (newest start told)) is ∙ ap (λ b. cond b other (newest start told)) newer_is in
+        inr (last, dver, inl refl, is ∙ ap (λ prefix. Held prefix dver) (sym same))
+    shows other dver is false older was = before was (ap (newer (newest start told)) is ∙ ap (λ b. cond b other (newest start told)) older)
+
+    at : (said : Said) → last.said ≡ said → (newest start told ≡ start) ⊎ Shown told (newest start told) → (newest start (last ∷ told) ≡ start) ⊎ Shown (last ∷ told) (newest start (last ∷ told))
+    at (Held other dver) is was = shows other dver is (nat_lt (newest start told).pver other.pver) refl was
+    at (Busy holder) is was = before was (ap (newer (newest start told)) is)
+    at Down is was = before was (ap (newer (newest start told)) is)
+
+newest_from : (start : Prefix) (told : List Told) → start.pver ≤ (newest start told).pver
+newest_from start [] = omega arith
+newest_from start (last ∷ told) = let old = newest_from start told in let up = newer_above (newest start told) last.said in omega arith
 
 -- ---- members
 
@@ -72,6 +103,26 @@ members_held (first ∷ reps) held server is =
     here : (b : Bool) → (first.0 == server) ≡ b → (b || among (map (λ rep. rep.0) (filter (λ rep. nat_lt 0 rep.1 && held rep.0) reps)) server) ≡ true → (nat_lt 0 first.1 && held first.0) ≡ true → (among (map (λ rep. rep.0) (filter (λ rep. nat_lt 0 rep.1 && held rep.0) reps)) server ≡ true → held server ≡ true) → held server ≡ true
     here true same is passes _ = subst (λ server. held server ≡ true) (eqb-true first.0 server same) (second (nat_lt 0 first.1) (held first.0) passes)
     here false _ is passes again = again is
+
+-- and each has a vote
+members_vote : (reps : List Representative) (held : ℕ → Bool) (server : ℕ) → among (map (λ rep. rep.0) (filter (λ rep. nat_lt 0 rep.1 && held rep.0) reps)) server ≡ true → 0 < votes_at reps server
+members_vote [] held server is = cc
+members_vote (first ∷ reps) held server is = at (nat_lt 0 first.1 && held first.0) refl is (members_vote reps held server)
+  where
+    later : 0 < votes_at reps server → 0 < cond (first.0 == server) first.1 0 + votes_at reps server
+    later some = omega (arith, some)
+
+    left : (a b : Bool) → (a && b) ≡ true → a ≡ true
+    left true b is = refl
+    left false b is = cc
+
+    here : (b : Bool) → (first.0 == server) ≡ b → nat_lt 0 first.1 ≡ true → (b || among (map (λ rep. rep.0) (filter (λ rep. nat_lt 0 rep.1 && held rep.0) reps)) server) ≡ true → (among (map (λ rep. rep.0) (filter (λ rep. nat_lt 0 rep.1 && held rep.0) reps)) server ≡ true → 0 < votes_at reps server) → 0 < cond b first.1 0 + votes_at reps server
+    here true same some is _ = let more : 0 < first.1 = grind (arith, nat_tests) in omega (arith, more)
+    here false _ some is rest = let more = rest is in omega (arith, more)
+
+    at : (b : Bool) → (nat_lt 0 first.1 && held first.0) ≡ b → among (map (λ rep. rep.0) (cond b (first ∷ filter (λ rep. nat_lt 0 rep.1 && held rep.0) reps) (filter (λ rep. nat_lt 0 rep.1 && held rep.0) reps))) server ≡ true → (among (map (λ rep. rep.0) (filter (λ rep. nat_lt 0 rep.1 && held rep.0) reps)) server ≡ true → 0 < votes_at reps server) → 0 < cond (first.0 == server) first.1 0 + votes_at reps server
+    at true passes is rest = here (first.0 == server) refl (left (nat_lt 0 first.1) (held first.0) passes) is rest
+    at false _ is rest = later (rest is)
 
 -- members have the votes of all that are held
 term_le : (f g : Bool) (v : ℕ) → ((nat_lt 0 v && f) ≡ true → g ≡ true) → cond f v 0 ≤ cond g v 0
@@ -117,6 +168,9 @@ members_enough needed votes held members are enough =
 each_held : (votes : Configuration) (held : ℕ → Bool) (members : List ℕ) → members_of votes held ≡ members → (server : ℕ) → among members server ≡ true → held server ≡ true
 each_held votes held members are server in' = members_held votes.reps held server (ap (λ members. among members server) are ∙ in')
 
+each_votes : (votes : Configuration) (held : ℕ → Bool) (members : List ℕ) → members_of votes held ≡ members → EachHasAVote votes members
+each_votes votes held members are server in' = members_vote votes.reps held server (ap (λ members. among members server) are ∙ in')
+
 pub current_is_a_quorum : CurrentIsAQuorum
 current_is_a_quorum c prefix dver members narrow is = at c.widening refl narrow
   where
@@ -134,6 +188,11 @@ current_is_a_quorum c prefix dver members narrow is = at c.widening refl narrow
         (subst (λ (votes : Configuration). needed_of (wanted c) votes ≤ votes_in votes.reps (holds c.mode c.told)) votes
         (subst (λ held. needed c ≤ votes_in (counted c).reps held) held gives.enough)) in
         record {
+          known =
+              subst (λ prefix. (prefix ≡ c.start) ⊎ WasShown c.told prefix) gives.prefix_is
+              (elim (newest_known c.start c.told) [ inl first ↦ inl first | inr shown ↦ inr (shown.0, shown.1, has_to c.told shown.0 shown.2, shown.3) ]);
+          not_older = subst (λ (prefix : Prefix). c.start.pver ≤ prefix.pver) gives.prefix_is (newest_from c.start c.told);
+          voting = each_votes prefix.votes (holds c.mode c.told) members are;
           quorum = members_enough (needed_of c.mode prefix.votes) prefix.votes (holds c.mode c.told) members are enough;
           held = each_held prefix.votes (holds c.mode c.told) members are;
           newest = λ one other dver there said. subst (λ (prefix : Prefix). other.pver ≤ prefix.pver) gives.prefix_is (newest_above c.start c.told one other dver (has_from c.told one there) said);
@@ -155,10 +214,9 @@ widened_is_a_write_quorum c widening prefix dver members wide is =
     (subst (λ (votes : Configuration). needed_of (wanted c) votes ≤ votes_in votes.reps (holds Exclusive (all_told c))) votes
     (subst (λ held. needed c ≤ votes_in (counted c).reps held) held gives.enough)) in
     record {
+      voting = each_votes widening.votes (holds Exclusive (all_told c)) members are;
       quorum = members_enough widening.votes.w widening.votes (holds Exclusive (all_told c)) members are enough;
       held = each_held widening.votes (holds Exclusive (all_told c)) members are;
-      prefix_stays = sym gives.prefix_is;
-      version_stays = sym gives.version_is;
     }
 
 -- ---- whom it asks
@@ -198,6 +256,27 @@ asked_left c server asked is = at (nat_le (needed c) (got c)) is
     at : (b : Bool) → cond b (Current (newest c.start c.told) (version c) (members_of (counted c) (is_member c))) (ask_or_short c (find (is_left c) (counted c).reps)) ≡ Ask server asked → (is_member c server ≡ false) × (has_refused (all_told c) server ≡ false) × (asked_of c server ≡ asked)
     at true is = cc
     at false is = found_left (find (is_left c) (counted c).reps) refl is
+
+-- and in the mode that is wanted: a lock that is held, and not in that mode, is to become exclusive
+pub asked_as_wanted : (c : Collector) (server : ℕ) → option_map (λ rep. rep.0) (find (is_left c) (counted c).reps) ≡ Some server → mode_asked (asked_of c server) ≡ wanted c
+asked_as_wanted c server is = at (find (is_left c) (counted c).reps) refl is
+  where
+    of : (mode : LockMode) → wanted c ≡ mode → (b : Bool) → holds Shared (all_told c) server ≡ b → holds (wanted c) (all_told c) server ≡ false → mode_asked (cond b Upgrade (Poll (wanted c))) ≡ wanted c
+    of mode want false held left = refl
+    of Exclusive want true held left = sym want
+    of Shared want true held left = absurd (false≢true (sym left ∙ ap (λ mode. holds mode (all_told c) server) want ∙ held))
+
+    parts : (a b d : Bool) → (a && not b && not d) ≡ true → b ≡ false
+    parts true false d is = refl
+    parts true true d is = cc
+    parts false b d is = cc
+
+    at : (found : Option Representative) → find (is_left c) (counted c).reps ≡ found → option_map (λ rep. rep.0) found ≡ Some server → mode_asked (asked_of c server) ≡ wanted c
+    at None was is = cc
+    at (Some rep) was is =
+        let same : rep.0 ≡ server = cc in
+        let left = parts (nat_lt 0 rep.1) (is_member c rep.0) (has_refused (all_told c) rep.0) (find_passes (is_left c) (counted c).reps rep was) in
+        of (wanted c) refl (holds Shared (all_told c) server) refl (ap (is_member c) (sym same) ∙ left)
 
 pub nobody_is_asked_twice : NobodyIsAskedTwice
 nobody_is_asked_twice c server = (

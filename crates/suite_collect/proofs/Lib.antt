@@ -4,3 +4,4 @@ pub mod Collected
 pub mod Sources
 pub mod Shortness
 pub mod Fewness
+pub mod Staying

@@ -121,8 +121,13 @@ next c =
 abbrev pub collect : LockMode → Prefix → Collector
 collect mode start = record { start = start; mode = mode; told = []; widening = None }
 
+-- a raise: exclusive locks from now on. A widened collector wants them already, and nothing of it changes.
+abbrev pub raised : Option Widening → LockMode → LockMode
+raised (Some widening) mode = mode
+raised None mode = Exclusive
+
 abbrev pub raise : Collector → Collector
-raise c = record c { mode = Exclusive }
+raise c = record c { mode = raised c.widening c.mode }
 
 abbrev pub widen : Configuration → Collector → Collector
 widen votes c = record c { widening = Some (record { votes = votes; told = told_since c.widening }) }

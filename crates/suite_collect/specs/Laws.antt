@@ -1,7 +1,7 @@
 -- What holds of every collector, whatever it was told.
 use Rattle.std.specs.Prelude.{◌≡◌, ℕ, ◌+◌, ◌*◌, ◌<◌, ◌≤◌, ◌==◌, ◌⊎◌, Bool, true, false, List, [], ◌∷◌, length, Option, Some, None, IsSome, Contains}
 use Rattle.std.specs.List.{list_any, list_all}
-use Rattle.vote_core.specs.Quorums.{Representative, Configuration, votes_in}
+use Rattle.vote_core.specs.Quorums.{Representative, Configuration, votes_in, votes_at}
 use Rattle.suite_prefix.specs.declared.copies.Prefix.{Prefix}
 use Rattle.suite_prefix.specs.declared.lock_mode.LockMode.{LockMode}
 use Rattle.suite_prefix.specs.declared.lock_mode.LockMode.TheVariants.{Exclusive}
@@ -18,9 +18,21 @@ among servers server = list_any (λ one. one == server) servers
 
 -- ---- Current
 
--- Before a widening: the members that are given have a quorum's votes under the prefix that is given, each holds what is wanted, no held
--- copy showed a greater version of the prefix, and the version of the content is the greatest that they showed.
+-- the prefix is one that a held copy showed
+abbrev pub WasShown : List Told → Prefix → Type 0
+WasShown told prefix = (one : Told) × (dver : ℕ) × Contains told one × (one.said ≡ Held prefix dver)
+
+-- each of some servers has a vote of its own
+abbrev pub EachHasAVote : Configuration → List ℕ → Type 0
+EachHasAVote votes servers = (server : ℕ) → among servers server ≡ true → 0 < votes_at votes.reps server
+
+-- Before a widening: the prefix that is given is the start or was shown, and no older than the start or any that was shown. The members that
+-- are given have a quorum's votes under it, each has a vote and holds what is wanted, and the version of the content is the greatest that
+-- they showed.
 pub record IsCurrent (c : Collector) (prefix : Prefix) (dver : ℕ) (members : List ℕ) : Type 0 where
+  pub known : (prefix ≡ c.start) ⊎ WasShown c.told prefix
+  pub not_older : c.start.pver ≤ prefix.pver
+  pub voting : EachHasAVote prefix.votes members
   pub quorum : needed_of c.mode prefix.votes ≤ votes_in prefix.votes.reps (among members)
   pub held : (server : ℕ) → among members server ≡ true → holds c.mode c.told server ≡ true
   pub newest : (one : Told) (other : Prefix) (dver : ℕ) → Contains c.told one → one.said ≡ Held other dver → other.pver ≤ prefix.pver
@@ -33,17 +45,16 @@ CurrentIsAQuorum = (c : Collector) (prefix : Prefix) (dver : ℕ) (members : Lis
 abbrev pub HasSource : Collector → Type 0
 HasSource c = (prefix : Prefix) (dver : ℕ) (members : List ℕ) → c.widening ≡ None → next c ≡ Current prefix dver members → IsSome (source c)
 
--- After it: they have a write quorum's votes of those that were given, and each holds an exclusive lock. Prefix and version are as before.
-pub record IsWidened (c : Collector) (votes : Configuration) (prefix : Prefix) (dver : ℕ) (members : List ℕ) : Type 0 where
+-- After it: they have a write quorum's votes of those that were given, and each has a vote and holds an exclusive lock.
+pub record IsWidened (c : Collector) (votes : Configuration) (members : List ℕ) : Type 0 where
+  pub voting : EachHasAVote votes members
   pub quorum : votes.w ≤ votes_in votes.reps (among members)
   pub held : (server : ℕ) → among members server ≡ true → holds Exclusive (all_told c) server ≡ true
-  pub prefix_stays : prefix ≡ newest c.start c.told
-  pub version_stays : dver ≡ version c
 
 abbrev pub WidenedIsAWriteQuorum : Type 0
 WidenedIsAWriteQuorum =
     (c : Collector) (widening : Widening) (prefix : Prefix) (dver : ℕ) (members : List ℕ) → c.widening ≡ Some widening → next c ≡ Current prefix dver members
-    → IsWidened c widening.votes prefix dver members
+    → IsWidened c widening.votes members
 
 -- ---- Short
 
@@ -96,3 +107,16 @@ AsksAreFew =
     (mode : LockMode) (start : Prefix) (steps : List Step) (server : ℕ) (asked : Asked) (servers : List ℕ) →
     let c = after_all (collect mode start) steps in
     next c ≡ Ask server asked → among servers server ≡ true → list_all (λ one. among servers one.server) (all_told c) ≡ true → 1 + length (all_told c) ≤ 2 * length servers
+
+-- ---- prefix and version after a widening
+
+-- the newest prefix, the version of the content and its first source are as they were, and so is what a Current gives
+pub record IsKept (before after : Collector) : Type 0 where
+  pub same_prefix : newest after.start after.told ≡ newest before.start before.told
+  pub same_version : version after ≡ version before
+  pub same_source : source after ≡ source before
+  pub current : (prefix : Prefix) (dver : ℕ) (members : List ℕ) → next after ≡ Current prefix dver members → (prefix ≡ newest before.start before.told) × (dver ≡ version before)
+
+-- once it is widened, whatever it is told, raised and widened later
+abbrev pub PrefixAndVersionStay : Type 0
+PrefixAndVersionStay = (c : Collector) (votes : Configuration) (steps : List Step) → IsKept c (after_all (widen votes c) steps)

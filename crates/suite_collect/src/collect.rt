@@ -74,14 +74,17 @@ impl Collect {
         }
     }
 
-    /// From now on exclusive locks are wanted.
+    /// From now on exclusive locks are wanted. After a widening they are wanted already, and this changes
+    /// nothing.
     pub fn raise(&mut self)
         ensures { self.new ≡ record self.old { collector = spec.raise self.old.collector } }
     {
-        self.mode = LockMode::Exclusive;
+        if self.widening.is_none() {
+            self.mode = LockMode::Exclusive;
+        }
     }
 
-    /// From now on a write quorum of these votes is wanted. Prefix and version stay.
+    /// From now on a write quorum of these votes is wanted. Prefix and version stay, whatever comes later.
     pub fn widen(&mut self, votes: &Votes)
         ensures { self.new ≡ record self.old { collector = spec.widen votes.now self.old.collector } }
     {
@@ -137,7 +140,9 @@ impl Collect {
         }
     }
 
-    /// Takes the reply to what was asked next.
+    /// Takes the reply to what was asked next. A lock is asked for in the mode that is wanted: one that is
+    /// held, and not as is wanted, is to become exclusive.
+    #[tactic(auto, using(crate::proofs::Collected::asked_as_wanted))]
     pub fn take(&mut self, reply: Reply)
         requires { IsSome (spec.told_by (spec.next self.old.collector) reply) }
         ensures { IfSome (spec.told_by (spec.next self.old.collector) reply) (λ last. self.new ≡ record self.old { collector = spec.tell last self.old.collector }) }
@@ -145,7 +150,7 @@ impl Collect {
         let Some(server) = self.left() else {
             return;
         };
-        let mode = self.mode_asked(server);
+        let mode = self.wanted();
         let said = match reply {
             Reply::Held { prefix, dver } => Said::Held { prefix, dver },
             Reply::Busy { holder, .. } => Said::Busy { holder },
@@ -266,17 +271,6 @@ impl Collect {
         } else {
             let mode = self.wanted();
             Request::Poll { t, suite, mode }
-        }
-    }
-
-    /// In which mode a server is asked for a lock.
-    fn mode_asked(&self, server: u8) -> LockMode
-        ensures { let c = self.now.collector in result ≡ spec.mode_asked (spec.asked_of c server) }
-    {
-        if self.holds(LockMode::Shared, server) {
-            LockMode::Exclusive
-        } else {
-            self.wanted()
         }
     }
 

@@ -1,9 +1,10 @@
 //! What holds of every collector.
 
-ghost use Rattle.suite_collect.specs.Laws.{AsksAreFew, CurrentIsAQuorum, NobodyIsAskedTwice, ShortHasNoneLeft, WidenedIsAWriteQuorum};
+ghost use Rattle.suite_collect.specs.Laws.{AsksAreFew, CurrentIsAQuorum, NobodyIsAskedTwice, PrefixAndVersionStay, ShortHasNoneLeft, WidenedIsAWriteQuorum};
 
 /// A law: before a widening, a Current is a quorum under the very prefix that it gives, the newest that
-/// was shown, with the greatest version of the content that the quorum's members showed. It does nothing.
+/// was shown or the start, with the greatest version of the content that the quorum's members showed. Each
+/// member has a vote. It does nothing.
 pub fn current_is_a_quorum()
     ensures { CurrentIsAQuorum }
 {}
@@ -12,6 +13,12 @@ pub fn current_is_a_quorum()
 /// It does nothing.
 pub fn widened_is_a_write_quorum()
     ensures { WidenedIsAWriteQuorum }
+{}
+
+/// A law: from a widening on, the newest prefix, the content's version and its first source stay, whatever
+/// is told, raised or widened later. It does nothing.
+pub fn prefix_and_version_stay()
+    ensures { PrefixAndVersionStay }
 {}
 
 /// A law: a Short has too few votes and nobody left to ask, and its Busy was met. It does nothing.

@@ -20,8 +20,8 @@ mod told;
 
 pub use collect::Collect;
 pub use laws::{
-    asks_are_few, current_is_a_quorum, nobody_is_asked_twice, short_has_none_left,
-    widened_is_a_write_quorum,
+    asks_are_few, current_is_a_quorum, nobody_is_asked_twice, prefix_and_version_stay,
+    short_has_none_left, widened_is_a_write_quorum,
 };
 pub use next::{Members, Next};
 pub use told::{Said, Told};

@@ -3,8 +3,8 @@
 //! Current; or the votes of a Short, with the first Busy.
 
 use crate::{
-    Collect, Next, asks_are_few, current_is_a_quorum, nobody_is_asked_twice, short_has_none_left,
-    widened_is_a_write_quorum,
+    Collect, Next, asks_are_few, current_is_a_quorum, nobody_is_asked_twice,
+    prefix_and_version_stay, short_has_none_left, widened_is_a_write_quorum,
 };
 use acl_core::{Acl, Mode};
 use rep_core::{Reply, Request};
@@ -220,6 +220,7 @@ fn a_quorum_is_had_under_the_newest_prefix(rt: HostRuntime) {
 #[test]
 fn locks_are_raised_and_widened(rt: HostRuntime) {
     widened_is_a_write_quorum();
+    prefix_and_version_stay();
     nobody_is_asked_twice();
     asks_are_few();
     talk(&rt, LockMode::Shared, &WEAK);

@@ -1,5 +1,6 @@
-//! Every talk of up to four acts that is possible, with what comes next after it, as a program in another
-//! language found it (`tests/collector-talks.py`), which shares nothing with this code.
+//! Every talk of up to four acts that is possible, and of five where the collector is raised after it was
+//! widened, with what comes next after it, as a program in another language found it
+//! (`tests/collector-talks.py`), which shares nothing with this code.
 //!
 //! It begins with one vote each at servers 0 and 1, one to read and two to write. The acts: `h` held, at
 //! versions 1; `n` held, at prefix version 2, which gives server 1 one vote and server 2 two, two to read
@@ -40,6 +41,7 @@ hwh Exclusive at 2\n\
 hwn Exclusive at 2\n\
 hwb Exclusive at 2\n\
 hwd Exclusive at 2\n\
+hw^ Exclusive at 1\n\
 nhh prefix 2 content 1 of [1, 2] from Some(1)\n\
 nhn prefix 2 content 3 of [1, 2] from Some(2)\n\
 nhb 1 of 2 busy Some((2, 5))\n\
@@ -122,18 +124,26 @@ hwhh prefix 1 content 1 of [1, 2] from Some(0)\n\
 hwhn prefix 1 content 1 of [1, 2] from Some(0)\n\
 hwhb 1 of 2 busy Some((2, 5))\n\
 hwhd 1 of 2 busy None\n\
+hwh^ Exclusive at 2\n\
 hwnh prefix 1 content 1 of [1, 2] from Some(0)\n\
 hwnn prefix 1 content 1 of [1, 2] from Some(0)\n\
 hwnb 1 of 2 busy Some((2, 5))\n\
 hwnd 1 of 2 busy None\n\
+hwn^ Exclusive at 2\n\
 hwbh prefix 1 content 1 of [2] from Some(0)\n\
 hwbn prefix 1 content 1 of [2] from Some(0)\n\
 hwbb 0 of 2 busy Some((1, 5))\n\
 hwbd 0 of 2 busy Some((1, 5))\n\
+hwb^ Exclusive at 2\n\
 hwdh prefix 1 content 1 of [2] from Some(0)\n\
 hwdn prefix 1 content 1 of [2] from Some(0)\n\
 hwdb 0 of 2 busy Some((2, 5))\n\
 hwdd 0 of 2 busy None\n\
+hwd^ Exclusive at 2\n\
+hw^h Exclusive at 2\n\
+hw^n Exclusive at 2\n\
+hw^b Exclusive at 2\n\
+hw^d Exclusive at 2\n\
 nhh^ Upgrade { t: 7, suite: 9 } at 1\n\
 nhhw Upgrade { t: 7, suite: 9 } at 1\n\
 nhn^ Upgrade { t: 7, suite: 9 } at 1\n\
@@ -194,6 +204,7 @@ bh^b 0 of 2 busy Some((0, 5))\n\
 bhwh Exclusive at 2\n\
 bhwn Exclusive at 2\n\
 bhwb Exclusive at 2\n\
+bhw^ Upgrade { t: 7, suite: 9 } at 1\n\
 bnh^ Upgrade { t: 7, suite: 9 } at 1\n\
 bnhw Upgrade { t: 7, suite: 9 } at 1\n\
 bnn^ Upgrade { t: 7, suite: 9 } at 1\n\
@@ -213,6 +224,7 @@ dh^b 0 of 2 busy Some((1, 5))\n\
 dhwh Exclusive at 2\n\
 dhwn Exclusive at 2\n\
 dhwb Exclusive at 2\n\
+dhw^ Upgrade { t: 7, suite: 9 } at 1\n\
 dnh^ Upgrade { t: 7, suite: 9 } at 1\n\
 dnhw Upgrade { t: 7, suite: 9 } at 1\n\
 dnn^ Upgrade { t: 7, suite: 9 } at 1\n\
@@ -255,4 +267,76 @@ d^nd 1 of 2 busy None\n\
 ^dnn prefix 2 content 3 of [1, 2] from Some(1)\n\
 ^dnb 1 of 2 busy Some((2, 5))\n\
 ^dnd 1 of 2 busy None\n\
+hwhh^ prefix 1 content 1 of [1, 2] from Some(0)\n\
+hwhn^ prefix 1 content 1 of [1, 2] from Some(0)\n\
+hwhb^ 1 of 2 busy Some((2, 5))\n\
+hwhd^ 1 of 2 busy None\n\
+hwh^h prefix 1 content 1 of [1, 2] from Some(0)\n\
+hwh^n prefix 1 content 1 of [1, 2] from Some(0)\n\
+hwh^b 1 of 2 busy Some((2, 5))\n\
+hwh^d 1 of 2 busy None\n\
+hwnh^ prefix 1 content 1 of [1, 2] from Some(0)\n\
+hwnn^ prefix 1 content 1 of [1, 2] from Some(0)\n\
+hwnb^ 1 of 2 busy Some((2, 5))\n\
+hwnd^ 1 of 2 busy None\n\
+hwn^h prefix 1 content 1 of [1, 2] from Some(0)\n\
+hwn^n prefix 1 content 1 of [1, 2] from Some(0)\n\
+hwn^b 1 of 2 busy Some((2, 5))\n\
+hwn^d 1 of 2 busy None\n\
+hwbh^ prefix 1 content 1 of [2] from Some(0)\n\
+hwbn^ prefix 1 content 1 of [2] from Some(0)\n\
+hwbb^ 0 of 2 busy Some((1, 5))\n\
+hwbd^ 0 of 2 busy Some((1, 5))\n\
+hwb^h prefix 1 content 1 of [2] from Some(0)\n\
+hwb^n prefix 1 content 1 of [2] from Some(0)\n\
+hwb^b 0 of 2 busy Some((1, 5))\n\
+hwb^d 0 of 2 busy Some((1, 5))\n\
+hwdh^ prefix 1 content 1 of [2] from Some(0)\n\
+hwdn^ prefix 1 content 1 of [2] from Some(0)\n\
+hwdb^ 0 of 2 busy Some((2, 5))\n\
+hwdd^ 0 of 2 busy None\n\
+hwd^h prefix 1 content 1 of [2] from Some(0)\n\
+hwd^n prefix 1 content 1 of [2] from Some(0)\n\
+hwd^b 0 of 2 busy Some((2, 5))\n\
+hwd^d 0 of 2 busy None\n\
+hw^hh prefix 1 content 1 of [1, 2] from Some(0)\n\
+hw^hn prefix 1 content 1 of [1, 2] from Some(0)\n\
+hw^hb 1 of 2 busy Some((2, 5))\n\
+hw^hd 1 of 2 busy None\n\
+hw^nh prefix 1 content 1 of [1, 2] from Some(0)\n\
+hw^nn prefix 1 content 1 of [1, 2] from Some(0)\n\
+hw^nb 1 of 2 busy Some((2, 5))\n\
+hw^nd 1 of 2 busy None\n\
+hw^bh prefix 1 content 1 of [2] from Some(0)\n\
+hw^bn prefix 1 content 1 of [2] from Some(0)\n\
+hw^bb 0 of 2 busy Some((1, 5))\n\
+hw^bd 0 of 2 busy Some((1, 5))\n\
+hw^dh prefix 1 content 1 of [2] from Some(0)\n\
+hw^dn prefix 1 content 1 of [2] from Some(0)\n\
+hw^db 0 of 2 busy Some((2, 5))\n\
+hw^dd 0 of 2 busy None\n\
+nhhw^ Upgrade { t: 7, suite: 9 } at 1\n\
+nhnw^ Upgrade { t: 7, suite: 9 } at 1\n\
+nnhw^ Upgrade { t: 7, suite: 9 } at 1\n\
+nnnw^ Upgrade { t: 7, suite: 9 } at 1\n\
+nbhw^ Upgrade { t: 7, suite: 9 } at 2\n\
+nbnw^ Upgrade { t: 7, suite: 9 } at 2\n\
+ndhw^ Upgrade { t: 7, suite: 9 } at 2\n\
+ndnw^ Upgrade { t: 7, suite: 9 } at 2\n\
+bhwh^ Exclusive at 2\n\
+bhwn^ Exclusive at 2\n\
+bhwb^ Exclusive at 2\n\
+bhw^h Exclusive at 2\n\
+bhw^n Exclusive at 2\n\
+bhw^b Exclusive at 2\n\
+bnhw^ Upgrade { t: 7, suite: 9 } at 1\n\
+bnnw^ Upgrade { t: 7, suite: 9 } at 1\n\
+dhwh^ Exclusive at 2\n\
+dhwn^ Exclusive at 2\n\
+dhwb^ Exclusive at 2\n\
+dhw^h Exclusive at 2\n\
+dhw^n Exclusive at 2\n\
+dhw^b Exclusive at 2\n\
+dnhw^ Upgrade { t: 7, suite: 9 } at 1\n\
+dnnw^ Upgrade { t: 7, suite: 9 } at 1\n\
 ";
