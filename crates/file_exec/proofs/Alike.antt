@@ -63,7 +63,7 @@ pub held_head : (mode : LockMode) (known : Option KnownSuite) (row : Option Row)
 held_head mode (Some known) row so held = so.head
 held_head mode None row so held = cc
 
-opened_same : (known : Option KnownSuite) (row : Option Row) → IsSoAt known row → is_opened known ≡ true → row_in known ≡ row
+pub opened_same : (known : Option KnownSuite) (row : Option Row) → IsSoAt known row → is_opened known ≡ true → row_in known ≡ row
 opened_same (Some known) row so opened = so.content opened
 opened_same None row so opened = cc
 

@@ -1,6 +1,6 @@
 -- The changes lead from the rows before to the rows after.
-use Rattle.std.proofs.Common.{◌≡◌, ℕ, Bool, true, false, cond, [], ◌∷◌, Option, Some, None, refl, sym, ap, subst, ◌∙◌}
-use Rattle.std.specs.Prelude.{◌==◌, ◌&&◌, ◌||◌, option_map}
+use Rattle.std.proofs.Common.{◌⊎◌, inl, inr, ◌≡◌, ℕ, Bool, true, false, cond, [], ◌∷◌, Option, Some, None, refl, sym, ap, subst, ◌∙◌}
+use Rattle.std.specs.Prelude.{◌==◌, ◌&&◌, ◌||◌, option_map, is_some}
 use Rattle.std.specs.List.{list_all}
 use Rattle.std.specs.Cmp.{unsigned_tied}
 use Rattle.std.specs.Ordering.{nat_cmp}
@@ -16,10 +16,11 @@ use Rattle.file_exec.specs.declared.log.Edit.{Edit}
 use Rattle.file_exec.specs.declared.log.Edit.TheVariants.{SetAcl, SetVotes, SetContent, Make}
 use Rattle.file_exec.specs.Changes.{touches, makes, sets_acl, sets_votes, some, change_of, changes_at, with_change}
 use Rattle.file_exec.specs.Following.{Edits, changed, seen, sets_content, is_set, emptied, head, content_in, with_edits}
-use Rattle.file_exec.specs.Known.{Known, known_of, known_rows, is_held, is_held_for}
+use Rattle.file_exec.specs.Known.{Known, known_of, known_rows, is_held, is_opened, is_held_for}
 use Rattle.file_exec.specs.Laws.{TellsAt, ChangesBySuite, ChangesLeadOn}
-use Rattle.file_exec.proofs.Alike.{head_seen, content_seen, held_head}
+use Rattle.file_exec.proofs.Alike.{head_seen, content_seen, held_head, opened_same}
 use Rattle.file_exec.proofs.OnTable.{row_of-with_edits}
+use Rattle.file_exec.proofs.VotesRead.{knows_whose_votes}
 use Rattle.file_exec.proofs.Unmet.{sets_what_is_held}
 
 abbrev if_touched : Bool → Option Change → Option Change
@@ -114,6 +115,51 @@ content_stays : (edits : Edits) (suite : ℕ) (row : Option Row) → is_set edit
 content_stays edits suite (Some row) is = sym (stays edits suite row is)
 content_stays edits suite None is = sym (ap content_in (still_none edits suite is))
 
+-- a part of a row stays where no edit sets it
+neither : (a b : Bool) → (a || b) ≡ false → (a ≡ false) × (b ≡ false)
+neither true b is = cc
+neither false b is = (refl, is)
+
+part_stays : {A : Type 0} (part : Row → A) (kind : Edit → Bool) → ((edit : Edit) (row : Option Row) → kind edit ≡ false → option_map part row ≡ option_map part (changed edit row))
+    → (edits : Edits) (suite : ℕ) (row : Option Row) → some kind edits suite ≡ false → option_map part row ≡ option_map part (seen edits suite row)
+part_stays part kind keeps [] suite row is = refl
+part_stays part kind keeps (e ∷ edits) suite row is =
+    elim (e.0 == suite) as (λ b. ((b && kind e.1) || some kind edits suite) ≡ false → option_map part row ≡ option_map part (cond b (changed e.1 (seen edits suite row)) (seen edits suite row))) [
+      | true ↦ λ is. let both = neither (kind e.1) (some kind edits suite) is in part_stays part kind keeps edits suite row both.1 ∙ keeps e.1 (seen edits suite row) both.0
+      | false ↦ λ is. part_stays part kind keeps edits suite row is
+    ] is
+
+keeps_acl : (edit : Edit) (row : Option Row) → sets_acl edit ≡ false → option_map (λ (row : Row). row.acl) row ≡ option_map (λ (row : Row). row.acl) (changed edit row)
+keeps_acl (SetAcl acl) row is = cc
+keeps_acl (SetVotes votes) None is = refl
+keeps_acl (SetVotes votes) (Some row) is = refl
+keeps_acl (SetContent content) None is = refl
+keeps_acl (SetContent content) (Some row) is = refl
+keeps_acl (Make made) row is = cc
+
+keeps_votes : (edit : Edit) (row : Option Row) → sets_votes edit ≡ false → option_map (λ (row : Row). row.votes) row ≡ option_map (λ (row : Row). row.votes) (changed edit row)
+keeps_votes (SetAcl acl) None is = refl
+keeps_votes (SetAcl acl) (Some row) is = refl
+keeps_votes (SetVotes votes) row is = cc
+keeps_votes (SetContent content) None is = refl
+keeps_votes (SetContent content) (Some row) is = refl
+keeps_votes (Make made) row is = cc
+
+-- an edit that makes no row leaves one where there was one
+keeps_row : (edit : Edit) (row : Option Row) → makes edit ≡ false → option_map (λ (row : Row). true) row ≡ option_map (λ (row : Row). true) (changed edit row)
+keeps_row (SetAcl acl) None is = refl
+keeps_row (SetAcl acl) (Some row) is = refl
+keeps_row (SetVotes votes) None is = refl
+keeps_row (SetVotes votes) (Some row) is = refl
+keeps_row (SetContent content) None is = refl
+keeps_row (SetContent content) (Some row) is = refl
+keeps_row (Make made) row is = cc
+
+was_there : (before after : Option Row) (row : Row) → option_map (λ (row : Row). true) before ≡ option_map (λ (row : Row). true) after → head (Some row) ≡ head after → is_some before ≡ true
+was_there (Some before) after row same there = refl
+was_there None (Some after) row same there = cc
+was_there None None row same there = cc
+
 -- no edit takes a row away
 none_before : (edits : Edits) (suite : ℕ) (row : Option Row) → seen edits suite row ≡ None → row ≡ None
 none_before [] suite row is = is
@@ -153,9 +199,24 @@ changes_lead_on service known rows t caller ops ended suite agrees is =
         → TellsAt (option_map (λ row. record { made = some makes ended.edits suite; acl = some sets_acl ended.edits suite; votes = some sets_votes ended.edits suite; content = is_set ended.edits suite; row = row }) now) (row_of rows suite) (seen ended.edits suite (row_of rows suite))
     of_row heads (Some row) was = record {
       row = ap head (sym was) ∙ head_seen ended.edits suite (known_rows known suite) (row_of rows suite) heads;
-      content = λ set. sym was ∙ same_rows (seen ended.edits suite (known_rows known suite)) (seen ended.edits suite (row_of rows suite)) (head_seen ended.edits suite (known_rows known suite) (row_of rows suite) heads) (content_seen ended.edits suite (known_rows known suite) (row_of rows suite) heads set);
-      stays = content_stays ended.edits suite (row_of rows suite);
+      whole = λ told. of_told told;
+      content = content_stays ended.edits suite (row_of rows suite);
+      acl = part_stays (λ (row : Row). row.acl) sets_acl keeps_acl ended.edits suite (row_of rows suite);
+      votes = part_stays (λ (row : Row). row.votes) sets_votes keeps_votes ended.edits suite (row_of rows suite);
+      made = λ not. was_there (row_of rows suite) (seen ended.edits suite (row_of rows suite)) row (part_stays (λ (row : Row). true) makes keeps_row ended.edits suite (row_of rows suite) not) (ap head (sym was) ∙ head_seen ended.edits suite (known_rows known suite) (row_of rows suite) heads);
     }
+      where
+        of_set : is_set ended.edits suite ≡ true → Some row ≡ seen ended.edits suite (row_of rows suite)
+        of_set set = sym was ∙ same_rows (seen ended.edits suite (known_rows known suite)) (seen ended.edits suite (row_of rows suite)) (head_seen ended.edits suite (known_rows known suite) (row_of rows suite) heads) (content_seen ended.edits suite (known_rows known suite) (row_of rows suite) heads set)
+
+        of_known : (b : Bool) → is_set ended.edits suite ≡ b → (b || is_opened (known_of known suite)) ≡ true → Some row ≡ seen ended.edits suite (row_of rows suite)
+        of_known true set told = of_set set
+        of_known false _ opened = sym was ∙ ap (seen ended.edits suite) (opened_same (known_of known suite) (row_of rows suite) (agrees suite) opened)
+
+        of_told : (is_set ended.edits suite ≡ true) ⊎ (some sets_votes ended.edits suite ≡ true) → Some row ≡ seen ended.edits suite (row_of rows suite)
+        of_told (inl set) = of_set set
+        of_told (inr voted) = of_known (is_set ended.edits suite) refl (knows_whose_votes service known t caller ops ended is suite voted)
+
     of_row heads None was =
         none_alike (seen ended.edits suite (row_of rows suite)) (ap head (sym was) ∙ head_seen ended.edits suite (known_rows known suite) (row_of rows suite) heads)
         ∙ sym (none_alike (row_of rows suite) (ap head (sym (none_before ended.edits suite (known_rows known suite) was)) ∙ heads))

@@ -1,6 +1,7 @@
 pub mod Alike
 pub mod OnTable
 pub mod Unmet
+pub mod VotesRead
 pub mod Running
 pub mod Steps
 pub mod Playing

@@ -100,8 +100,8 @@ more_known_changes_nothing service less more t caller ops result is_more is =
 pub a_met_need_is_progress : AMetNeedIsProgress
 a_met_need_is_progress service less more rows t caller ops need agrees is_more is met =
     let course = transaction service t caller ops in
-    let alike = goes_alike less (row_of rows) agrees [] (λ _ set. cc) course in
-    fewer_left (is_met less) (is_met more) (met_on less more is_more) (needs (row_of rows) [] course) need (needs_unmet (first_unmet less (needs (row_of rows) [] course)) (ending (row_of rows) [] course) need (sym alike ∙ is)) met
+    let alike = goes_alike less rows agrees [] (λ _ set. cc) course in
+    fewer_left (is_met less) (is_met more) (met_on less more is_more) (needs rows [] course) need (needs_unmet (first_unmet less (needs rows [] course)) (ending rows [] course) need (sym alike ∙ is)) met
 
 pub done_is_the_tables : DoneIsTheTables
 done_is_the_tables service known rows t caller ops result agrees is =

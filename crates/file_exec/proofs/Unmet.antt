@@ -13,7 +13,7 @@ use Rattle.file_exec.specs.Operations.{transaction}
 use Rattle.file_exec.specs.Known.{Known, known_rows, is_met, first_unmet, Needs, Done, heard, is_held_for, SetsWhatIsHeld, NeedsWhatIsUnmet}
 
 -- where nothing is unmet, the first is met and nothing of the others is unmet
-met : (known : Known) (need : Need) (later : List Need) → first_unmet known (need ∷ later) ≡ None → (is_met known need ≡ true) × (first_unmet known later ≡ None)
+pub met : (known : Known) (need : Need) (later : List Need) → first_unmet known (need ∷ later) ≡ None → (is_met known need ≡ true) × (first_unmet known later ≡ None)
 met known need later is =
     elim (is_met known need) as (λ b. cond (not b) (Some need) (first_unmet known later) ≡ None → (b ≡ true) × (first_unmet known later ≡ None)) [
       | true ↦ λ is. (refl, is)
@@ -41,7 +41,7 @@ held_edits known rows edits (Set suite edit later) ended unmet is held =
     both true is same = same
     both false is same = is
 
-done_unmet : {A E : Type 0} (unmet : Option Need) (end end' : Result (Ended A) E) → heard unmet end ≡ Done end' → (unmet ≡ None) × (end ≡ end')
+pub done_unmet : {A E : Type 0} (unmet : Option Need) (end end' : Result (Ended A) E) → heard unmet end ≡ Done end' → (unmet ≡ None) × (end ≡ end')
 done_unmet None end end' is = (refl, cc)
 done_unmet (Some need) end end' is = cc
 

@@ -1,5 +1,5 @@
 -- What holds of the executor beside a table, and of what it is told more.
-use Rattle.std.specs.Prelude.{◌≡◌, ℕ, ◌<◌, true, false, not, if◌then◌else◌, List, [], length, filter, Option, Some, None, Result, Ok}
+use Rattle.std.specs.Prelude.{◌≡◌, ℕ, ◌<◌, ◌⊎◌, true, false, not, if◌then◌else◌, List, [], length, filter, Option, Some, None, option_map, is_some, Result, Ok}
 use Rattle.std.specs.Ordering.{nat_cmp}
 use Rattle.sorted_map.specs.SortedMap.{get}
 use Rattle.suite_prefix.specs.declared.copies.Prefix.{Prefix}
@@ -8,6 +8,8 @@ use Rattle.suite_prefix.specs.LockModes.{serves}
 use Rattle.suite_content.specs.Contents.{kind_of}
 use Rattle.suite_content.specs.declared.content.Content.{Content}
 use Rattle.acl_core.specs.Identity.{Identity}
+use Rattle.acl_core.specs.declared.entry.Entry.{Entry}
+use Rattle.vote_core.specs.Quorums.{Configuration}
 use Rattle.file_ops.specs.declared.answer.Answer.{Answer}
 use Rattle.file_ops.specs.declared.operation.Op.{Op}
 use Rattle.file_ops.specs.declared.refusal.Refusal.{Refusal}
@@ -38,12 +40,23 @@ ChangesBySuite =
     (known : Known) (edits : Edits) (suite : ℕ)
     → get nat_cmp (changes_of known edits) suite ≡ (if touches edits suite then change_of known edits suite else None)
 
+-- the list and the votes of a row, where there is one
+abbrev pub acl_in : Option Row → Option (List Entry)
+acl_in row = option_map (λ row. row.acl) row
+
+abbrev pub votes_in : Option Row → Option Configuration
+votes_in row = option_map (λ row. row.votes) row
+
 -- What a change says of a suite's row before and after: of a suite without a change the row stays. Else the new row is the one that
--- the change tells, but for the content, which it tells where that was set; elsewhere the content stays.
+-- the change tells but for the content; and with its content too where that was set, and where the votes were, since whoever gets a
+-- vote gets the whole copy. What the change does not tell as set is as before, and what was not made was there.
 pub record Tells (change : Change) (before after : Option Row) : Type 0 where
   pub row : head (Some change.row) ≡ head after
-  pub content : change.content ≡ true → Some change.row ≡ after
-  pub stays : change.content ≡ false → content_in before ≡ content_in after
+  pub whole : (change.content ≡ true) ⊎ (change.votes ≡ true) → Some change.row ≡ after
+  pub content : change.content ≡ false → content_in before ≡ content_in after
+  pub acl : change.acl ≡ false → acl_in before ≡ acl_in after
+  pub votes : change.votes ≡ false → votes_in before ≡ votes_in after
+  pub made : change.made ≡ false → is_some before ≡ true
 
 abbrev pub TellsAt : Option Change → Option Row → Option Row → Type 0
 TellsAt (Some change) before after = Tells change before after
@@ -79,16 +92,16 @@ MoreKnownChangesNothing =
     (service : Service) (less more : Known) (t : ℕ) (caller : Identity) (ops : List Op) (result : Result (Ended (List Answer)) Refusal)
     → MoreKnown less more → exec_of service less t caller ops ≡ Done result → exec_of service more t caller ops ≡ Done result
 
--- what a transaction needs on a table and is not met
-abbrev pub unmet : Service → Known → Rows → ℕ → Identity → List Op → List Need
+-- what a transaction needs on some rows and is not met
+abbrev pub unmet : Service → Known → (ℕ → Option Row) → ℕ → Identity → List Op → List Need
 unmet service known rows t caller ops =
-    filter (λ need. not (is_met known need)) (needs (row_of rows) [] (transaction service t caller ops))
+    filter (λ need. not (is_met known need)) (needs rows [] (transaction service t caller ops))
 
--- each need that is met is a step forward: fewer are left unmet
+-- each need that is met is a step forward: on any rows that agree with what was known, fewer are left unmet
 abbrev pub AMetNeedIsProgress : Type 0
 AMetNeedIsProgress =
-    (service : Service) (less more : Known) (rows : Rows) (t : ℕ) (caller : Identity) (ops : List Op) (need : Need)
-    → AgreesWith less (row_of rows) → MoreKnown less more → exec_of service less t caller ops ≡ Needs need → is_met more need ≡ true
+    (service : Service) (less more : Known) (rows : ℕ → Option Row) (t : ℕ) (caller : Identity) (ops : List Op) (need : Need)
+    → AgreesWith less rows → MoreKnown less more → exec_of service less t caller ops ≡ Needs need → is_met more need ≡ true
     → length (unmet service more rows t caller ops) < length (unmet service less rows t caller ops)
 
 -- ---- the caller's steps

@@ -36,8 +36,8 @@ pub(crate) struct Transaction<'a> {
     pub(crate) caller: &'a Caller,
 }
 
-/// Whether a file may hold these bytes.
-fn fits(bytes: &FileBytes) -> Result<(), Why>
+/// Refuses bytes that are too long for a file.
+fn require_fit(bytes: &FileBytes) -> Result<(), Why>
     ensures { result ≡ refuse_if (nat_lt longest_content (length bytes.now)) why.TooLong }
 {
     if bytes.is_too_long() {
@@ -46,8 +46,8 @@ fn fits(bytes: &FileBytes) -> Result<(), Why>
     Ok(())
 }
 
-/// Whether a folder lacks a name.
-fn lacks(names: &FolderNames, name: &Name) -> Result<(), Why>
+/// Refuses a name that a folder has.
+fn require_absent(names: &FolderNames, name: &Name) -> Result<(), Why>
     ensures { result ≡ refuse_if (is_some (number_of names.now name.now)) why.Exists }
 {
     match names.get(name) {
@@ -56,8 +56,8 @@ fn lacks(names: &FolderNames, name: &Name) -> Result<(), Why>
     }
 }
 
-/// Whether a folder may have one more name.
-fn has_room(names: &FolderNames) -> Result<(), Why>
+/// Refuses one more name in a folder that is full.
+fn require_room(names: &FolderNames) -> Result<(), Why>
     ensures { result ≡ refuse_if (nat_le most_names (length names.now)) why.FolderFull }
 {
     if names.is_full() {
@@ -100,7 +100,7 @@ fn read(view: View<'_>, caller: &Caller, names: &[Name]) -> Result<Answer, Stop>
 {
     let place = view.reach(caller, names, LockMode::Shared)?;
     place.permit(caller, Perms::READ)?;
-    place.file()?;
+    place.require_file()?;
     let bytes = view.bytes_at(place.suite)?;
     Ok(Answer::Read(bytes))
 }
@@ -111,7 +111,7 @@ fn list(view: View<'_>, caller: &Caller, names: &[Name]) -> Result<Answer, Stop>
 {
     let place = view.reach(caller, names, LockMode::Shared)?;
     place.permit(caller, Perms::READ)?;
-    place.folder()?;
+    place.require_folder()?;
     let entries = view.names_at(place.suite)?;
     let list = entries.names()?;
     Ok(Answer::List(list))
@@ -155,10 +155,10 @@ fn write(
 ) -> Result<Answer, Stop>
     ensures { Runs (λ answer. answer) result known.now.suites log.old log.new (bytes_written caller.now names.now bytes.now) }
 {
-    fits(bytes)?;
+    require_fit(bytes)?;
     let place = View { known, log }.reach(caller, names, LockMode::Exclusive)?;
     place.permit(caller, Perms::WRITE)?;
-    place.file()?;
+    place.require_file()?;
     let suite = place.suite;
     let bytes = bytes.clone()?;
     set(known, log, suite, Edit::SetContent(Content::Bytes(bytes)))?;
@@ -224,8 +224,8 @@ fn make(
     let votes = service.votes_of_new(given)?;
     let view = View { known, log };
     let parent = view.parent_of(caller, folders)?;
-    lacks(parent.names, name)?;
-    has_room(parent.names)?;
+    require_absent(parent.names, name)?;
+    require_room(parent.names)?;
     view.look(number, LockMode::Exclusive)?;
     let folder = parent.place.suite;
     let entries = with_name(parent.names, name, number)?;

@@ -31,7 +31,8 @@ pub enum Outcome {
 }
 
 /// Plays the transaction `t` on what is known, up to what it needs and is not known, or to its end.
-/// Nothing that is known is changed or copied.
+/// Nothing that is known is changed. Lists, bytes and names are shared and not copied, but for a folder
+/// in which a name is put or dropped: its names are copied once for each such operation, in each run.
 pub fn exec(
     alloc: Global,
     known: &Known,

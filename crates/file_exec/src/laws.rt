@@ -34,13 +34,15 @@ pub fn done_is_the_tables()
     ensures { DoneIsTheTables }
 {}
 
-/// A law: what the changes have of a suite. It does nothing.
+/// A law: the changes have each suite that was set of, once, with all that was set of it. It does
+/// nothing.
 pub fn changes_by_suite()
     ensures { ChangesBySuite }
 {}
 
-/// A law: the changes that are answered lead from the table's rows to those after the transaction. It
-/// does nothing.
+/// A law: the changes that are answered lead from the table's rows to those after the transaction: what
+/// is not told as set is as before, and where the content or the votes were set the row is the table's,
+/// content and all. It does nothing.
 pub fn changes_lead_on()
     ensures { ChangesLeadOn }
 {}
@@ -50,7 +52,8 @@ pub fn more_known_changes_nothing()
     ensures { MoreKnownChangesNothing }
 {}
 
-/// A law: each need that is met leaves fewer unmet. It does nothing.
+/// A law: each need that is met leaves fewer unmet, on any rows that what was known agrees with. It does
+/// nothing.
 pub fn a_met_need_is_progress()
     ensures { AMetNeedIsProgress }
 {}

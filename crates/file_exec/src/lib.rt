@@ -29,6 +29,7 @@ pub use laws::{
     goes_as_on_the_table, holding_meets, is_the_transaction, more_known_changes_nothing,
     needs_what_is_unmet, opening_meets, sets_what_is_held,
 };
+pub use log::Edit;
 pub use need::Need;
 pub use row::KnownRow;
 

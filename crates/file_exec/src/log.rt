@@ -16,10 +16,14 @@ use vote_core::Votes;
 
 /// What an operation sets of a suite: its list, its votes, its content, or all of it, where it is made.
 #[derive(Drop)]
-pub(crate) enum Edit {
+pub enum Edit {
+    /// Its access list.
     SetAcl(Acl),
+    /// Its votes.
     SetVotes(Votes),
+    /// Its content, whole.
     SetContent(Content),
+    /// All of its row, which it gets, also in place of one of its number.
     Make(KnownRow),
 }
 

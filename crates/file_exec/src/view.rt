@@ -59,7 +59,7 @@ impl<'a> Place<'a> {
         }
     }
 
-    /// Whether the caller has what it wants of it.
+    /// Refuses a caller that has not what it wants of it.
     pub(crate) fn permit(self, caller: &Caller, wanted: Perms) -> Result<(), Why>
         ensures { result ≡ permit caller.now (seen_place self.entry) wanted }
     {
@@ -73,15 +73,15 @@ impl<'a> Place<'a> {
         self.guarded().permit_others(caller, wanted)
     }
 
-    /// Whether the caller owns it.
+    /// Refuses a caller that does not own it.
     fn owner_only(self, caller: &Caller) -> Result<(), Why>
         ensures { result ≡ owner_only caller.now (seen_place self.entry) }
     {
         self.guarded().owner_only(caller)
     }
 
-    /// Whether it is a file.
-    pub(crate) fn file(self) -> Result<(), Why>
+    /// Refuses what is not a file.
+    pub(crate) fn require_file(self) -> Result<(), Why>
         ensures { ok_map (λ _. []) result ≡ bytes_in (seen_place self.entry).row.content }
     {
         match self.row.content {
@@ -90,8 +90,8 @@ impl<'a> Place<'a> {
         }
     }
 
-    /// Whether it is a folder.
-    pub(crate) fn folder(self) -> Result<(), Why>
+    /// Refuses what is not a folder.
+    pub(crate) fn require_folder(self) -> Result<(), Why>
         ensures { ok_map (λ _. []) result ≡ names_in (seen_place self.entry).row.content }
     {
         match self.row.content {
@@ -162,7 +162,7 @@ impl<'a> View<'a> {
         ensures { Sees (λ next. next) result self.entry (step caller.now suite name.now) }
     {
         let folder = self.held(suite, LockMode::Shared)?;
-        folder.folder()?;
+        folder.require_folder()?;
         folder.permit(caller, Perms::EXEC)?;
         let names = self.names_at(suite)?;
         match names.get(name) {
@@ -218,7 +218,7 @@ impl<'a> View<'a> {
         ensures { Sees seen_parent result self.entry (parent_of caller.now folders.now) }
     {
         let place = self.reach(caller, folders, LockMode::Exclusive)?;
-        place.folder()?;
+        place.require_folder()?;
         place.permit(caller, to_change())?;
         let names = self.names_at(place.suite)?;
         Ok(Parent { place, names })
