@@ -1,0 +1,12 @@
+use Rattle.std.proofs.Common.{◌≡◌, ◌&&◌, ◌<◌, ◌≤◌, ◌++◌, nat_lt, length, drop, map, filter, All}
+use Rattle.std.specs.FinSet.{contains}
+use Rattle.vote_core.specs.declared.TheConstants.{MAX_SERVERS}
+use Rattle.suite_collect.proofs.members.members_of.Given as goal
+
+abbrev pub invariant-loop-server : goal.invariant-loop-server
+invariant-loop-server l = record {
+  few : length l.members ≤ l.server-index;
+  known : All (λ server. server < MAX_SERVERS) l.members;
+  rest : l.members ++ map (λ rep. rep.0) (filter (λ rep. nat_lt 0 rep.1 && contains l.held rep.0) (drop l.server-index l.server-items))
+      ≡ map (λ rep. rep.0) (filter (λ rep. nat_lt 0 rep.1 && contains l.held rep.0) l.server-items);
+}

@@ -1,0 +1,94 @@
+-- What holds of every collector, whatever it was told.
+use Rattle.std.specs.Prelude.{◌≡◌, ℕ, ◌+◌, ◌*◌, ◌<◌, ◌≤◌, ◌==◌, ◌⊎◌, Bool, true, false, List, [], ◌∷◌, length, Option, Some, None, Contains}
+use Rattle.std.specs.List.{list_any, list_all}
+use Rattle.vote_core.specs.Quorums.{Representative, Configuration, votes_in}
+use Rattle.suite_prefix.specs.declared.copies.Prefix.{Prefix}
+use Rattle.suite_prefix.specs.declared.lock_mode.LockMode.{LockMode}
+use Rattle.suite_prefix.specs.declared.lock_mode.LockMode.TheVariants.{Exclusive}
+use Rattle.suite_prefix.specs.LockModes.{is_exclusive}
+use Rattle.rep_core.specs.declared.reply.Reply.{Reply}
+use Rattle.suite_collect.specs.declared.told.Said.TheVariants.{Held}
+use Rattle.suite_collect.specs.declared.told.Told.{Told}
+use Rattle.suite_collect.specs.Telling.{newest, has_told, holds, has_refused, greatest, is_down, is_busy_with}
+use Rattle.suite_collect.specs.Collecting.{Collector, Widening, needed_of, all_told, counted, wanted, is_member, version, Asked, Current, Ask, Short, Poll, Upgrade, next, collect, raise, widen, tell, told_by}
+
+-- the test of a list of servers
+abbrev pub among : List ℕ → ℕ → Bool
+among servers server = list_any (λ one. one == server) servers
+
+-- ---- Current
+
+-- Before a widening: the members that are given have a quorum's votes under the prefix that is given, each holds what is wanted, no held
+-- copy showed a greater version of the prefix, and the version of the content is the greatest that they showed.
+pub record IsCurrent (c : Collector) (prefix : Prefix) (dver : ℕ) (members : List ℕ) : Type 0 where
+  pub quorum : needed_of c.mode prefix.votes ≤ votes_in prefix.votes.reps (among members)
+  pub held : (server : ℕ) → among members server ≡ true → holds c.mode c.told server ≡ true
+  pub newest : (one : Told) (other : Prefix) (dver : ℕ) → Contains c.told one → one.said ≡ Held other dver → other.pver ≤ prefix.pver
+  pub latest : dver ≡ greatest c.told members
+
+abbrev pub CurrentIsAQuorum : Type 0
+CurrentIsAQuorum = (c : Collector) (prefix : Prefix) (dver : ℕ) (members : List ℕ) → c.widening ≡ None → next c ≡ Current prefix dver members → IsCurrent c prefix dver members
+
+-- After it: they have a write quorum's votes of those that were given, and each holds an exclusive lock. Prefix and version are as before.
+pub record IsWidened (c : Collector) (votes : Configuration) (prefix : Prefix) (dver : ℕ) (members : List ℕ) : Type 0 where
+  pub quorum : votes.w ≤ votes_in votes.reps (among members)
+  pub held : (server : ℕ) → among members server ≡ true → holds Exclusive (all_told c) server ≡ true
+  pub prefix_stays : prefix ≡ newest c.start c.told
+  pub version_stays : dver ≡ version c
+
+abbrev pub WidenedIsAWriteQuorum : Type 0
+WidenedIsAWriteQuorum =
+    (c : Collector) (widening : Widening) (prefix : Prefix) (dver : ℕ) (members : List ℕ) → c.widening ≡ Some widening → next c ≡ Current prefix dver members
+    → IsWidened c widening.votes prefix dver members
+
+-- ---- Short
+
+-- The votes that are told are those of the members that are held, fewer than are needed. Each voting member of the votes that count is held
+-- or was found busy or down. Where no busy one is told, all others are down; one that is told was met.
+pub record IsShort (c : Collector) (got needed : ℕ) (busy : Option (ℕ × ℕ)) : Type 0 where
+  pub votes : got ≡ votes_in (counted c).reps (is_member c)
+  pub threshold : needed ≡ needed_of (wanted c) (counted c)
+  pub too_few : got < needed
+  pub none_left : (rep : Representative) → Contains (counted c).reps rep → 0 < rep.1 → (is_member c rep.0 ≡ true) ⊎ (has_refused (all_told c) rep.0 ≡ true)
+  pub all_down : busy ≡ None → (server : ℕ) → has_refused (all_told c) server ≡ true → has_told (λ one. is_down one.said) (all_told c) server ≡ true
+  pub busy_met : (server holder : ℕ) → busy ≡ Some (server, holder) → has_told (λ one. is_busy_with holder one.said) (all_told c) server ≡ true
+
+abbrev pub ShortHasNoneLeft : Type 0
+ShortHasNoneLeft = (c : Collector) (got needed : ℕ) (busy : Option (ℕ × ℕ)) → next c ≡ Short got needed busy → IsShort c got needed busy
+
+-- ---- Ask
+
+-- no server is polled that ever said anything, and none is asked to raise a lock that was asked for an exclusive one
+abbrev pub NobodyIsAskedTwice : Type 0
+NobodyIsAskedTwice =
+    (c : Collector) (server : ℕ)
+    → ((mode : LockMode) → next c ≡ Ask server (Poll mode) → has_told (λ _. true) (all_told c) server ≡ false)
+    × (next c ≡ Ask server Upgrade → has_told (λ one. is_exclusive one.mode) (all_told c) server ≡ false)
+
+-- what is done with a collector; a reply that does not answer what was asked changes nothing
+pub data Step : Type 0 where
+  Raise : Step
+  Widen : Configuration → Step
+  Take : Reply → Step
+
+abbrev pub told_or : Option Told → Collector → Collector
+told_or (Some one) c = tell one c
+told_or None c = c
+
+abbrev pub after_step : Collector → Step → Collector
+after_step c Raise = raise c
+after_step c (Widen votes) = widen votes c
+after_step c (Take reply) = told_or (told_by (next c) reply) c
+
+-- a collector after all this, the oldest first
+abbrev pub after_all : Collector → List Step → Collector
+after_all c [] = c
+after_all c (step ∷ steps) = after_all (after_step c step) steps
+
+-- However it is raised and widened: where it asks, and these are all servers that it asked, now and before, it asks at most twice as
+-- often as there are of them.
+abbrev pub AsksAreFew : Type 0
+AsksAreFew =
+    (mode : LockMode) (start : Prefix) (steps : List Step) (server : ℕ) (asked : Asked) (servers : List ℕ) →
+    let c = after_all (collect mode start) steps in
+    next c ≡ Ask server asked → among servers server ≡ true → list_all (λ one. among servers one.server) (all_told c) ≡ true → 1 + length (all_told c) ≤ 2 * length servers

@@ -1,0 +1,293 @@
+//! The collector.
+
+ghost use Rattle.std.specs.Prelude.{◌≡◌, ◌<◌, ℕ, find, option_map, is_some, IsSome, IfSome};
+ghost use Rattle.std.specs.FinSet.{contains};
+ghost use Rattle.suite_collect.specs.Collecting as spec;
+ghost use Rattle.suite_collect.specs.Telling as telling;
+
+use crate::heard::Heard;
+use crate::log::Log;
+use crate::members::{first_left, members_of};
+use crate::next::{Members, Next};
+use crate::told::{Said, Told};
+use rep_core::{Reply, Request};
+use std::marker::Model;
+use suite_prefix::{LockMode, Prefix};
+use vote_core::{MAX_SERVERS, Votes};
+
+/// Other votes that are gathered too, all that was told, and what was told since.
+#[derive(Drop)]
+struct Widening {
+    votes: Votes,
+    all: Heard,
+    since: Log<Told>,
+}
+
+/// What a transaction collects of one suite: locks, until their servers are a quorum under the newest
+/// prefix that they show.
+#[derive(Drop)]
+pub struct Collect {
+    t: u64,
+    suite: u64,
+    mode: LockMode,
+    start: Prefix,
+    newer: Option<Prefix>,
+    told: Heard,
+    widening: Option<Widening>,
+}
+
+impl Model for Collect {
+    ghost use Rattle.suite_collect.specs.Collecting.{Collecting};
+
+    ghost Value = { Collecting };
+
+    ghost use Rattle.suite_collect.specs.CollectFields.{collecting_of, IsSummed};
+
+    ghost view = { collecting_of };
+
+    ghost invariant = { IsSummed };
+}
+
+impl Collect {
+    ghost use Rattle.suite_collect.specs.Telling.{newest};
+    ghost use Rattle.suite_collect.specs.Answering.{Tells};
+
+    /// A collector that was told nothing yet. `start` is any prefix that the suite once had, or that of
+    /// what was never made.
+    pub fn new(t: u64, suite: u64, mode: LockMode, start: Prefix) -> Collect
+        ensures { result ≡ record { t = t; suite = suite; collector = spec.collect mode start } }
+    {
+        Collect {
+            t,
+            suite,
+            mode,
+            start,
+            newer: None,
+            told: Heard::new(),
+            widening: None,
+        }
+    }
+
+    /// From now on exclusive locks are wanted.
+    pub fn raise(&mut self)
+        ensures { self.new ≡ record self.old { collector = spec.raise self.old.collector } }
+    {
+        self.mode = LockMode::Exclusive;
+    }
+
+    /// From now on a write quorum of these votes is wanted. Prefix and version stay.
+    pub fn widen(&mut self, votes: &Votes)
+        ensures { self.new ≡ record self.old { collector = spec.widen votes.now self.old.collector } }
+    {
+        match &mut self.widening {
+            Some(widening) => widening.votes = *votes,
+            None => {
+                self.widening = Some(Widening {
+                    votes: *votes,
+                    all: self.told.same(),
+                    since: Log::new(),
+                });
+            }
+        }
+    }
+
+    /// What comes next. It takes no memory.
+    pub fn next(&self) -> Next<'_>
+        ensures { Tells result self.now }
+    {
+        let (got, needed) = (self.got(), self.needed());
+        if got >= needed {
+            return Next::Current {
+                prefix: self.newest(),
+                dver: self.version(),
+                members: members_of(self.counted(), &self.heard().holders(self.wanted())),
+            };
+        }
+        match self.left() {
+            Some(server) => Next::Ask {
+                server,
+                request: self.request(server),
+            },
+            None => Next::Short {
+                got,
+                needed,
+                busy: self.heard().first_busy(),
+            },
+        }
+    }
+
+    /// Whether a reply answers what was asked next, and the collector goes on with it. After any other
+    /// the transaction ends: a lock is lost, or the server of a lock is down.
+    pub fn accepts(&self, reply: &Reply) -> bool
+        ensures { result ≡ is_some (spec.told_by (spec.next self.now.collector) reply.now) }
+    {
+        let Next::Ask { request, .. } = self.next() else {
+            return false;
+        };
+        match reply {
+            Reply::Held { .. } | Reply::Busy { .. } => true,
+            Reply::Down => matches!(request, Request::Poll { .. }),
+            _ => false,
+        }
+    }
+
+    /// Takes the reply to what was asked next.
+    pub fn take(&mut self, reply: Reply)
+        requires { IsSome (spec.told_by (spec.next self.old.collector) reply) }
+        ensures { IfSome (spec.told_by (spec.next self.old.collector) reply) (λ last. self.new ≡ record self.old { collector = spec.tell last self.old.collector }) }
+    {
+        let Some(server) = self.left() else {
+            return;
+        };
+        let mode = self.mode_asked(server);
+        let said = match reply {
+            Reply::Held { prefix, dver } => Said::Held { prefix, dver },
+            Reply::Busy { holder, .. } => Said::Busy { holder },
+            _ => Said::Down,
+        };
+        self.tell(Told { server, mode, said });
+    }
+
+    /// Whether a server holds a lock for the transaction, in this mode or a stronger one.
+    pub fn holds(&self, mode: LockMode, server: u8) -> bool
+        ensures { result ≡ telling.holds mode (spec.all_told self.now.collector) server }
+    {
+        self.heard().holds(mode, server)
+    }
+
+    /// The first member, in listed order, that showed the version of the content, before a widening.
+    pub fn source(&self) -> Option<u8>
+        ensures { result ≡ spec.source self.now.collector }
+    {
+        let (members, version) = (self.first_members(), self.version());
+        let shows = |server: &u8| self.told.shown(*server) == version;
+        members.as_slice().iter().copied().find(shows)
+    }
+
+    /// Something told.
+    fn tell(&mut self, last: Told)
+        requires { last.server < MAX_SERVERS }
+        ensures { self.new ≡ record self.old { collector = spec.tell last self.old.collector } }
+    {
+        if let Some(widening) = &mut self.widening {
+            widening.all.add(&last);
+            widening.since = widening.since.and(&last);
+            return;
+        }
+        let newest = self.newest().pver;
+        self.told.add(&last);
+        if let Said::Held { prefix, .. } = last.said {
+            if prefix.pver > newest {
+                self.newer = Some(prefix);
+            }
+        }
+    }
+
+    /// The newest prefix seen.
+    fn newest(&self) -> &Prefix
+        ensures { result.now ≡ newest self.now.collector.start self.now.collector.told }
+    {
+        match &self.newer {
+            Some(prefix) => prefix,
+            None => &self.start,
+        }
+    }
+
+    /// All that was told.
+    fn heard(&self) -> &Heard
+        ensures { result.now ≡ spec.all_told self.now.collector }
+    {
+        match &self.widening {
+            Some(widening) => &widening.all,
+            None => &self.told,
+        }
+    }
+
+    /// The votes that count.
+    fn counted(&self) -> &Votes
+        ensures { result.now ≡ spec.counted self.now.collector }
+    {
+        match &self.widening {
+            Some(widening) => &widening.votes,
+            None => &self.newest().votes,
+        }
+    }
+
+    fn wanted(&self) -> LockMode
+        ensures { result ≡ spec.wanted self.now.collector }
+    {
+        if self.widening.is_some() {
+            LockMode::Exclusive
+        } else {
+            self.mode
+        }
+    }
+
+    /// The votes that are needed.
+    fn needed(&self) -> u32
+        ensures { result ≡ spec.needed self.now.collector }
+    {
+        match self.wanted() {
+            LockMode::Shared => u32::from(self.counted().r()),
+            LockMode::Exclusive => u32::from(self.counted().w()),
+        }
+    }
+
+    /// The votes of the members that are held as is wanted.
+    fn got(&self) -> u32
+        ensures { result ≡ spec.got self.now.collector }
+    {
+        self.counted()
+            .votes_of(&self.heard().holders(self.wanted()))
+    }
+
+    /// The first member that is left to be asked.
+    fn left(&self) -> Option<u8>
+        ensures value { let c = self.now.collector in result ≡ option_map (λ rep. rep.0) (find (spec.is_left c) (spec.counted c).reps) }
+        ensures known { IfSome result (λ server. server < MAX_SERVERS) }
+    {
+        first_left(self.counted(), self.heard(), self.wanted())
+    }
+
+    /// What a server is asked.
+    fn request(&self, server: u8) -> Request
+        ensures { let c = self.now.collector in result ≡ spec.request_for self.now.t self.now.suite (spec.asked_of c server) }
+    {
+        let (t, suite) = (self.t, self.suite);
+        if self.holds(LockMode::Shared, server) {
+            Request::Upgrade { t, suite }
+        } else {
+            let mode = self.wanted();
+            Request::Poll { t, suite, mode }
+        }
+    }
+
+    /// In which mode a server is asked for a lock.
+    fn mode_asked(&self, server: u8) -> LockMode
+        ensures { let c = self.now.collector in result ≡ spec.mode_asked (spec.asked_of c server) }
+    {
+        if self.holds(LockMode::Shared, server) {
+            LockMode::Exclusive
+        } else {
+            self.wanted()
+        }
+    }
+
+    /// The members that are held, before a widening.
+    fn first_members(&self) -> Members
+        ensures { result ≡ spec.first_members self.now.collector }
+    {
+        members_of(&self.newest().votes, &self.told.holders(self.mode))
+    }
+
+    /// The greatest version of the content that they showed.
+    fn version(&self) -> u64
+        ensures { result ≡ spec.version self.now.collector }
+    {
+        let mut greatest = 0;
+        for server in self.first_members().as_slice() {
+            greatest = self.told.shown(*server).max(greatest);
+        }
+        greatest
+    }
+}

@@ -1,0 +1,30 @@
+//! What holds of every collector.
+
+ghost use Rattle.suite_collect.specs.Laws.{AsksAreFew, CurrentIsAQuorum, NobodyIsAskedTwice, ShortHasNoneLeft, WidenedIsAWriteQuorum};
+
+/// A law: before a widening, a Current is a quorum under the very prefix that it gives, the newest that
+/// was shown, with the greatest version of the content that the quorum's members showed. It does nothing.
+pub fn current_is_a_quorum()
+    ensures { CurrentIsAQuorum }
+{}
+
+/// A law: after a widening, a Current is a write quorum of the votes that were given, held exclusively.
+/// It does nothing.
+pub fn widened_is_a_write_quorum()
+    ensures { WidenedIsAWriteQuorum }
+{}
+
+/// A law: a Short has too few votes and nobody left to ask, and its Busy was met. It does nothing.
+pub fn short_has_none_left()
+    ensures { ShortHasNoneLeft }
+{}
+
+/// A law: no server is asked twice in one mode. It does nothing.
+pub fn nobody_is_asked_twice()
+    ensures { NobodyIsAskedTwice }
+{}
+
+/// A law: a collector asks at most twice as often as there are servers that it asks. It does nothing.
+pub fn asks_are_few()
+    ensures { AsksAreFew }
+{}

@@ -1,0 +1,43 @@
+//! A history that only proofs read. It takes no memory, and its methods do nothing at run time.
+
+ghost use Rattle.std.specs.Prelude.{◌≡◌, List, [], ◌∷◌};
+ghost use Rattle.std.specs.Borrow.{ftrue};
+
+use std::marker::{Model, PhantomData};
+
+/// What came, the newest first. A clause reads it as `items`.
+#[derive(Drop)]
+pub(crate) struct Log<T> {
+    of: PhantomData<T>,
+    pub(crate) ghost items: { List T },
+}
+
+impl<T> Model for Log<T> {
+    ghost also_owns = { λ _. ftrue };
+}
+
+// It owns nothing.
+unsafe impl<T: Send> Send for Log<T> {}
+
+impl<T> Log<T> {
+    /// Nothing yet.
+    pub(crate) fn new() -> Log<T>
+        ensures { result.items ≡ [] }
+    {
+        Log { of: PhantomData }
+    }
+
+    /// The history with one thing more.
+    pub(crate) fn and(&self, one: &T) -> Log<T>
+        ensures { result.items ≡ one.now ∷ self.now.items }
+    {
+        Log { of: PhantomData }
+    }
+
+    /// The same history.
+    pub(crate) fn same(&self) -> Log<T>
+        ensures { result.items ≡ self.now.items }
+    {
+        Log { of: PhantomData }
+    }
+}

@@ -1,0 +1,17 @@
+//! One agent of a replicated file service.
+#![tactic(auto)]
+
+mod ending;
+mod job;
+mod laws;
+mod word;
+
+pub use ending::{Cause, Ending};
+pub use job::{Job, Ops};
+pub use word::Word;
+
+pub use laws::{
+    all_prepare_first, decide_is_sent_once, decides_on_quorums, ends_are_caused,
+    finish_carries_the_verdict, late_steps_are_few, nobody_is_polled_twice, nothing_follows_an_end,
+    prepare_lists_the_locks, what_is_written_is_fixed,
+};
