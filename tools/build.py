@@ -83,9 +83,7 @@ class Teller:
 
     def step(self, done, count, running, stays):
         seconds = int(time.monotonic() - self.begun)
-        busy = f"; proving {', '.join(running)}" if running else ""
-        if stays and not self.changes or self.changes:
-            self.say(f"{done} of {count} crates proved, {seconds} s{busy}", stays and not self.changes)
+        self.say(f"{done} of {count} crates proved, {seconds} s; at {', '.join(running)}", stays and not self.changes)
 
 
 def start(words, name, log):
@@ -112,7 +110,7 @@ def prove(needs, teller):
     """Proves the crates, lower ones first and the longest way first. Answers the crate that failed, and what it printed."""
     ways, room = ways_up(needs), seats()
     waiting = [name for name in needs if name != PROGRAM]
-    proved, running = set(), {}
+    proved, running, changed = set(), {}, False
     try:
         while waiting or running:
             ready = [name for name in waiting if proved.issuperset(needs[name])]
@@ -121,13 +119,14 @@ def prove(needs, teller):
                 log = tempfile.TemporaryFile()
                 jobs = ["--jobs", "1"] if len(ready) + len(running) >= room else []
                 running[name] = (start(["check", *jobs], name, log), log)
+            teller.step(len(proved), len(needs), sorted(running), changed)
             ended = [name for name, (process, _) in running.items() if process.poll() is not None]
             for name in ended:
                 process, log = running.pop(name)
                 if process.returncode != 0:
                     return name, tail(log)
                 proved.add(name)
-            teller.step(len(proved), len(needs), sorted(running), bool(ended))
+            changed = bool(ended)
             if not ended:
                 time.sleep(0.5)
     finally:

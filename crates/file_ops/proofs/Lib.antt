@@ -4,3 +4,5 @@ pub mod EditLaws
 pub mod LastName
 pub mod CapacityLaws
 pub mod TakingBack
+pub mod LaterRefusals
+pub mod Permitting

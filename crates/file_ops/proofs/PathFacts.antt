@@ -16,12 +16,13 @@ use Rattle.std.proofs.Math.Seq.{take-suc-set}
 use Rattle.std.proofs.lemmas.Slice.Eq.{bytes_eq-Decides}
 use Rattle.suite_content.specs.Limits.{longest_name}
 use Rattle.suite_content.specs.Names.{IsName, is_name_byte}
+use Rattle.file_ops.specs.Limits.{most_path_names}
 use Rattle.file_ops.specs.Paths.{is_slash, is_name, some_names, names_between, names_of}
 
-pub too_many : (parts : List (List ℕ)) → 8 < length parts → some_names parts ≡ None
+pub too_many : (parts : List (List ℕ)) → most_path_names < length parts → some_names parts ≡ None
 too_many parts long = grind (arith, nat_tests)
 
-pub all_names : (parts : List (List ℕ)) → 1 ≤ length parts → length parts ≤ 8 → list_all is_name parts ≡ true → some_names parts ≡ Some parts
+pub all_names : (parts : List (List ℕ)) → 1 ≤ length parts → length parts ≤ most_path_names → list_all is_name parts ≡ true → some_names parts ≡ Some parts
 all_names parts some few names = grind (arith, nat_tests)
 
 pub not_all : (parts : List (List ℕ)) → list_all is_name parts ≡ false → some_names parts ≡ None

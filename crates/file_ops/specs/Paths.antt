@@ -4,10 +4,7 @@ use Rattle.std.specs.List.{list_all, slice_split}
 use Rattle.std.specs.Str.{bytes_eq}
 use Rattle.suite_content.specs.Limits.{longest_name}
 use Rattle.suite_content.specs.Names.{is_name_byte}
-
--- the most names of a path; a limit of this project
-abbrev pub longest_path : ℕ
-longest_path = 8
+use Rattle.file_ops.specs.Limits.{most_path_names}
 
 abbrev pub is_slash : ℕ → Bool
 is_slash byte = byte == 47
@@ -21,7 +18,7 @@ is_name bytes =
 -- one to eight names
 abbrev pub some_names : List (List ℕ) → Option (List (List ℕ))
 some_names parts =
-    if nat_le 1 (length parts) && nat_le (length parts) longest_path && list_all is_name parts then Some parts else None
+    if nat_le 1 (length parts) && nat_le (length parts) most_path_names && list_all is_name parts then Some parts else None
 
 -- the names of a path, from its parts between slashes: nothing stands before the first slash, and after it nothing, or one to eight names
 abbrev pub names_between : List (List ℕ) → Option (List (List ℕ))

@@ -1,5 +1,5 @@
 -- A transaction: its operations one after the other, each on what the one before left.
-use Rattle.std.specs.Prelude.{◌≡◌, ℕ, ◌+◌, ◌==◌, nat_lt, Bool, ◌||◌, if◌then◌else◌, List, [], ◌∷◌, ◌++◌, length, Result, Ok, Err}
+use Rattle.std.specs.Prelude.{◌≡◌, ℕ, ◌+◌, ◌==◌, nat_le, nat_lt, Bool, true, false, not, ◌&&◌, ◌||◌, if◌then◌else◌, List, [], ◌∷◌, ◌++◌, length, Result, Ok, Err, IfErr, IsTrue}
 use Rattle.acl_core.specs.Identity.{Identity}
 use Rattle.file_ops.specs.declared.answer.Answer.{Answer}
 use Rattle.file_ops.specs.declared.audit.AuditItem.{AuditItem}
@@ -10,6 +10,7 @@ use Rattle.file_ops.specs.declared.refusal.Refusal.{Refusal}
 use Rattle.file_ops.specs.declared.refusal.Why.{Why}
 use Rattle.file_ops.specs.declared.refusal.Why.TheVariants as why
 use Rattle.file_ops.specs.declared.service.Service.{Service}
+pub use Rattle.file_ops.specs.Limits.{most_operations}
 use Rattle.file_ops.specs.Steps.{◌>>=◌, ◌>>◌}
 use Rattle.file_ops.specs.Rows.{Rows, PlainTable}
 use Rattle.file_ops.specs.Operations.{Done, operation}
@@ -30,10 +31,6 @@ play service played t at caller [] = Ok played
 play service played t at caller (op ∷ ops) = do
   done ← after played.answers at (operation service played.rows t at caller op)
   play service done t (at + 1) caller ops
-
--- the most operations of a transaction; a limit of this project
-abbrev pub most_operations : ℕ
-most_operations = 8
 
 -- whether there are too few or too many operations
 abbrev pub is_miscounted : List Op → Bool
@@ -76,3 +73,16 @@ IsUnlessMemory (Err Memory) answer = Unit {0}
 abbrev pub left_by : Result (List Answer) ApplyError → PlainTable → PlainTable → PlainTable
 left_by (Err Memory) old after = old
 left_by result old after = after
+
+-- whether an operation was denied, which the audit keeps
+abbrev pub is_denial : Why → Bool
+is_denial (why.Denied denial) = true
+is_denial _ = false
+
+-- whether a refusal needs no memory: that of the number of operations, and that of the first operation unless it is a denial
+abbrev pub needs_no_memory : Refusal → Bool
+needs_no_memory refusal = nat_le refusal.op 1 && not (is_denial refusal.why)
+
+-- a refusal that needs no memory is the answer, however little memory there is
+abbrev pub RefusesFirst : Result (List Answer) ApplyError → Result Played Refusal → Type 0
+RefusesFirst result outcome = IfErr outcome (λ refusal. IsTrue (needs_no_memory refusal) → result ≡ Err (Refused refusal))

@@ -12,12 +12,12 @@ ghost use Rattle.file_ops.specs.Restored.{Restores};
 ghost use Rattle.file_ops.specs.Done.{Does, Acts};
 
 use crate::answer::Answer;
-use crate::change::Change;
-use crate::operation::{Action, Init, Op};
+use crate::operation::{Action, Init, Op, made_number};
 use crate::path::Path;
 use crate::refusal::Why;
 use crate::service::Service;
 use crate::stored::{StoredContent, StoredRow, StoredRows};
+use crate::undo::{Undo, make_row, replace_acl, replace_content, replace_votes, take_out_name};
 use crate::walk::{last_name, owned, parent_of, permit, reach, shown};
 use acl_core::{Acl, Caller, Perms};
 use sorted_map::RoomyMap;
@@ -57,10 +57,10 @@ impl From<AllocError> for OpError {
     }
 }
 
-/// A reply, and what was changed for it.
+/// A reply, and how what was changed for it is undone.
 pub(crate) struct Done {
     pub(crate) answer: Answer,
-    pub(crate) change: Change,
+    pub(crate) undo: Undo,
 }
 
 /// The bytes of a file.
@@ -134,10 +134,10 @@ fn write(
     place.row.content.bytes()?;
     let suite = place.suite;
     let bytes = bytes.clone()?;
-    let change = Change::hold(rows, suite, StoredContent::Bytes(bytes));
+    let undo = replace_content(rows, suite, StoredContent::Bytes(bytes));
     Ok(Done {
         answer: Answer::Wrote,
-        change,
+        undo,
     })
 }
 
@@ -153,10 +153,10 @@ fn set_acl(
 {
     let suite = owned(rows, caller, names)?.suite;
     let acl = acl.clone()?;
-    let change = Change::list(rows, suite, acl);
+    let undo = replace_acl(rows, suite, acl);
     Ok(Done {
         answer: Answer::Set,
-        change,
+        undo,
     })
 }
 
@@ -173,10 +173,10 @@ fn set_votes(
 {
     let votes = service.known_votes(given)?;
     let suite = owned(rows, caller, names)?.suite;
-    let change = Change::vote(rows, suite, votes);
+    let undo = replace_votes(rows, suite, votes);
     Ok(Done {
         answer: Answer::Set,
-        change,
+        undo,
     })
 }
 
@@ -210,10 +210,10 @@ fn make(
     }
     let folder = parent.place.suite;
     let row = new_row(alloc, kind, init, votes, caller)?;
-    let change = Change::make(rows, folder, name, number, row)?;
+    let undo = make_row(rows, folder, name, number, row)?;
     Ok(Done {
         answer: Answer::Made(number),
-        change,
+        undo,
     })
 }
 
@@ -249,10 +249,10 @@ fn drop(rows: &mut StoredRows, caller: &Caller, names: &[Name]) -> Result<Done, 
         return Err(OpError::Refused(Why::NotEmpty));
     }
     let folder = parent.place.suite;
-    let change = Change::drop_name(rows, folder, name, number);
+    let undo = take_out_name(rows, folder, name, number);
     Ok(Done {
         answer: Answer::Dropped,
-        change,
+        undo,
     })
 }
 
@@ -295,12 +295,12 @@ pub(crate) fn operate(
         Action::SetVotes(votes) => return set_votes(rows, service, caller, names, votes),
         Action::Drop => return drop(rows, caller, names),
         Action::Make(kind, init, votes) => {
-            let number = 8 * t + u64::from(at) + 1;
+            let number = made_number(t, at);
             return make(rows, transaction, number, names, *kind, init, votes);
         }
     };
     Ok(Done {
         answer,
-        change: Change::Nothing,
+        undo: Undo::Nothing,
     })
 }

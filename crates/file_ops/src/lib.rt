@@ -11,8 +11,8 @@
 mod act;
 mod answer;
 mod audit;
-mod change;
 mod edit;
+mod guarded;
 mod operation;
 mod path;
 mod play;
@@ -20,15 +20,18 @@ mod refusal;
 mod service;
 mod stored;
 mod table;
+mod undo;
 mod walk;
 
 pub use answer::{Answer, Answers};
 pub use audit::AuditItem;
-pub use operation::{Action, Init, Op};
-pub use path::PathText;
+pub use guarded::{Guarded, to_change};
+pub use operation::{Action, Init, MOST_OPERATIONS, Op, made_number};
+pub use path::{Path, PathText};
 pub use refusal::{ApplyError, Denial, Refusal, Why};
 pub use service::Service;
-pub use table::{MOST_OPERATIONS, Table};
+pub use table::Table;
+pub use walk::last_name;
 
 #[cfg(test)]
 mod tests;

@@ -1,13 +1,17 @@
 //! What a transaction is made of.
 
-ghost use Rattle.std.specs.Prelude.{◌≡◌, IfOk};
+ghost use Rattle.std.specs.Prelude.{◌≡◌, ◌<◌, ◌^◌, IfOk};
 ghost use Rattle.file_ops.specs.Lists.{list_of};
+ghost use Rattle.file_ops.specs.Rows.{made_number};
 
 use crate::path::PathText;
 use acl_core::{Acl, Mode};
 use std::alloc::{AllocError, Global};
 use suite_content::{FileBytes, Kind};
 use vote_core::Votes;
+
+/// The most operations of a transaction.
+pub const MOST_OPERATIONS: usize = 8;
 
 /// The access list that a new file or folder gets.
 #[derive(Debug, Drop)]
@@ -20,7 +24,7 @@ pub enum Init {
 
 impl Init {
     /// The list.
-    pub(crate) fn list(&self, alloc: Global) -> Result<Acl, AllocError>
+    pub fn list(&self, alloc: Global) -> Result<Acl, AllocError>
         ensures { IfOk result (λ acl. acl ≡ list_of self.now) }
     {
         match self {
@@ -59,4 +63,12 @@ pub enum Action {
 pub struct Op {
     pub path: PathText,
     pub action: Action,
+}
+
+/// The number of what the transaction `t` makes by its operation at a place, counted from 0.
+pub fn made_number(t: u64, at: u8) -> u64
+    requires { t < 2 ^ 60 }
+    ensures { result ≡ made_number t at }
+{
+    MOST_OPERATIONS as u64 * t + u64::from(at) + 1
 }

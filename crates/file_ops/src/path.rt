@@ -52,34 +52,35 @@ impl PathText {
 }
 
 /// The most names of a path.
-const MOST_NAMES: usize = 8;
+const MOST_PATH_NAMES: usize = 8;
 
 /// The names that a path leads through, from the root folder down.
 #[derive(Drop)]
-pub(crate) struct Path {
-    array: [Name; 8],
+pub struct Path {
+    array: [Name; MOST_PATH_NAMES],
     count: usize,
 }
 
 impl Model for Path {
     ghost use Rattle.std.specs.Prelude.{ℕ, ◌≤◌, List, take};
+    ghost use Rattle.file_ops.specs.Limits.{most_path_names};
 
     ghost Value = { List (List ℕ) };
 
     ghost view = { λ path. take path.count path.array };
 
-    ghost invariant = { λ path. path.count ≤ 8 };
+    ghost invariant = { λ path. path.count ≤ most_path_names };
 }
 
 impl Path {
     /// The names of a path's text, where it is a path.
-    pub(crate) fn parse(text: &[u8]) -> Option<Path>
+    pub fn parse(text: &[u8]) -> Option<Path>
         ensures { result ≡ names_of text.now }
     {
         let rest = text.strip_prefix(b"/")?;
         if rest.is_empty() {
             return Some(Path {
-                array: [blank(); 8],
+                array: [blank(); MOST_PATH_NAMES],
                 count: 0,
             });
         }
@@ -87,21 +88,21 @@ impl Path {
     }
 
     /// The names.
-    pub(crate) fn names(&self) -> &[Name]
+    pub fn names(&self) -> &[Name]
         ensures { result.now ≡ self.now }
     {
         &self.array[..self.count]
     }
 }
 
-/// The names between the slashes of a text, where there are no more than 8 parts, and each is a name.
+/// The names between the slashes of a text, where there are no more parts than a path has names, and each is a name.
 fn collect(text: &[u8]) -> Option<Path>
     ensures { result ≡ some_names (slice_split is_slash text.now) }
 {
-    let mut array = [blank(); 8];
+    let mut array = [blank(); MOST_PATH_NAMES];
     let mut count = 0;
     for part in text.split(|byte| *byte == b'/') {
-        if count == MOST_NAMES {
+        if count == MOST_PATH_NAMES {
             return None;
         }
         array[count] = Name::new(part)?;

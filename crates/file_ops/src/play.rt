@@ -3,8 +3,8 @@
 ghost use Rattle.std.specs.Prelude.{◌+◌, ◌<◌, ◌≤◌, ◌^◌, length, OnErr};
 ghost use Rattle.file_ops.specs.Stored.{plain};
 ghost use Rattle.file_ops.specs.Restored.{Restores};
-ghost use Rattle.file_ops.specs.Transactions.{play};
-ghost use Rattle.file_ops.specs.Done.{Plays};
+ghost use Rattle.file_ops.specs.Transactions.{most_operations, play};
+ghost use Rattle.file_ops.specs.Done.{Plays, AnswersFirst};
 
 use crate::act::{Done, OpError, Transaction, operate};
 use crate::answer::{Answers, Replies};
@@ -13,8 +13,8 @@ use crate::refusal::{ApplyError, Refusal};
 use crate::stored::StoredRows;
 
 /// Plays the operations from a place on, counted from 0, and adds their replies. Where one is refused,
-/// all of them are taken back, the last one first: what each changed waits on the stack, of which at
-/// most 8 operations take little.
+/// all of them are taken back, the last one first: the undo of each waits on the stack, of which the
+/// most operations of a transaction take little.
 pub(crate) fn play(
     rows: &mut StoredRows,
     transaction: Transaction<'_>,
@@ -23,14 +23,15 @@ pub(crate) fn play(
     answers: &mut Replies,
 ) -> Result<Answers, ApplyError>
     requires number { transaction.t < 2 ^ 60 }
-    requires few { at + length ops.now ≤ 8 }
+    requires few { at + length ops.now ≤ most_operations }
     ensures plays { Plays result rows.new (play transaction.entry.service.now (record { answers = answers.old; rows = plain rows.old }) transaction.entry.t at transaction.entry.caller.now ops.now) }
+    ensures first { AnswersFirst result at (play transaction.entry.service.now (record { answers = answers.old; rows = plain rows.old }) transaction.entry.t at transaction.entry.caller.now ops.now) }
     ensures err { OnErr result (Restores rows.old rows.new) }
 {
     let Some((op, later)) = ops.split_first() else {
         return Ok(answers.finish()?);
     };
-    let Done { answer, change } = match operate(rows, transaction, at, op) {
+    let Done { answer, undo } = match operate(rows, transaction, at, op) {
         Ok(done) => done,
         Err(OpError::Refused(why)) => {
             return Err(ApplyError::Refused(Refusal { op: at + 1, why }));
@@ -42,7 +43,7 @@ pub(crate) fn play(
         Err(_) => Err(ApplyError::Memory),
     };
     if outcome.is_err() {
-        change.take_back(rows);
+        undo.take_back(rows);
     }
     outcome
 }

@@ -16,7 +16,7 @@ pub struct Service {
 
 impl Service {
     /// These votes, where all their servers are there.
-    pub(crate) fn known_votes(&self, votes: &Votes) -> Result<Votes, Why>
+    pub fn known_votes(&self, votes: &Votes) -> Result<Votes, Why>
         ensures { result ≡ known_votes self.now votes.now }
     {
         if self.lists_unknown(votes) {
@@ -26,7 +26,7 @@ impl Service {
     }
 
     /// The votes of a new file or folder: those that it is given, or C0.
-    pub(crate) fn votes_of_new(&self, given: &Option<Votes>) -> Result<Votes, Why>
+    pub fn votes_of_new(&self, given: &Option<Votes>) -> Result<Votes, Why>
         ensures { result ≡ votes_of_new self.now given.now }
     {
         match given {

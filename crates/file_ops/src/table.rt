@@ -5,7 +5,7 @@ ghost use Rattle.std.specs.Prelude.{◌≡◌, ◌<◌, ◌^◌, [], ◌∷◌, 
 use crate::act::Transaction;
 use crate::answer::{Answers, Replies};
 use crate::audit::AuditItem;
-use crate::operation::Op;
+use crate::operation::{MOST_OPERATIONS, Op};
 use crate::play::play;
 use crate::refusal::{ApplyError, Refusal, Why};
 use crate::service::Service;
@@ -17,9 +17,6 @@ use std::alloc::{AllocError, Global};
 use std::marker::Model;
 use suite_content::Kind;
 use suite_prefix::Settings;
-
-/// The most operations of a transaction.
-pub const MOST_OPERATIONS: usize = 8;
 
 /// A table of files and folders, and the denials that it has answered.
 #[derive(Drop)]
@@ -41,7 +38,7 @@ impl Model for Table {
 }
 
 impl Table {
-    ghost use Rattle.file_ops.specs.Transactions.{IsUnlessMemory, transaction, replies, table_after, left_by};
+    ghost use Rattle.file_ops.specs.Transactions.{IsUnlessMemory, RefusesFirst, transaction, replies, table_after, left_by};
     ghost use Rattle.file_ops.specs.Rows.{opening};
 
     /// The table that settings open: the root folder alone, without names.
@@ -74,6 +71,7 @@ impl Table {
     pub fn apply(&mut self, t: u64, caller: &Caller, ops: &[Op]) -> Result<Answers, ApplyError>
         requires { t < 2 ^ 60 }
         ensures answer { IsUnlessMemory result (replies (transaction self.old.service self.old.rows t caller.now ops.now)) }
+        ensures first { RefusesFirst result (transaction self.old.service self.old.rows t caller.now ops.now) }
         ensures after { self.new ≡ left_by result self.old (table_after self.old t caller.now (transaction self.old.service self.old.rows t caller.now ops.now)) }
     {
         if ops.is_empty() || ops.len() > MOST_OPERATIONS {
@@ -99,6 +97,7 @@ impl Table {
     /// Keeps a denial, and answers a refusal.
     fn refuse(&mut self, t: u64, caller: &Caller, refusal: Refusal) -> ApplyError
         ensures answer { IsUnlessMemory (Err result) (Err refusal) }
+        ensures first { RefusesFirst (Err result) (Err refusal) }
         ensures after { self.new ≡ left_by (Err result) self.old (table_after self.old t caller.now (Err refusal)) }
     {
         if let Why::Denied(denial) = refusal.why {

@@ -4,13 +4,14 @@ ghost use Rattle.std.specs.Prelude.{◌≡◌};
 ghost use Rattle.file_ops.specs.Steps.{ok_map};
 ghost use Rattle.file_ops.specs.Stored.{plain};
 ghost use Rattle.file_ops.specs.Rows.{root};
-ghost use Rattle.file_ops.specs.Walks.{place_of, permit, permit_others, owner_only, step, walk, reach, shown, owned, nothing, to_change};
+ghost use Rattle.file_ops.specs.Walks.{place_of, permit, permit_others, owner_only, step, walk, reach, shown, owned};
 ghost use Rattle.file_ops.specs.Operations.{last_name, parent_of};
 ghost use Rattle.file_ops.specs.Found.{plain_place, plain_named, plain_parent};
 
-use crate::refusal::{Denial, Why};
+use crate::guarded::{Guarded, to_change};
+use crate::refusal::Why;
 use crate::stored::{StoredRow, StoredRows};
-use acl_core::{Caller, Check, Decider, Perms};
+use acl_core::{Caller, Perms};
 use sorted_map::RoomyMap;
 use suite_content::Name;
 
@@ -40,50 +41,40 @@ fn place_of(rows: &StoredRows, suite: u64) -> Result<Place<'_>, Why>
     }
 }
 
+/// What the rules of permission look at.
+fn guarded(place: Place<'_>) -> Guarded<'_>
+    ensures suite { result.suite ≡ (plain_place place.entry).suite }
+    ensures owner { result.owner ≡ (plain_place place.entry).row.owner }
+    ensures group { result.group ≡ (plain_place place.entry).row.group }
+    ensures acl { result.acl.now ≡ (plain_place place.entry).row.acl }
+{
+    Guarded {
+        suite: place.suite,
+        owner: place.row.owner,
+        group: place.row.group,
+        acl: &place.row.acl,
+    }
+}
+
 /// Whether the caller has what it wants of a file or a folder.
 pub(crate) fn permit(caller: &Caller, place: Place<'_>, wanted: Perms) -> Result<(), Why>
     ensures { result ≡ permit caller.now (plain_place place.entry) wanted }
 {
-    let row = place.row;
-    match row.acl.check(row.owner, row.group, caller, wanted) {
-        Check::Granted => Ok(()),
-        Check::Denied(decider) => Err(Why::Denied(Denial {
-            suite: place.suite,
-            wanted,
-            decider,
-        })),
-    }
+    guarded(place).permit(caller, wanted)
 }
 
 /// The same, of whoever does not own it.
 fn permit_others(caller: &Caller, place: Place<'_>, wanted: Perms) -> Result<(), Why>
     ensures { result ≡ permit_others caller.now (plain_place place.entry) wanted }
 {
-    if caller.uid() == place.row.owner {
-        return Ok(());
-    }
-    permit(caller, place, wanted)
+    guarded(place).permit_others(caller, wanted)
 }
 
 /// Whether the caller owns a file or a folder.
 fn owner_only(caller: &Caller, place: Place<'_>) -> Result<(), Why>
     ensures { result ≡ owner_only caller.now (plain_place place.entry) }
 {
-    if caller.uid() == place.row.owner {
-        return Ok(());
-    }
-    Err(Why::Denied(Denial {
-        suite: place.suite,
-        wanted: nothing(),
-        decider: Decider::OwnerRule,
-    }))
-}
-
-/// Nothing wanted.
-fn nothing() -> Perms
-    ensures { result ≡ nothing }
-{
-    Perms::of(false, false, false)
+    guarded(place).owner_only(caller)
 }
 
 /// One step of a walk: the suite of a name in a folder, which the caller must be let search.
@@ -146,7 +137,7 @@ pub(crate) fn owned<'a>(
 }
 
 /// The last name of a path, and the names before it; `/` has none.
-pub(crate) fn last_name(names: &[Name]) -> Result<(&Name, &[Name]), Why>
+pub fn last_name(names: &[Name]) -> Result<(&Name, &[Name]), Why>
     ensures { ok_map plain_named result ≡ last_name names.now }
 {
     names.split_last().ok_or(Why::BadPath)
@@ -164,11 +155,4 @@ pub(crate) fn parent_of<'a>(
     let names = place.row.content.names()?;
     permit(caller, place, to_change())?;
     Ok(Parent { place, names })
-}
-
-/// What is wanted of a folder in which a name is put or dropped.
-fn to_change() -> Perms
-    ensures { result ≡ to_change }
-{
-    Perms::of(false, true, true)
 }

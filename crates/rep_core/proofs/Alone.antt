@@ -1,6 +1,6 @@
 -- Each request keeps an exclusive lock alone.
 use Rattle.std.proofs.Common.{◌≡◌, ℕ, Bool, true, false, cond, ◌⊎◌, inl, inr, List, Option, None, Some, refl, sym, ap, ◌∙◌, arith}
-use Rattle.std.specs.Prelude.{find, filter, insert}
+use Rattle.std.specs.Prelude.{find, filter}
 use Rattle.std.proofs.lemmas.Bool.Decides.{nat_tests}
 use Rattle.file_ops.specs.declared.audit.AuditItem.{AuditItem}
 use Rattle.suite_prefix.specs.declared.lock_mode.LockMode.{LockMode}
@@ -11,11 +11,11 @@ use Rattle.rep_core.specs.declared.request.Request.{Request}
 use Rattle.rep_core.specs.declared.request.Request.TheVariants as request
 use Rattle.rep_core.specs.declared.reply.Verdict.{Verdict}
 use Rattle.suite_prefix.specs.LockModes.{is_exclusive, stronger}
-use Rattle.rep_core.specs.Locks.{conflicts, in_the_way, is_own, has_lock, raised_lock, raised, place_of, with_lock, locked, prepared_lock, with_prepared}
+use Rattle.rep_core.specs.Locks.{conflicts, in_the_way, is_own, has_lock, raised_lock, raised, before, with_lock, locked, prepared_lock, with_prepared}
 use Rattle.rep_core.specs.Store.{intended}
 use Rattle.rep_core.specs.State.{State}
 use Rattle.rep_core.specs.Service.{after, after_up, after_down, after_locking, after_poll, after_upgrade, prepares, after_prepare, after_record}
-use Rattle.rep_core.proofs.Members.{Has, has_filter, has_map, has_insert, find_none}
+use Rattle.rep_core.proofs.Members.{Has, has_filter, has_map, has_between, find_none}
 
 -- no exclusive lock stands beside another transaction's lock on the suite
 abbrev pub Alone : List Lock → Type 0
@@ -42,14 +42,15 @@ alone_no_new old new from alone a b has_a has_b same exclusive =
 no_conflict : (t s : ℕ) (m : LockMode) (l : Lock) → conflicts t s m l ≡ false → l.suite ≡ s → (is_exclusive m ≡ true) ⊎ (is_exclusive l.mode ≡ true) → l.t ≡ t
 no_conflict t s m l e = grind (arith, nat_tests)
 
-alone_insert : (t s : ℕ) (m : LockMode) (ls : List Lock) (place : ℕ) → find (conflicts t s m) ls ≡ None → Alone ls → Alone (insert ls place (record { t = t; suite = s; mode = m; prepared = false }))
-alone_insert t s m ls place none alone a b has_a has_b same exclusive =
-    elim (has_insert ls place _ a has_a) [
-      | inl old_a ↦ elim (has_insert ls place _ b has_b) [
+alone_with_lock : (t s : ℕ) (m : LockMode) (ls : List Lock) → find (conflicts t s m) ls ≡ None → Alone ls → Alone (with_lock (record { t = t; suite = s; mode = m; prepared = false }) ls)
+alone_with_lock t s m ls none alone a b has_a has_b same exclusive =
+    let new : Lock = record { t = t; suite = s; mode = m; prepared = false } in
+    elim (has_between (λ other. before other new) ls new a has_a) [
+      | inl old_a ↦ elim (has_between (λ other. before other new) ls new b has_b) [
         | inl old_b ↦ alone a b old_a old_b same exclusive
         | inr new_b ↦ no_conflict t s m a (find_none _ ls a none old_a) (same ∙ ap (λ (l : Lock). l.suite) (sym new_b)) (inr exclusive) ∙ ap (λ (l : Lock). l.t) new_b
       ]
-      | inr new_a ↦ elim (has_insert ls place _ b has_b) [
+      | inr new_a ↦ elim (has_between (λ other. before other new) ls new b has_b) [
         | inl old_b ↦ ap (λ (l : Lock). l.t) (sym new_a) ∙ sym (no_conflict t s m b (find_none _ ls b none old_b) (sym same ∙ ap (λ (l : Lock). l.suite) (sym new_a)) (inl (ap (λ (l : Lock). is_exclusive l.mode) new_a ∙ exclusive)))
         | inr new_b ↦ ap (λ (l : Lock). l.t) (sym new_a ∙ new_b)
       ]
@@ -88,7 +89,7 @@ alone_locked t s m ls none alone =
     let new : Lock = record { t = t; suite = s; mode = m; prepared = false } in
     elim (has_lock t s ls) as (λ b. Alone (cond b (raised t s m ls) (with_lock new ls))) [
       | true ↦ alone_raised t s m ls none alone
-      | false ↦ alone_insert t s m ls (place_of new ls) none alone
+      | false ↦ alone_with_lock t s m ls none alone
     ]
 
 alone_prepared : (t : ℕ) (parts : List Part) (ls : List Lock) → Alone ls → Alone (with_prepared t parts ls)

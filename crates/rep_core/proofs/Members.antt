@@ -1,6 +1,6 @@
 -- What stands in a list, by recursion, and after the usual changes.
-use Rattle.std.proofs.Common.{◌≡◌, ℕ, zero, suc, Bool, true, false, cond, ◌⊎◌, inl, inr, List, [], ◌∷◌, ◌++◌, None, Some, refl, sym, ap, ◌∙◌, arith}
-use Rattle.std.specs.Prelude.{filter, find, map, take, drop, insert, All, Contains}
+use Rattle.std.proofs.Common.{◌≡◌, Bool, true, false, cond, ◌⊎◌, inl, inr, List, [], ◌∷◌, ◌++◌, None, Some, refl, sym, ap, ◌∙◌, arith}
+use Rattle.std.specs.Prelude.{filter, find, map, not, All, Contains}
 use Rattle.std.proofs.lemmas.Bool.{false≢true}
 use Rattle.std.proofs.lemmas.List.Elements.{All-nil, All-cons, All-weaker, All-contains, Contains-get_or, Contains-append_right}
 
@@ -56,35 +56,20 @@ module _ {X : Type 0} where
   append_has_right [] ys x h = h
   append_has_right (z ∷ xs) ys x h = inr (append_has_right xs ys x h)
 
-  has_take : (n : ℕ) (xs : List X) (x : X) → Has (take n xs) x → Has xs x
-  has_take zero xs x h = absurd h
-  has_take (suc n) [] x h = absurd h
-  has_take (suc n) (y ∷ ys) x h = elim h [ inl q ↦ inl q | inr r ↦ inr (has_take n ys x r) ]
-
-  has_drop : (n : ℕ) (xs : List X) (x : X) → Has (drop n xs) x → Has xs x
-  has_drop zero xs x h = h
-  has_drop (suc n) [] x h = h
-  has_drop (suc n) (y ∷ ys) x h = inr (has_drop n ys x h)
-
-  take_or_drop : (n : ℕ) (xs : List X) (x : X) → Has xs x → Has (take n xs) x ⊎ Has (drop n xs) x
-  take_or_drop zero xs x h = inr h
-  take_or_drop (suc n) [] x h = absurd h
-  take_or_drop (suc n) (y ∷ ys) x h =
-      elim h [ inl q ↦ inl (inl q) | inr r ↦ elim (take_or_drop n ys x r) [ inl q ↦ inl (inr q) | inr q ↦ inr q ] ]
-
-  pub has_insert : (xs : List X) (n : ℕ) (y x : X) → Has (insert xs n y) x → Has xs x ⊎ (y ≡ x)
-  has_insert xs n y x h =
-      elim (has_append (take n xs) (y ∷ drop n xs) x h) [
-        | inl first ↦ inl (has_take n xs x first)
-        | inr later ↦ elim later [ inl q ↦ inr q | inr r ↦ inl (has_drop n xs x r) ]
+  -- one more between those that pass a test and the others
+  pub has_between : (p : X → Bool) (xs : List X) (y x : X) → Has (filter p xs ++ y ∷ filter (λ x. not (p x)) xs) x → Has xs x ⊎ (y ≡ x)
+  has_between p xs y x h =
+      elim (has_append (filter p xs) (y ∷ filter (λ x. not (p x)) xs) x h) [
+        | inl first ↦ inl (has_filter p xs x first).0
+        | inr later ↦ elim later [ inl q ↦ inr q | inr r ↦ inl (has_filter (λ x. not (p x)) xs x r).0 ]
       ]
 
-  pub insert_has : (xs : List X) (n : ℕ) (y x : X) → Has xs x → Has (insert xs n y) x
-  insert_has xs n y x h =
-      elim (take_or_drop n xs x h) [
-        | inl first ↦ append_has_left (take n xs) (y ∷ drop n xs) x first
-        | inr later ↦ append_has_right (take n xs) (y ∷ drop n xs) x (inr later)
-      ]
+  pub between_has : (p : X → Bool) (xs : List X) (y x : X) → Has xs x → Has (filter p xs ++ y ∷ filter (λ x. not (p x)) xs) x
+  between_has p xs y x h =
+      elim (p x) as (λ b. p x ≡ b → Has (filter p xs ++ y ∷ filter (λ x. not (p x)) xs) x) [
+        | true ↦ λ is. append_has_left (filter p xs) (y ∷ filter (λ x. not (p x)) xs) x (filter_has p xs x h is)
+        | false ↦ λ no. append_has_right (filter p xs) (y ∷ filter (λ x. not (p x)) xs) x (inr (filter_has (λ x. not (p x)) xs x h (ap not no)))
+      ] refl
 
   pub find_none : (p : X → Bool) (xs : List X) (x : X) → find p xs ≡ None → Has xs x → p x ≡ false
   find_none p [] x e h = absurd h

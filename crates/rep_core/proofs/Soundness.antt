@@ -154,10 +154,10 @@ all_more store t (part ∷ parts) intentions sound are last before =
     let lasts = or_parts (holds_last part.take) (list_any (λ part. holds_last part.take) parts) last in
     all_more store t parts (with_intention t part intentions) sound is.1 lasts.1 (one_more store t part intentions sound is.0 lasts.0 before)
 
-pub sound_intended : (store : Store) (t : ℕ) (parts : List Part) → IsSound store → list_all (is_sound_part store) parts ≡ true → overfills store parts ≡ false → IsOrdered nat_cmp (with_intentions t parts store.intentions) → IsSound (intended t parts store)
+pub sound_intended : (store : Store) (t : ℕ) (parts : List Part) → IsSound store → list_all (is_sound_part store) parts ≡ true → overfills t store parts ≡ false → IsOrdered nat_cmp (with_intentions t parts store.intentions) → IsSound (intended t parts store)
 sound_intended store t parts sound are few rising = record {
   copies = sound.copies;
-  intentions = all_more store t parts store.intentions sound are (or_parts (list_any (λ part. holds_last part.take) parts) (nat_lt most_suites (suites_with store parts)) few).0 sound.intentions;
+  intentions = all_more store t parts store.intentions sound are (or_parts (list_any (λ part. holds_last part.take) parts) (nat_lt most_suites (suites_with (intended t parts store))) few).0 sound.intentions;
   rising = rising;
 }
 
@@ -217,7 +217,7 @@ sound_opening index given = record {
 
 -- ---- the same, of a store that is said to be so
 
-pub sound_once_intended : (old new : Store) (t : ℕ) (parts : List Part) → IsSound old → list_all (is_sound_part old) parts ≡ true → overfills old parts ≡ false → new ≡ intended t parts old → IsOrdered nat_cmp new.intentions → IsSound new
+pub sound_once_intended : (old new : Store) (t : ℕ) (parts : List Part) → IsSound old → list_all (is_sound_part old) parts ≡ true → overfills t old parts ≡ false → new ≡ intended t parts old → IsOrdered nat_cmp new.intentions → IsSound new
 sound_once_intended old new t parts sound are few is rising =
     subst IsSound (sym is) (sound_intended old t parts sound are few (subst (λ (store : Store). IsOrdered nat_cmp store.intentions) is rising))
 

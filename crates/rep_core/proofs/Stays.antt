@@ -12,12 +12,12 @@ use Rattle.rep_core.specs.declared.request.Request.{Request}
 use Rattle.rep_core.specs.declared.request.Request.TheVariants as request
 use Rattle.rep_core.specs.declared.reply.Verdict.{Verdict}
 use Rattle.suite_prefix.specs.LockModes.{serves, stronger}
-use Rattle.rep_core.specs.Locks.{is_own, in_the_way, has_lock, raised_lock, raised, place_of, with_lock, locked, prepared_lock, with_prepared}
+use Rattle.rep_core.specs.Locks.{is_own, in_the_way, has_lock, raised_lock, raised, before, with_lock, locked, prepared_lock, with_prepared}
 use Rattle.rep_core.specs.Store.{intended}
 use Rattle.rep_core.specs.State.{State}
 use Rattle.rep_core.specs.Service.{after, after_up, after_down, after_locking, after_poll, after_upgrade, prepares, after_prepare, after_record}
 use Rattle.rep_core.specs.Laws.{StillPrepared, is_finish}
-use Rattle.rep_core.proofs.Members.{Has, filter_has, map_has, insert_has}
+use Rattle.rep_core.proofs.Members.{Has, filter_has, map_has, between_has}
 
 -- the lock stands there still, prepared
 abbrev pub Stands : List Lock → Lock → Type 0
@@ -66,7 +66,7 @@ stands_locked t s m ls l has prepared =
     let new : Lock = record { t = t; suite = s; mode = m; prepared = false } in
     elim (has_lock t s ls) as (λ b. Stands (cond b (raised t s m ls) (with_lock new ls)) l) [
       | true ↦ (raised_lock t s m l, map_has (raised_lock t s m) ls l has, record { t = refl; suite = refl; prepared = prepared; mode = raised_serves t s m l })
-      | false ↦ (l, insert_has ls (place_of new ls) new l has, itself l prepared)
+      | false ↦ (l, between_has (λ other. before other new) ls new l has, itself l prepared)
     ]
 
 stands_prepared : (t : ℕ) (parts : List Part) (ls : List Lock) (l : Lock) → Has ls l → l.prepared ≡ true → Stands (with_prepared t parts ls) l

@@ -7,3 +7,4 @@ pub mod Service
 pub mod Serving
 pub mod Fits
 pub mod Laws
+pub mod Equality

@@ -1,6 +1,6 @@
 -- Locks, in the order of their transactions and, in one transaction, of their suites. A transaction has at most one lock on a suite.
-use Rattle.std.specs.Prelude.{ℕ, ◌+◌, ◌==◌, nat_lt, Bool, true, false, ◌&&◌, ◌||◌, not, if◌then◌else◌, List, [], ◌∷◌, map, insert, filter, find, Option}
-use Rattle.std.specs.List.{list_any}
+use Rattle.std.specs.Prelude.{ℕ, ◌==◌, nat_lt, Bool, true, false, ◌&&◌, ◌||◌, not, if◌then◌else◌, List, [], ◌∷◌, ◌++◌, map, filter, find, Option}
+use Rattle.std.specs.List.{list_any, list_all}
 use Rattle.suite_prefix.specs.declared.lock_mode.LockMode.{LockMode}
 use Rattle.suite_prefix.specs.LockModes.{is_exclusive, serves, stronger}
 use Rattle.rep_core.specs.declared.lock.Lock.{Lock}
@@ -30,17 +30,18 @@ has_lock_for t locks part = list_any (λ lock. is_own t part.suite lock && serve
 
 -- ---- changes
 
+-- the order of locks: by transaction, and in one transaction by suite
 abbrev pub before : Lock → Lock → Bool
 before a b = nat_lt a.t b.t || ((a.t == b.t) && nat_lt a.suite b.suite)
 
--- how many locks stand before the place of a new one
-abbrev pub place_of : Lock → List Lock → ℕ
-place_of lock [] = 0
-place_of lock (other ∷ locks) = if before lock other then 0 else place_of lock locks + 1
+-- whether locks rise: each stands before all that follow it
+abbrev pub rise : List Lock → Bool
+rise [] = true
+rise (lock ∷ locks) = list_all (before lock) locks && rise locks
 
--- the locks with a new one at its place
+-- the locks with a new one: the locks before it, then it, then the others
 abbrev pub with_lock : Lock → List Lock → List Lock
-with_lock lock locks = insert locks (place_of lock locks) lock
+with_lock lock locks = filter (λ other. before other lock) locks ++ lock ∷ filter (λ other. not (before other lock)) locks
 
 -- the locks with the transaction's own one in the stronger of its mode and this one
 abbrev pub raised_lock : ℕ → ℕ → LockMode → Lock → Lock

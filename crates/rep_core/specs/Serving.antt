@@ -22,7 +22,7 @@ served st request = record (after st request.value) { stamp = next_stamp st requ
 
 -- whether a request would keep intentions that are too much
 abbrev pub asks_too_much : State → Request → Bool
-asks_too_much st (request.Prepare t parts) = prepares st t parts && overfills st.store parts
+asks_too_much st (request.Prepare t parts) = prepares st t parts && overfills t st.store parts
 asks_too_much st _ = false
 
 -- Full: a stamp is used up, or the server is up and asked too much

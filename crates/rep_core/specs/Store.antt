@@ -119,21 +119,9 @@ most_suites = 4096
 abbrev pub has_copy : Store → ℕ → Bool
 has_copy store suite = is_some (get nat_cmp store.copies suite)
 
-abbrev pub has_intention : Store → ℕ → Bool
-has_intention store suite = is_some (get nat_cmp store.intentions suite)
-
--- whether a part takes a suite of which there is neither a copy nor an intention
-abbrev pub takes_new : Store → Part → Bool
-takes_new store part = not (is_keep part.take) && not (has_copy store part.suite) && not (has_intention store part.suite)
-
--- how many suites have a copy or an intention, once the parts' intentions are kept
-abbrev pub suites_with : Store → List Part → ℕ
-suites_with store parts =
-    length store.copies + count_by (λ pair. not (has_copy store pair.0)) store.intentions + count_by (takes_new store) parts
-
--- whether the parts' intentions are too much
-abbrev pub overfills : Store → List Part → Bool
-overfills store parts = list_any (λ part. holds_last part.take) parts || nat_lt most_suites (suites_with store parts)
+-- how many suites have a copy or an intention: those with a copy, and those with an intention and no copy
+abbrev pub suites_with : Store → ℕ
+suites_with store = length store.copies + count_by (λ pair. not (has_copy store pair.0)) store.intentions
 
 -- ---- changes
 
@@ -149,6 +137,11 @@ with_intentions t (part ∷ parts) intentions = with_intentions t parts (with_in
 
 abbrev pub intended : ℕ → List Part → Store → Store
 intended t parts store = record store { intentions = with_intentions t parts store.intentions }
+
+-- whether the intentions of a Prepare are too much: one holds a version that is used up, or too many suites would have a copy or an
+-- intention
+abbrev pub overfills : ℕ → Store → List Part → Bool
+overfills t store parts = list_any (λ part. holds_last part.take) parts || nat_lt most_suites (suites_with (intended t parts store))
 
 -- the intentions of other transactions
 abbrev pub without_intentions : ℕ → List (ℕ × Intention) → List (ℕ × Intention)

@@ -40,3 +40,5 @@ pub use store::MOST_SUITES;
 
 #[cfg(test)]
 mod tests;
+#[cfg(test)]
+mod uses;

@@ -1,7 +1,7 @@
 //! Searches and changes of a server's locks, which stand in the order of their transactions and, in
 //! one transaction, of their suites.
 
-ghost use Rattle.std.specs.Prelude.{◌≡◌, ◌≤◌, length, OnOk, OnErr, OnSome, find, filter, not, ◌==◌, ◌&&◌, option_map};
+ghost use Rattle.std.specs.Prelude.{◌≡◌, ◌≤◌, length, IsTrue, OnOk, OnErr, OnSome, find, filter, count_by, not, ◌==◌, ◌&&◌, option_map};
 ghost use Rattle.std.specs.List.{list_any};
 ghost use Rattle.rep_core.specs.Locks as locking;
 
@@ -57,6 +57,7 @@ pub(crate) fn set_lock(
     suite: u64,
     mode: LockMode,
 ) -> Result<(), AllocError>
+    requires { IsTrue (locking.rise locks.old.items) }
     ensures ok { OnOk result (locks.new.items ≡ locking.locked t suite mode locks.old.items) }
     ensures err { OnErr result (locks.new.items ≡ locks.old.items) }
 {
@@ -75,17 +76,15 @@ pub(crate) fn set_lock(
     Ok(())
 }
 
-/// How many locks stand before the place of a new one.
+/// How many locks stand before a new one.
 fn place_of(locks: &[Lock], lock: &Lock) -> usize
-    ensures place { result ≡ locking.place_of lock.now locks.now }
+    ensures place { result ≡ count_by (λ other. locking.before other lock.now) locks.now }
     ensures within { result ≤ length locks.now }
 {
-    for (i, other) in locks.iter().enumerate() {
-        if stands_before(lock, other) {
-            return i;
-        }
-    }
-    locks.len()
+    locks
+        .iter()
+        .filter(|other| stands_before(other, lock))
+        .count()
 }
 
 fn stands_before(one: &Lock, other: &Lock) -> bool

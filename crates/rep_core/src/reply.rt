@@ -31,6 +31,29 @@ impl Clone for Verdict {
     }
 }
 
+impl PartialEq for Verdict {
+    ghost use Rattle.rep_core.specs.Equality.{same_verdict, same_verdict_partial_laws};
+
+    ghost eq = { same_verdict };
+
+    ghost laws = { same_verdict_partial_laws };
+
+    fn eq(&self, other: &Verdict) -> bool {
+        match (self, other) {
+            (Verdict::Answered(own), Verdict::Answered(theirs)) => own == theirs,
+            (Verdict::Refused(own), Verdict::Refused(theirs)) => own == theirs,
+            (Verdict::Aborted, Verdict::Aborted) => true,
+            _ => false,
+        }
+    }
+}
+
+impl Eq for Verdict {
+    ghost use Rattle.rep_core.specs.Equality.{same_verdict_laws};
+
+    ghost laws = { same_verdict_laws };
+}
+
 /// The locks of a server, by transaction, then suite.
 #[derive(Debug, Drop)]
 pub struct LockList {
@@ -46,6 +69,36 @@ impl Model for LockList {
     ghost view = { λ list. list.locks.items };
 }
 
+impl Clone for LockList {
+    ghost use Rattle.std.specs.Prelude.{◌≡◌};
+
+    ghost is_clone = { λ list copy. copy ≡ list };
+
+    fn clone(&self) -> Result<LockList, AllocError> {
+        let alloc = *self.locks.allocator();
+        let locks = Vec::from_slice(alloc, &self.locks)?;
+        Ok(LockList { locks })
+    }
+}
+
+impl PartialEq for LockList {
+    ghost use Rattle.rep_core.specs.Equality.{same_locks, same_locks_partial_laws};
+
+    ghost eq = { same_locks };
+
+    ghost laws = { same_locks_partial_laws };
+
+    fn eq(&self, other: &LockList) -> bool {
+        self.locks == other.locks
+    }
+}
+
+impl Eq for LockList {
+    ghost use Rattle.rep_core.specs.Equality.{same_locks_laws};
+
+    ghost laws = { same_locks_laws };
+}
+
 impl LockList {
     ghost use Rattle.std.specs.Prelude.{◌≡◌};
 
@@ -56,6 +109,14 @@ impl LockList {
         LockList { locks }
     }
 
+    /// The vector.
+    pub fn into_vec(self) -> Vec<Lock>
+        ensures { result.items ≡ self }
+    {
+        let LockList { locks } = self;
+        locks
+    }
+
     /// The locks.
     pub fn as_slice(&self) -> &[Lock]
         ensures { result.now ≡ self.now }
@@ -64,7 +125,7 @@ impl LockList {
     }
 }
 
-/// What a server answers.
+/// What a server answers. A clone shares lists, contents and replies.
 #[derive(Debug, Drop)]
 pub enum Reply {
     /// The lock is held; the prefix there, and the version of the content.
@@ -85,4 +146,86 @@ pub enum Reply {
     Locked(LockList),
     /// The server is down.
     Down,
+}
+
+impl Clone for Reply {
+    ghost use Rattle.std.specs.Prelude.{◌≡◌};
+
+    ghost is_clone = { λ reply copy. copy ≡ reply };
+
+    fn clone(&self) -> Result<Reply, AllocError> {
+        Ok(match self {
+            Reply::Held { prefix, dver } => {
+                let prefix = prefix.clone()?;
+                Reply::Held {
+                    prefix,
+                    dver: *dver,
+                }
+            }
+            Reply::Busy { holder, prepared } => Reply::Busy {
+                holder: *holder,
+                prepared: *prepared,
+            },
+            Reply::Lost => Reply::Lost,
+            Reply::Given { dver, content } => {
+                let content = content.clone()?;
+                Reply::Given {
+                    dver: *dver,
+                    content,
+                }
+            }
+            Reply::Prepared => Reply::Prepared,
+            Reply::Verdict(verdict) => Reply::Verdict(verdict.clone()?),
+            Reply::Done => Reply::Done,
+            Reply::Locked(locks) => Reply::Locked(locks.clone()?),
+            Reply::Down => Reply::Down,
+        })
+    }
+}
+
+impl PartialEq for Reply {
+    ghost use Rattle.rep_core.specs.Equality.{same_reply, same_reply_partial_laws};
+
+    ghost eq = { same_reply };
+
+    ghost laws = { same_reply_partial_laws };
+
+    fn eq(&self, other: &Reply) -> bool {
+        match (self, other) {
+            (
+                Reply::Held { prefix, dver },
+                Reply::Held {
+                    prefix: theirs,
+                    dver: version,
+                },
+            ) => prefix == theirs && dver == version,
+            (
+                Reply::Busy { holder, prepared },
+                Reply::Busy {
+                    holder: other,
+                    prepared: theirs,
+                },
+            ) => holder == other && prepared == theirs,
+            (
+                Reply::Given { dver, content },
+                Reply::Given {
+                    dver: version,
+                    content: theirs,
+                },
+            ) => dver == version && content == theirs,
+            (Reply::Verdict(own), Reply::Verdict(theirs)) => own == theirs,
+            (Reply::Locked(own), Reply::Locked(theirs)) => own == theirs,
+            (Reply::Lost, Reply::Lost)
+            | (Reply::Prepared, Reply::Prepared)
+            | (Reply::Done, Reply::Done)
+            | (Reply::Down, Reply::Down) => true,
+            _ => false,
+        }
+    }
+}
+
+impl Eq for Reply {
+    ghost use Rattle.rep_core.specs.Equality.{same_reply_laws};
+
+    ghost laws = { same_reply_laws };
 }

@@ -6,7 +6,7 @@ use std::alloc::AllocError;
 use std::marker::Model;
 use suite_prefix::{LockMode, Prefix, Replica};
 
-/// What a transaction leaves of a suite at a server once it is decided.
+/// What a transaction leaves of a suite at a server once it is decided. A clone shares list and content.
 #[derive(Debug, Drop)]
 pub enum Take {
     /// What was there.
@@ -32,12 +32,68 @@ impl Clone for Take {
     }
 }
 
+impl PartialEq for Take {
+    ghost use Rattle.rep_core.specs.Equality.{same_take, same_take_partial_laws};
+
+    ghost eq = { same_take };
+
+    ghost laws = { same_take_partial_laws };
+
+    fn eq(&self, other: &Take) -> bool {
+        match (self, other) {
+            (Take::Keep, Take::Keep) => true,
+            (Take::Prefix(own), Take::Prefix(theirs)) => own == theirs,
+            (Take::Whole(own), Take::Whole(theirs)) => own == theirs,
+            _ => false,
+        }
+    }
+}
+
+impl Eq for Take {
+    ghost use Rattle.rep_core.specs.Equality.{same_take_laws};
+
+    ghost laws = { same_take_laws };
+}
+
 /// A suite in a Prepare: the lock that the transaction must have, and what it leaves.
 #[derive(Debug, Drop)]
 pub struct Part {
     pub suite: u64,
     pub mode: LockMode,
     pub take: Take,
+}
+
+impl Clone for Part {
+    ghost use Rattle.std.specs.Prelude.{◌≡◌};
+
+    ghost is_clone = { λ part copy. copy ≡ part };
+
+    fn clone(&self) -> Result<Part, AllocError> {
+        let take = self.take.clone()?;
+        Ok(Part {
+            suite: self.suite,
+            mode: self.mode,
+            take,
+        })
+    }
+}
+
+impl PartialEq for Part {
+    ghost use Rattle.rep_core.specs.Equality.{same_part, same_part_partial_laws};
+
+    ghost eq = { same_part };
+
+    ghost laws = { same_part_partial_laws };
+
+    fn eq(&self, other: &Part) -> bool {
+        self.suite == other.suite && self.mode == other.mode && self.take == other.take
+    }
+}
+
+impl Eq for Part {
+    ghost use Rattle.rep_core.specs.Equality.{same_part_laws};
+
+    ghost laws = { same_part_laws };
 }
 
 /// The suites of a Prepare.
@@ -53,6 +109,35 @@ impl Model for Parts {
     ghost Value = { List Part };
 
     ghost view = { λ parts. parts.parts.items };
+}
+
+impl Clone for Parts {
+    ghost use Rattle.std.specs.Prelude.{◌≡◌};
+
+    ghost is_clone = { λ parts copy. copy ≡ parts };
+
+    fn clone(&self) -> Result<Parts, AllocError> {
+        let parts = self.parts.clone()?;
+        Ok(Parts { parts })
+    }
+}
+
+impl PartialEq for Parts {
+    ghost use Rattle.rep_core.specs.Equality.{same_parts, same_parts_partial_laws};
+
+    ghost eq = { same_parts };
+
+    ghost laws = { same_parts_partial_laws };
+
+    fn eq(&self, other: &Parts) -> bool {
+        self.parts == other.parts
+    }
+}
+
+impl Eq for Parts {
+    ghost use Rattle.rep_core.specs.Equality.{same_parts_laws};
+
+    ghost laws = { same_parts_laws };
 }
 
 impl Parts {
@@ -90,6 +175,50 @@ pub enum Decision {
     Refused { uid: u32, refusal: Refusal },
 }
 
+impl Clone for Decision {
+    ghost use Rattle.std.specs.Prelude.{◌≡◌};
+
+    ghost is_clone = { λ decision copy. copy ≡ decision };
+
+    fn clone(&self) -> Result<Decision, AllocError> {
+        match self {
+            Decision::Answered(replies) => Ok(Decision::Answered(replies.clone()?)),
+            Decision::Refused { uid, refusal } => Ok(Decision::Refused {
+                uid: *uid,
+                refusal: *refusal,
+            }),
+        }
+    }
+}
+
+impl PartialEq for Decision {
+    ghost use Rattle.rep_core.specs.Equality.{same_decision, same_decision_partial_laws};
+
+    ghost eq = { same_decision };
+
+    ghost laws = { same_decision_partial_laws };
+
+    fn eq(&self, other: &Decision) -> bool {
+        match (self, other) {
+            (Decision::Answered(own), Decision::Answered(theirs)) => own == theirs,
+            (
+                Decision::Refused { uid, refusal },
+                Decision::Refused {
+                    uid: user,
+                    refusal: theirs,
+                },
+            ) => uid == user && refusal == theirs,
+            _ => false,
+        }
+    }
+}
+
+impl Eq for Decision {
+    ghost use Rattle.rep_core.specs.Equality.{same_decision_laws};
+
+    ghost laws = { same_decision_laws };
+}
+
 /// What a server is asked, by a transaction `t` where there is one.
 #[derive(Debug, Drop)]
 pub enum Request {
@@ -115,4 +244,106 @@ pub enum Request {
     Crash,
     /// To come up again.
     Return,
+}
+
+impl Clone for Request {
+    ghost use Rattle.std.specs.Prelude.{◌≡◌};
+
+    ghost is_clone = { λ request copy. copy ≡ request };
+
+    fn clone(&self) -> Result<Request, AllocError> {
+        Ok(match self {
+            Request::Poll { t, suite, mode } => Request::Poll {
+                t: *t,
+                suite: *suite,
+                mode: *mode,
+            },
+            Request::Upgrade { t, suite } => Request::Upgrade {
+                t: *t,
+                suite: *suite,
+            },
+            Request::Fetch { t, suite } => Request::Fetch {
+                t: *t,
+                suite: *suite,
+            },
+            Request::Prepare { t, parts } => {
+                let parts = parts.clone()?;
+                Request::Prepare { t: *t, parts }
+            }
+            Request::Decide { t, decision } => {
+                let decision = decision.clone()?;
+                Request::Decide { t: *t, decision }
+            }
+            Request::Resolve { t } => Request::Resolve { t: *t },
+            Request::Finish { t, verdict } => {
+                let verdict = verdict.clone()?;
+                Request::Finish { t: *t, verdict }
+            }
+            Request::Break { t, suite } => Request::Break {
+                t: *t,
+                suite: *suite,
+            },
+            Request::Locks => Request::Locks,
+            Request::Crash => Request::Crash,
+            Request::Return => Request::Return,
+        })
+    }
+}
+
+impl PartialEq for Request {
+    ghost use Rattle.rep_core.specs.Equality.{same_request, same_request_partial_laws};
+
+    ghost eq = { same_request };
+
+    ghost laws = { same_request_partial_laws };
+
+    fn eq(&self, other: &Request) -> bool {
+        match (self, other) {
+            (
+                Request::Poll { t, suite, mode },
+                Request::Poll {
+                    t: u,
+                    suite: place,
+                    mode: wanted,
+                },
+            ) => t == u && suite == place && mode == wanted,
+            (Request::Upgrade { t, suite }, Request::Upgrade { t: u, suite: place })
+            | (Request::Fetch { t, suite }, Request::Fetch { t: u, suite: place })
+            | (Request::Break { t, suite }, Request::Break { t: u, suite: place }) => {
+                t == u && suite == place
+            }
+            (
+                Request::Prepare { t, parts },
+                Request::Prepare {
+                    t: u,
+                    parts: theirs,
+                },
+            ) => { t == u && parts == theirs }
+            (
+                Request::Decide { t, decision },
+                Request::Decide {
+                    t: u,
+                    decision: theirs,
+                },
+            ) => t == u && decision == theirs,
+            (Request::Resolve { t }, Request::Resolve { t: u }) => t == u,
+            (
+                Request::Finish { t, verdict },
+                Request::Finish {
+                    t: u,
+                    verdict: theirs,
+                },
+            ) => t == u && verdict == theirs,
+            (Request::Locks, Request::Locks)
+            | (Request::Crash, Request::Crash)
+            | (Request::Return, Request::Return) => true,
+            _ => false,
+        }
+    }
+}
+
+impl Eq for Request {
+    ghost use Rattle.rep_core.specs.Equality.{same_request_laws};
+
+    ghost laws = { same_request_laws };
 }

@@ -35,12 +35,16 @@ pub struct Server {
 }
 
 impl Model for Server {
+    ghost use Rattle.std.specs.Prelude.{IsTrue};
+    ghost use Rattle.rep_core.specs.Locks.{rise};
     ghost use Rattle.rep_core.specs.State.{State};
     ghost use Rattle.rep_core.specs.ServerFields.{state_of};
 
     ghost Value = { State };
 
     ghost view = { state_of };
+
+    ghost invariant = { λ fields. IsTrue (rise fields.locks.items) };
 }
 
 impl Server {

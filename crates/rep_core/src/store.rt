@@ -1,6 +1,6 @@
 //! Stored copies and intentions. Nothing else touches them.
 
-ghost use Rattle.std.specs.Prelude.{◌≡◌, ◌≤◌, ◌<◌, ◌+◌, ◌==◌, ◌&&◌, not, length, [], IfOk, OnOk, OnErr, IsTrue, IsSome, IfSome, true, false, unwrap_or, None, Some, nat_le, min, count_by, find, option_map};
+ghost use Rattle.std.specs.Prelude.{◌≡◌, ℕ, ◌≤◌, ◌<◌, ◌+◌, ◌==◌, ◌&&◌, not, length, [], is_some, IfOk, OnOk, OnErr, IsTrue, IsSome, IfSome, true, false, unwrap_or, None, Some, nat_le, min, count_by, find, option_map};
 ghost use Rattle.std.specs.List.{list_any, list_all};
 ghost use Rattle.std.specs.Option.{option_copied};
 ghost use Rattle.std.specs.Ordering.{nat_cmp};
@@ -172,16 +172,18 @@ impl Store {
         }
     }
 
-    /// Whether the parts' intentions are too much.
+    /// Whether the intentions of a Prepare are too much.
     pub(crate) fn overfills(&self, parts: &[Part]) -> bool
-        ensures { result ≡ store.overfills self.now parts.now }
+        requires { store.lists_twice parts.now ≡ false }
+        ensures { (t : ℕ) → result ≡ store.overfills t self.now parts.now }
     {
         any_holds_last(parts) || self.suites_with(parts) > MOST_SUITES
     }
 
-    /// How many suites have a copy or an intention, once the parts' intentions are kept.
+    /// How many suites have a copy or an intention, and how many parts take another.
     fn suites_with(&self, parts: &[Part]) -> usize
-        ensures { result ≡ min (store.suites_with self.now parts.now) usize.MAX }
+        ensures rising { IsOrdered nat_cmp self.now.intentions }
+        ensures count { result ≡ min (store.suites_with self.now + count_by (λ part. not (store.is_keep part.take) && not (store.has_copy self.now part.suite) && not (is_some (get nat_cmp self.now.intentions part.suite))) parts.now) usize.MAX }
     {
         let planned = self.intentions.as_slice();
         let without_copy = planned
@@ -197,7 +199,7 @@ impl Store {
 
     /// Whether a part takes a suite of which there is neither a copy nor an intention.
     fn takes_new(&self, part: &Part) -> bool
-        ensures { result ≡ store.takes_new self.now part.now }
+        ensures { result ≡ (not (store.is_keep part.now.take) && not (store.has_copy self.now part.now.suite) && not (is_some (get nat_cmp self.now.intentions part.now.suite))) }
     {
         !is_keep(&part.take)
             && !self.copies.contains_key(&part.suite)
@@ -213,7 +215,7 @@ impl Store {
         parts: Vec<Part>,
     ) -> Result<(), AllocError>
         requires sound { list_all (store.is_sound_part self.old) parts.items ≡ true }
-        requires few { store.overfills self.old parts.items ≡ false }
+        requires few { store.overfills t self.old parts.items ≡ false }
         ensures ok { OnOk result (self.new ≡ store.intended t parts.items self.old) }
         ensures locks { OnOk result (locks.new ≡ with_prepared t parts.items locks.old) }
         ensures err { OnErr result (self.new ≡ self.old) }

@@ -1,6 +1,6 @@
 //! A sorted map that is seen with its free places.
 
-ghost use Rattle.std.specs.Prelude.{◌≡◌, ◌+◌, ◌<◌, ◌≤◌, ◌↔◌, [], length, IsTrue, IfOk, IfErr, OnOk, OnErr, None, Some, is_some, if◌then◌else◌};
+ghost use Rattle.std.specs.Prelude.{◌≡◌, ◌+◌, ◌-◌, ◌<◌, ◌≤◌, ◌↔◌, [], length, IsTrue, IfOk, IfErr, OnOk, OnErr, None, Some, is_some, if◌then◌else◌, vec_capacity, vec_len};
 ghost use Rattle.std.specs.Option.{option_copied, option_copied_mut};
 ghost use Rattle.std.specs.Borrow.{sem};
 ghost use Rattle.sorted_map.specs.SortedMap.{IsOrdered, get, insert, remove};
@@ -50,6 +50,15 @@ impl<K: Ord, V> RoomyMap<K, V> {
         RoomyMap {
             pairs: Vec::new(alloc),
         }
+    }
+
+    /// The map of these pairs, which are not copied. What the vector has free is room.
+    pub fn from_ordered(pairs: Vec<(K, V)>) -> Self
+        requires { IsOrdered K.cmp pairs.items }
+        ensures pairs { result.pairs ≡ pairs.items }
+        ensures room { result.room ≡ vec_capacity pairs - vec_len pairs }
+    {
+        RoomyMap { pairs }
     }
 
     /// How many pairs there are.

@@ -55,7 +55,7 @@ few_more c asked one is mode few server = at (one.server == server) refl
 
 -- ---- along a run
 
-all_told-tell : (one : Told) (c : Collector) → all_told (tell one c) ≡ one ∷ all_told c
+pub all_told-tell : (one : Told) (c : Collector) → all_told (tell one c) ≡ one ∷ all_told c
 all_told-tell one c = of c.widening refl
   where
     of : (w : Option Widening) → c.widening ≡ w → all_told (tell_at w one c) ≡ one ∷ all_told c

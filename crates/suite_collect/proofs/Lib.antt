@@ -1,5 +1,5 @@
 mod Walks
 pub mod Finding
 pub mod Collected
-mod Shortness
-mod Fewness
+pub mod Shortness
+pub mod Fewness

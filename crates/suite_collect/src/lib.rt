@@ -16,3 +16,6 @@ pub use laws::{
 };
 pub use next::{Members, Next};
 pub use told::{Said, Told};
+
+#[cfg(test)]
+mod tests;

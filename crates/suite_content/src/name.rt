@@ -1,6 +1,6 @@
 //! Names in a folder.
 
-ghost use Rattle.std.specs.Prelude.{◌≡◌, ◌↔◌, IsSome, IfSome, IsTrue};
+ghost use Rattle.std.specs.Prelude.{◌≡◌, ◌↔◌, All, IsSome, IfSome, IsTrue};
 ghost use Rattle.suite_content.specs.Names.{IsName, is_name_byte};
 
 use std::cmp::Ordering;
@@ -106,10 +106,18 @@ impl Name {
         if !is_name(bytes) {
             return None;
         }
+        Some(Name::known(bytes))
+    }
+
+    /// The name of bytes that were seen to be one.
+    pub fn known(bytes: &[u8]) -> Name
+        requires { IsName bytes.now }
+        ensures { result ≡ bytes.now }
+    {
         let mut array = [0; 64];
         array[..bytes.len()].copy_from_slice(bytes);
         let count = bytes.len() as u8;
-        Some(Name { array, count })
+        Name { array, count }
     }
 
     /// Its bytes.
@@ -122,12 +130,24 @@ impl Name {
 }
 
 /// Whether bytes are a name.
-fn is_name(bytes: &[u8]) -> bool
+pub fn is_name(bytes: &[u8]) -> bool
     ensures { IsTrue result ↔ IsName bytes.now }
 {
     let fits = !bytes.is_empty() && bytes.len() <= LONGEST_NAME;
     let reserved = bytes == b".".as_slice() || bytes == b"..".as_slice();
-    fits && !reserved && bytes.iter().all(|byte| is_portable(*byte))
+    fits && !reserved && are_portable(bytes)
+}
+
+/// Whether each byte may stand in a name. It looks at all of them: that many at once are compared is
+/// worth more than to stop at the first that may not.
+fn are_portable(bytes: &[u8]) -> bool
+    ensures { IsTrue result ↔ All (λ byte. IsTrue (is_name_byte byte)) bytes.now }
+{
+    let mut all = true;
+    for byte in bytes {
+        all &= is_portable(*byte);
+    }
+    all
 }
 
 /// Whether a byte may stand in a name.

@@ -1,5 +1,6 @@
 pub mod Openings
 pub mod Valid
+pub mod TestsExact
 pub mod Joins
 pub mod ShapeOf
 pub mod ReadAgain

@@ -90,14 +90,3 @@ above_if_sorted first (next ∷ names) sorted =
 pub rise_if_folder : (names : List (List ℕ × ℕ)) → IsFolder names → names_rise names ≡ true
 rise_if_folder [] folder = refl
 rise_if_folder (first ∷ names) folder = above_if_sorted first names folder
-
--- ---- a name behind others
-
-at_middle : (P : List ℕ → Type 0) (front : List (List ℕ × ℕ)) (entry : List ℕ × ℕ) (rest : List (List ℕ × ℕ)) → AllByRecursion P (keys_of (front ++ entry ∷ rest)) → P entry.0
-at_middle P [] entry rest all = all.0
-at_middle P (e ∷ front) entry rest all = at_middle P front entry rest all.1
-
-pub front_below : (front : List (List ℕ × ℕ)) (entry : List ℕ × ℕ) (rest : List (List ℕ × ℕ)) → IsFolder (front ++ entry ∷ rest) → AllByRecursion (λ q. name_cmp q entry.0 ≡ Less) (keys_of front)
-unfolding IsStrictlySortedBy
-front_below [] entry rest sorted = tt
-front_below (e ∷ front) entry rest sorted = (at_middle (λ (q : List ℕ). name_cmp e.0 q ≡ Less) front entry rest sorted.0, front_below front entry rest sorted.1)

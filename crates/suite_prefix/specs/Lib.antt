@@ -1,5 +1,6 @@
 pub mod Copies
 pub mod Tests
+pub mod TestsExact
 pub mod Absent
 pub mod LockModes
 pub mod Bytes
@@ -9,3 +10,4 @@ pub mod Judging
 pub mod SettingsRules
 pub mod SettingsView
 pub mod Equality
+pub mod SettingsEquality

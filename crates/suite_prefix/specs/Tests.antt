@@ -1,6 +1,6 @@
 -- The rules of valid prefixes and copies as tests. Lists, votes, names and numbers are right by their types; what is left to be tested
 -- stands here.
-use Rattle.std.specs.Prelude.{ℕ, ◌==◌, nat_lt, nat_le, Bool, true, false, ◌&&◌, not, if◌then◌else◌, List, length}
+use Rattle.std.specs.Prelude.{◌==◌, nat_lt, nat_le, Bool, true, false, ◌&&◌, not, if◌then◌else◌, List, length}
 use Rattle.std.specs.Cmp.Lexicographic.{pointwise}
 use Rattle.acl_core.specs.declared.entry.Entry.{Entry}
 use Rattle.acl_core.specs.Tags.{same_entry}

@@ -26,6 +26,7 @@ pub use faults::{CopyFault, DecodeError};
 pub use lock_mode::LockMode;
 pub use settings::{LARGEST_CACHE, MAX_AGENTS, MOST_SLOTS, Settings, SettingsFault};
 pub use suite_content::Content;
+pub use validity::tests_are_exact;
 pub use writing::{encode, no_bytes_begin_others};
 
 #[cfg(test)]

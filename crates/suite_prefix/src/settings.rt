@@ -75,6 +75,31 @@ impl Clone for Settings {
     }
 }
 
+impl PartialEq for Settings {
+    ghost use Rattle.suite_prefix.specs.SettingsEquality.{same_settings, same_settings_partial_laws};
+
+    ghost eq = { same_settings };
+
+    ghost laws = { same_settings_partial_laws };
+
+    fn eq(&self, other: &Settings) -> bool {
+        let same_counts = self.servers == other.servers && self.agents == other.agents;
+        let same_root = self.root_owner == other.root_owner
+            && self.root_group == other.root_group
+            && self.root_acl == other.root_acl;
+        let same_cache = self.budget == other.budget
+            && self.quota == other.quota
+            && self.slots == other.slots;
+        same_counts && self.c0 == other.c0 && same_root && same_cache
+    }
+}
+
+impl Eq for Settings {
+    ghost use Rattle.suite_prefix.specs.SettingsEquality.{same_settings_laws};
+
+    ghost laws = { same_settings_laws };
+}
+
 impl Settings {
     /// Settings of these numbers, votes and list. The fault that is answered is the first.
     pub fn new(

@@ -13,7 +13,7 @@ use acl_core::Tag;
 use sorted_map::RoomyMap;
 use std::alloc::{AllocError, Global};
 use std::marker::Model;
-use suite_content::{FolderNames, Name};
+use suite_content::{FolderNames, Name, is_name};
 
 /// An entry: its tag, the number behind it, and the byte of its permissions.
 #[derive(Clone, Copy)]
@@ -136,7 +136,7 @@ impl<'a> Names<'a> {
             bytes: self.bytes,
         };
         while let Some(((name, _), rest)) = others.split_first() {
-            if Name::new(name).is_none() {
+            if !is_name(name) {
                 return false;
             }
             others = rest;
@@ -144,23 +144,22 @@ impl<'a> Names<'a> {
         true
     }
 
-    /// The folder of these names. Each lands behind those before it.
+    /// The folder of these names, which are its pairs as they stand.
     pub(crate) fn folder(&self, alloc: Global) -> Result<FolderNames, AllocError>
         requires rise { IsTrue (names_rise self.now) }
         requires are_names { All (λ entry. IsName entry.0) self.now }
         ensures { IfOk result (λ folder. folder ≡ self.now) }
     {
-        let mut folder = RoomyMap::new(alloc);
-        folder.reserve(self.len())?;
+        let mut pairs = Vec::with_capacity(alloc, self.len())?;
         let mut others = Names {
             count: self.count,
             bytes: self.bytes,
         };
         while let Some(((name, suite), rest)) = others.split_first() {
-            folder.insert(Name::new(name).unwrap(), suite)?;
+            pairs.push_reserved((Name::known(name), suite));
             others = rest;
         }
-        FolderNames::from_map(alloc, folder)
+        FolderNames::from_map(alloc, RoomyMap::from_ordered(pairs))
     }
 }
 

@@ -9,6 +9,7 @@ ghost use Rattle.suite_content.specs.Contents.{kind_of, empty_content};
 ghost use Rattle.suite_content.specs.Folders.{IsFolder};
 ghost use Rattle.suite_prefix.specs.Copies.{IsPrefix, PrefixFits, IsNothing, IsCopy, IsOfSomeCopy, IsContent, IsFile, IsFolderContent, held_by};
 ghost use Rattle.suite_prefix.specs.Tests as test;
+ghost use Rattle.suite_prefix.specs.TestsExact.{TestsAreExact};
 
 use crate::copies::{Prefix, PrefixKind, Replica};
 use acl_core::{Acl, Entry, Tag};
@@ -36,6 +37,12 @@ impl Prefix {
         }
     }
 }
+
+/// A law: the tests are true of valid prefixes and copies, and of nothing else whose parts fit their
+/// types. It does nothing.
+pub fn tests_are_exact()
+    ensures { TestsAreExact }
+{}
 
 /// Whether a prefix is nobody's and grants nothing.
 fn is_nothing(prefix: &Prefix) -> bool

@@ -10,8 +10,8 @@ use Rattle.file_ops.specs.Paths.{is_slash, is_name}
 use Rattle.file_ops.proofs.PathFacts.{too_many, all_names, not_all, no_name, test_name, one_more, some_part, set_further}
 use Rattle.file_ops.proofs.path.collect.Goals as goal
 
-pub returns-then-count-eq-MOST_NAMES : goal.returns-then-count-eq-MOST_NAMES
-returns-then-count-eq-MOST_NAMES c =
+pub returns-then-count-eq-MOST_PATH_NAMES : goal.returns-then-count-eq-MOST_PATH_NAMES
+returns-then-count-eq-MOST_PATH_NAMES c =
     let turn = YieldsList-turn (YieldsList-from_slice_split _ is_slash c.args.text.now (cc) (cc) (cc) (λ x b q k. search (rules, tests))) c.loop-part.yielded _ c.loop-part.yielded_by _ _ c.in-Some.part c.in-Some.is c.next.ensures.steps in
     sym (too_many (slice_split is_slash c.args.text.now) (omega (arith, turn.0)))
 

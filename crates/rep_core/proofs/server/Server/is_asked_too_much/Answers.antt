@@ -13,7 +13,7 @@ returns-then-prepares c =
     let is : c.args.request.now ≡ request.Prepare c.in-Prepare.t parts = search rules in
     let store_is : c.self.inside.store ≡ now.store = ap (λ (st : State). st.store) c.self.view_is in
     let changes : prepares now c.in-Prepare.t parts ≡ true = sym (c.prepares.ensures ∙ ap (prepares now c.in-Prepare.t) c.as_slice.ensures) ∙ c.if-prepares.true in
-    c.overfills.ensures
-    ∙ (λ i. overfills (store_is i) (c.as_slice-then-prepares.ensures i))
-    ∙ ap (λ b. b && overfills now.store parts) (sym changes)
+    c.overfills.ensures c.in-Prepare.t
+    ∙ (λ i. overfills c.in-Prepare.t (store_is i) (c.as_slice-then-prepares.ensures i))
+    ∙ ap (λ b. b && overfills c.in-Prepare.t now.store parts) (sym changes)
     ∙ ap (asks_too_much now) (sym is)

@@ -13,7 +13,7 @@ invariant_of-self-2 c =
     let kept : c.keep_all.new.intentions.pairs ≡ with_intentions c.args.t parts old.intentions = c.keep_all.ensures.pairs ∙ ap (with_intentions c.args.t parts) c.in_ok-reserve-2.ensures.pairs in
     let is : new ≡ intended c.args.t parts old = λ i. record { c0 = old.c0; copies = c.in_ok-reserve.ensures.pairs i; intentions = kept i } in
     let are : list_all (is_sound_part old) parts ≡ true = subst (λ (store : Store). list_all (is_sound_part store) parts ≡ true) (sym c.self.view_is) c.requires.sound in
-    let few : overfills old parts ≡ false = subst (λ (store : Store). overfills store parts ≡ false) (sym c.self.view_is) c.requires.few in
+    let few : overfills c.args.t old parts ≡ false = subst (λ (store : Store). overfills c.args.t store parts ≡ false) (sym c.self.view_is) c.requires.few in
     let enough : length c.as_slice.result.now + c.len.result ≤ c.reserve.new.self.room = c.in_ok-reserve.ensures.ok in
     let items : length c.as_slice.result.now ≡ length old.intentions = ap length c.as_slice.ensures.pairs in (
       c.self.invariant.0,

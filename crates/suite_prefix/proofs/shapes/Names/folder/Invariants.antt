@@ -1,8 +1,12 @@
-use Rattle.std.proofs.Common.{◌≡◌, ◌++◌, length}
+use Rattle.std.proofs.Common.{◌≡◌, ◌+◌, ◌≤◌, ◌++◌, length}
+use Rattle.std.specs.Prelude.{vec_len, vec_capacity}
 use Rattle.suite_prefix.proofs.shapes.Names.folder.Given as goal
 
 abbrev pub invariant-loop-name : goal.invariant-loop-name
-invariant-loop-name l = l.folder.pairs ++ l.others ≡ l.self
+invariant-loop-name l = record {
+  so_far : l.pairs.items ++ l.others ≡ l.self;
+  room : vec_len l.pairs + length l.others ≤ vec_capacity l.pairs;
+}
 
 abbrev pub decreases-loop-name : goal.decreases-loop-name
 decreases-loop-name l = length l.others
