@@ -4,227 +4,213 @@ use crate::{
     Acl, AclError, AclFault, Caller, Check, Decider, Entry, Mode, Perms, Tag, TooManyGroups,
 };
 use bitflags::Flags;
-use std::alloc::Global;
-use std::test::Fail;
+use std::process::Abort;
 
-/// The list of these tags and octal digits, or its fault.
-fn list(alloc: Global, given: &[(Tag, u8)]) -> Result<Result<Acl, AclError>, Fail> {
-    let mut entries = Vec::new(alloc);
-    for (tag, digit) in given {
-        entries.push(Entry::from_digit(*tag, *digit % 8))?;
-    }
-    Ok(Acl::from_entries(alloc, &entries))
-}
-
-#[test]
-fn the_owner_and_the_others_are_judged_by_one_entry(rt: HostRuntime) -> Result<(), Fail> {
-    let acl = list(
-        rt.alloc(),
-        &[(Tag::UserObj, 0), (Tag::GroupObj, 0), (Tag::Other, 7)],
-    )??;
-    let owner = Caller::new(1000, 300, &[])?;
-    let stranger = Caller::new(2000, 300, &[])?;
-    let lacking = Check::Denied(Decider::UserObj);
-    assert_eq!(rt; acl.check(1000, 100, &owner, Perms::READ), lacking);
-    assert_eq!(rt;
-        acl.check(1000, 100, &stranger, Perms::READ),
-        Check::Granted
-    );
-    Ok(())
-}
-
-#[test]
-fn permissions_of_groups_are_not_joined(rt: HostRuntime) -> Result<(), Fail> {
-    let acl = list(
-        rt.alloc(),
-        &[
-            (Tag::UserObj, 7),
-            (Tag::GroupObj, 4),
-            (Tag::Group(200), 2),
-            (Tag::Mask, 7),
-            (Tag::Other, 7),
-        ],
-    )??;
-    let caller = Caller::new(2000, 100, &[200])?;
-    let both = Perms::READ.union(Perms::WRITE);
-    let lacking = Check::Denied(Decider::GroupObj);
-    assert_eq!(rt; acl.check(1000, 100, &caller, both), lacking);
-    assert_eq!(rt; acl.check(1000, 100, &caller, Perms::WRITE), Check::Granted);
-    Ok(())
-}
-
-#[test]
-fn a_named_user_is_masked_and_not_tried_by_group(rt: HostRuntime) -> Result<(), Fail> {
-    let acl = list(
-        rt.alloc(),
-        &[
-            (Tag::Other, 0),
-            (Tag::Mask, 4),
-            (Tag::GroupObj, 4),
-            (Tag::User(1001), 6),
-            (Tag::UserObj, 6),
-        ],
-    )??;
-    let lisa = Caller::new(1001, 300, &[])?;
-    let masked = Check::Denied(Decider::Mask);
-    assert_eq!(rt; acl.check(1000, 100, &lisa, Perms::WRITE), masked);
-    let lisa = Caller::new(1001, 100, &[])?;
-    let lacking = Check::Denied(Decider::User(1001));
-    assert_eq!(rt; acl.check(1000, 100, &lisa, Perms::READ), Check::Granted);
-    assert_eq!(rt; acl.check(1000, 100, &lisa, Perms::EXEC), lacking);
-    Ok(())
-}
-
-#[test]
-fn the_first_fault_is_answered(rt: HostRuntime) -> Result<(), Fail> {
-    let (user, group, other) = ((Tag::UserObj, 6), (Tag::GroupObj, 4), (Tag::Other, 0));
-    let (lisa, tools, mask) = ((Tag::User(1001), 4), (Tag::Group(200), 4), (Tag::Mask, 4));
-    let cases: [(&[(Tag, u8)], AclFault); 8] = [
-        (&[], AclFault::NoUserObj),
-        (&[user, lisa, lisa], AclFault::NoGroupObj),
-        (&[user, group, mask, mask], AclFault::NoOther),
-        (
-            &[user, group, other, other, lisa, lisa],
-            AclFault::TwiceSingle,
-        ),
-        (
-            &[user, group, other, lisa, lisa, tools, tools],
-            AclFault::UserTwice,
-        ),
-        (
-            &[user, group, other, lisa, tools, tools],
-            AclFault::GroupTwice,
-        ),
-        (&[user, group, other, lisa], AclFault::MaskMissing),
-        (&[user, group, other, tools], AclFault::MaskMissing),
-    ];
-    for (given, fault) in cases {
-        let answer = list(rt.alloc(), given)?.err();
-        assert!(rt; answer == Some(AclError::Invalid(fault)), "{fault:?}");
-    }
-    Ok(())
-}
-
-#[test]
-fn a_list_has_at_most_64_entries(rt: HostRuntime) -> Result<(), Fail> {
-    let mut given = Vec::new(rt.alloc());
-    for tag in [Tag::Other, Tag::Mask, Tag::GroupObj, Tag::UserObj] {
-        given.push((tag, 4))?;
-    }
-    for id in 0..60 {
-        given.push((Tag::Group(100 - id), 4))?;
-    }
-    let acl = list(rt.alloc(), &given)??;
-    let entries = acl.entries();
-    assert_eq!(rt; entries.len(), 64);
-    assert_eq!(rt; entries[2].tag, Tag::Group(41));
-    given.push((Tag::User(1), 4))?;
-    let answer = list(rt.alloc(), &given)?.err();
-    assert!(rt; answer == Some(AclError::Invalid(AclFault::TooMany)));
-    Ok(())
-}
-
-#[test]
-fn a_mode_has_three_entries(rt: HostRuntime) -> Result<(), Fail> {
-    let mode = Mode::new(0o751).ok_or("a mode")?;
-    let acl = Acl::from_mode(rt.alloc(), mode)?;
-    let same = list(
-        rt.alloc(),
-        &[(Tag::UserObj, 7), (Tag::GroupObj, 5), (Tag::Other, 1)],
-    )??;
-    assert_eq!(rt; acl.entries(), same.entries());
-    assert_eq!(rt; acl.clone()?.entries(), same.entries());
-    assert_eq!(rt; Mode::new(0o1000), None);
-    Ok(())
-}
-
-#[test]
-fn a_caller_has_at_most_32_supplementary_groups(rt: HostRuntime) -> Result<(), Fail> {
-    let groups = [7; 33];
-    assert!(rt; Caller::new(1, 2, &groups).err() == Some(TooManyGroups));
-    let caller = Caller::new(1, 2, &groups[..32])?;
-    assert_eq!(rt; caller.groups().len(), 32);
-    assert!(rt; caller.is_in(7) && caller.is_in(2) && !caller.is_in(0));
-    assert_eq!(rt; Perms::of(true, false, true).bits(), 5);
-    Ok(())
-}
-
-/// What Linux answered for a file of owner 1000 and group 100 (`access(2)` as that caller, with the list
-/// as the file's `system.posix_acl_access`): user, group, other groups, octal digit wanted, granted.
-type Asked<'a> = (u32, u32, &'a [u32], u8, bool);
-
-#[test]
-fn the_kernel_answers_the_same(rt: HostRuntime) -> Result<(), Fail> {
-    let cases: [(&[(Tag, u8)], &[Asked<'_>]); 4] = [
-        (
-            &[
-                (Tag::UserObj, 7),
-                (Tag::GroupObj, 4),
-                (Tag::Group(200), 2),
-                (Tag::Group(300), 6),
-                (Tag::Mask, 6),
-                (Tag::Other, 0),
-            ],
-            &[
-                (2000, 100, &[], 6, false),
-                (2000, 100, &[200], 6, false),
-                (2000, 200, &[300], 6, true),
-                (2000, 300, &[], 7, false),
-                (2000, 400, &[], 4, false),
-            ],
-        ),
-        (
-            &[
-                (Tag::UserObj, 6),
-                (Tag::User(1001), 6),
-                (Tag::GroupObj, 6),
-                (Tag::Group(200), 6),
-                (Tag::Mask, 4),
-                (Tag::Other, 2),
-            ],
-            &[
-                (1001, 300, &[], 6, false),
-                (1001, 300, &[], 4, true),
-                (2000, 100, &[], 2, false),
-                (2000, 200, &[], 4, true),
-                (2000, 300, &[], 2, true),
-                (1000, 300, &[], 6, true),
-            ],
-        ),
-        (
-            &[(Tag::UserObj, 4), (Tag::GroupObj, 2), (Tag::Other, 7)],
-            &[
-                (1000, 100, &[], 2, false),
-                (2000, 100, &[], 4, false),
-                (2000, 100, &[], 2, true),
-                (2000, 300, &[100], 1, false),
-                (2000, 300, &[], 7, true),
-            ],
-        ),
-        (
-            &[
-                (Tag::UserObj, 0),
-                (Tag::User(1001), 0),
-                (Tag::GroupObj, 7),
-                (Tag::Group(200), 7),
-                (Tag::Mask, 7),
-                (Tag::Other, 7),
-            ],
-            &[
-                (1001, 100, &[200], 4, false),
-                (1000, 100, &[], 4, false),
-                (2000, 200, &[], 7, true),
-            ],
-        ),
-    ];
-    for (given, asked) in cases {
-        let acl = list(rt.alloc(), given)??;
-        for (user, group, groups, wanted, granted) in asked {
-            let caller = Caller::new(*user, *group, *groups)?;
-            let answer = acl.check(1000, 100, &caller, Perms::from_digit(*wanted % 8));
-            let is_granted = answer == Check::Granted;
-            assert_eq!(rt; is_granted, *granted, "{user} wants {wanted}");
+/// A tag in a text: `u`, `g`, `m` and `o` are the single ones, `u1001` a user and `g200` a group.
+fn tag(rt: &impl Abort, word: &str) -> Tag {
+    let id = word.get(1..).unwrap_or_default().parse::<u32>().ok();
+    match (word.as_bytes().first(), id) {
+        (Some(b'u'), None) => Tag::UserObj,
+        (Some(b'u'), Some(id)) => Tag::User(id),
+        (Some(b'g'), None) => Tag::GroupObj,
+        (Some(b'g'), Some(id)) => Tag::Group(id),
+        (Some(b'm'), None) => Tag::Mask,
+        (Some(b'o'), None) => Tag::Other,
+        _ => {
+            assert!(rt; false, "no tag: {word}");
+            Tag::Other
         }
     }
-    Ok(())
+}
+
+/// An octal digit.
+fn digit(rt: &impl Abort, word: &str) -> u8 {
+    word.parse::<u8>().ok().expect(rt, "a digit")
+}
+
+/// An entry in a text, as `u1001:6`.
+fn entry(rt: &impl Abort, text: &str) -> Entry {
+    let (word, perms) = text.split_once(':').expect(rt, "an entry");
+    let digit = digit(rt, perms);
+    Entry::from_digit(tag(rt, word), digit % 8)
+}
+
+/// The entries of a text, with spaces between them.
+fn entries(rt: &(impl Abort + AllocGlobal), text: &str) -> Vec<Entry> {
+    let mut entries = Vec::new(rt.alloc());
+    for word in text.split_whitespace() {
+        assert!(rt; entries.push(entry(rt, word)).is_ok());
+    }
+    entries
+}
+
+/// The list of a text.
+fn list(rt: &(impl Abort + AllocGlobal), text: &str) -> Acl {
+    let made = Acl::from_entries(rt.alloc(), &entries(rt, text));
+    made.ok().expect(rt, "a list")
+}
+
+/// The fault of a text.
+fn is_faulty(rt: &(impl Abort + AllocGlobal), text: &str, fault: AclFault) {
+    let made = Acl::from_entries(rt.alloc(), &entries(rt, text));
+    assert!(rt; made.err() == Some(AclError::Invalid(fault)), "{text}");
+}
+
+/// A caller.
+fn caller(rt: &impl Abort, user: u32, group: u32, groups: &[u32]) -> Caller {
+    Caller::new(user, group, groups).ok().expect(rt, "a caller")
+}
+
+/// What a list answers about a file of user 1000 and group 100.
+fn answers(rt: &impl Abort, acl: &Acl, caller: &Caller, wanted: Perms, want: Check) {
+    assert!(rt; acl.check(1000, 100, caller, wanted) == want);
+}
+
+#[test]
+fn the_owner_and_the_others_are_judged_by_one_entry(rt: HostRuntime) {
+    let acl = list(&rt, "u:0 g:0 o:7");
+    let (owner, stranger) = (caller(&rt, 1000, 300, &[]), caller(&rt, 2000, 300, &[]));
+    let lacking = Check::Denied(Decider::UserObj);
+    answers(&rt, &acl, &owner, Perms::READ, lacking);
+    answers(&rt, &acl, &stranger, Perms::READ, Check::Granted);
+}
+
+#[test]
+fn permissions_of_groups_are_not_joined(rt: HostRuntime) {
+    let acl = list(&rt, "u:7 g:4 g200:2 m:7 o:7");
+    let caller = caller(&rt, 2000, 100, &[200]);
+    let both = Perms::READ.union(Perms::WRITE);
+    let lacking = Check::Denied(Decider::GroupObj);
+    answers(&rt, &acl, &caller, both, lacking);
+    answers(&rt, &acl, &caller, Perms::WRITE, Check::Granted);
+}
+
+#[test]
+fn a_named_user_is_masked_and_not_tried_by_group(rt: HostRuntime) {
+    let acl = list(&rt, "o:0 m:4 g:4 u1001:6 u:6");
+    let masked = Check::Denied(Decider::Mask);
+    let lisa = caller(&rt, 1001, 300, &[]);
+    answers(&rt, &acl, &lisa, Perms::WRITE, masked);
+    let lacking = Check::Denied(Decider::User(1001));
+    let lisa = caller(&rt, 1001, 100, &[]);
+    answers(&rt, &acl, &lisa, Perms::READ, Check::Granted);
+    answers(&rt, &acl, &lisa, Perms::EXEC, lacking);
+}
+
+#[test]
+fn the_first_fault_is_answered(rt: HostRuntime) {
+    is_faulty(&rt, "", AclFault::NoUserObj);
+    is_faulty(&rt, "u:6 u1001:4 u1001:4", AclFault::NoGroupObj);
+    is_faulty(&rt, "u:6 g:4 m:4 m:4", AclFault::NoOther);
+    let single = "u:6 g:4 o:0 o:0 u1001:4 u1001:4";
+    is_faulty(&rt, single, AclFault::TwiceSingle);
+    let both = "u:6 g:4 o:0 u1001:4 u1001:4 g200:4 g200:4";
+    is_faulty(&rt, both, AclFault::UserTwice);
+    let groups = "u:6 g:4 o:0 u1001:4 g200:4 g200:4";
+    is_faulty(&rt, groups, AclFault::GroupTwice);
+    is_faulty(&rt, "u:6 g:4 o:0 u1001:4", AclFault::MaskMissing);
+    is_faulty(&rt, "u:6 g:4 o:0 g200:4", AclFault::MaskMissing);
+}
+
+/// The single entries, the mask and 60 groups, from 100 down to 41.
+fn many(rt: &(impl Abort + AllocGlobal)) -> Vec<Entry> {
+    let mut given = entries(rt, "o:4 m:4 g:4 u:4");
+    for id in 0..60 {
+        let next = Entry::from_digit(Tag::Group(100 - id), 4);
+        assert!(rt; given.push(next).is_ok());
+    }
+    given
+}
+
+#[test]
+fn a_list_has_at_most_64_entries(rt: HostRuntime) {
+    let mut given = many(&rt);
+    let acl = Acl::from_entries(rt.alloc(), &given);
+    let acl = acl.ok().expect(&rt, "a list");
+    let third = acl.entries().get(2).map(|entry| entry.tag);
+    assert!(rt; acl.entries().len() == 64);
+    assert!(rt; third == Some(Tag::Group(41)));
+    let user = Entry::from_digit(Tag::User(1), 4);
+    assert!(rt; given.push(user).is_ok());
+    let fault = Acl::from_entries(rt.alloc(), &given).err();
+    assert!(rt; fault == Some(AclError::Invalid(AclFault::TooMany)));
+}
+
+#[test]
+fn a_mode_has_three_entries(rt: HostRuntime) {
+    let mode = Mode::new(0o751).expect(&rt, "a mode");
+    let acl = Acl::from_mode(rt.alloc(), mode).expect(&rt, "memory");
+    let same = list(&rt, "u:7 g:5 o:1");
+    assert!(rt; acl.entries() == same.entries());
+    let copy = acl.clone().ok().expect(&rt, "memory");
+    assert!(rt; copy.entries() == same.entries());
+    assert!(rt; Mode::new(0o1000).is_none());
+}
+
+#[test]
+fn a_caller_has_at_most_32_supplementary_groups(rt: HostRuntime) {
+    let groups = [7; 33];
+    assert!(rt; Caller::new(1, 2, &groups).err() == Some(TooManyGroups));
+    let caller = caller(&rt, 1, 2, &groups[..32]);
+    assert!(rt; caller.groups().len() == 32);
+    assert!(rt; caller.is_in(7) && caller.is_in(2) && !caller.is_in(0));
+    assert!(rt; Perms::of(true, false, true).bits() == 5);
+}
+
+/// What Linux answered for files of user 1000 and group 100 (`access(2)` as a caller, with the list as the
+/// file's `system.posix_acl_access`): a list, then the callers that asked: the user, the groups, the octal
+/// digit that is wanted, and the answer.
+const KERNEL: [(&str, &str); 4] = [
+    (
+        "u:7 g:4 g200:2 g300:6 m:6 o:0",
+        "2000 100 6 no; 2000 100,200 6 no; 2000 200,300 6 yes; 2000 300 7 no; 2000 400 4 no",
+    ),
+    (
+        "u:6 u1001:6 g:6 g200:6 m:4 o:2",
+        "1001 300 6 no; 1001 300 4 yes; 2000 100 2 no; 2000 200 4 yes; 2000 300 2 yes; 1000 300 6 yes",
+    ),
+    (
+        "u:4 g:2 o:7",
+        "1000 100 2 no; 2000 100 4 no; 2000 100 2 yes; 2000 300,100 1 no; 2000 300 7 yes",
+    ),
+    (
+        "u:0 u1001:0 g:7 g200:7 m:7 o:7",
+        "1001 100,200 4 no; 1000 100 4 no; 2000 200 7 yes",
+    ),
+];
+
+fn number(rt: &impl Abort, word: &str) -> u32 {
+    word.parse::<u32>().ok().expect(rt, "a number")
+}
+
+/// A caller in a text, as `2000` with `300,100`.
+fn caller_of(rt: &impl Abort, user: &str, groups: &str) -> Caller {
+    let user = number(rt, user);
+    match groups.split_once(',') {
+        Some((own, other)) => caller(rt, user, number(rt, own), &[number(rt, other)]),
+        None => caller(rt, user, number(rt, groups), &[]),
+    }
+}
+
+/// A list answers a caller as Linux did.
+fn asks(rt: &impl Abort, acl: &Acl, text: &str) {
+    let mut words = text.split_whitespace();
+    let user = words.next().unwrap_or_default();
+    let groups = words.next().unwrap_or_default();
+    let caller = caller_of(rt, user, groups);
+    let wanted = digit(rt, words.next().unwrap_or_default());
+    let wanted = Perms::from_digit(wanted % 8);
+    let is_granted = acl.check(1000, 100, &caller, wanted) == Check::Granted;
+    let want = words.next().unwrap_or_default();
+    assert!(rt; want == if is_granted { "yes" } else { "no" }, "{text}");
+}
+
+#[test]
+fn the_kernel_answers_the_same(rt: HostRuntime) {
+    for (text, asked) in KERNEL {
+        let acl = list(&rt, text);
+        for one in asked.split(';') {
+            asks(&rt, &acl, one);
+        }
+    }
 }

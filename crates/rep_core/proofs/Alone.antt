@@ -1,20 +1,15 @@
--- Each request keeps an exclusive lock alone.
-use Rattle.std.proofs.Common.{◌≡◌, ℕ, Bool, true, false, cond, ◌⊎◌, inl, inr, List, Option, None, Some, refl, sym, ap, ◌∙◌, arith}
-use Rattle.std.specs.Prelude.{find, filter}
+-- An exclusive lock stands alone through each change.
+use Rattle.std.proofs.Common.{◌≡◌, ℕ, Bool, true, false, cond, ◌⊎◌, inl, inr, List, None, refl, sym, ap, ◌∙◌, arith}
+use Rattle.std.specs.Prelude.{find, filter, not, ◌==◌, ◌&&◌}
 use Rattle.std.proofs.lemmas.Bool.Decides.{nat_tests}
-use Rattle.file_ops.specs.declared.audit.AuditItem.{AuditItem}
 use Rattle.suite_prefix.specs.declared.lock_mode.LockMode.{LockMode}
 use Rattle.suite_prefix.specs.declared.lock_mode.LockMode.TheVariants.{Shared, Exclusive}
 use Rattle.rep_core.specs.declared.lock.Lock.{Lock}
 use Rattle.rep_core.specs.declared.request.Part.{Part}
-use Rattle.rep_core.specs.declared.request.Request.{Request}
-use Rattle.rep_core.specs.declared.request.Request.TheVariants as request
-use Rattle.rep_core.specs.declared.reply.Verdict.{Verdict}
 use Rattle.suite_prefix.specs.LockModes.{is_exclusive, stronger}
-use Rattle.rep_core.specs.Locks.{conflicts, in_the_way, is_own, has_lock, raised_lock, raised, before, with_lock, locked, prepared_lock, with_prepared}
-use Rattle.rep_core.specs.Store.{intended}
+use Rattle.rep_core.specs.Locks.{conflicts, is_own, has_lock, raised_lock, raised, before, with_lock, locked, prepared_lock, with_prepared}
 use Rattle.rep_core.specs.State.{State}
-use Rattle.rep_core.specs.Service.{after, after_up, after_down, after_locking, after_poll, after_upgrade, prepares, after_prepare, after_record}
+use Rattle.rep_core.proofs.Ways.{Ways}
 use Rattle.rep_core.proofs.Members.{Has, has_filter, has_map, has_between, find_none}
 
 -- no exclusive lock stands beside another transaction's lock on the suite
@@ -39,7 +34,7 @@ alone_no_new old new from alone a b has_a has_b same exclusive =
     x.2.t ∙ one ∙ sym y.2.t
 
 -- a lock that does not conflict
-no_conflict : (t s : ℕ) (m : LockMode) (l : Lock) → conflicts t s m l ≡ false → l.suite ≡ s → (is_exclusive m ≡ true) ⊎ (is_exclusive l.mode ≡ true) → l.t ≡ t
+pub no_conflict : (t s : ℕ) (m : LockMode) (l : Lock) → conflicts t s m l ≡ false → l.suite ≡ s → (is_exclusive m ≡ true) ⊎ (is_exclusive l.mode ≡ true) → l.t ≡ t
 no_conflict t s m l e = grind (arith, nat_tests)
 
 alone_with_lock : (t s : ℕ) (m : LockMode) (ls : List Lock) → find (conflicts t s m) ls ≡ None → Alone ls → Alone (with_lock (record { t = t; suite = s; mode = m; prepared = false }) ls)
@@ -56,7 +51,7 @@ alone_with_lock t s m ls none alone a b has_a has_b same exclusive =
       ]
     ]
 
-own_is : (t s : ℕ) (l : Lock) → is_own t s l ≡ true → (l.t ≡ t) × (l.suite ≡ s)
+pub own_is : (t s : ℕ) (l : Lock) → is_own t s l ≡ true → (l.t ≡ t) × (l.suite ≡ s)
 own_is t s l e = (grind (arith, nat_tests), grind (arith, nat_tests))
 
 stronger_exclusive : (a b : LockMode) → is_exclusive (stronger a b) ≡ true → (is_exclusive a ≡ true) ⊎ (is_exclusive b ≡ true)
@@ -102,57 +97,16 @@ alone_filter p ls = alone_no_new ls _ (λ x h. (x, (has_filter p ls x h).0, reco
 
 -- ---- each request
 
-alone_locking : (st : State) (t s : ℕ) (m : LockMode) (other : Option Lock) → other ≡ in_the_way t s m st.locks → Alone st.locks → Alone (after_locking other t s m st).locks
-alone_locking st t s m (Some other) e alone = alone
-alone_locking st t s m None e alone = alone_locked t s m st.locks (sym e) alone
-
-alone_upgrade : (st : State) (t s : ℕ) → Alone st.locks → Alone (after_upgrade st t s).locks
-alone_upgrade st t s alone =
-    elim (has_lock t s st.locks) as (λ b. Alone (cond b (after_poll st t s Exclusive) st).locks) [
-      | true ↦ alone_locking st t s Exclusive _ refl alone
-      | false ↦ alone
-    ]
-
-alone_prepare : (st : State) (t : ℕ) (parts : List Part) → Alone st.locks → Alone (after_prepare st t parts).locks
-alone_prepare st t parts alone =
-    elim (prepares st t parts) as (λ b. Alone (cond b (record st { store = intended t parts st.store; locks = with_prepared t parts st.locks }) st).locks) [
-      | true ↦ alone_prepared t parts st.locks alone
-      | false ↦ alone
-    ]
-
-alone_record : (old : Option Verdict) (t : ℕ) (new : Verdict) (item : Option AuditItem) (st : State) → Alone st.locks → Alone (after_record old t new item st).locks
-alone_record None t new item st alone = alone
-alone_record (Some old) t new item st alone = alone
-
-alone_up : (st : State) (asked : Request) → Alone st.locks → Alone (after_up st asked).locks
-alone_up st (request.Poll t s m) alone = alone_locking st t s m _ refl alone
-alone_up st (request.Upgrade t s) alone = alone_upgrade st t s alone
-alone_up st (request.Fetch t s) alone = alone
-alone_up st (request.Prepare t parts) alone = alone_prepare st t parts alone
-alone_up st (request.Decide t decision) alone = alone_record _ t _ _ st alone
-alone_up st (request.Resolve t) alone = alone_record _ t _ _ st alone
-alone_up st (request.Finish t verdict) alone = alone_filter _ st.locks alone
-alone_up st (request.Break t s) alone = alone_filter _ st.locks alone
-alone_up st request.Locks alone = alone
-alone_up st request.Crash alone = alone_filter _ st.locks alone
-alone_up st request.Return alone = alone
-
-alone_down : (st : State) (asked : Request) → Alone st.locks → Alone (after_down st asked).locks
-alone_down st (request.Poll t s m) alone = alone
-alone_down st (request.Upgrade t s) alone = alone
-alone_down st (request.Fetch t s) alone = alone
-alone_down st (request.Prepare t parts) alone = alone
-alone_down st (request.Decide t decision) alone = alone
-alone_down st (request.Resolve t) alone = alone
-alone_down st (request.Finish t verdict) alone = alone
-alone_down st (request.Break t s) alone = alone
-alone_down st request.Locks alone = alone
-alone_down st request.Crash alone = alone
-alone_down st request.Return alone = alone
-
-pub alone_after : (st : State) (asked : Request) → Alone st.locks → Alone (after st asked).locks
-alone_after st asked alone =
-    elim (st.up) as (λ b. Alone (cond b (after_up st asked) (after_down st asked)).locks) [
-      | true ↦ alone_up st asked alone
-      | false ↦ alone_down st asked alone
-    ]
+pub alone_ways : (st : State) → Alone st.locks → Ways st (λ _ new. Alone new.locks)
+alone_ways st alone = record {
+  same = λ _. alone;
+  poll = λ t suite mode free. alone_locked t suite mode st.locks free alone;
+  upgrade = λ t suite has free. alone_locked t suite Exclusive st.locks free alone;
+  prepare = λ t parts does few. alone_prepared t parts st.locks alone;
+  decide = λ t decision none. alone;
+  resolve = λ t none. alone;
+  finish = λ t verdict is. alone_filter (λ l. not (l.t == t)) st.locks alone;
+  break = λ t suite. alone_filter (λ l. not (is_own t suite l && not l.prepared)) st.locks alone;
+  crash = alone_filter (λ l. l.prepared) st.locks alone;
+  return = alone;
+}

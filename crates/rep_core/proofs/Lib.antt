@@ -1,12 +1,20 @@
-pub mod Effects
+pub mod Members
+pub mod Finding
+pub mod Rising
+pub mod Ways
+pub mod Alone
+pub mod Stays
+pub mod Least
+pub mod LockLookups
 pub mod Intentions
+pub mod IntentionLookups
+pub mod Effects
 pub mod Soundness
+pub mod Counting
+pub mod Fewness
+pub mod Consistent
+pub mod Records
 pub mod FittingReplies
-mod Rising
-mod Counting
-mod Members
-mod Alone
-mod Stays
-mod Reached
+pub mod Reached
 mod Example
 pub mod Same

@@ -1,7 +1,8 @@
 -- What stands in a list, by recursion, and after the usual changes.
 use Rattle.std.proofs.Common.{◌≡◌, Bool, true, false, cond, ◌⊎◌, inl, inr, List, [], ◌∷◌, ◌++◌, None, Some, refl, sym, ap, ◌∙◌, arith}
-use Rattle.std.specs.Prelude.{filter, find, map, not, All, Contains}
-use Rattle.std.proofs.lemmas.Bool.{false≢true}
+use Rattle.std.specs.Prelude.{filter, find, map, not, ◌||◌, All, Contains}
+use Rattle.std.specs.List.{list_all, list_any}
+use Rattle.std.proofs.lemmas.Bool.{and_parts, false≢true}
 use Rattle.std.proofs.lemmas.List.Elements.{All-nil, All-cons, All-weaker, All-contains, Contains-get_or, Contains-append_right}
 
 -- x is one of the list
@@ -69,6 +70,30 @@ module _ {X : Type 0} where
       elim (p x) as (λ b. p x ≡ b → Has (filter p xs ++ y ∷ filter (λ x. not (p x)) xs) x) [
         | true ↦ λ is. append_has_left (filter p xs) (y ∷ filter (λ x. not (p x)) xs) x (filter_has p xs x h is)
         | false ↦ λ no. append_has_right (filter p xs) (y ∷ filter (λ x. not (p x)) xs) x (inr (filter_has (λ x. not (p x)) xs x h (ap not no)))
+      ] refl
+
+  -- where a test holds of all
+  pub all_at : (p : X → Bool) (xs : List X) (x : X) → list_all p xs ≡ true → Has xs x → p x ≡ true
+  all_at p [] x all h = absurd h
+  all_at p (y ∷ ys) x all h =
+      let parts = and_parts (p y) (list_all p ys) all in
+      elim h [ inl q ↦ ap p (sym q) ∙ parts.0 | inr r ↦ all_at p ys x parts.1 r ]
+
+  -- where a test holds of one
+  pub any_has : (p : X → Bool) (xs : List X) → list_any p xs ≡ true → (x : X) × Has xs x × (p x ≡ true)
+  any_has p [] any = absurd (false≢true any)
+  any_has p (x ∷ xs) any =
+      elim (p x) as (λ b. p x ≡ b → (b || list_any p xs) ≡ true → (y : X) × Has (x ∷ xs) y × (p y ≡ true)) [
+        | true ↦ λ is _. (x, inl refl, is)
+        | false ↦ λ _ any. let later = any_has p xs any in (later.0, inr later.1, later.2)
+      ] refl any
+
+  pub has_any : (p : X → Bool) (xs : List X) (x : X) → Has xs x → p x ≡ true → list_any p xs ≡ true
+  has_any p [] x has is = absurd has
+  has_any p (y ∷ ys) x has is =
+      elim (p y) as (λ b. p y ≡ b → (b || list_any p ys) ≡ true) [
+        | true ↦ λ _. refl
+        | false ↦ λ misses. elim has [ inl same ↦ absurd (false≢true (sym misses ∙ ap p same ∙ is)) | inr later ↦ has_any p ys x later is ]
       ] refl
 
   pub find_none : (p : X → Bool) (xs : List X) (x : X) → find p xs ≡ None → Has xs x → p x ≡ false

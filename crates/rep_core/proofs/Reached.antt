@@ -1,48 +1,82 @@
 -- The laws of whole runs.
-use Rattle.std.proofs.Common.{◌≡◌, true, false, cond, List, [], ◌∷◌, ◌++◌, refl, ap, ◌∙◌}
-use Rattle.std.specs.List.{list_any}
+use Rattle.std.proofs.Common.{◌≡◌, ℕ, Bool, true, false, cond, List, [], ◌∷◌, ◌++◌, refl, sym, ap, ◌∙◌, arith}
+use Rattle.std.specs.Prelude.{◌&&◌, not}
 use Rattle.std.proofs.lemmas.Bool.{or_parts}
+use Rattle.std.proofs.lemmas.Bool.Decides.{nat_tests}
+use Rattle.std.proofs.lemmas.Option.{same_Some}
+use Rattle.suite_prefix.specs.SettingsRules.{Opening}
 use Rattle.rep_core.specs.declared.lock.Lock.{Lock}
 use Rattle.rep_core.specs.declared.request.Request.{Request}
 use Rattle.rep_core.specs.declared.stamped.Stamped.{Stamped}
 use Rattle.rep_core.specs.State.{State, opening}
 use Rattle.rep_core.specs.Serving.{is_full, served, step}
-use Rattle.rep_core.specs.Laws.{after_all, reached, ExclusiveStandsAlone, PreparedStands, finishes}
+use Rattle.rep_core.specs.Consistency.{IsConsistent}
+use Rattle.rep_core.specs.Laws.{after_all, reached, ExclusiveStandsAlone, LocksRise, BusyNamesTheLeast, PreparedStands, IntentionsHaveLocks, StoresAreSound, SuitesAreFew, is_finish, finished_by}
 use Rattle.rep_core.proofs.Members.{Has, has_from, contains_from}
-use Rattle.rep_core.proofs.Alone.{Alone, alone_after}
-use Rattle.rep_core.proofs.Stays.{Stands, itself, stands_after, stands_on}
+use Rattle.rep_core.proofs.Ways.{by_request, room}
+use Rattle.rep_core.proofs.Stays.{Stands, itself, stays_ways, stands_on}
+use Rattle.rep_core.proofs.Least.{same_lock, busy_least}
+use Rattle.rep_core.proofs.IntentionLookups.{get_has}
+use Rattle.rep_core.proofs.Consistent.{consistent_opening, consistent_step}
 
-alone_step : (st : State) (asked : Stamped Request) → Alone st.locks → Alone (step st asked).locks
-alone_step st asked alone =
-    elim (is_full st asked) as (λ b. Alone (cond b st (served st asked)).locks) [
-      | true ↦ alone
-      | false ↦ alone_after st asked.value alone
-    ]
+pub consistent_all : (asked : List (Stamped Request)) (st : State) → IsConsistent st → IsConsistent (after_all st asked)
+consistent_all [] st is = is
+consistent_all (first ∷ later) st is = consistent_all later (step st first) (consistent_step st first is)
 
-alone_all : (st : State) (asked : List (Stamped Request)) → Alone st.locks → Alone (after_all st asked).locks
-alone_all st [] alone = alone
-alone_all st (first ∷ later) alone = alone_all (step st first) later (alone_step st first alone)
+-- every server that was reached is consistent
+pub always_consistent : (index : ℕ) (given : Opening) (asked : List (Stamped Request)) → IsConsistent (reached index given asked)
+always_consistent index given asked = consistent_all asked (opening index given) (consistent_opening index given)
 
 pub exclusive_alone : ExclusiveStandsAlone
-exclusive_alone index given asked a b has_a has_b =
-    alone_all (opening index given) asked (λ x y h k _ _. absurd h) a b (has_from _ a has_a) (has_from _ b has_b)
+exclusive_alone index given asked = (always_consistent index given asked).alone
 
-stands_step : (st : State) (asked : Stamped Request) (l : Lock) → Has st.locks l → l.prepared ≡ true → finishes l.t asked ≡ false → Stands (step st asked).locks l
+pub locks_rise : LocksRise
+locks_rise index given asked =
+    let is = always_consistent index given asked in
+    let locks = (reached index given asked).locks in
+    record { rising = is.rising; one_each = λ a b has_a has_b t suite. same_lock locks a b is.rising (has_from locks a has_a) (has_from locks b has_b) t suite }
+
+pub busy_names_the_least : BusyNamesTheLeast
+busy_names_the_least index given before asked holder prepared said = busy_least (reached index given before) (always_consistent index given before).rising asked holder prepared said
+
+pub intentions_have_locks : IntentionsHaveLocks
+intentions_have_locks index given asked =
+    let is = always_consistent index given asked in
+    let intentions = (reached index given asked).store.intentions in
+    record {
+      locked = λ suite intention there. is.locked suite intention (get_has intentions suite intention is.sound.rising (has_from intentions (suite, intention) there));
+      one_each = λ suite a b there_a there_b.
+          same_Some a b (sym (get_has intentions suite a is.sound.rising (has_from intentions (suite, a) there_a)) ∙ get_has intentions suite b is.sound.rising (has_from intentions (suite, b) there_b));
+    }
+
+pub stores_are_sound : StoresAreSound
+stores_are_sound index given asked = (always_consistent index given asked).sound
+
+pub suites_are_few : SuitesAreFew
+suites_are_few index given asked = (always_consistent index given asked).few
+
+-- ---- what is prepared
+
+not_all : (finish up full : Bool) → (finish && up && not full) ≡ false → full ≡ false → up ≡ true → finish ≡ true → ⊥
+not_all finish up full other none is_up is = grind (arith, nat_tests)
+
+stands_step : (st : State) (asked : Stamped Request) (l : Lock) → Has st.locks l → l.prepared ≡ true → (is_finish l.t asked.value && st.up && not (is_full st asked)) ≡ false → Stands (step st asked).locks l
 stands_step st asked l has prepared other =
-    elim (is_full st asked) as (λ b. Stands (cond b st (served st asked)).locks l) [
-      | true ↦ (l, has, itself l prepared)
-      | false ↦ stands_after st asked.value l has prepared other
-    ]
+    elim (is_full st asked) as (λ b. is_full st asked ≡ b → Stands (cond b st (served st asked)).locks l) [
+      | true ↦ λ _. (l, has, itself l prepared)
+      | false ↦ λ none. by_request st (λ request new. (st.up ≡ true → is_finish l.t request ≡ true → ⊥) → Stands new.locks l) (stays_ways st l has prepared) asked.value (room st asked none)
+        (λ up is. not_all (is_finish l.t asked.value) st.up (is_full st asked) other none up is)
+    ] refl
 
-stands_all : (asked : List (Stamped Request)) (st : State) (l : Lock) → Has st.locks l → l.prepared ≡ true → list_any (finishes l.t) asked ≡ false → Stands (after_all st asked).locks l
+pub stands_all : (asked : List (Stamped Request)) (st : State) (l : Lock) → Has st.locks l → l.prepared ≡ true → finished_by l.t st asked ≡ false → Stands (after_all st asked).locks l
 stands_all [] st l has prepared other = (l, has, itself l prepared)
 stands_all (first ∷ later) st l has prepared other =
-    let parts = or_parts (finishes l.t first) (list_any (finishes l.t) later) other in
+    let parts = or_parts (is_finish l.t first.value && st.up && not (is_full st first)) (finished_by l.t (step st first) later) other in
     let next = stands_step st first l has prepared parts.0 in
-    let rest : list_any (finishes next.0.t) later ≡ false = ap (λ t. list_any (finishes t) later) next.2.t ∙ parts.1 in
+    let rest : finished_by next.0.t (step st first) later ≡ false = ap (λ t. finished_by t (step st first) later) next.2.t ∙ parts.1 in
     stands_on _ l next.0 next.2 (stands_all later (step st first) next.0 next.1 next.2.prepared rest)
 
-after_both : (before later : List (Stamped Request)) (st : State) → after_all st (before ++ later) ≡ after_all (after_all st before) later
+pub after_both : (before later : List (Stamped Request)) (st : State) → after_all st (before ++ later) ≡ after_all (after_all st before) later
 after_both [] later st = refl
 after_both (first ∷ before) later st = after_both before later (step st first)
 

@@ -6,5 +6,6 @@ pub mod ServerFields
 pub mod Service
 pub mod Serving
 pub mod Fits
+pub mod Consistency
 pub mod Laws
 pub mod Equality

@@ -10,6 +10,10 @@ use Rattle.rep_core.specs.declared.request.Part.{Part}
 abbrev pub is_own : ℕ → ℕ → Lock → Bool
 is_own t suite lock = (lock.t == t) && (lock.suite == suite)
 
+-- its lock there, where it has one
+abbrev pub lock_at : ℕ → ℕ → List Lock → Option Lock
+lock_at t suite locks = find (is_own t suite) locks
+
 -- another transaction's lock on the suite, where one of the two modes is exclusive
 abbrev pub conflicts : ℕ → ℕ → LockMode → Lock → Bool
 conflicts t suite mode lock = (lock.suite == suite) && not (lock.t == t) && (is_exclusive mode || is_exclusive lock.mode)

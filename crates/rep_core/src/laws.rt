@@ -1,6 +1,13 @@
 //! What holds of every server, whatever it was asked.
 
-ghost use Rattle.rep_core.specs.Laws.{ExclusiveStandsAlone, PreparedStands, SomeServerStands};
+ghost use Rattle.rep_core.specs.Laws.{ConsistencyIsKept, ExclusiveStandsAlone, LocksRise, BusyNamesTheLeast, PreparedStands, IntentionsHaveLocks, VerdictsAreWrittenOnce, StoresAreSound, SuitesAreFew, SomeServerStands};
+
+/// A law: a server opens consistent, and stays so whatever it is asked: its locks and its copies stand
+/// in their orders, exclusive locks stand alone, each intention stands beside its transaction's prepared
+/// exclusive lock, the copies are sound, and there are not too many. It does nothing.
+pub fn consistency_is_kept()
+    ensures { ConsistencyIsKept }
+{}
 
 /// A law: at no server that was opened, whatever it was asked, does an exclusive lock stand beside
 /// another transaction's lock on the suite. It does nothing.
@@ -8,13 +15,50 @@ pub fn exclusive_stands_alone()
     ensures { ExclusiveStandsAlone }
 {}
 
-/// A law: at every server that was opened a prepared lock stays, whatever is asked, until its
-/// transaction is finished there. It does nothing.
+/// A law: the locks of every server that was opened rise by transaction, and in one transaction by
+/// suite; so a transaction has one lock on a suite at most. It does nothing.
+pub fn locks_rise()
+    ensures { LocksRise }
+{}
+
+/// A law: Busy names the least holder in the way: its lock stands there and conflicts with the one that
+/// is asked for, and no transaction with a smaller number has a lock that does. It does nothing.
+pub fn busy_names_the_least()
+    ensures { BusyNamesTheLeast }
+{}
+
+/// A law: at every server that was opened a prepared lock stays until a Finish of its transaction is
+/// served there while the server is up. One that is answered Down, or is not served since the server is
+/// full, ends nothing. It does nothing.
 pub fn prepared_stands()
     ensures { PreparedStands }
 {}
 
-/// A law: there are servers with such locks, so that the two laws above say something. It does nothing.
+/// A law: at every server that was opened each intention stands beside its transaction's prepared
+/// exclusive lock on the suite, and a suite has one intention at most. It does nothing.
+pub fn intentions_have_locks()
+    ensures { IntentionsHaveLocks }
+{}
+
+/// A law: a verdict is written once. What is recorded of a transaction stays, only a Decide or a Resolve
+/// of it records, and what they are answered is the record. It does nothing.
+pub fn verdicts_are_written_once()
+    ensures { VerdictsAreWrittenOnce }
+{}
+
+/// A law: at every server that was opened each copy is a valid one with versions that are not used up,
+/// and so is what each intention leaves of it. It does nothing.
+pub fn stores_are_sound()
+    ensures { StoresAreSound }
+{}
+
+/// A law: no server that was opened has a copy or an intention of more suites than
+/// [`crate::MOST_SUITES`]. It does nothing.
+pub fn suites_are_few()
+    ensures { SuitesAreFew }
+{}
+
+/// A law: there are servers with such locks, so that the laws above say something. It does nothing.
 pub fn some_server_stands()
     ensures { SomeServerStands }
 {}

@@ -30,7 +30,11 @@ mod stamped;
 mod store;
 
 pub use effect::finish_keeps_effect;
-pub use laws::{exclusive_stands_alone, prepared_stands, some_server_stands};
+pub use laws::{
+    busy_names_the_least, consistency_is_kept, exclusive_stands_alone, intentions_have_locks,
+    locks_rise, prepared_stands, some_server_stands, stores_are_sound, suites_are_few,
+    verdicts_are_written_once,
+};
 pub use lock::Lock;
 pub use reply::{LockList, Reply, Verdict};
 pub use request::{Decision, Part, Parts, Request, Take};

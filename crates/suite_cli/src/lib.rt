@@ -2,14 +2,10 @@
 #![tactic(auto)]
 
 mod acl;
-#[cfg(test)]
-mod ballots;
 mod code;
 mod commands;
 mod fault;
 mod job;
-#[cfg(test)]
-mod limits;
 mod line;
 mod operation;
 mod outcome;

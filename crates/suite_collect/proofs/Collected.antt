@@ -89,11 +89,11 @@ votes_le (rep ∷ reps) f g h =
 -- ---- next
 
 -- what stands behind a Current
-record Gives (c : Collector) (prefix : Prefix) (dver : ℕ) (members : List ℕ) : Type 0 where
-  enough : needed c ≤ got c
-  prefix_is : newest c.start c.told ≡ prefix
-  version_is : version c ≡ dver
-  members_are : members_of (counted c) (is_member c) ≡ members
+pub record Gives (c : Collector) (prefix : Prefix) (dver : ℕ) (members : List ℕ) : Type 0 where
+  pub enough : needed c ≤ got c
+  pub prefix_is : newest c.start c.told ≡ prefix
+  pub version_is : version c ≡ dver
+  pub members_are : members_of (counted c) (is_member c) ≡ members
 
 current_of : (c : Collector) (b : Bool) (prefix : Prefix) (dver : ℕ) (members : List ℕ) → nat_le (needed c) (got c) ≡ b
     → cond b (Current (newest c.start c.told) (version c) (members_of (counted c) (is_member c))) (ask_or_short c (find (is_left c) (counted c).reps)) ≡ Current prefix dver members
@@ -104,6 +104,9 @@ current_of c false prefix dver members enough is = absurd (none (find (is_left c
     none : (found : Option Representative) → ask_or_short c found ≡ Current prefix dver members → ⊥
     none (Some rep) is = cc
     none None is = cc
+
+pub gives_of : (c : Collector) (prefix : Prefix) (dver : ℕ) (members : List ℕ) → next c ≡ Current prefix dver members → Gives c prefix dver members
+gives_of c prefix dver members is = current_of c (nat_le (needed c) (got c)) prefix dver members refl is
 
 -- the members that are given have all votes that are held
 members_enough : (needed : ℕ) (votes : Configuration) (held : ℕ → Bool) (members : List ℕ) → members_of votes held ≡ members → needed ≤ votes_in votes.reps held → needed ≤ votes_in votes.reps (among members)
@@ -120,7 +123,7 @@ current_is_a_quorum c prefix dver members narrow is = at c.widening refl narrow
     at : (w : Option Widening) → c.widening ≡ w → w ≡ None → IsCurrent c prefix dver members
     at (Some w) same none = cc
     at None same none =
-        let gives = current_of c (nat_le (needed c) (got c)) prefix dver members refl is in
+        let gives = gives_of c prefix dver members is in
         let told : all_told c ≡ c.told = ap (λ w. told_since w ++ c.told) same in
         let mode : wanted c ≡ c.mode = ap (λ w. mode_or w c.mode) same in
         let votes : counted c ≡ prefix.votes = ap (λ w. votes_or w (newest c.start c.told)) same ∙ ap (λ (prefix : Prefix). prefix.votes) gives.prefix_is in
@@ -142,7 +145,7 @@ current_is_a_quorum c prefix dver members narrow is = at c.widening refl narrow
 
 pub widened_is_a_write_quorum : WidenedIsAWriteQuorum
 widened_is_a_write_quorum c widening prefix dver members wide is =
-    let gives = current_of c (nat_le (needed c) (got c)) prefix dver members refl is in
+    let gives = gives_of c prefix dver members is in
     let mode : wanted c ≡ Exclusive = ap (λ w. mode_or w c.mode) wide in
     let votes : counted c ≡ widening.votes = ap (λ w. votes_or w (newest c.start c.told)) wide in
     let held : is_member c ≡ holds Exclusive (all_told c) = ap (λ mode. holds mode (all_told c)) mode in

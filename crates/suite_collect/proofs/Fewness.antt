@@ -1,19 +1,16 @@
 -- How often a collector asks.
-use Rattle.std.proofs.Common.{◌≡◌, ℕ, ◌+◌, ◌*◌, ◌<◌, ◌≤◌, Bool, true, false, cond, List, [], ◌∷◌, ◌++◌, length, Option, Some, None, refl, sym, ap, subst, ◌∙◌, arith}
-use Rattle.std.specs.Prelude.{◌&&◌, ◌||◌, ◌==◌, not, option_map}
-use Rattle.std.specs.List.{list_any, list_all}
+use Rattle.std.proofs.Common.{◌≡◌, ℕ, ◌+◌, ◌*◌, ◌≤◌, Bool, true, false, cond, List, [], ◌∷◌, ◌++◌, length, Option, Some, None, refl, sym, ap, subst, ◌∙◌, arith}
+use Rattle.std.specs.Prelude.{◌&&◌, ◌||◌, ◌==◌, option_map}
+use Rattle.std.specs.List.{list_all}
 use Rattle.std.proofs.lemmas.Bool.Decides.{nat_tests}
 use Rattle.std.proofs.lemmas.Bool.{false≢true, eqb-true, and_parts}
-use Rattle.suite_prefix.specs.declared.copies.Prefix.{Prefix}
-use Rattle.suite_prefix.specs.declared.lock_mode.LockMode.{LockMode}
-use Rattle.suite_prefix.specs.declared.lock_mode.LockMode.TheVariants.{Shared, Exclusive}
 use Rattle.suite_prefix.specs.LockModes.{is_exclusive}
 use Rattle.rep_core.specs.declared.reply.Reply.{Reply}
 use Rattle.suite_collect.specs.declared.told.Said.{Said}
 use Rattle.suite_collect.specs.declared.told.Said.TheVariants.{Down}
 use Rattle.suite_collect.specs.declared.told.Told.{Told}
 use Rattle.suite_collect.specs.Telling.{has_told}
-use Rattle.suite_collect.specs.Collecting.{Widening, Collector, told_since, all_told, Asked, Poll, Upgrade, Next, Current, Ask, Short, next, collect, raise, widen, tell, tell_at, mode_asked, said_to, told_by}
+use Rattle.suite_collect.specs.Collecting.{Widening, Collector, told_since, all_told, Asked, Poll, Upgrade, Next, Current, Ask, Short, next, collect, tell, tell_at, mode_asked, said_to, told_by}
 use Rattle.suite_collect.specs.Laws.{among, Step, Raise, Widen, Take, told_or, after_step, after_all, AsksAreFew}
 use Rattle.suite_collect.proofs.Collected.{nobody_is_asked_twice}
 
@@ -38,9 +35,6 @@ never (one ∷ told) server none = step (one.server == server) none (never told 
 few_more : (c : Collector) (asked : Asked) (one : Told) → next c ≡ Ask one.server asked → one.mode ≡ mode_asked asked → Few (all_told c) → Few (one ∷ all_told c)
 few_more c asked one is mode few server = at (one.server == server) refl
   where
-    told : List Told
-    told = all_told c
-
     at : (b : Bool) → (one.server == server) ≡ b
         → (cond b 1 0 + times server (all_told c) ≤ 2) × (((b && is_exclusive one.mode) || has_told (λ one. is_exclusive one.mode) (all_told c) server) ≡ false → cond b 1 0 + times server (all_told c) ≤ 1)
     at false other = let before = few server in (let bound = before.0 in omega arith, λ none. let bound = before.1 none in omega arith)

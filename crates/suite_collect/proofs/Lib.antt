@@ -1,5 +1,6 @@
 mod Walks
 pub mod Finding
 pub mod Collected
+pub mod Sources
 pub mod Shortness
 pub mod Fewness

@@ -1,5 +1,5 @@
 -- The fields of `Collect` as contracts see them, and what they keep.
-use Rattle.std.specs.Prelude.{◌≡◌, List, ◌++◌, option_map, unwrap_or, Option, IfSome}
+use Rattle.std.specs.Prelude.{◌≡◌, ◌++◌, option_map, unwrap_or, IfSome}
 use Rattle.suite_collect.specs.declared.collect.Collect.TheInside.{Inside}
 use Rattle.suite_collect.specs.declared.collect.Widening.{Widening}
 use Rattle.suite_collect.specs.Telling.{newest}

@@ -1,5 +1,5 @@
 -- What holds of every collector, whatever it was told.
-use Rattle.std.specs.Prelude.{◌≡◌, ℕ, ◌+◌, ◌*◌, ◌<◌, ◌≤◌, ◌==◌, ◌⊎◌, Bool, true, false, List, [], ◌∷◌, length, Option, Some, None, Contains}
+use Rattle.std.specs.Prelude.{◌≡◌, ℕ, ◌+◌, ◌*◌, ◌<◌, ◌≤◌, ◌==◌, ◌⊎◌, Bool, true, false, List, [], ◌∷◌, length, Option, Some, None, IsSome, Contains}
 use Rattle.std.specs.List.{list_any, list_all}
 use Rattle.vote_core.specs.Quorums.{Representative, Configuration, votes_in}
 use Rattle.suite_prefix.specs.declared.copies.Prefix.{Prefix}
@@ -10,7 +10,7 @@ use Rattle.rep_core.specs.declared.reply.Reply.{Reply}
 use Rattle.suite_collect.specs.declared.told.Said.TheVariants.{Held}
 use Rattle.suite_collect.specs.declared.told.Told.{Told}
 use Rattle.suite_collect.specs.Telling.{newest, has_told, holds, has_refused, greatest, is_down, is_busy_with}
-use Rattle.suite_collect.specs.Collecting.{Collector, Widening, needed_of, all_told, counted, wanted, is_member, version, Asked, Current, Ask, Short, Poll, Upgrade, next, collect, raise, widen, tell, told_by}
+use Rattle.suite_collect.specs.Collecting.{Collector, Widening, needed_of, all_told, counted, wanted, is_member, version, source, Asked, Current, Ask, Short, Poll, Upgrade, next, collect, raise, widen, tell, told_by}
 
 -- the test of a list of servers
 abbrev pub among : List ℕ → ℕ → Bool
@@ -28,6 +28,10 @@ pub record IsCurrent (c : Collector) (prefix : Prefix) (dver : ℕ) (members : L
 
 abbrev pub CurrentIsAQuorum : Type 0
 CurrentIsAQuorum = (c : Collector) (prefix : Prefix) (dver : ℕ) (members : List ℕ) → c.widening ≡ None → next c ≡ Current prefix dver members → IsCurrent c prefix dver members
+
+-- one of them showed that version, so that there is a source of the content
+abbrev pub HasSource : Collector → Type 0
+HasSource c = (prefix : Prefix) (dver : ℕ) (members : List ℕ) → c.widening ≡ None → next c ≡ Current prefix dver members → IsSome (source c)
 
 -- After it: they have a write quorum's votes of those that were given, and each holds an exclusive lock. Prefix and version are as before.
 pub record IsWidened (c : Collector) (votes : Configuration) (prefix : Prefix) (dver : ℕ) (members : List ℕ) : Type 0 where

@@ -2,7 +2,9 @@
 
 ghost use Rattle.std.specs.Prelude.{◌≡◌, ◌<◌, ℕ, find, option_map, is_some, IsSome, IfSome};
 ghost use Rattle.std.specs.FinSet.{contains};
+ghost use Rattle.vote_core.specs.Validity.{IsValid};
 ghost use Rattle.suite_collect.specs.Collecting as spec;
+ghost use Rattle.suite_collect.specs.Laws.{HasSource};
 ghost use Rattle.suite_collect.specs.Telling as telling;
 
 use crate::heard::Heard;
@@ -15,11 +17,13 @@ use std::marker::Model;
 use suite_prefix::{LockMode, Prefix};
 use vote_core::{MAX_SERVERS, Votes};
 
-/// Other votes that are gathered too, all that was told, and what was told since.
+/// Other votes that are gathered too.
 #[derive(Drop)]
 struct Widening {
     votes: Votes,
+    /// All that was told.
     all: Heard,
+    /// What was told since.
     since: Log<Told>,
 }
 
@@ -31,7 +35,9 @@ pub struct Collect {
     suite: u64,
     mode: LockMode,
     start: Prefix,
+    /// The newest prefix seen, where one is newer than the start.
     newer: Option<Prefix>,
+    /// What was told before a widening.
     told: Heard,
     widening: Option<Widening>,
 }
@@ -148,6 +154,16 @@ impl Collect {
         self.tell(Told { server, mode, said });
     }
 
+    /// The newest prefix seen. A widening leaves it as it was.
+    pub fn newest(&self) -> &Prefix
+        ensures { result.now ≡ newest self.now.collector.start self.now.collector.told }
+    {
+        match &self.newer {
+            Some(prefix) => prefix,
+            None => &self.start,
+        }
+    }
+
     /// Whether a server holds a lock for the transaction, in this mode or a stronger one.
     pub fn holds(&self, mode: LockMode, server: u8) -> bool
         ensures { result ≡ telling.holds mode (spec.all_told self.now.collector) server }
@@ -157,7 +173,8 @@ impl Collect {
 
     /// The first member, in listed order, that showed the version of the content, before a widening.
     pub fn source(&self) -> Option<u8>
-        ensures { result ≡ spec.source self.now.collector }
+        ensures value { result ≡ spec.source self.now.collector }
+        ensures found { HasSource self.now.collector }
     {
         let (members, version) = (self.first_members(), self.version());
         let shows = |server: &u8| self.told.shown(*server) == version;
@@ -180,16 +197,6 @@ impl Collect {
             if prefix.pver > newest {
                 self.newer = Some(prefix);
             }
-        }
-    }
-
-    /// The newest prefix seen.
-    fn newest(&self) -> &Prefix
-        ensures { result.now ≡ newest self.now.collector.start self.now.collector.told }
-    {
-        match &self.newer {
-            Some(prefix) => prefix,
-            None => &self.start,
         }
     }
 
@@ -275,7 +282,8 @@ impl Collect {
 
     /// The members that are held, before a widening.
     fn first_members(&self) -> Members
-        ensures { result ≡ spec.first_members self.now.collector }
+        ensures members { result ≡ spec.first_members self.now.collector }
+        ensures valid { IsValid (newest self.now.collector.start self.now.collector.told).votes }
     {
         members_of(&self.newest().votes, &self.told.holders(self.mode))
     }

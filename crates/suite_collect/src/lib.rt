@@ -1,4 +1,13 @@
-//! The collector of one suite.
+//! The collector of one suite, after Gifford's weighted voting: it gathers locks for a transaction until
+//! their servers are a quorum under the newest prefix that they show.
+//!
+//! A [`Collect`] says what comes next ([`Collect::next`]): a server is asked for a lock, or there is a
+//! quorum, or nobody is left to ask. Its caller asks that server, and hands the reply back
+//! ([`Collect::take`]). To contracts it is the list of what servers said; `next` is a function of that
+//! list (`specs/Collecting.antt`), and the laws of this crate speak of it. No call takes memory.
+//!
+//! What a caller owes: `start` is a prefix that the suite once had, or that of what was never made; and
+//! what is taken answers what was asked ([`Collect::accepts`]). After any other reply a transaction ends.
 #![tactic(auto)]
 
 mod collect;

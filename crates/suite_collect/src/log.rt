@@ -1,4 +1,7 @@
 //! A history that only proofs read. It takes no memory, and its methods do nothing at run time.
+//!
+//! No data stand behind the list, so these contracts by themselves promise nothing. It is worth what the
+//! types that hold one say of it in their invariants: that their data are what the list comes to.
 
 ghost use Rattle.std.specs.Prelude.{◌≡◌, List, [], ◌∷◌};
 ghost use Rattle.std.specs.Borrow.{ftrue};

@@ -2,6 +2,7 @@
 
 ghost use Rattle.std.specs.Prelude.{◌≡◌, ◌<◌, ◌&&◌, nat_lt, not, All, find, option_map, IfSome};
 ghost use Rattle.std.specs.FinSet.{contains};
+ghost use Rattle.vote_core.specs.Validity.{IsValid};
 ghost use Rattle.suite_collect.specs.Collecting as spec;
 ghost use Rattle.suite_collect.specs.Telling.{holds, has_refused};
 
@@ -14,6 +15,7 @@ use vote_core::{MAX_SERVERS, ServerSet, Votes};
 pub(crate) fn members_of(votes: &Votes, held: &ServerSet) -> Members
     ensures members { result ≡ spec.members_of votes.now (contains held.now) }
     ensures known { All (λ server. server < MAX_SERVERS) result }
+    ensures valid { IsValid votes.now }
 {
     let mut members = Members::new();
     for (server, own) in votes.reps() {

@@ -11,7 +11,10 @@ use rep_core::{Reply, Request};
 use std::alloc::AllocError;
 use std::process::Abort;
 use suite_prefix::{LockMode, Prefix, PrefixKind};
+use talks::TALKS;
 use vote_core::Votes;
+
+mod talks;
 
 /// Which votes: where they are.
 #[derive(Clone, Copy)]
@@ -22,9 +25,14 @@ enum Where {
     There,
     /// Server 0 without a vote, two votes at server 1, one at server 2; one to read and three to write.
     Uneven,
+    /// One vote each at servers 0 and 1; one to read and two to write.
+    Pair,
+    /// One vote at server 1 and two at server 2; two to read and two to write.
+    Shifted,
 }
 
 /// What is done with a collector.
+#[derive(Clone, Copy)]
 enum Do {
     /// It is told that the lock is held: the version of the prefix, its votes, the content's version.
     Held(u64, Where, u64),
@@ -38,16 +46,14 @@ enum Do {
 struct Step(Do, &'static str);
 
 fn votes(rt: &impl Abort, place: Where) -> Votes {
-    let reps: [(u8, u8); 3] = match place {
-        Where::Here => [(0, 1), (1, 1), (2, 1)],
-        Where::There => [(3, 1), (4, 1), (5, 1)],
-        Where::Uneven => [(0, 0), (1, 2), (2, 1)],
+    let (reps, r, w): (&[(u8, u8)], u16, u16) = match place {
+        Where::Here => (&[(0, 1), (1, 1), (2, 1)], 2, 2),
+        Where::There => (&[(3, 1), (4, 1), (5, 1)], 2, 2),
+        Where::Uneven => (&[(0, 0), (1, 2), (2, 1)], 1, 3),
+        Where::Pair => (&[(0, 1), (1, 1)], 1, 2),
+        Where::Shifted => (&[(1, 1), (2, 2)], 2, 2),
     };
-    let (r, w) = match place {
-        Where::Here | Where::There => (2, 2),
-        Where::Uneven => (1, 3),
-    };
-    Votes::new(6, &reps, r, w).ok().expect(rt, "votes")
+    Votes::new(6, reps, r, w).ok().expect(rt, "votes")
 }
 
 fn prefix(rt: &(impl Abort + AllocGlobal), pver: u64, place: Where) -> Prefix {
@@ -219,6 +225,37 @@ fn locks_are_raised_and_widened(rt: HostRuntime) {
     talk(&rt, LockMode::Shared, &WEAK);
     talk(&rt, LockMode::Shared, &RAISED);
     talk(&rt, LockMode::Exclusive, &WIDENED);
+}
+
+/// An act of the table of talks.
+fn act_of(rt: &impl Abort, letter: u8) -> Do {
+    match letter {
+        b'h' => Do::Held(1, Where::Pair, 1),
+        b'n' => Do::Held(2, Where::Shifted, 3),
+        b'b' => Do::Busy(5),
+        b'd' => Do::Down,
+        b'^' => Do::Raise,
+        b'w' => Do::Widen(Where::Shifted),
+        _ => panic!(rt; "an act"),
+    }
+}
+
+/// Plays a row of the table of talks.
+fn play(rt: &(impl Abort + AllocGlobal), row: &str) {
+    let (acts, want) = row.split_once(' ').expect(rt, "a row");
+    let mut collect = Collect::new(7, 9, LockMode::Shared, prefix(rt, 0, Where::Pair));
+    for letter in acts.as_bytes() {
+        act(rt, &mut collect, &act_of(rt, *letter));
+    }
+    let got = words(rt, &collect);
+    assert_eq!(rt; got.as_str(), want, "after {acts}");
+}
+
+#[test]
+fn all_short_talks_go_as_another_program_says(rt: HostRuntime) {
+    for row in TALKS.lines() {
+        play(&rt, row);
+    }
 }
 
 #[test]

@@ -15,7 +15,7 @@ pub const LONGEST_NAME: usize = 64;
 /// neither `.` nor `..`. It takes no memory. Names are ordered by their bytes.
 #[derive(Clone, Copy)]
 pub struct Name {
-    array: [u8; 64],
+    array: [u8; LONGEST_NAME],
     count: u8,
 }
 
@@ -114,7 +114,7 @@ impl Name {
         requires { IsName bytes.now }
         ensures { result ≡ bytes.now }
     {
-        let mut array = [0; 64];
+        let mut array = [0; LONGEST_NAME];
         array[..bytes.len()].copy_from_slice(bytes);
         let count = bytes.len() as u8;
         Name { array, count }

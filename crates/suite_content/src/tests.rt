@@ -6,151 +6,170 @@ use crate::{
     NameList,
 };
 use sorted_map::RoomyMap;
-use std::alloc::Global;
-use std::test::Fail;
+use std::process::Abort;
 
-fn name(text: &str) -> Result<Name, Fail> {
-    Ok(Name::new(text.as_bytes()).ok_or("a name")?)
+fn name(rt: &impl Abort, text: &str) -> Name {
+    Name::new(text.as_bytes()).expect(rt, "a name")
 }
 
-/// A folder with these names, put in in this order.
-fn folder(alloc: Global, names: &[(&str, u64)]) -> Result<FolderNames, Fail> {
-    let mut folder = FolderNames::new(alloc);
-    for (text, number) in names {
-        folder.insert(name(text)?, *number)?;
+/// Puts a name into a folder.
+fn put(rt: &impl Abort, folder: &mut FolderNames, text: &str, number: u64) {
+    let outcome = folder.insert(name(rt, text), number);
+    assert!(rt; outcome.is_ok());
+}
+
+/// A folder with the names of a text, which are numbered from 1.
+fn folder(rt: &(impl Abort + AllocGlobal), names: &str) -> FolderNames {
+    let mut folder = FolderNames::new(rt.alloc());
+    let mut number = 1u64;
+    for text in names.split(' ') {
+        put(rt, &mut folder, text, number);
+        number = number.wrapping_add(1);
     }
-    Ok(folder)
+    folder
+}
+
+/// The names and numbers of a folder, in words.
+fn same_folder(rt: &(impl Abort + AllocGlobal), folder: &FolderNames, want: &str) {
+    let text = format!(in rt.alloc(); "{folder:?}").expect(rt, "memory");
+    assert_eq!(rt; text.as_str(), want);
+}
+
+fn copy_of(rt: &impl Abort, folder: &FolderNames) -> FolderNames {
+    folder.clone().ok().expect(rt, "memory")
+}
+
+fn list_of(rt: &impl Abort, folder: &FolderNames) -> NameList {
+    folder.names().ok().expect(rt, "memory")
+}
+
+/// What a change answers, where memory sufficed.
+fn done<T, E: Drop>(rt: &impl Abort, outcome: Result<T, E>) -> T {
+    outcome.ok().expect(rt, "memory")
+}
+
+/// A number is this one, or there is none.
+fn same_number(rt: &impl Abort, got: Option<u64>, want: Option<u64>) {
+    assert!(rt; got == want);
+}
+
+/// These bytes are a name's.
+fn is_name(rt: &impl Abort, text: &str) {
+    assert!(rt; name(rt, text).as_bytes() == text.as_bytes());
+}
+
+/// These bytes are no name's.
+fn is_no_name(rt: &impl Abort, bytes: &[u8]) {
+    assert!(rt; Name::new(bytes).is_none());
 }
 
 #[test]
-fn names_are_1_to_64_portable_bytes(rt: HostRuntime) -> Result<(), Fail> {
+fn names_are_1_to_64_portable_bytes(rt: HostRuntime) {
+    for good in "a Z 0 - _ ... .a a.B_c-9".split(' ') {
+        is_name(&rt, good);
+    }
+    for bad in "|.|..|a b|a/b|a,b|a:b|caf\u{e9}|a\0".split('|') {
+        is_no_name(&rt, bad.as_bytes());
+    }
     let longest = [b'x'; 65];
-    for good in ["a", "Z", "0", "-", "_", "...", ".a", "a.B_c-9"] {
-        assert_eq!(rt; name(good)?.as_bytes(), good.as_bytes());
-    }
-    for bad in [
-        "",
-        ".",
-        "..",
-        "a b",
-        "a/b",
-        "a,b",
-        "a:b",
-        "caf\u{e9}",
-        "a\0",
-    ] {
-        assert!(rt; Name::new(bad.as_bytes()).is_none(), "{bad:?}");
-    }
     assert!(rt; Name::new(&longest[..LONGEST_NAME]).is_some());
-    assert!(rt; Name::new(&longest).is_none());
-    Ok(())
+    is_no_name(&rt, &longest);
 }
 
 #[test]
-fn names_stand_in_byte_order(rt: HostRuntime) -> Result<(), Fail> {
-    let folder = folder(
-        rt.alloc(),
-        &[
-            ("b", 1),
-            ("aa", 2),
-            ("a", 3),
-            ("Z", 4),
-            ("a.b", 5),
-            ("b", 6),
-        ],
-    )?;
-    let want: [(&str, u64); 5] = [("Z", 4), ("a", 3), ("a.b", 5), ("aa", 2), ("b", 6)];
-    assert_eq!(rt; folder.len(), want.len());
-    for ((name, number), (text, wanted)) in folder.as_slice().iter().zip(want.iter()) {
-        assert_eq!(rt; name.as_bytes(), text.as_bytes());
-        assert_eq!(rt; *number, *wanted);
-        assert_eq!(rt; folder.get(name), Some(*wanted));
+fn names_stand_in_byte_order(rt: HostRuntime) {
+    let mut folder = folder(&rt, "b aa a Z a.b");
+    put(&rt, &mut folder, "b", 6);
+    same_folder(&rt, &folder, "[(Z, 4), (a, 3), (a.b, 5), (aa, 2), (b, 6)]");
+    assert!(rt; folder.len() == 5 && folder.as_slice().len() == 5);
+    for (name, number) in folder.as_slice() {
+        same_number(&rt, folder.get(name), Some(*number));
     }
-    let absent = name("ab")?;
-    assert!(rt; folder.get(&absent).is_none() && !folder.is_empty() && !folder.is_full());
-    Ok(())
+    same_number(&rt, folder.get(&name(&rt, "ab")), None);
+    assert!(rt; !folder.is_empty() && !folder.is_full());
 }
 
 #[test]
-fn what_shares_a_folder_keeps_its_names(rt: HostRuntime) -> Result<(), Fail> {
-    let mut folder = folder(rt.alloc(), &[("a", 1), ("b", 2), ("c", 3)])?;
-    let b = name("b")?;
-    let (list, copy) = (folder.names()?, folder.clone()?);
-    assert_eq!(rt; folder.remove(&b)?, Some(2));
+fn what_shares_a_folder_keeps_its_names(rt: HostRuntime) {
+    let mut folder = folder(&rt, "a b c");
+    let b = name(&rt, "b");
+    let (list, copy) = (list_of(&rt, &folder), copy_of(&rt, &folder));
+    same_number(&rt, done(&rt, folder.remove(&b)), Some(2));
     assert!(rt; copy != folder && has(&list, &b));
-    assert_eq!(rt; folder.insert(b, 7)?, None);
-    assert_eq!(rt; (copy.get(&b), folder.get(&b)), (Some(2), Some(7)));
-    let text = format!(in rt.alloc(); "{folder:?}")?;
-    assert_eq!(rt; text.as_str(), "[(a, 1), (b, 7), (c, 3)]");
-    Ok(())
+    same_number(&rt, done(&rt, folder.insert(b, 7)), None);
+    same_folder(&rt, &copy, "[(a, 1), (b, 2), (c, 3)]");
+    same_folder(&rt, &folder, "[(a, 1), (b, 7), (c, 3)]");
 }
 
-#[test]
-fn a_list_has_the_names_alone(rt: HostRuntime) -> Result<(), Fail> {
-    let list = folder(rt.alloc(), &[("bb", 1), ("a", 2)])?.names()?;
+/// The names of another folder with other numbers, made of a map.
+fn other_list(rt: &(impl Abort + AllocGlobal)) -> NameList {
     let mut map = RoomyMap::new(rt.alloc());
-    map.insert(name("bb")?, 8)?;
-    map.insert(name("a")?, 9)?;
-    let other = NameList::from(FolderNames::from_map(rt.alloc(), map)?);
-    assert!(rt; list == other && list.clone()? == list);
-    let lengths = lengths(rt.alloc(), &list)?;
-    assert_eq!(rt; lengths.as_slice(), [1, 2].as_slice());
-    assert_eq!(rt; (list.len(), list.is_empty()), (2, false));
-    Ok(())
+    assert!(rt; map.insert(name(rt, "bb"), 8).is_ok());
+    assert!(rt; map.insert(name(rt, "a"), 9).is_ok());
+    NameList::from(done(rt, FolderNames::from_map(rt.alloc(), map)))
 }
 
 #[test]
-fn edits_undo_others(rt: HostRuntime) -> Result<(), Fail> {
-    let mut folder = folder(rt.alloc(), &[("a", 1), ("c", 3)])?;
-    let before = folder.clone()?;
-    let (a, b) = (name("a")?, name("b")?);
+fn a_list_has_the_names_alone(rt: HostRuntime) {
+    let list = list_of(&rt, &folder(&rt, "bb a"));
+    assert!(rt; list == other_list(&rt));
+    assert!(rt; done(&rt, list.clone()) == list);
+    let lengths = done(&rt, lengths(rt.alloc(), &list));
+    assert!(rt; lengths.as_slice() == [1, 2].as_slice());
+    assert!(rt; list.len() == 2 && !list.is_empty());
+}
+
+#[test]
+fn edits_undo_others(rt: HostRuntime) {
+    let mut folder = folder(&rt, "a c");
+    let before = copy_of(&rt, &folder);
+    let (a, b) = (name(&rt, "a"), name(&rt, "b"));
     if folder.get(&b).is_none() {
-        put_and_take(&mut folder, b, 5)?;
+        done(&rt, put_and_take(&mut folder, b, 5));
     }
-    change_and_back(&mut folder, a, 6)?;
-    take_and_put(&mut folder, &a)?;
-    take_and_put(&mut folder, &b)?;
-    link(&mut folder, b, 2)?;
-    unlink(&mut folder, &b)?;
+    done(&rt, change_and_back(&mut folder, a, 6));
+    done(&rt, take_and_put(&mut folder, &a));
+    done(&rt, take_and_put(&mut folder, &b));
+    done(&rt, link(&mut folder, b, 2));
+    done(&rt, unlink(&mut folder, &b));
     assert!(rt; folder == before);
-    Ok(())
 }
 
 #[test]
-fn a_folder_is_full_with_1024_names(rt: HostRuntime) -> Result<(), Fail> {
+fn a_folder_is_full_with_1024_names(rt: HostRuntime) {
     let mut folder = FolderNames::new(rt.alloc());
     for number in 0..MOST_NAMES as u64 {
         assert!(rt; !folder.is_full());
-        let text = format!(in rt.alloc(); "n{number}")?;
-        folder.insert(name(text.as_str())?, number)?;
+        let text = format!(in rt.alloc(); "n{number}").expect(&rt, "memory");
+        put(&rt, &mut folder, text.as_str(), number);
     }
     assert!(rt; folder.is_full());
-    Ok(())
+}
+
+fn file(rt: &(impl Abort + AllocGlobal), bytes: &[u8]) -> FileBytes {
+    done(rt, FileBytes::from_slice(rt.alloc(), bytes))
 }
 
 #[test]
-fn a_file_has_at_most_65536_bytes(rt: HostRuntime) -> Result<(), Fail> {
-    let long = vec![in rt.alloc(); 7u8; LONGEST_CONTENT + 1]?;
-    let fits = FileBytes::from_slice(rt.alloc(), &long[..LONGEST_CONTENT])?;
+fn a_file_has_at_most_65536_bytes(rt: HostRuntime) {
+    let long = done(&rt, [7u8].as_slice().repeat(rt.alloc(), LONGEST_CONTENT + 1));
+    let fits = file(&rt, long.get(1..).unwrap_or_default());
     assert!(rt; !fits.is_too_long());
-    assert_eq!(rt; fits.clone()?.len(), LONGEST_CONTENT);
-    assert!(rt; FileBytes::from_vec(long)?.is_too_long());
-    Ok(())
+    assert!(rt; done(&rt, fits.clone()).len() == LONGEST_CONTENT);
+    assert!(rt; done(&rt, FileBytes::from_vec(long)).is_too_long());
 }
 
 #[test]
-fn a_row_is_written(rt: HostRuntime) -> Result<(), Fail> {
-    let bytes = FileBytes::from_slice(rt.alloc(), b"hi")?;
+fn a_row_is_written(rt: HostRuntime) {
+    let bytes = file(&rt, b"hi");
     let mut row = Row::new(rt.alloc(), 1000, Kind::File);
     assert!(rt; row.holds(&Content::Bytes(FileBytes::empty())));
-    row.write(&bytes)?;
+    done(&rt, row.write(&bytes));
     let written = Content::Bytes(bytes);
-    assert!(rt; row.holds(&written) && row.content.clone()? == written);
+    assert!(rt; row.holds(&written));
+    assert!(rt; done(&rt, row.content.clone()) == written);
     let folder = Content::empty(rt.alloc(), Kind::Folder);
     assert!(rt; !row.holds(&folder));
-    assert_eq!(rt;
-        (row.content.kind(), folder.kind()),
-        (Kind::File, Kind::Folder)
-    );
-    Ok(())
+    assert!(rt; row.content.kind() == Kind::File);
+    assert!(rt; folder.kind() == Kind::Folder);
 }

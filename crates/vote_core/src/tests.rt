@@ -1,7 +1,7 @@
 //! Worked examples, and each public call once.
 
 use crate::{MAX_SERVERS, ServerSet, Votes, VotesFault};
-use std::test::Fail;
+use std::process::Abort;
 
 /// The set of these servers.
 fn set_of(servers: &[u8]) -> ServerSet {
@@ -14,93 +14,109 @@ fn set_of(servers: &[u8]) -> ServerSet {
     set
 }
 
+/// Votes at four servers at most.
+fn votes(rt: &impl Abort, reps: &[(u8, u8)], r: u16, w: u16) -> Votes {
+    Votes::new(4, reps, r, w).ok().expect(rt, "votes")
+}
+
+/// Votes at so many servers have this fault, or none.
+fn judges(
+    rt: &impl Abort,
+    servers: usize,
+    reps: &[(u8, u8)],
+    r: u16,
+    w: u16,
+    fault: Option<VotesFault>,
+) {
+    let made = Votes::new(servers, reps, r, w).err();
+    assert!(rt; made == fault, "{reps:?}/{r}/{w}: {made:?}");
+}
+
+const ONE_EACH: [(u8, u8); 3] = [(0, 1), (1, 1), (2, 1)];
+
+const TWO_AT_0: [(u8, u8); 3] = [(0, 2), (1, 1), (2, 1)];
+
 #[test]
 fn votes_are_judged_by_their_first_fault(rt: HostRuntime) {
-    let two_votes_at_0: &[(u8, u8)] = &[(0, 2), (1, 1), (2, 1)];
-    let one_each: &[(u8, u8)] = &[(0, 1), (1, 1), (2, 1)];
-    let cases: [(&[(u8, u8)], u16, u16, Option<VotesFault>); 13] = [
-        (two_votes_at_0, 2, 3, None),
-        (two_votes_at_0, 2, 2, Some(VotesFault::ReadMissesWrite)),
-        (
-            &[(0, 1), (1, 1), (2, 1), (3, 1)],
-            3,
-            2,
-            Some(VotesFault::WritesDisjoint),
-        ),
-        (&[(0, 1), (1, 0), (2, 0)], 1, 1, None),
-        (&[(0, 0), (1, 0), (2, 0)], 1, 1, Some(VotesFault::NoVotes)),
-        (one_each, 0, 3, Some(VotesFault::ThresholdOutOfRange)),
-        (one_each, 3, 0, Some(VotesFault::ThresholdOutOfRange)),
-        (one_each, 4, 3, Some(VotesFault::ThresholdOutOfRange)),
-        (one_each, 1, 4, Some(VotesFault::ThresholdOutOfRange)),
-        (&[], 0, 0, Some(VotesFault::Empty)),
-        (&[(0, 1), (0, 1)], 1, 1, Some(VotesFault::ListedTwice)),
-        (&[(4, 1)], 1, 1, Some(VotesFault::UnknownServer)),
-        (
-            &[(1, 0), (1, 0), (4, 0)],
-            0,
-            0,
-            Some(VotesFault::UnknownServer),
-        ),
-    ];
-    for (reps, r, w, fault) in cases {
-        assert_eq!(rt; Votes::new(4, reps, r, w).err(), fault, "{reps:?}/{r}/{w}");
-    }
-    let last = Votes::new(99, &[(15, 1)], 1, 1);
-    assert!(rt; last.is_ok());
-    let beyond = Votes::new(99, &[(16, 1)], 1, 1);
-    assert_eq!(rt; beyond.err(), Some(VotesFault::UnknownServer));
+    let (no_votes, range) = (VotesFault::NoVotes, VotesFault::ThresholdOutOfRange);
+    let (apart, unknown) = (VotesFault::WritesDisjoint, VotesFault::UnknownServer);
+    let missed = VotesFault::ReadMissesWrite;
+    let four = [(0, 1), (1, 1), (2, 1), (3, 1)];
+    judges(&rt, 4, &TWO_AT_0, 2, 3, None);
+    judges(&rt, 4, &TWO_AT_0, 2, 2, Some(missed));
+    judges(&rt, 4, &four, 3, 2, Some(apart));
+    judges(&rt, 4, &[(0, 1), (1, 0), (2, 0)], 1, 1, None);
+    judges(&rt, 4, &[(0, 0), (1, 0), (2, 0)], 1, 1, Some(no_votes));
+    judges(&rt, 4, &ONE_EACH, 0, 3, Some(range));
+    judges(&rt, 4, &ONE_EACH, 3, 0, Some(range));
+    judges(&rt, 4, &ONE_EACH, 4, 3, Some(range));
+    judges(&rt, 4, &ONE_EACH, 1, 4, Some(range));
+    judges(&rt, 4, &[], 0, 0, Some(VotesFault::Empty));
+    let twice = [(0, 1), (0, 1)];
+    judges(&rt, 4, &twice, 1, 1, Some(VotesFault::ListedTwice));
+    judges(&rt, 4, &[(4, 1)], 1, 1, Some(unknown));
+    judges(&rt, 4, &[(1, 0), (1, 0), (4, 0)], 0, 0, Some(unknown));
+    judges(&rt, 99, &[(15, 1)], 1, 1, None);
+    judges(&rt, 99, &[(16, 1)], 1, 1, Some(unknown));
 }
 
 #[test]
-fn sixteen_servers_may_have_255_votes_each(rt: HostRuntime) -> Result<(), Fail> {
+fn sixteen_servers_may_have_255_votes_each(rt: HostRuntime) {
     let mut reps = [(0, 255); 16];
     let mut everyone = ServerSet::empty();
     for server in 0..16u8 {
         reps[usize::from(server)].0 = server;
         everyone.insert(server);
     }
-    let votes = Votes::new(16, &reps, 1, 4080)?;
-    assert_eq!(rt; votes.reps(), reps.as_slice());
-    assert_eq!(rt; (votes.r(), votes.w()), (1, 4080));
-    assert_eq!(rt; votes.votes_of(&everyone), 4080);
+    let votes = Votes::new(16, &reps, 1, 4080).ok().expect(&rt, "votes");
+    assert!(rt; votes.reps() == reps.as_slice());
+    assert!(rt; votes.r() == 1 && votes.w() == 4080);
+    assert!(rt; votes.votes_of(&everyone) == 4080);
     assert!(rt; votes.is_write(&everyone));
-    assert_eq!(rt; votes, votes.clone()?);
-    let more = Votes::new(16, &reps, 1, 4081);
-    assert_eq!(rt; more.err(), Some(VotesFault::ThresholdOutOfRange));
-
-    // A list of any length is judged in one pass.
-    let many = vec![in rt.alloc(); (15, 1); 4_000_000]?;
-    let doubled = Votes::new(16, &many, 1, 1);
-    assert_eq!(rt; doubled.err(), Some(VotesFault::ListedTwice));
-    Ok(())
+    assert!(rt; votes.clone().ok() == Some(votes));
+    let range = Some(VotesFault::ThresholdOutOfRange);
+    judges(&rt, 16, &reps, 1, 4081, range);
 }
 
 #[test]
-fn a_quorum_is_by_votes_and_not_by_members(rt: HostRuntime) -> Result<(), Fail> {
-    let votes = Votes::new(4, &[(3, 0), (0, 2), (1, 1), (2, 1)], 2, 3)?;
-    let cases: [(&[u8], u32, bool, bool); 9] = [
-        (&[], 0, false, false),
-        (&[3, 9], 0, false, false),
-        (&[1], 1, false, false),
-        (&[1, 3], 1, false, false),
-        (&[0], 2, true, false),
-        (&[1, 2], 2, true, false),
-        (&[0, 2], 3, true, true),
-        (&[1, 2, 3], 2, true, false),
-        (&[0, 1, 2, 3, 15], 4, true, true),
-    ];
-    for (servers, has, read, write) in cases {
-        let set = set_of(servers);
-        assert_eq!(rt; votes.votes_of(&set), has, "{servers:?}");
-        assert_eq!(rt; votes.is_read(&set), read, "{servers:?}");
-        assert_eq!(rt; votes.is_write(&set), write, "{servers:?}");
-    }
-    for (server, own) in [(0, 2), (1, 1), (2, 1), (3, 0), (4, 0), (200, 0)] {
-        assert_eq!(rt; votes.votes_at(server), own);
-        assert_eq!(rt; votes.is_voting_member(server), own > 0);
-    }
-    Ok(())
+fn a_list_of_any_length_is_judged_in_one_pass(rt: HostRuntime) {
+    let many = [(15, 1)].as_slice().repeat(rt.alloc(), 4_000_000);
+    let many = many.expect(&rt, "memory");
+    let made = Votes::new(16, &many, 1, 1).err();
+    assert!(rt; made == Some(VotesFault::ListedTwice));
+}
+
+/// Servers have this many votes, and make a read and a write quorum or not.
+fn collects(rt: &impl Abort, votes: &Votes, servers: &[u8], has: u32, read: bool, write: bool) {
+    let set = set_of(servers);
+    let same = votes.votes_of(&set) == has && votes.is_read(&set) == read;
+    assert!(rt; same && votes.is_write(&set) == write, "{servers:?}");
+}
+
+/// A server has this many votes.
+fn has_votes(rt: &impl Abort, votes: &Votes, server: u8, own: u8) {
+    assert!(rt; votes.votes_at(server) == own, "{server}");
+    assert!(rt; votes.is_voting_member(server) == (own > 0), "{server}");
+}
+
+#[test]
+fn a_quorum_is_by_votes_and_not_by_members(rt: HostRuntime) {
+    let votes = votes(&rt, &[(3, 0), (0, 2), (1, 1), (2, 1)], 2, 3);
+    collects(&rt, &votes, &[], 0, false, false);
+    collects(&rt, &votes, &[3, 9], 0, false, false);
+    collects(&rt, &votes, &[1], 1, false, false);
+    collects(&rt, &votes, &[1, 3], 1, false, false);
+    collects(&rt, &votes, &[0], 2, true, false);
+    collects(&rt, &votes, &[1, 2], 2, true, false);
+    collects(&rt, &votes, &[0, 2], 3, true, true);
+    collects(&rt, &votes, &[1, 2, 3], 2, true, false);
+    collects(&rt, &votes, &[0, 1, 2, 3, 15], 4, true, true);
+    has_votes(&rt, &votes, 0, 2);
+    has_votes(&rt, &votes, 1, 1);
+    has_votes(&rt, &votes, 2, 1);
+    has_votes(&rt, &votes, 3, 0);
+    has_votes(&rt, &votes, 4, 0);
+    has_votes(&rt, &votes, 200, 0);
 }
 
 /// The set of the servers below 4 whose bits are set.
@@ -114,31 +130,34 @@ fn set_of_bits(bits: u8) -> ServerSet {
     set
 }
 
-#[test]
-fn quorums_meet_in_a_voting_member(rt: HostRuntime) -> Result<(), Fail> {
-    let assignments: [(&[(u8, u8)], u16, u16); 4] = [
-        (&[(0, 2), (1, 1), (2, 1)], 2, 3),
-        (&[(0, 1), (1, 0), (2, 0)], 1, 1),
-        (&[(0, 1), (1, 1), (2, 1), (3, 1)], 2, 3),
-        (&[(3, 0), (2, 5), (1, 3), (0, 3)], 4, 8),
-    ];
-    for (reps, r, w) in assignments {
-        let votes = Votes::new(4, reps, r, w)?;
-        votes.reads_meet_writes();
-        votes.writes_meet();
-        for first in 0..16 {
-            for second in 0..16 {
-                let (a, b) = (set_of_bits(first), set_of_bits(second));
-                let shared = (0..4).any(|s| a.contains(s)
-                    && b.contains(s)
-                    && votes.is_voting_member(s));
-                let quorums = votes.is_write(&b) && (votes.is_read(&a) || votes.is_write(&a));
-                assert!(rt;
-                    shared || !quorums,
-                    "{reps:?}: {first:04b} and {second:04b}"
-                );
-            }
+/// Whether two sets share a server that has a vote.
+fn share(votes: &Votes, a: &ServerSet, b: &ServerSet) -> bool {
+    (0..4).any(|s| a.contains(s) && b.contains(s) && votes.is_voting_member(s))
+}
+
+/// A write quorum shares a server that has a vote with a read and with a write quorum.
+fn meet_in(rt: &impl Abort, votes: &Votes, first: u8, second: u8) {
+    let (a, b) = (set_of_bits(first), set_of_bits(second));
+    let quorums = votes.is_write(&b) && (votes.is_read(&a) || votes.is_write(&a));
+    assert!(rt; share(votes, &a, &b) || !quorums, "{first:04b} and {second:04b}");
+}
+
+/// All quorums of these votes meet, by the two laws and by trying all.
+fn all_meet(rt: &impl Abort, votes: &Votes) {
+    votes.reads_meet_writes();
+    votes.writes_meet();
+    for first in 0..16 {
+        for second in 0..16 {
+            meet_in(rt, votes, first, second);
         }
     }
-    Ok(())
+}
+
+#[test]
+fn quorums_meet_in_a_voting_member(rt: HostRuntime) {
+    let four = [(0, 1), (1, 1), (2, 1), (3, 1)];
+    all_meet(&rt, &votes(&rt, &TWO_AT_0, 2, 3));
+    all_meet(&rt, &votes(&rt, &[(0, 1), (1, 0), (2, 0)], 1, 1));
+    all_meet(&rt, &votes(&rt, &four, 2, 3));
+    all_meet(&rt, &votes(&rt, &[(3, 0), (2, 5), (1, 3), (0, 3)], 4, 8));
 }
