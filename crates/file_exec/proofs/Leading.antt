@@ -1,0 +1,175 @@
+-- The changes lead from the rows before to the rows after.
+use Rattle.std.proofs.Common.{◌≡◌, ℕ, Bool, true, false, cond, List, [], ◌∷◌, Option, Some, None, Result, Ok, refl, sym, ap, subst, ◌∙◌}
+use Rattle.std.specs.Prelude.{◌==◌, ◌&&◌, ◌||◌, option_map}
+use Rattle.suite_content.specs.declared.content.Content.{Content}
+use Rattle.std.specs.List.{list_all}
+use Rattle.std.specs.Cmp.{unsigned_tied}
+use Rattle.std.specs.Ordering.{nat_cmp}
+use Rattle.std.proofs.lemmas.Bool.{eqb-true}
+use Rattle.std.proofs.lemmas.Option.{same_Some}
+use Rattle.std.proofs.lemmas.Cmp.{nat_cmp_total}
+use Rattle.sorted_map.specs.Laws.{get-insert}
+use Rattle.sorted_map.specs.SortedMap.{get}
+use Rattle.suite_prefix.specs.declared.lock_mode.LockMode.TheVariants.{Exclusive}
+use Rattle.file_ops.specs.Rows.{Row, Rows, row_of, with_content}
+use Rattle.file_exec.specs.declared.changes.Change.{Change}
+use Rattle.file_exec.specs.declared.known.KnownSuite.{KnownSuite}
+use Rattle.file_exec.specs.declared.log.Edit.{Edit}
+use Rattle.file_exec.specs.declared.log.Edit.TheVariants.{SetAcl, SetVotes, SetContent, Make}
+use Rattle.file_exec.specs.Changes.{touches, makes, sets_acl, sets_votes, some, change_of, changes_at, changes_of, with_change}
+use Rattle.file_exec.specs.Following.{Edits, changed, seen, sets_content, is_set, emptied, head, content_in, with_edits}
+use Rattle.file_exec.specs.Known.{Known, known_of, row_in, known_rows, is_held, is_held_for, IsSoAt, AgreesWith}
+use Rattle.file_exec.specs.Laws.{Tells, TellsAt, ChangesBySuite, ChangesLeadOn}
+use Rattle.file_exec.proofs.Alike.{head_seen, content_seen, held_head}
+use Rattle.file_exec.proofs.OnTable.{row_of-with_edits}
+use Rattle.file_exec.proofs.Unmet.{sets_what_is_held}
+
+abbrev if_touched : Bool → Option Change → Option Change
+if_touched true change = change
+if_touched false change = None
+
+-- what is found among the changes
+abbrev Found : (ℕ → Option Change) → Edits → ℕ → Bool → Option Change → Type 0
+Found change edits suite b found = found ≡ if_touched (b || touches edits suite) (change suite)
+
+found : (change : ℕ → Option Change) (edits : Edits) (suite : ℕ) → get nat_cmp (changes_at change edits) suite ≡ if_touched (touches edits suite) (change suite)
+found change [] suite = refl
+found change (e ∷ edits) suite = of (change e.0) refl (found change edits suite)
+  where
+    absent : (b : Bool) (change : Option Change) → change ≡ None → if_touched b change ≡ change
+    absent true change is = refl
+    absent false change is = sym is
+
+    here : (b : Bool) (made : Change) → (e.0 == suite) ≡ b → change e.0 ≡ Some made → Found change edits suite false (get nat_cmp (changes_at change edits) suite) → Found change edits suite b (cond b (Some made) (get nat_cmp (changes_at change edits) suite))
+    here true made is was rest = sym was ∙ ap change (eqb-true e.0 suite is)
+    here false made is was rest = rest
+
+    none : (b : Bool) → (e.0 == suite) ≡ b → change e.0 ≡ None → Found change edits suite false (get nat_cmp (changes_at change edits) suite) → Found change edits suite b (get nat_cmp (changes_at change edits) suite)
+    none true is was rest = rest ∙ absent (touches edits suite) (change suite) (sym (ap change (eqb-true e.0 suite is)) ∙ was)
+    none false is was rest = rest
+
+    of : (made : Option Change) → change e.0 ≡ made → Found change edits suite false (get nat_cmp (changes_at change edits) suite) → Found change edits suite (e.0 == suite) (get nat_cmp (with_change e.0 made (changes_at change edits)) suite)
+    of (Some made) was rest =
+        get-insert nat_cmp_total (changes_at change edits) e.0 made suite
+        ∙ ap (λ b. cond b (Some made) (get nat_cmp (changes_at change edits) suite)) (unsigned_tied e.0 suite)
+        ∙ here (e.0 == suite) made refl was rest
+    of None was rest = none (e.0 == suite) refl was rest
+
+-- what is not touched stays
+untouched : (edits : Edits) (suite : ℕ) (row : Option Row) → touches edits suite ≡ false → seen edits suite row ≡ row
+untouched [] suite row is = refl
+untouched (e ∷ edits) suite row is =
+    elim (e.0 == suite) as (λ b. (b || touches edits suite) ≡ false → cond b (changed e.1 (seen edits suite row)) (seen edits suite row) ≡ row) [
+      | true ↦ λ is. cc
+      | false ↦ λ is. untouched edits suite row is
+    ] is
+
+-- a suite that is touched is held
+touched_held : (known : Known) (edits : Edits) (suite : ℕ) → list_all (is_held_for known) edits ≡ true → touches edits suite ≡ true → is_held Exclusive (known_of known suite) ≡ true
+touched_held known [] suite held touched = cc
+touched_held known (e ∷ edits) suite held touched =
+    elim (e.0 == suite) as (λ b. (e.0 == suite) ≡ b → (b || touches edits suite) ≡ true → is_held Exclusive (known_of known suite) ≡ true) [
+      | true ↦ λ is _. ap (λ suite. is_held Exclusive (known_of known suite)) (sym (eqb-true e.0 suite is)) ∙ first (is_held Exclusive (known_of known e.0)) held
+      | false ↦ λ _ touched. touched_held known edits suite (rest (is_held Exclusive (known_of known e.0)) held) touched
+    ] refl touched
+  where
+    first : (a : Bool) → (a && list_all (is_held_for known) edits) ≡ true → a ≡ true
+    first true is = refl
+    first false is = is
+
+    rest : (a : Bool) → (a && list_all (is_held_for known) edits) ≡ true → list_all (is_held_for known) edits ≡ true
+    rest true is = is
+    rest false is = cc
+
+-- a content that no edit sets stays, and no row goes
+stays : (edits : Edits) (suite : ℕ) (row : Row) → is_set edits suite ≡ false → content_in (seen edits suite (Some row)) ≡ row.content
+stays [] suite row is = refl
+stays (e ∷ edits) suite row is =
+    elim (e.0 == suite) as (λ b. ((b && sets_content e.1) || is_set edits suite) ≡ false → content_in (cond b (changed e.1 (seen edits suite (Some row))) (seen edits suite (Some row))) ≡ row.content) [
+      | true ↦ λ is. of e.1 (seen edits suite (Some row)) is (stays edits suite row)
+      | false ↦ λ is. stays edits suite row is
+    ] is
+  where
+    of : (edit : Edit) (now : Option Row) → (sets_content edit || is_set edits suite) ≡ false → (is_set edits suite ≡ false → content_in now ≡ row.content) → content_in (changed edit now) ≡ row.content
+    of (SetAcl acl) (Some now) is same = same is
+    of (SetAcl acl) None is same = same is
+    of (SetVotes votes) (Some now) is same = same is
+    of (SetVotes votes) None is same = same is
+    of (SetContent content) now is same = cc
+    of (Make made) now is same = cc
+
+still_none : (edits : Edits) (suite : ℕ) → is_set edits suite ≡ false → seen edits suite None ≡ None
+still_none [] suite is = refl
+still_none (e ∷ edits) suite is =
+    elim (e.0 == suite) as (λ b. ((b && sets_content e.1) || is_set edits suite) ≡ false → cond b (changed e.1 (seen edits suite None)) (seen edits suite None) ≡ None) [
+      | true ↦ λ is. of e.1 (seen edits suite None) is (still_none edits suite)
+      | false ↦ λ is. still_none edits suite is
+    ] is
+  where
+    of : (edit : Edit) (now : Option Row) → (sets_content edit || is_set edits suite) ≡ false → (is_set edits suite ≡ false → now ≡ None) → changed edit now ≡ None
+    of (SetAcl acl) now is none = ap (changed (SetAcl acl)) (none is)
+    of (SetVotes votes) now is none = ap (changed (SetVotes votes)) (none is)
+    of (SetContent content) now is none = cc
+    of (Make made) now is none = cc
+
+content_stays : (edits : Edits) (suite : ℕ) (row : Option Row) → is_set edits suite ≡ false → content_in row ≡ content_in (seen edits suite row)
+content_stays edits suite (Some row) is = sym (stays edits suite row is)
+content_stays edits suite None is = sym (ap content_in (still_none edits suite is))
+
+-- no edit takes a row away
+none_before : (edits : Edits) (suite : ℕ) (row : Option Row) → seen edits suite row ≡ None → row ≡ None
+none_before [] suite row is = is
+none_before (e ∷ edits) suite row is =
+    elim (e.0 == suite) as (λ b. cond b (changed e.1 (seen edits suite row)) (seen edits suite row) ≡ None → row ≡ None) [
+      | true ↦ λ is. none_before edits suite row (of e.1 (seen edits suite row) is)
+      | false ↦ λ is. none_before edits suite row is
+    ] is
+  where
+    of : (edit : Edit) (now : Option Row) → changed edit now ≡ None → now ≡ None
+    of edit None is = refl
+    of (SetAcl acl) (Some now) is = cc
+    of (SetVotes votes) (Some now) is = cc
+    of (SetContent content) (Some now) is = cc
+    of (Make made) (Some now) is = cc
+
+-- a row is what it is without its content, and its content
+same_rows : (a b : Option Row) → head a ≡ head b → content_in a ≡ content_in b → a ≡ b
+same_rows None None heads contents = refl
+same_rows None (Some b) heads contents = cc
+same_rows (Some a) None heads contents = cc
+same_rows (Some a) (Some b) heads contents =
+    ap (λ (row : Row). Some (with_content row a.content)) (same_Some (emptied a) (emptied b) heads)
+    ∙ ap (λ content. Some (with_content (emptied b) content)) contents
+
+none_alike : (row : Option Row) → None ≡ head row → row ≡ None
+none_alike None is = refl
+none_alike (Some row) is = cc
+
+pub changes_lead_on : ChangesLeadOn
+changes_lead_on service known rows t caller ops ended suite agrees is =
+    subst (λ change. TellsAt change (row_of rows suite) (row_of (with_edits rows ended.edits) suite)) (sym (found (change_of known ended.edits) ended.edits suite))
+    (subst (λ after. TellsAt (if_touched (touches ended.edits suite) (change_of known ended.edits suite)) (row_of rows suite) after) (sym (row_of-with_edits rows ended.edits suite))
+    (by_touch (touches ended.edits suite) refl))
+  where
+    of_row : head (known_rows known suite) ≡ head (row_of rows suite) → (now : Option Row) → seen ended.edits suite (known_rows known suite) ≡ now
+        → TellsAt (option_map (λ row. record { made = some makes ended.edits suite; acl = some sets_acl ended.edits suite; votes = some sets_votes ended.edits suite; content = is_set ended.edits suite; row = row }) now) (row_of rows suite) (seen ended.edits suite (row_of rows suite))
+    of_row heads (Some row) was = record {
+      row = ap head (sym was) ∙ head_seen ended.edits suite (known_rows known suite) (row_of rows suite) heads;
+      content = λ set. sym was ∙ same_rows (seen ended.edits suite (known_rows known suite)) (seen ended.edits suite (row_of rows suite)) (head_seen ended.edits suite (known_rows known suite) (row_of rows suite) heads) (content_seen ended.edits suite (known_rows known suite) (row_of rows suite) heads set);
+      stays = content_stays ended.edits suite (row_of rows suite);
+    }
+    of_row heads None was =
+        none_alike (seen ended.edits suite (row_of rows suite)) (ap head (sym was) ∙ head_seen ended.edits suite (known_rows known suite) (row_of rows suite) heads)
+        ∙ sym (none_alike (row_of rows suite) (ap head (sym (none_before ended.edits suite (known_rows known suite) was)) ∙ heads))
+
+    by_touch : (b : Bool) → touches ended.edits suite ≡ b → TellsAt (if_touched b (change_of known ended.edits suite)) (row_of rows suite) (seen ended.edits suite (row_of rows suite))
+    by_touch false not = untouched ended.edits suite (row_of rows suite) not
+    by_touch true touched =
+        of_row (held_head Exclusive (known_of known suite) (row_of rows suite) (agrees suite) (touched_held known ended.edits suite (sets_what_is_held service known t caller ops ended is) touched)) (seen ended.edits suite (known_rows known suite)) refl
+
+pub changes_by_suite : ChangesBySuite
+changes_by_suite known edits suite = found (change_of known edits) edits suite ∙ same (touches edits suite)
+  where
+    same : (b : Bool) → if_touched b (change_of known edits suite) ≡ cond b (change_of known edits suite) None
+    same true = refl
+    same false = refl

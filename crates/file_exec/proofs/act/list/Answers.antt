@@ -1,0 +1,18 @@
+use Rattle.std.proofs.Common.{refl, sym}
+use Rattle.file_exec.proofs.Steps.{goes, stops, ruled, overruled}
+use Rattle.file_exec.proofs.act.list.Goals as goal
+
+pub returns-in_err-place : goal.returns-in_err-place
+returns-in_err-place c = stops _ c.in_err-place.ensures c.from_residual.ensures
+
+pub returns-in_err-permit : goal.returns-in_err-permit
+returns-in_err-permit c = goes _ c.in_ok-place.ensures (overruled _ (sym c.in_err-permit.ensures) c.from_residual-in_err-permit.ensures)
+
+pub returns-in_err-folder : goal.returns-in_err-folder
+returns-in_err-folder c = goes _ c.in_ok-place.ensures (ruled _ (sym c.in_ok-permit.ensures) (overruled _ (sym c.in_err-folder.ensures) c.from_residual-in_err-folder.ensures))
+
+pub returns-in_err-entries : goal.returns-in_err-entries
+returns-in_err-entries c = goes _ c.in_ok-place.ensures (ruled _ (sym c.in_ok-permit.ensures) (ruled _ (sym c.in_ok-folder.ensures) (stops _ c.in_err-entries.ensures c.from_residual-in_err-entries.ensures)))
+
+pub returns : goal.returns
+returns c = goes _ c.in_ok-place.ensures (ruled _ (sym c.in_ok-permit.ensures) (ruled _ (sym c.in_ok-folder.ensures) (goes _ c.in_ok-entries.ensures (rw c.in_ok-list.ensures (record { told = refl })))))

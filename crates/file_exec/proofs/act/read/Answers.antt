@@ -1,0 +1,18 @@
+use Rattle.std.proofs.Common.{refl, sym}
+use Rattle.file_exec.proofs.Steps.{goes, stops, ruled, overruled}
+use Rattle.file_exec.proofs.act.read.Goals as goal
+
+pub returns-in_err-place : goal.returns-in_err-place
+returns-in_err-place c = stops _ c.in_err-place.ensures c.from_residual.ensures
+
+pub returns-in_err-permit : goal.returns-in_err-permit
+returns-in_err-permit c = goes _ c.in_ok-place.ensures (overruled _ (sym c.in_err-permit.ensures) c.from_residual-in_err-permit.ensures)
+
+pub returns-in_err-file : goal.returns-in_err-file
+returns-in_err-file c = goes _ c.in_ok-place.ensures (ruled _ (sym c.in_ok-permit.ensures) (overruled _ (sym c.in_err-file.ensures) c.from_residual-in_err-file.ensures))
+
+pub returns-in_err-bytes : goal.returns-in_err-bytes
+returns-in_err-bytes c = goes _ c.in_ok-place.ensures (ruled _ (sym c.in_ok-permit.ensures) (ruled _ (sym c.in_ok-file.ensures) (stops _ c.in_err-bytes.ensures c.from_residual-in_err-bytes.ensures)))
+
+pub returns : goal.returns
+returns c = goes _ c.in_ok-place.ensures (ruled _ (sym c.in_ok-permit.ensures) (ruled _ (sym c.in_ok-file.ensures) (goes _ c.in_ok-bytes.ensures (record { told = refl }))))

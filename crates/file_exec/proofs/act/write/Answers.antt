@@ -1,0 +1,23 @@
+use Rattle.std.proofs.Common.{◌≡◌, refl, sym, ap}
+use Rattle.file_exec.proofs.Steps.{goes, stops, ruled, overruled, same_set, after_set, stopped_set}
+use Rattle.suite_content.specs.declared.content.Content.TheVariants.{Bytes}
+use Rattle.file_exec.specs.declared.log.Edit.TheVariants.{SetContent}
+use Rattle.file_exec.proofs.act.write.Goals as goal
+
+pub returns-in_err-fits : goal.returns-in_err-fits
+returns-in_err-fits c = overruled _ (sym c.in_err-fits.ensures) c.from_residual.ensures
+
+pub returns-in_err-place : goal.returns-in_err-place
+returns-in_err-place c = ruled _ (sym c.in_ok-fits.ensures) (stops _ c.in_err-place.ensures c.from_residual-in_err-place.ensures)
+
+pub returns-in_err-permit : goal.returns-in_err-permit
+returns-in_err-permit c = ruled _ (sym c.in_ok-fits.ensures) (goes _ c.in_ok-place.ensures (overruled _ (sym c.in_err-permit.ensures) c.from_residual-in_err-permit.ensures))
+
+pub returns-in_err-file : goal.returns-in_err-file
+returns-in_err-file c = ruled _ (sym c.in_ok-fits.ensures) (goes _ c.in_ok-place.ensures (ruled _ (sym c.in_ok-permit.ensures) (overruled _ (sym c.in_err-file.ensures) c.from_residual-in_err-file.ensures)))
+
+pub returns-in_err-set : goal.returns-in_err-set
+returns-in_err-set c = let copied : c.in_ok-bytes.bytes ≡ c.args.bytes.now = c.in_ok-bytes.ensures.cases in ruled _ (sym c.in_ok-fits.ensures) (goes _ c.in_ok-place.ensures (ruled _ (sym c.in_ok-permit.ensures) (ruled _ (sym c.in_ok-file.ensures) (stopped_set (same_set (ap (λ x. SetContent (Bytes x)) copied) c.in_err-set.ensures) c.from_residual-in_err-set.ensures))))
+
+pub returns : goal.returns
+returns c = let copied : c.in_ok-bytes.bytes ≡ c.args.bytes.now = c.in_ok-bytes.ensures.cases in ruled _ (sym c.in_ok-fits.ensures) (goes _ c.in_ok-place.ensures (ruled _ (sym c.in_ok-permit.ensures) (ruled _ (sym c.in_ok-file.ensures) (after_set (same_set (ap (λ x. SetContent (Bytes x)) copied) c.in_ok-set.ensures) (record { told = refl })))))

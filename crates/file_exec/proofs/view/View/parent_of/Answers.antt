@@ -1,0 +1,25 @@
+use Rattle.std.proofs.Common.{◌≡◌, refl, sym, ap, ◌∙◌}
+use Rattle.acl_core.specs.Identity.{Identity}
+use Rattle.acl_core.specs.declared.perms.Perms.{Perms}
+use Rattle.file_ops.specs.Walks.{Place, permit, to_change}
+use Rattle.file_exec.specs.Overlay.{seen_place}
+use Rattle.file_exec.proofs.Steps.{goes, stops, ruled, overruled}
+use Rattle.file_exec.proofs.view.View.parent_of.Goals as goal
+
+wanted : (caller : Identity) (place : Place) {perms : Perms} → perms ≡ to_change → permit caller place to_change ≡ permit caller place perms
+wanted caller place is = ap (λ wanted. permit caller place wanted) (sym is)
+
+pub returns-in_err-place : goal.returns-in_err-place
+returns-in_err-place c = stops _ c.in_err-place.ensures c.from_residual.ensures
+
+pub returns-in_err-folder : goal.returns-in_err-folder
+returns-in_err-folder c = goes _ c.in_ok-place.ensures (overruled _ (sym c.in_err-folder.ensures) c.from_residual-in_err-folder.ensures)
+
+pub returns-in_err-permit : goal.returns-in_err-permit
+returns-in_err-permit c = goes _ c.in_ok-place.ensures (ruled _ (sym c.in_ok-folder.ensures) (overruled _ (wanted c.args.caller.now (seen_place c.in_ok-place.place) c.to_change.ensures ∙ sym c.in_err-permit.ensures) c.from_residual-in_err-permit.ensures))
+
+pub returns-in_err-names : goal.returns-in_err-names
+returns-in_err-names c = goes _ c.in_ok-place.ensures (ruled _ (sym c.in_ok-folder.ensures) (ruled _ (wanted c.args.caller.now (seen_place c.in_ok-place.place) c.to_change.ensures ∙ sym c.in_ok-permit.ensures) (stops _ c.in_err-names.ensures c.from_residual-in_err-names.ensures)))
+
+pub returns : goal.returns
+returns c = goes _ c.in_ok-place.ensures (ruled _ (sym c.in_ok-folder.ensures) (ruled _ (wanted c.args.caller.now (seen_place c.in_ok-place.place) c.to_change.ensures ∙ sym c.in_ok-permit.ensures) (goes _ c.in_ok-names.ensures (record { told = refl }))))

@@ -1,0 +1,325 @@
+//! The operations of a transaction on what is known.
+
+ghost use Rattle.std.specs.Prelude.{◌≡◌, ◌<◌, ◌^◌, nat_lt, nat_le, length, is_some, IfOk};
+ghost use Rattle.suite_content.specs.Folders.{number_of, with_name, without_name};
+ghost use Rattle.suite_content.specs.Limits.{longest_content, most_names};
+ghost use Rattle.file_ops.specs.declared.refusal.Why.TheVariants as why;
+ghost use Rattle.file_ops.specs.Operations.{refuse_if};
+ghost use Rattle.file_ops.specs.Steps.{found_or};
+ghost use Rattle.file_ops.specs.Rows.{new_row};
+ghost use Rattle.file_exec.specs.Courses.{set};
+ghost use Rattle.file_exec.specs.Operations.{bytes_read, names_listed, list_shown, votes_shown, bytes_written, list_set, votes_set, made, refuse_used, dropped, operation};
+ghost use Rattle.file_exec.specs.Overlay.{seen_head};
+ghost use Rattle.file_exec.specs.Steps.{Runs, Sees};
+
+use crate::known::Known;
+use crate::log::{Edit, Log};
+use crate::need::Need;
+use crate::row::KnownRow;
+use crate::seen::Seen;
+use crate::stop::Stop;
+use crate::view::View;
+use acl_core::{Acl, Caller, Perms};
+use file_ops::{Action, Answer, Init, Op, Path, Why, last_name, made_number};
+use std::alloc::{AllocError, Global};
+use suite_content::{Content, FileBytes, FolderNames, Kind, Name};
+use suite_prefix::LockMode;
+use vote_core::Votes;
+
+/// What the operations of a transaction share: memory, what is known, the transaction's number, and
+/// its caller.
+#[derive(Clone, Copy)]
+pub(crate) struct Transaction<'a> {
+    pub(crate) alloc: Global,
+    pub(crate) known: &'a Known,
+    pub(crate) t: u64,
+    pub(crate) caller: &'a Caller,
+}
+
+/// Whether a file may hold these bytes.
+fn fits(bytes: &FileBytes) -> Result<(), Why>
+    ensures { result ≡ refuse_if (nat_lt longest_content (length bytes.now)) why.TooLong }
+{
+    if bytes.is_too_long() {
+        return Err(Why::TooLong);
+    }
+    Ok(())
+}
+
+/// Whether a folder lacks a name.
+fn lacks(names: &FolderNames, name: &Name) -> Result<(), Why>
+    ensures { result ≡ refuse_if (is_some (number_of names.now name.now)) why.Exists }
+{
+    match names.get(name) {
+        Some(_) => Err(Why::Exists),
+        None => Ok(()),
+    }
+}
+
+/// Whether a folder may have one more name.
+fn has_room(names: &FolderNames) -> Result<(), Why>
+    ensures { result ≡ refuse_if (nat_le most_names (length names.now)) why.FolderFull }
+{
+    if names.is_full() {
+        return Err(Why::FolderFull);
+    }
+    Ok(())
+}
+
+/// The number of a name in a folder.
+fn number_in(names: &FolderNames, name: &Name) -> Result<u64, Why>
+    ensures { result ≡ found_or (number_of names.now name.now) why.NoName }
+{
+    match names.get(name) {
+        Some(number) => Ok(number),
+        None => Err(Why::NoName),
+    }
+}
+
+/// A folder's names with one more, in a copy where the names are shared.
+fn with_name(names: &FolderNames, name: &Name, number: u64) -> Result<FolderNames, AllocError>
+    ensures { IfOk result (λ folder. folder ≡ with_name names.now name.now number) }
+{
+    let mut folder = names.clone()?;
+    folder.insert(*name, number)?;
+    Ok(folder)
+}
+
+/// A folder's names without one, in a copy where the names are shared.
+fn without_name(names: &FolderNames, name: &Name) -> Result<FolderNames, AllocError>
+    ensures { IfOk result (λ folder. folder ≡ without_name names.now name.now) }
+{
+    let mut folder = names.clone()?;
+    folder.remove(name)?;
+    Ok(folder)
+}
+
+/// The bytes of a file.
+fn read(view: View<'_>, caller: &Caller, names: &[Name]) -> Result<Answer, Stop>
+    ensures { Sees (λ answer. answer) result view.entry (bytes_read caller.now names.now) }
+{
+    let place = view.reach(caller, names, LockMode::Shared)?;
+    place.permit(caller, Perms::READ)?;
+    place.file()?;
+    let bytes = view.bytes_at(place.suite)?;
+    Ok(Answer::Read(bytes))
+}
+
+/// The names of a folder.
+fn list(view: View<'_>, caller: &Caller, names: &[Name]) -> Result<Answer, Stop>
+    ensures { Sees (λ answer. answer) result view.entry (names_listed caller.now names.now) }
+{
+    let place = view.reach(caller, names, LockMode::Shared)?;
+    place.permit(caller, Perms::READ)?;
+    place.folder()?;
+    let entries = view.names_at(place.suite)?;
+    let list = entries.names()?;
+    Ok(Answer::List(list))
+}
+
+/// The access list of a file or folder.
+fn get_acl(view: View<'_>, caller: &Caller, names: &[Name]) -> Result<Answer, Stop>
+    ensures { Sees (λ answer. answer) result view.entry (list_shown caller.now names.now) }
+{
+    let place = view.shown(caller, names)?;
+    let acl = place.row.acl.clone()?;
+    Ok(Answer::Acl(acl))
+}
+
+/// The votes of a file or folder.
+fn get_votes(view: View<'_>, caller: &Caller, names: &[Name]) -> Result<Answer, Stop>
+    ensures { Sees (λ answer. answer) result view.entry (votes_shown caller.now names.now) }
+{
+    let place = view.shown(caller, names)?;
+    Ok(Answer::Votes(*place.row.votes))
+}
+
+/// Sets something of a suite, which is to be held exclusively.
+fn set(known: &Known, log: &mut Log, suite: u64, edit: Edit) -> Result<(), Stop>
+    ensures { Runs (λ done. done) result known.now.suites log.old log.new (set suite edit) }
+{
+    if !known.holds(suite, LockMode::Exclusive) {
+        return Err(Stop::Needs(Need::Hold(suite, LockMode::Exclusive)));
+    }
+    log.set(suite, edit)?;
+    Ok(())
+}
+
+/// Puts other bytes in a file.
+fn write(
+    known: &Known,
+    log: &mut Log,
+    caller: &Caller,
+    names: &[Name],
+    bytes: &FileBytes,
+) -> Result<Answer, Stop>
+    ensures { Runs (λ answer. answer) result known.now.suites log.old log.new (bytes_written caller.now names.now bytes.now) }
+{
+    fits(bytes)?;
+    let place = View { known, log }.reach(caller, names, LockMode::Exclusive)?;
+    place.permit(caller, Perms::WRITE)?;
+    place.file()?;
+    let suite = place.suite;
+    let bytes = bytes.clone()?;
+    set(known, log, suite, Edit::SetContent(Content::Bytes(bytes)))?;
+    Ok(Answer::Wrote)
+}
+
+/// Gives a file or folder another access list.
+fn set_acl(
+    known: &Known,
+    log: &mut Log,
+    caller: &Caller,
+    names: &[Name],
+    acl: &Acl,
+) -> Result<Answer, Stop>
+    ensures { Runs (λ answer. answer) result known.now.suites log.old log.new (list_set caller.now names.now acl.now) }
+{
+    let suite = View { known, log }.owned(caller, names)?.suite;
+    let acl = acl.clone()?;
+    set(known, log, suite, Edit::SetAcl(acl))?;
+    Ok(Answer::Set)
+}
+
+/// Gives a file or folder other votes. Its content is to be known: whoever gets a vote gets the whole
+/// copy.
+fn set_votes(
+    known: &Known,
+    log: &mut Log,
+    caller: &Caller,
+    names: &[Name],
+    given: &Votes,
+) -> Result<Answer, Stop>
+    ensures { Runs (λ answer. answer) result known.now.suites log.old log.new (votes_set known.now.service caller.now names.now given.now) }
+{
+    let service = known.service();
+    let votes = service.known_votes(given)?;
+    let view = View { known, log };
+    let suite = view.owned(caller, names)?.suite;
+    view.read(suite)?;
+    set(known, log, suite, Edit::SetVotes(votes))?;
+    Ok(Answer::Set)
+}
+
+/// Puts a name in a folder, for a new file or folder of this number.
+fn make(
+    transaction: Transaction<'_>,
+    log: &mut Log,
+    number: u64,
+    names: &[Name],
+    kind: Kind,
+    init: &Init,
+    given: &Option<Votes>,
+) -> Result<Answer, Stop>
+    ensures { Runs (λ answer. answer) result transaction.entry.known.now.suites log.old log.new (made transaction.entry.known.now.service number transaction.entry.caller.now names.now kind init.now given.now) }
+{
+    let Transaction {
+        alloc,
+        known,
+        caller,
+        ..
+    } = transaction;
+    let (name, folders) = last_name(names)?;
+    let service = known.service();
+    let votes = service.votes_of_new(given)?;
+    let view = View { known, log };
+    let parent = view.parent_of(caller, folders)?;
+    lacks(parent.names, name)?;
+    has_room(parent.names)?;
+    view.look(number, LockMode::Exclusive)?;
+    let folder = parent.place.suite;
+    let entries = with_name(parent.names, name, number)?;
+    let row = new_row(alloc, kind, init, votes, caller)?;
+    set(known, log, folder, Edit::SetContent(Content::Names(entries)))?;
+    set(known, log, number, Edit::Make(row))?;
+    Ok(Answer::Made(number))
+}
+
+/// The row of a new file or folder.
+fn new_row(
+    alloc: Global,
+    kind: Kind,
+    init: &Init,
+    votes: Votes,
+    caller: &Caller,
+) -> Result<KnownRow, AllocError>
+    ensures { IfOk result (λ row. row ≡ new_row kind init.now votes caller.now) }
+{
+    let acl = init.list(alloc)?;
+    Ok(KnownRow {
+        owner: caller.uid(),
+        group: caller.gid(),
+        acl,
+        votes,
+        content: Content::empty(alloc, kind),
+    })
+}
+
+/// Refuses to drop a folder that has names. Of anything else the content is not read.
+fn refuse_used(view: View<'_>, suite: u64, row: Option<Seen<'_>>) -> Result<(), Stop>
+    ensures { Sees (λ done. done) result view.entry (refuse_used suite (seen_head row.entry)) }
+{
+    let Some(row) = row else {
+        return Ok(());
+    };
+    if let Content::Bytes(_) = row.content {
+        return Ok(());
+    }
+    let content = view.read(suite)?;
+    match content {
+        Some(Content::Names(names)) if !names.is_empty() => Err(Stop::Refused(Why::NotEmpty)),
+        _ => Ok(()),
+    }
+}
+
+/// Takes a name out of a folder.
+fn drop(
+    known: &Known,
+    log: &mut Log,
+    caller: &Caller,
+    names: &[Name],
+) -> Result<Answer, Stop>
+    ensures { Runs (λ answer. answer) result known.now.suites log.old log.new (dropped caller.now names.now) }
+{
+    let (name, folders) = last_name(names)?;
+    let view = View { known, log };
+    let parent = view.parent_of(caller, folders)?;
+    let number = number_in(parent.names, name)?;
+    let row = view.look(number, LockMode::Shared)?;
+    refuse_used(view, number, row)?;
+    let folder = parent.place.suite;
+    let entries = without_name(parent.names, name)?;
+    set(known, log, folder, Edit::SetContent(Content::Names(entries)))?;
+    Ok(Answer::Dropped)
+}
+
+/// An operation of a transaction, at a place counted from 0.
+pub(crate) fn operate(
+    transaction: Transaction<'_>,
+    log: &mut Log,
+    at: u8,
+    op: &Op,
+) -> Result<Answer, Stop>
+    requires { transaction.t < 2 ^ 60 }
+    ensures { Runs (λ answer. answer) result transaction.entry.known.now.suites log.old log.new (operation transaction.entry.known.now.service transaction.entry.t at transaction.entry.caller.now op.now) }
+{
+    let path = Path::parse(op.path.as_bytes()).ok_or(Why::BadPath)?;
+    let names = path.names();
+    let Transaction {
+        known, t, caller, ..
+    } = transaction;
+    match &op.action {
+        Action::Read => read(View { known, log }, caller, names),
+        Action::List => list(View { known, log }, caller, names),
+        Action::GetAcl => get_acl(View { known, log }, caller, names),
+        Action::GetVotes => get_votes(View { known, log }, caller, names),
+        Action::Write(bytes) => write(known, log, caller, names, bytes),
+        Action::SetAcl(acl) => set_acl(known, log, caller, names, acl),
+        Action::SetVotes(votes) => set_votes(known, log, caller, names, votes),
+        Action::Drop => drop(known, log, caller, names),
+        Action::Make(kind, init, votes) => {
+            let number = made_number(t, at);
+            make(transaction, log, number, names, *kind, init, votes)
+        }
+    }
+}

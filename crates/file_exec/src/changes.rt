@@ -1,0 +1,105 @@
+//! What a transaction has set, suite by suite.
+
+ghost use Rattle.std.specs.Prelude.{◌≡◌, IfOk};
+ghost use Rattle.std.specs.Option.{option_copied};
+ghost use Rattle.file_exec.specs.Changes.{changes_at, change_of};
+
+use crate::known::Known;
+use crate::log::{Edit, Log, makes, seen, sets_acl, sets_content, sets_votes};
+use crate::row::KnownRow;
+use sorted_map::SortedMap;
+use std::alloc::{AllocError, Global};
+use std::marker::Model;
+
+/// What a transaction has set of a suite, also where it set an equal value: its access list, its votes,
+/// its content, or all of it, where it was made; and the row after it.
+#[derive(Drop)]
+pub struct Change {
+    pub made: bool,
+    pub acl: bool,
+    pub votes: bool,
+    pub content: bool,
+    pub row: KnownRow,
+}
+
+/// What a transaction has set of each suite, the suites rising.
+#[derive(Drop)]
+pub struct Changes {
+    changes: SortedMap<u64, Change>,
+}
+
+impl Model for Changes {
+    ghost use Rattle.std.specs.Prelude.{ℕ, List};
+    ghost use Rattle.file_exec.specs.declared.changes.Change.{Change};
+
+    ghost Value = { List (ℕ × Change) };
+
+    ghost view = { λ changes. changes.changes };
+}
+
+impl Changes {
+    ghost use Rattle.std.specs.Ordering.{nat_cmp};
+    ghost use Rattle.sorted_map.specs.SortedMap.{get, IsOrdered};
+    ghost use Rattle.file_exec.specs.Changes.{changes_of};
+
+    /// The changes that a log comes to.
+    pub(crate) fn of(alloc: Global, known: &Known, log: &Log) -> Result<Changes, AllocError>
+        ensures { IfOk result (λ changes. changes ≡ changes_of known.now.suites log.now) }
+    {
+        let changes = gather(alloc, known, log, log.as_slice())?;
+        Ok(Changes { changes })
+    }
+
+    /// What was set of a suite.
+    pub fn get(&self, suite: u64) -> Option<&Change>
+        ensures { option_copied result ≡ get nat_cmp self.now suite }
+    {
+        self.changes.get(&suite)
+    }
+
+    /// What was set, with the suites' numbers, which rise.
+    pub fn as_slice(&self) -> &[(u64, Change)]
+        ensures value { result.now ≡ self.now }
+        ensures ordered { IsOrdered nat_cmp self.now }
+    {
+        self.changes.as_slice()
+    }
+}
+
+/// The changes of the suites that these edits of the log are of.
+fn gather(
+    alloc: Global,
+    known: &Known,
+    log: &Log,
+    edits: &[(u64, Edit)],
+) -> Result<SortedMap<u64, Change>, AllocError>
+    ensures { IfOk result (λ changes. changes ≡ changes_at (change_of known.now.suites log.now) edits.now) }
+{
+    let Some(((suite, _), before)) = edits.split_first() else {
+        return Ok(SortedMap::new(alloc));
+    };
+    let mut changes = gather(alloc, known, log, before)?;
+    let change = change_of(known, log, *suite)?;
+    if let Some(change) = change {
+        changes.insert(*suite, change)?;
+    }
+    Ok(changes)
+}
+
+/// What was set of a suite, where it has a row.
+fn change_of(known: &Known, log: &Log, suite: u64) -> Result<Option<Change>, AllocError>
+    ensures { IfOk result (λ change. change ≡ change_of known.now.suites log.now suite) }
+{
+    let edits = log.as_slice();
+    let Some(row) = seen(edits, suite, known.row(suite)) else {
+        return Ok(None);
+    };
+    let row = row.own()?;
+    Ok(Some(Change {
+        made: makes(edits, suite),
+        acl: sets_acl(edits, suite),
+        votes: sets_votes(edits, suite),
+        content: sets_content(edits, suite),
+        row,
+    }))
+}

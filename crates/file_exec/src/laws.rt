@@ -1,0 +1,56 @@
+//! What holds of the executor.
+
+ghost use Rattle.file_exec.specs.Known.{GoesAsOnTheTable, IsTheTransaction, SetsWhatIsHeld, NeedsWhatIsUnmet};
+ghost use Rattle.file_exec.specs.Laws.{DoneIsTheTables, ChangesBySuite, ChangesLeadOn, MoreKnownChangesNothing, AMetNeedIsProgress};
+ghost use Rattle.file_exec.specs.Runs.{ExecRuns};
+
+/// A law: on what is known of any table the executor goes as on the table. It does nothing.
+pub fn goes_as_on_the_table()
+    ensures { GoesAsOnTheTable }
+{}
+
+/// A law: on a table the course of a transaction is the transaction. It does nothing.
+pub fn is_the_transaction()
+    ensures { IsTheTransaction }
+{}
+
+/// A law: where the executor is done, all that is set is held exclusively. It does nothing.
+pub fn sets_what_is_held()
+    ensures { SetsWhatIsHeld }
+{}
+
+/// A law: what the executor asks for is not known. It does nothing.
+pub fn needs_what_is_unmet()
+    ensures { NeedsWhatIsUnmet }
+{}
+
+/// A law: the executor runs the course of the transaction. It does nothing.
+pub fn exec_runs()
+    ensures { ExecRuns }
+{}
+
+/// A law: where the executor is done, the table's own transaction ends so. It does nothing.
+pub fn done_is_the_tables()
+    ensures { DoneIsTheTables }
+{}
+
+/// A law: what the changes have of a suite. It does nothing.
+pub fn changes_by_suite()
+    ensures { ChangesBySuite }
+{}
+
+/// A law: the changes that are answered lead from the table's rows to those after the transaction. It
+/// does nothing.
+pub fn changes_lead_on()
+    ensures { ChangesLeadOn }
+{}
+
+/// A law: knowing more changes nothing of what was done. It does nothing.
+pub fn more_known_changes_nothing()
+    ensures { MoreKnownChangesNothing }
+{}
+
+/// A law: each need that is met leaves fewer unmet. It does nothing.
+pub fn a_met_need_is_progress()
+    ensures { AMetNeedIsProgress }
+{}

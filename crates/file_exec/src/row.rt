@@ -1,0 +1,113 @@
+//! The row of a file or folder, as far as it is known.
+
+ghost use Rattle.std.specs.Prelude.{◌≡◌, IfOk};
+ghost use Rattle.file_ops.specs.Rows.{with_content};
+ghost use Rattle.file_exec.specs.Prefixes.{row_of_prefix};
+
+use acl_core::Acl;
+use std::alloc::{AllocError, Global};
+use std::marker::Model;
+use suite_content::{Content, Kind};
+use suite_prefix::{Prefix, PrefixKind};
+use vote_core::Votes;
+
+/// The row of a file or folder. A clone shares its list and its content. A content that is not known
+/// yet is the empty one of its kind.
+#[derive(Drop)]
+pub struct KnownRow {
+    pub(crate) owner: u32,
+    pub(crate) group: u32,
+    pub(crate) acl: Acl,
+    pub(crate) votes: Votes,
+    pub(crate) content: Content,
+}
+
+impl Model for KnownRow {
+    ghost use Rattle.file_ops.specs.Rows.{Row};
+
+    ghost Value = { Row };
+
+    ghost view = { λ row. record { owner = row.owner; group = row.group; acl = row.acl; votes = row.votes; content = row.content } };
+}
+
+impl Clone for KnownRow {
+    ghost is_clone = { λ row copy. copy ≡ row };
+
+    fn clone(&self) -> Result<KnownRow, AllocError> {
+        let acl = self.acl.clone()?;
+        let content = self.content.clone()?;
+        Ok(KnownRow {
+            owner: self.owner,
+            group: self.group,
+            acl,
+            votes: self.votes,
+            content,
+        })
+    }
+}
+
+impl KnownRow {
+    /// The row of a prefix, whose content is not known. What was never made has none.
+    pub(crate) fn from_prefix(
+        alloc: Global,
+        prefix: &Prefix,
+    ) -> Result<Option<KnownRow>, AllocError>
+        ensures { IfOk result (λ row. row ≡ row_of_prefix prefix.now) }
+    {
+        let kind = match prefix.kind {
+            PrefixKind::Absent => return Ok(None),
+            PrefixKind::File => Kind::File,
+            PrefixKind::Folder => Kind::Folder,
+        };
+        let acl = prefix.acl.clone()?;
+        Ok(Some(KnownRow {
+            owner: prefix.owner,
+            group: prefix.group,
+            acl,
+            votes: prefix.votes,
+            content: Content::empty(alloc, kind),
+        }))
+    }
+
+    /// Gives it this content.
+    pub(crate) fn set_content(&mut self, content: Content)
+        ensures { self.new ≡ with_content self.old content }
+    {
+        self.content = content;
+    }
+
+    /// Who owns it.
+    pub fn owner(&self) -> u32
+        ensures { result ≡ self.now.owner }
+    {
+        self.owner
+    }
+
+    /// Its group.
+    pub fn group(&self) -> u32
+        ensures { result ≡ self.now.group }
+    {
+        self.group
+    }
+
+    /// Its access list.
+    pub fn acl(&self) -> &Acl
+        ensures { result.now ≡ self.now.acl }
+    {
+        &self.acl
+    }
+
+    /// Its votes.
+    pub fn votes(&self) -> &Votes
+        ensures { result.now ≡ self.now.votes }
+    {
+        &self.votes
+    }
+
+    /// What it holds, as far as it is known.
+    pub fn content(&self) -> &Content
+        ensures { result.now ≡ self.now.content }
+    {
+        &self.content
+    }
+}

@@ -1,0 +1,226 @@
+//! The way to a file or a folder on what is known, and what a caller may do there.
+
+ghost use Rattle.std.specs.Prelude.{◌≡◌, []};
+ghost use Rattle.file_ops.specs.Rows.{root};
+ghost use Rattle.file_ops.specs.Steps.{ok_map};
+ghost use Rattle.file_ops.specs.Walks.{bytes_in, names_in, permit, permit_others, owner_only};
+ghost use Rattle.file_exec.specs.Courses.{look, read};
+ghost use Rattle.file_exec.specs.Operations.{held, bytes_at, names_at, step, walk, reach, shown, owned, parent_of};
+ghost use Rattle.file_exec.specs.Overlay.{seen_row, seen_head, seen_place, seen_parent, seen_content};
+ghost use Rattle.file_exec.specs.Steps.{Sees};
+
+use crate::known::Known;
+use crate::log::{Log, seen, sets_content};
+use crate::need::Need;
+use crate::seen::Seen;
+use crate::stop::Stop;
+use acl_core::{Caller, Perms};
+use file_ops::{Guarded, Why, to_change};
+use suite_content::{Content, FileBytes, FolderNames, Name};
+use suite_prefix::LockMode;
+
+/// The number of the root folder.
+const ROOT: u64 = 0;
+
+/// What a transaction sees on its way: what is known, with what it has set.
+#[derive(Clone, Copy)]
+pub(crate) struct View<'a> {
+    pub(crate) known: &'a Known,
+    pub(crate) log: &'a Log,
+}
+
+/// A suite with its row.
+#[derive(Clone, Copy)]
+pub(crate) struct Place<'a> {
+    pub(crate) suite: u64,
+    pub(crate) row: Seen<'a>,
+}
+
+/// A folder in which a name is to be put or dropped, with its names.
+#[derive(Clone, Copy)]
+pub(crate) struct Parent<'a> {
+    pub(crate) place: Place<'a>,
+    pub(crate) names: &'a FolderNames,
+}
+
+impl<'a> Place<'a> {
+    /// What the rules of permission look at.
+    fn guarded(self) -> Guarded<'a>
+        ensures suite { result.suite ≡ self.entry.suite }
+        ensures owner { result.owner ≡ self.entry.row.owner }
+        ensures group { result.group ≡ self.entry.row.group }
+        ensures acl { result.acl.now ≡ self.entry.row.acl.now }
+    {
+        Guarded {
+            suite: self.suite,
+            owner: self.row.owner,
+            group: self.row.group,
+            acl: self.row.acl,
+        }
+    }
+
+    /// Whether the caller has what it wants of it.
+    pub(crate) fn permit(self, caller: &Caller, wanted: Perms) -> Result<(), Why>
+        ensures { result ≡ permit caller.now (seen_place self.entry) wanted }
+    {
+        self.guarded().permit(caller, wanted)
+    }
+
+    /// The same, of whoever does not own it.
+    fn permit_others(self, caller: &Caller, wanted: Perms) -> Result<(), Why>
+        ensures { result ≡ permit_others caller.now (seen_place self.entry) wanted }
+    {
+        self.guarded().permit_others(caller, wanted)
+    }
+
+    /// Whether the caller owns it.
+    fn owner_only(self, caller: &Caller) -> Result<(), Why>
+        ensures { result ≡ owner_only caller.now (seen_place self.entry) }
+    {
+        self.guarded().owner_only(caller)
+    }
+
+    /// Whether it is a file.
+    pub(crate) fn file(self) -> Result<(), Why>
+        ensures { ok_map (λ _. []) result ≡ bytes_in (seen_place self.entry).row.content }
+    {
+        match self.row.content {
+            Content::Bytes(_) => Ok(()),
+            Content::Names(_) => Err(Why::IsFolder),
+        }
+    }
+
+    /// Whether it is a folder.
+    pub(crate) fn folder(self) -> Result<(), Why>
+        ensures { ok_map (λ _. []) result ≡ names_in (seen_place self.entry).row.content }
+    {
+        match self.row.content {
+            Content::Names(_) => Ok(()),
+            Content::Bytes(_) => Err(Why::NotFolder),
+        }
+    }
+}
+
+impl<'a> View<'a> {
+    /// The row of a suite, which is to be held in this mode.
+    pub(crate) fn look(self, suite: u64, mode: LockMode) -> Result<Option<Seen<'a>>, Stop>
+        ensures { Sees seen_head result self.entry (look suite mode) }
+    {
+        if !self.known.holds(suite, mode) {
+            return Err(Stop::Needs(Need::Hold(suite, mode)));
+        }
+        Ok(seen(self.log.as_slice(), suite, self.known.row(suite)))
+    }
+
+    /// The content of a suite, which is to be known, unless it was set.
+    pub(crate) fn read(self, suite: u64) -> Result<Option<&'a Content>, Stop>
+        ensures { Sees seen_content result self.entry (read suite) }
+    {
+        let edits = self.log.as_slice();
+        if !sets_content(edits, suite) && !self.known.is_open(suite) {
+            return Err(Stop::Needs(Need::Know(suite)));
+        }
+        Ok(seen(edits, suite, self.known.row(suite)).map(|row| row.content))
+    }
+
+    /// A suite with its row, which is to be held in this mode.
+    fn held(self, suite: u64, mode: LockMode) -> Result<Place<'a>, Stop>
+        ensures { Sees seen_place result self.entry (held suite mode) }
+    {
+        let row = self.look(suite, mode)?;
+        match row {
+            Some(row) => Ok(Place { suite, row }),
+            None => Err(Stop::Refused(Why::NoName)),
+        }
+    }
+
+    /// The bytes of a file, which shares them.
+    pub(crate) fn bytes_at(self, suite: u64) -> Result<FileBytes, Stop>
+        ensures { Sees (λ bytes. bytes) result self.entry (bytes_at suite) }
+    {
+        let content = self.read(suite)?;
+        match content {
+            Some(Content::Bytes(bytes)) => Ok(bytes.clone()?),
+            Some(Content::Names(_)) => Err(Stop::Refused(Why::IsFolder)),
+            None => Ok(FileBytes::empty()),
+        }
+    }
+
+    /// The names of a folder.
+    pub(crate) fn names_at(self, suite: u64) -> Result<&'a FolderNames, Stop>
+        ensures { Sees (λ names. names.now) result self.entry (names_at suite) }
+    {
+        let content = self.read(suite)?;
+        match content {
+            Some(Content::Names(names)) => Ok(names),
+            _ => Err(Stop::Refused(Why::NotFolder)),
+        }
+    }
+
+    /// One step of a walk: the suite of a name in a folder, which the caller must be let search.
+    fn step(self, caller: &Caller, suite: u64, name: &Name) -> Result<u64, Stop>
+        ensures { Sees (λ next. next) result self.entry (step caller.now suite name.now) }
+    {
+        let folder = self.held(suite, LockMode::Shared)?;
+        folder.folder()?;
+        folder.permit(caller, Perms::EXEC)?;
+        let names = self.names_at(suite)?;
+        match names.get(name) {
+            Some(next) => Ok(next),
+            None => Err(Stop::Refused(Why::NoName)),
+        }
+    }
+
+    /// The suite that names lead to from the root folder.
+    fn walk(self, caller: &Caller, names: &[Name]) -> Result<u64, Stop>
+        ensures { Sees (λ suite. suite) result self.entry (walk caller.now root names.now) }
+    {
+        let mut suite = ROOT;
+        for name in names {
+            suite = self.step(caller, suite, name)?;
+        }
+        Ok(suite)
+    }
+
+    /// The file or folder that names lead to from the root folder, which is to be held in this mode.
+    pub(crate) fn reach(
+        self,
+        caller: &Caller,
+        names: &[Name],
+        mode: LockMode,
+    ) -> Result<Place<'a>, Stop>
+        ensures { Sees seen_place result self.entry (reach caller.now names.now mode) }
+    {
+        let suite = self.walk(caller, names)?;
+        self.held(suite, mode)
+    }
+
+    /// The file or folder whose list and votes the caller may see.
+    pub(crate) fn shown(self, caller: &Caller, names: &[Name]) -> Result<Place<'a>, Stop>
+        ensures { Sees seen_place result self.entry (shown caller.now names.now) }
+    {
+        let place = self.reach(caller, names, LockMode::Shared)?;
+        place.permit_others(caller, Perms::READ)?;
+        Ok(place)
+    }
+
+    /// The file or folder whose list and votes the caller may change.
+    pub(crate) fn owned(self, caller: &Caller, names: &[Name]) -> Result<Place<'a>, Stop>
+        ensures { Sees seen_place result self.entry (owned caller.now names.now) }
+    {
+        let place = self.reach(caller, names, LockMode::Exclusive)?;
+        place.owner_only(caller)?;
+        Ok(place)
+    }
+
+    /// The folder that names lead to, which the caller must be let write and search.
+    pub(crate) fn parent_of(self, caller: &Caller, folders: &[Name]) -> Result<Parent<'a>, Stop>
+        ensures { Sees seen_parent result self.entry (parent_of caller.now folders.now) }
+    {
+        let place = self.reach(caller, folders, LockMode::Exclusive)?;
+        place.folder()?;
+        place.permit(caller, to_change())?;
+        let names = self.names_at(place.suite)?;
+        Ok(Parent { place, names })
+    }
+}
