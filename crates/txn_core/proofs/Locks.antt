@@ -33,7 +33,8 @@ use Rattle.txn_core.specs.Agents.{Agent, Event, Take, Forget, next_in, next_of, 
 use Rattle.txn_core.specs.Sweeps as sweep
 use Rattle.rep_core.specs.declared.request.Part.{Part}
 use Rattle.rep_core.specs.Fits.{is_prepared}
-use Rattle.file_exec.specs.Courses.{Ended, Edits, Hold, Know}
+use Rattle.file_exec.specs.declared.need.Need.TheVariants.{Hold, Know}
+use Rattle.file_exec.specs.Following.{Ended, Edits}
 use Rattle.file_exec.specs.Known.{Heard, Needs, Done}
 use Rattle.suite_collect.specs.declared.told.Said.TheVariants as said
 use Rattle.suite_collect.specs.declared.told.Told.{Told}

@@ -15,7 +15,8 @@ use Rattle.rep_core.specs.declared.request.Request.{Request}
 use Rattle.rep_core.specs.declared.reply.Verdict.{Verdict}
 use Rattle.rep_core.specs.declared.reply.Verdict.TheVariants as verdict
 use Rattle.rep_core.specs.declared.reply.Reply.{Reply}
-use Rattle.file_exec.specs.Courses.{Ended, Hold, Know}
+use Rattle.file_exec.specs.declared.need.Need.TheVariants.{Hold, Know}
+use Rattle.file_exec.specs.Following.{Ended}
 use Rattle.file_exec.specs.Known.{Heard, Needs, Done}
 use Rattle.suite_collect.specs.declared.told.Said.{Said}
 use Rattle.suite_collect.specs.Collecting.{Asked, Poll, Upgrade, request_for, Next, Ask, Current, Short, next}

@@ -27,8 +27,10 @@ use Rattle.rep_core.specs.declared.reply.Verdict.TheVariants as verdict
 use Rattle.rep_core.specs.declared.stamped.Lack.{Lack}
 use Rattle.rep_core.specs.Fits.{is_prepared}
 use Rattle.suite_prefix.specs.LockModes.{serves}
-use Rattle.file_exec.specs.Asking.{Edit, SetAcl, SetVotes, SetContent, Make}
-use Rattle.file_exec.specs.Courses.{Edits, changed, seen, Ended, Hold, Know}
+use Rattle.file_exec.specs.declared.log.Edit.{Edit}
+use Rattle.file_exec.specs.declared.log.Edit.TheVariants.{SetAcl, SetVotes, SetContent, Make}
+use Rattle.file_exec.specs.declared.need.Need.TheVariants.{Hold, Know}
+use Rattle.file_exec.specs.Following.{Edits, changed, seen, Ended}
 use Rattle.file_exec.specs.Known as known
 use Rattle.file_exec.specs.Known.{Known, Heard, Needs, Done, is_held_for}
 use Rattle.file_exec.proofs.Unmet.{sets_what_is_held}

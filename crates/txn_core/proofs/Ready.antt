@@ -20,7 +20,8 @@ use Rattle.txn_core.specs.Agents as agents
 use Rattle.txn_core.specs.Agents.{Agent, Event, Take, Forget, next_in, next_of, take_in, take, begin, started, forget, is_idle, has_sense, most_jobs, after_all}
 use Rattle.txn_core.specs.Sweeps as sweep
 use Rattle.rep_core.specs.Fits.{is_prepared}
-use Rattle.file_exec.specs.Courses.{Ended, Hold, Know}
+use Rattle.file_exec.specs.declared.need.Need.TheVariants.{Hold, Know}
+use Rattle.file_exec.specs.Following.{Ended}
 use Rattle.file_exec.specs.Known.{Heard, Needs, Done}
 use Rattle.suite_collect.specs.declared.told.Said.{Said}
 use Rattle.suite_collect.specs.Telling.{holds}

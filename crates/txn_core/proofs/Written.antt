@@ -4,7 +4,7 @@ use Rattle.std.proofs.lemmas.Bool.{false≢true}
 use Rattle.std.proofs.lemmas.Option.{same_Some}
 use Rattle.suite_collect.proofs.Finding.{Has, has_from}
 use Rattle.suite_collect.specs.Collecting.{Poll, Upgrade, Next, Ask, Current, Short, next}
-use Rattle.file_exec.specs.Courses.{Edits}
+use Rattle.file_exec.specs.Following.{Edits}
 use Rattle.rep_core.specs.Fits.{is_prepared}
 use Rattle.rep_core.specs.declared.request.Part.{Part}
 use Rattle.rep_core.specs.declared.request.Request.{Request}

@@ -9,7 +9,7 @@ use Rattle.rep_core.specs.declared.lock.Lock.{Lock}
 use Rattle.rep_core.specs.declared.reply.Reply.{Reply}
 use Rattle.rep_core.specs.declared.reply.Verdict.{Verdict}
 use Rattle.rep_core.specs.declared.stamped.Lack.{Lack}
-use Rattle.file_exec.specs.Courses.{Ended}
+use Rattle.file_exec.specs.Following.{Ended}
 use Rattle.txn_core.specs.declared.ending.Ending.{Ending}
 use Rattle.txn_core.specs.Cache.{Limits}
 use Rattle.txn_core.specs.Suites.{Suites}

@@ -14,7 +14,7 @@ use Rattle.rep_core.specs.declared.reply.Verdict.TheVariants as verdict
 use Rattle.rep_core.specs.declared.reply.Reply.TheVariants as reply
 use Rattle.rep_core.specs.Fits.{is_prepared, fits}
 use Rattle.rep_core.specs.declared.request.Decision.{Decision}
-use Rattle.file_exec.specs.Courses.{Edits}
+use Rattle.file_exec.specs.Following.{Edits}
 use Rattle.suite_collect.specs.declared.told.Said.{Said}
 use Rattle.suite_collect.specs.declared.told.Told.{Told}
 use Rattle.suite_collect.specs.Telling.{newest, holds}

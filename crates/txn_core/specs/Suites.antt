@@ -12,7 +12,8 @@ use Rattle.suite_prefix.specs.Copies.{held_by}
 use Rattle.file_ops.specs.Rows.{Row}
 use Rattle.suite_prefix.specs.declared.lock_mode.LockMode.{LockMode}
 use Rattle.suite_prefix.specs.declared.lock_mode.LockMode.TheVariants.{Shared, Exclusive}
-use Rattle.file_exec.specs.Known.{KnownRow, Known}
+use Rattle.file_exec.specs.declared.known.KnownSuite.{KnownSuite}
+use Rattle.file_exec.specs.Known.{Known}
 use Rattle.suite_collect.specs.Telling.{holds, shown}
 use Rattle.suite_collect.specs.Collecting.{Collector, all_told}
 
@@ -47,7 +48,7 @@ row_with kind.Absent prefix content = None
 row_with made prefix content =
     Some (record { owner = prefix.owner; group = prefix.group; acl = prefix.acl; votes = prefix.votes; content = unwrap_or content (empty_content (held_by made)) })
 
-abbrev pub known_row : Suite → First → KnownRow
+abbrev pub known_row : Suite → First → KnownSuite
 known_row suite first =
     record { mode = suite.mode; row = row_with first.prefix.kind first.prefix suite.content; opened = is_some suite.content }
 

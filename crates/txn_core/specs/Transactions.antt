@@ -22,7 +22,8 @@ use Rattle.rep_core.specs.declared.stamped.Lack.{Lack}
 use Rattle.rep_core.specs.declared.stamped.Lack.TheVariants as lack
 use Rattle.suite_prefix.specs.Absent.{absent_prefix}
 use Rattle.rep_core.specs.Fits.{is_prepared}
-use Rattle.file_exec.specs.Courses.{Ended, Edits, seen, Hold, Know}
+use Rattle.file_exec.specs.declared.need.Need.TheVariants.{Hold, Know}
+use Rattle.file_exec.specs.Following.{Ended, Edits, seen}
 use Rattle.file_exec.specs.Known.{Heard, Needs, Done, exec_of}
 use Rattle.suite_collect.specs.declared.told.Said.TheVariants as told
 use Rattle.suite_collect.specs.declared.told.Said.{Said}

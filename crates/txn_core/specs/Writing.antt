@@ -13,8 +13,9 @@ use Rattle.file_ops.specs.Rows.{Row}
 use Rattle.rep_core.specs.declared.request.Take.{Take}
 use Rattle.rep_core.specs.declared.request.Take.TheVariants as take
 use Rattle.rep_core.specs.declared.request.Part.{Part}
-use Rattle.file_exec.specs.Asking.{Edit, SetAcl, SetVotes, SetContent, Make}
-use Rattle.file_exec.specs.Courses.{Edits, seen, sets_content}
+use Rattle.file_exec.specs.declared.log.Edit.{Edit}
+use Rattle.file_exec.specs.declared.log.Edit.TheVariants.{SetAcl, SetVotes, SetContent, Make}
+use Rattle.file_exec.specs.Following.{Edits, seen, sets_content}
 use Rattle.txn_core.specs.Suites.{First, Suite, Suites, row_with, holds_lock, holds_exclusively, lock_mode}
 
 -- what edits set: of a suite, something of a kind
