@@ -1,0 +1,23 @@
+#!/usr/bin/env python3
+"""bench/cache.py
+
+Times one cache with 16, 256 and 4,096 entries of one byte: puts, of which each lets the oldest entry go, and looks for the
+oldest content, which is then the newest. The figure that counts is how the time of a call grows (the best of five runs).
+
+The program (bench/cache.rattle) is no crate of the repository: it is built in a scratch copy of it, by `rt run`.
+"""
+import scratch
+
+KINDS = ("put", "used")
+
+
+def main():
+    timed = scratch.runs("cache", "acl_core suite_content suite_prefix vote_core weak_cache", KINDS)
+    print(f"{'':10}{'entries':>10}{'us a call':>14}")
+    for line in timed:
+        kind, entries, calls = line[0][0], int(line[0][1]), int(line[0][2])
+        nanos = min(int(one[3]) for one in line) / calls
+        print(f"{kind:10}{entries:10}{nanos / 1000:14.3f}")
+
+
+main()

@@ -1,0 +1,5 @@
+pub mod Fewer
+pub mod Keeping
+pub mod Cuts
+pub mod Puts
+pub mod Found

@@ -1,0 +1,78 @@
+-- What a cache is after a put.
+use Rattle.std.proofs.Common.{◌≡◌, ℕ, ◌+◌, ◌-◌, ◌<◌, ◌≤◌, leb, ltb, Bool, true, false, cond, not, ◌&&◌, List, [], ◌∷◌, ◌++◌, length, refl, sym, ap, ◌∙◌, arith, length-append, eq-eqb}
+use Rattle.std.specs.Prelude.{◌==◌, filter}
+use Rattle.std.proofs.lemmas.Bool.{leb-true, ltb-true, eqb-true}
+use Rattle.weak_cache.specs.Entries.{Entry, Cache, size_of, sum_of, is_at, is_of, list_of, without}
+use Rattle.weak_cache.specs.Cache.{Limits, Limited, IsWithin, has_room, put, within_quota, within_budget}
+use Rattle.weak_cache.proofs.Fewer.{Fewer, fewer_filter, fewer_then, fewer_moved, within_fewer, sum_fewer, list_fewer, length_fewer, once_fewer}
+use Rattle.weak_cache.proofs.Keeping.{both, quota_fewer, quota_sum, budget_fewer, budget_sum}
+
+pub within_moved : (limits : Limits) (c moved newer : Cache) (e : Entry) (older : Cache) → c ≡ newer ++ e ∷ older → moved ≡ e ∷ newer ++ older → IsWithin (record { limits = limits; entries = c }) → IsWithin (record { limits = limits; entries = moved })
+within_moved limits c moved newer e older parts is h = within_fewer limits moved c h (rw (parts, is) (fewer_moved newer e older))
+
+-- what is kept beside a new entry
+abbrev pub beside : Limits → Entry → Cache → Cache
+beside limits entry c =
+    within_budget (limits.budget - size_of entry.content) (limits.slots - 1) (within_quota entry.site (limits.quota - size_of entry.content) (without entry.site entry.suite c))
+
+pub same_number : (n : ℕ) → (n == n) ≡ true
+same_number n = eq-eqb n n refl
+
+pub put_is : (limits : Limits) (e : Entry) (c : Cache) → has_room limits e.content ≡ true → put limits e c ≡ e ∷ beside limits e c
+put_is limits e c room =
+    let a = both (leb (size_of e.content) limits.budget && leb (size_of e.content) limits.quota) (ltb 0 limits.slots) room in
+    let b = both (leb (size_of e.content) limits.budget) (leb (size_of e.content) limits.quota) a.0 in
+    rw (room, same_number e.site, b.1, b.0, a.1) refl
+
+pub put_none : (limits : Limits) (e : Entry) (c : Cache) → has_room limits e.content ≡ false → put limits e c ≡ without e.site e.suite c
+put_none limits e c room = rw room refl
+
+beside_fewer : (limits : Limits) (e : Entry) (c : Cache) → Fewer (beside limits e c) (without e.site e.suite c)
+beside_fewer limits e c =
+    let w = without e.site e.suite c in
+    let q = within_quota e.site (limits.quota - size_of e.content) w in
+    fewer_then (beside limits e c) q w (budget_fewer (limits.budget - size_of e.content) (limits.slots - 1) q) (quota_fewer e.site (limits.quota - size_of e.content) w)
+
+-- nothing of the key is left
+none_of_key : (site suite : ℕ) (c : Cache) → filter (is_of site suite) (without site suite c) ≡ []
+none_of_key site suite [] = refl
+none_of_key site suite (e ∷ c) =
+    elim (is_of site suite e) as (λ t. is_of site suite e ≡ t → filter (is_of site suite) (cond (not t) (e ∷ without site suite c) (without site suite c)) ≡ []) [
+      | true ↦ λ _. none_of_key site suite c
+      | false ↦ λ other. rw other (none_of_key site suite c)
+    ] refl
+
+pub within_put : (limits : Limits) (e : Entry) (c : Cache) → has_room limits e.content ≡ true → IsWithin (record { limits = limits; entries = c }) → IsWithin (record { limits = limits; entries = e ∷ beside limits e c })
+within_put limits e c room h =
+    let a = both (leb (size_of e.content) limits.budget && leb (size_of e.content) limits.quota) (ltb 0 limits.slots) room in
+    let b = both (leb (size_of e.content) limits.budget) (leb (size_of e.content) limits.quota) a.0 in
+    let x = beside limits e c in
+    let w = without e.site e.suite c in
+    let q = within_quota e.site (limits.quota - size_of e.content) w in
+    let few : Fewer x w = beside_fewer limits e c in
+    let fewer : Fewer x c = fewer_then x w c few (fewer_filter (λ entry. not (is_of e.site e.suite entry)) c) in
+    let sums = budget_sum (limits.budget - size_of e.content) (limits.slots - 1) q in
+    record {
+      budget = omega (arith, sums.0, leb-true (size_of e.content) limits.budget b.0);
+      quota = λ site. elim (is_at site e) as (λ t. is_at site e ≡ t → sum_of (cond t (e ∷ list_of site x) (list_of site x)) ≤ limits.quota) [
+        | true ↦ λ own.
+            let own_sum : sum_of (list_of e.site x) ≤ limits.quota - size_of e.content =
+            omega (arith, list_fewer e.site x q (budget_fewer (limits.budget - size_of e.content) (limits.slots - 1) q), quota_sum e.site (limits.quota - size_of e.content) w) in
+            let same : e.site ≡ site = eqb-true e.site site own in
+            omega (arith, own_sum, leb-true (size_of e.content) limits.quota b.1, ap (λ s. sum_of (list_of s x)) same)
+        | false ↦ λ _. omega (arith, h.quota site, list_fewer site x c fewer)
+      ] refl;
+      slots = omega (arith, sums.1, ltb-true 0 limits.slots a.1);
+      once = λ site suite. elim (is_of site suite e) as (λ t. is_of site suite e ≡ t → length (cond t (e ∷ filter (is_of site suite) x) (filter (is_of site suite) x)) ≤ 1) [
+        | true ↦ λ own.
+            let key = both (e.site == site) (e.suite == suite) own in
+            let none : length (filter (is_of e.site e.suite) x) ≤ 0 = omega (arith, once_fewer e.site e.suite x w few, ap length (none_of_key e.site e.suite c)) in
+            omega (arith, none, ap (λ s. length (filter (is_of s e.suite) x)) (eqb-true e.site site key.0), ap (λ s. length (filter (is_of site s) x)) (eqb-true e.suite suite key.1))
+        | false ↦ λ _. omega (arith, h.once site suite, once_fewer site suite x c fewer)
+      ] refl;
+    }
+
+-- the steps of a put
+pub put_steps : (limits : Limits) (e : Entry) (c left quota budget all : Cache) (size : ℕ) → size ≡ size_of e.content → left ≡ without e.site e.suite c → quota ≡ within_quota e.site (limits.quota - size) left
+    → budget ≡ within_budget (limits.budget - size) (limits.slots - 1) quota → all ≡ e ∷ budget → all ≡ e ∷ beside limits e c
+put_steps limits e c left quota budget all size s l q b a = rw (a, b, q, l, s) refl

@@ -1,0 +1,119 @@
+//! An entry of a cache, with its size.
+
+ghost use Rattle.std.specs.Prelude.{◌≡◌, ◌==◌, ◌-◌, ◌≤◌, ◌<◌, length};
+ghost use Rattle.std.specs.Option.{SomeIff};
+ghost use Rattle.std.specs.List.{flat_map};
+ghost use Rattle.suite_prefix.specs.Bytes.{name_bytes};
+ghost use Rattle.weak_cache.specs.Entries.{size_of, is_at, is_of};
+
+use std::marker::Model;
+use suite_content::{Content, Name};
+use suite_prefix::Prefix;
+
+/// The bytes of the number of a folder's names.
+const COUNT_BYTES: usize = 2;
+
+/// The bytes of a name's length and of its suite's number.
+const NUMBER_BYTES: usize = 9;
+
+/// What a site keeps of a suite, with its size, so that a folder's names are not counted again.
+#[derive(Drop)]
+pub(crate) struct SizedEntry {
+    pub(crate) site: u8,
+    pub(crate) suite: u64,
+    pub(crate) prefix: Prefix,
+    pub(crate) dver: u64,
+    pub(crate) content: Content,
+    pub(crate) size: usize,
+}
+
+impl Model for SizedEntry {
+    ghost use Rattle.std.specs.Prelude.{◌≡◌};
+    ghost use Rattle.weak_cache.specs.Entries.{Entry, size_of};
+    ghost use Rattle.weak_cache.specs.EntryView.{entry_in};
+
+    ghost Value = { Entry };
+
+    ghost view = { entry_in };
+
+    ghost invariant = { λ fields. fields.size ≡ size_of fields.content };
+}
+
+impl SizedEntry {
+    /// Whether it is of this site.
+    pub(crate) fn is_at(&self, site: u8) -> bool
+        ensures { result ≡ is_at site self.now }
+    {
+        self.site == site
+    }
+
+    /// Whether it is of this site and this suite.
+    pub(crate) fn is_of(&self, site: u8, suite: u64) -> bool
+        ensures { result ≡ is_of site suite self.now }
+    {
+        self.site == site && self.suite == suite
+    }
+
+    /// Its site and its suite.
+    pub(crate) fn key(&self) -> (u8, u64)
+        ensures { result ≡ (self.now.site, self.now.suite) }
+    {
+        (self.site, self.suite)
+    }
+
+    /// Whether its content is of this version.
+    pub(crate) fn is_at_version(&self, dver: u64) -> bool
+        ensures { result ≡ (self.now.dver == dver) }
+    {
+        self.dver == dver
+    }
+
+    /// Its prefix.
+    pub(crate) fn prefix(&self) -> &Prefix
+        ensures { result.now ≡ self.now.prefix }
+    {
+        &self.prefix
+    }
+
+    /// Its content.
+    pub(crate) fn content(&self) -> &Content
+        ensures { result.now ≡ self.now.content }
+    {
+        &self.content
+    }
+
+    /// How many bytes its content takes.
+    pub(crate) fn size(&self) -> usize
+        ensures { result ≡ size_of self.now.content }
+    {
+        self.size
+    }
+}
+
+/// How many bytes a content takes, where it is no more than `most`.
+pub(crate) fn size_within(content: &Content, most: usize) -> Option<usize>
+    ensures { SomeIff result (size_of content.now ≤ most) (size_of content.now) }
+{
+    match content {
+        Content::Bytes(bytes) => {
+            let size = bytes.len();
+            (size <= most).then_some(size)
+        }
+        Content::Names(names) => {
+            let room = most.checked_sub(COUNT_BYTES)?;
+            let left = room_after(names.as_slice(), room)?;
+            Some(most - left)
+        }
+    }
+}
+
+/// What names leave of a room, if they have room there.
+fn room_after(names: &[(Name, u64)], room: usize) -> Option<usize>
+    ensures { SomeIff result (length (flat_map name_bytes names.now) ≤ room) (room - length (flat_map name_bytes names.now)) }
+{
+    let mut left = room;
+    for (name, _) in names {
+        left = left.checked_sub(name.as_bytes().len() + NUMBER_BYTES)?;
+    }
+    Some(left)
+}

@@ -1,0 +1,27 @@
+//! What the sites of an agent keep of files and folders: weak representatives, which have no votes.
+//!
+//! A [`WeakCache`] keeps for a site and a suite a prefix that the suite had, and the content that it had at
+//! a version; what was used last is let go last. A caller takes a prefix as a hint where to begin
+//! ([`WeakCache::hint`]), and a content only at the version that a read quorum told
+//! ([`WeakCache::content_at`]): so a cache saves the reading of contents, and decides nothing.
+//!
+//! In a contract a cache is its limits and the list of its entries, the newest first
+//! (`specs/Entries.antt`). What each call finds and leaves are functions of that list (`specs/Cache.antt`).
+//! All entries together are within the budget and the slots, those of a site within the quota, by the
+//! type ([`WeakCache::is_within`]). A content and a prefix are shared with whoever gave them: storing and
+//! lending copies none.
+//!
+//! What a caller owes: a site's number is below 16.
+#![tactic(auto)]
+
+mod cache;
+mod entry;
+mod laws;
+mod list;
+
+pub use cache::WeakCache;
+pub use laws::found_was_put;
+pub use list::Entries;
+
+#[cfg(test)]
+mod tests;

@@ -1,0 +1,210 @@
+//! The list of a cache's entries, the newest first. Nothing else knows that it is a vector.
+
+ghost use Rattle.std.specs.Prelude.{◌≡◌, ◌≤◌, ◌<◌, ◌+◌, ◌^◌, ◌⊎◌, ◌∷◌, ◌++◌, [], length, vec_len, vec_capacity, None, IfSome, IfNone, MatchOption, true, false};
+ghost use Rattle.std.specs.List.{position_from};
+ghost use Rattle.std.specs.Option.{option_copied};
+ghost use Rattle.weak_cache.specs.Entries.{Entry, Cache, is_of, sum_of, list_of, forgotten, entry_of, without, keys_of};
+ghost use Rattle.weak_cache.specs.Cache.{content_at, within_quota, within_budget};
+ghost use Rattle.weak_cache.specs.Places.{IsPlaceOf, IsLastOf, EvictsLast, EvictsLastOf};
+
+use crate::entry::SizedEntry;
+use std::marker::Model;
+
+/// The sites and suites of a cache's entries that are still to come, the newest first.
+#[derive(Drop)]
+pub struct Entries<'a> {
+    left: &'a [SizedEntry],
+}
+
+impl<'a> Model for Entries<'a> {
+    ghost use Rattle.std.specs.Prelude.{ℕ, List};
+    ghost use Rattle.weak_cache.specs.Entries.{keys_of};
+
+    ghost Value = { List (ℕ × ℕ) };
+
+    ghost view = { λ entries. keys_of entries.left.now };
+}
+
+impl<'a> Iterator for Entries<'a> {
+    type Item = (u8, u64);
+
+    ghost use Rattle.std.specs.Iterator.{YieldsFirst, item_count};
+
+    ghost next_gives = { YieldsFirst (λ entries. entries) };
+
+    ghost remaining = { item_count (λ entries. entries) };
+
+    fn next(&mut self) -> Option<(u8, u64)> {
+        let (first, rest) = self.left.split_first()?;
+        self.left = rest;
+        Some(first.key())
+    }
+}
+
+/// The sites and suites of entries.
+pub(crate) fn keys(entries: &[SizedEntry]) -> Entries<'_>
+    ensures { result ≡ keys_of entries.now }
+{
+    Entries { left: entries }
+}
+
+/// What a site keeps of a suite.
+pub(crate) fn find(entries: &[SizedEntry], site: u8, suite: u64) -> Option<&SizedEntry>
+    ensures { option_copied result ≡ entry_of entries.now site suite }
+{
+    entries.iter().find(|entry| entry.is_of(site, suite))
+}
+
+/// The place of what a site keeps of a suite, if it is of this version.
+pub(crate) fn place_at(entries: &[SizedEntry], site: u8, suite: u64, dver: u64) -> Option<usize>
+    ensures { MatchOption result (content_at entries.now site suite dver ≡ None) (IsPlaceOf site suite dver entries.now) }
+{
+    let at = place_of(entries, site, suite)?;
+    if !entries[at].is_at_version(dver) {
+        return None;
+    }
+    Some(at)
+}
+
+/// The place of what a site keeps of a suite.
+fn place_of(entries: &[SizedEntry], site: u8, suite: u64) -> Option<usize>
+    ensures place { result ≡ position_from (is_of site suite) 0 entries.now }
+    ensures within { IfSome result (λ at. at < length entries.now) }
+{
+    entries.iter().position(|entry| entry.is_of(site, suite))
+}
+
+/// Makes an entry the newest: those before it move back by one place.
+pub(crate) fn to_front(entries: &mut [SizedEntry], at: usize)
+    requires { at < length entries.old }
+    ensures { (newer : Cache) (entry : Entry) (older : Cache) → entries.old ≡ newer ++ entry ∷ older → at ≡ length newer → entries.new ≡ entry ∷ newer ++ older }
+{
+    let newest = &mut entries[..=at];
+    newest.rotate_right(1);
+}
+
+/// Lets go what a site keeps of a suite.
+pub(crate) fn remove(entries: &mut Vec<SizedEntry>, site: u8, suite: u64)
+    ensures items { entries.new.items ≡ without site suite entries.old.items }
+    ensures fewer { vec_len entries.new ≤ vec_len entries.old }
+    ensures capacity { vec_capacity entries.new ≡ vec_capacity entries.old }
+{
+    entries.retain(|entry| !entry.is_of(site, suite));
+}
+
+/// Lets go what a site keeps.
+pub(crate) fn forget(entries: &mut Vec<SizedEntry>, site: u8)
+    ensures { entries.new.items ≡ forgotten site entries.old.items }
+{
+    entries.retain(|entry| !entry.is_at(site));
+}
+
+/// Lets a site's oldest entries go until its others have this room together.
+pub(crate) fn keep_in_quota(entries: &mut Vec<SizedEntry>, site: u8, room: usize)
+    requires { sum_of (list_of site entries.old.items) < 2 ^ 64 }
+    ensures items { entries.new.items ≡ within_quota site room entries.old.items }
+    ensures fewer { vec_len entries.new ≤ vec_len entries.old }
+    ensures capacity { vec_capacity entries.new ≡ vec_capacity entries.old }
+{
+    let mut sum = sum_at(entries, site);
+    while sum > room {
+        let Some(size) = evict_oldest_of(entries, site) else {
+            return;
+        };
+        sum -= size;
+    }
+}
+
+/// Lets the oldest entries go until the others have this room together, and these slots.
+pub(crate) fn keep_in_budget(entries: &mut Vec<SizedEntry>, room: usize, slots: usize)
+    requires { sum_of entries.old.items < 2 ^ 64 }
+    ensures items { entries.new.items ≡ within_budget room slots entries.old.items }
+    ensures fewer { vec_len entries.new ≤ vec_len entries.old }
+    ensures capacity { vec_capacity entries.new ≡ vec_capacity entries.old }
+{
+    let mut sum = sum(entries);
+    while is_too_much(sum, room, entries.len(), slots) {
+        let Some(size) = evict_oldest(entries) else {
+            return;
+        };
+        sum -= size;
+    }
+}
+
+/// Makes an entry the newest, in room that there is.
+pub(crate) fn put_first(entries: &mut Vec<SizedEntry>, entry: SizedEntry)
+    requires { vec_len entries.old < vec_capacity entries.old }
+    ensures { entries.new.items ≡ entry ∷ entries.old.items }
+{
+    let _ = entries.insert(0, entry);
+}
+
+/// Whether so many bytes or so many entries are more than there may be.
+const fn is_too_much(sum: usize, room: usize, count: usize, slots: usize) -> bool
+    ensures above { result ≡ true → (room < sum) ⊎ (slots < count) }
+    ensures within { result ≡ false → (sum ≤ room) × (count ≤ slots) }
+{
+    sum > room || count > slots
+}
+
+/// Lets the oldest entry of all go, and answers its size.
+fn evict_oldest(entries: &mut Vec<SizedEntry>) -> Option<usize>
+    ensures evicted { IfSome result (EvictsLast entries.old.items entries.new.items) }
+    ensures none { IfNone result (entries.old.items ≡ []) }
+    ensures fewer { IfSome result (λ size. vec_len entries.new + 1 ≡ vec_len entries.old) }
+    ensures capacity { vec_capacity entries.new ≡ vec_capacity entries.old }
+{
+    let oldest = entries.pop()?;
+    Some(oldest.size())
+}
+
+/// Lets the oldest entry of a site go, and answers its size.
+fn evict_oldest_of(entries: &mut Vec<SizedEntry>, site: u8) -> Option<usize>
+    ensures evicted { IfSome result (EvictsLastOf site entries.old.items entries.new.items) }
+    ensures none { IfNone result (list_of site entries.old.items ≡ []) }
+    ensures fewer { IfSome result (λ size. vec_len entries.new + 1 ≡ vec_len entries.old) }
+    ensures capacity { vec_capacity entries.new ≡ vec_capacity entries.old }
+{
+    let at = last_of(entries, site)?;
+    Some(entries.remove(at).size())
+}
+
+/// The place of a site's oldest entry.
+fn last_of(entries: &[SizedEntry], site: u8) -> Option<usize>
+    ensures { MatchOption result (list_of site entries.now ≡ []) (IsLastOf site entries.now) }
+{
+    let mut at = entries.len();
+    while at > 0 {
+        at -= 1;
+        if entries[at].is_at(site) {
+            return Some(at);
+        }
+    }
+    None
+}
+
+/// How many bytes the contents of a site's entries take.
+fn sum_at(entries: &[SizedEntry], site: u8) -> usize
+    requires { sum_of (list_of site entries.now) < 2 ^ 64 }
+    ensures { result ≡ sum_of (list_of site entries.now) }
+{
+    let mut sum = 0;
+    for entry in entries {
+        if entry.is_at(site) {
+            sum += entry.size();
+        }
+    }
+    sum
+}
+
+/// How many bytes the contents of all entries take.
+fn sum(entries: &[SizedEntry]) -> usize
+    requires { sum_of entries.now < 2 ^ 64 }
+    ensures { result ≡ sum_of entries.now }
+{
+    let mut sum = 0;
+    for entry in entries {
+        sum += entry.size();
+    }
+    sum
+}
