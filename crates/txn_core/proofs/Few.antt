@@ -9,7 +9,7 @@ use Rattle.rep_core.specs.declared.request.Request.{Request}
 use Rattle.rep_core.specs.declared.request.Request.TheVariants as request
 use Rattle.rep_core.specs.declared.reply.Verdict.{Verdict}
 use Rattle.rep_core.specs.declared.reply.Verdict.TheVariants as verdict
-use Rattle.txn_core.specs.Cache.{Cache}
+use Rattle.weak_cache.specs.Entries.{Cache}
 use Rattle.txn_core.specs.Suites.{First, Suite, Suites, suite_of, has_locks}
 use Rattle.txn_core.specs.declared.word.Word.{Word}
 use Rattle.txn_core.specs.declared.ending.Cause.{Cause}

@@ -20,7 +20,7 @@ use Rattle.file_exec.specs.Following.{Ended}
 use Rattle.file_exec.specs.Known.{Heard, Needs, Done}
 use Rattle.suite_collect.specs.declared.told.Said.{Said}
 use Rattle.suite_collect.specs.Collecting.{Asked, Poll, Upgrade, request_for, Next, Ask, Current, Short, next}
-use Rattle.txn_core.specs.Cache.{Cache}
+use Rattle.weak_cache.specs.Entries.{Cache}
 use Rattle.txn_core.specs.Suites.{First, Suite, Suites, suite_of, with_suite}
 use Rattle.txn_core.specs.declared.word.Word.{Word}
 use Rattle.txn_core.specs.declared.ending.Cause.{Cause}

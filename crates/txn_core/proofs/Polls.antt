@@ -17,7 +17,7 @@ use Rattle.suite_collect.specs.declared.told.Told.{Told}
 use Rattle.suite_collect.specs.declared.told.Said.{Said}
 use Rattle.suite_collect.specs.Telling.{has_told}
 use Rattle.suite_collect.specs.Collecting.{all_told, tell, mode_of, Poll, Upgrade, Next, Ask, Current, Short, next}
-use Rattle.txn_core.specs.Cache.{Cache}
+use Rattle.weak_cache.specs.Entries.{Cache}
 use Rattle.txn_core.specs.Suites.{First, Suite, Suites, suite_of, with_suite}
 use Rattle.txn_core.specs.declared.word.Word.{Word}
 use Rattle.txn_core.specs.declared.job.Job.{Job}

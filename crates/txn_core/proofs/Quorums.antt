@@ -41,7 +41,7 @@ use Rattle.suite_collect.specs.declared.told.Said.TheVariants.{Held, Busy, Down}
 use Rattle.suite_collect.specs.Telling.{newer, newest, holds}
 use Rattle.suite_collect.specs.Collecting.{told_since, Collector, all_told, needed_of, needed, got, counted, is_member, is_left, members_of, version, votes_or, mode_or, ask_or_short, tell, tell_at, mode_of, Next, Ask, Current, Short, next}
 use Rattle.suite_collect.specs.Collecting as collecting
-use Rattle.txn_core.specs.Cache.{Cache}
+use Rattle.weak_cache.specs.Entries.{Cache}
 use Rattle.txn_core.specs.Suites.{First, Suite, Suites, suite_of, with_suite, row_with, known_row, known_if, known_of, settled, first_or, source_of}
 use Rattle.txn_core.specs.Writing.{is_changed, sets, sets_votes}
 use Rattle.txn_core.specs.declared.word.Word.{Word}

@@ -11,7 +11,7 @@ use Rattle.rep_core.specs.declared.reply.Verdict.{Verdict}
 use Rattle.rep_core.specs.declared.stamped.Lack.{Lack}
 use Rattle.file_exec.specs.Following.{Ended}
 use Rattle.txn_core.specs.declared.ending.Ending.{Ending}
-use Rattle.txn_core.specs.Cache.{Limits}
+use Rattle.weak_cache.specs.Cache.{Limits}
 use Rattle.txn_core.specs.Suites.{Suites}
 
 -- the service, and what a cache may keep; they never change

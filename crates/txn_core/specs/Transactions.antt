@@ -28,7 +28,8 @@ use Rattle.file_exec.specs.Known.{Heard, Needs, Done, exec_of}
 use Rattle.suite_collect.specs.declared.told.Said.TheVariants as told
 use Rattle.suite_collect.specs.declared.told.Said.{Said}
 use Rattle.suite_collect.specs.Collecting.{Collector, Next, Ask, Current, Short, collect, raise, widen, tell, request_for, mode_of, next}
-use Rattle.txn_core.specs.Cache.{Cache, hint, content_at, used, put}
+use Rattle.weak_cache.specs.Entries.{Cache}
+use Rattle.weak_cache.specs.Cache.{hint, content_at, searched, put}
 use Rattle.txn_core.specs.Suites.{First, Suite, Suites, suite_of, with_suite, row_with, known_of, has_locks, settled}
 use Rattle.txn_core.specs.Writing.{sets, sets_votes, parts_at}
 use Rattle.txn_core.specs.declared.word.Word.{Word}
@@ -149,13 +150,14 @@ abbrev pub free_content : Task → Cache → ℕ → First → Option Content
 free_content task cache number first =
     if first.dver == 0 then Some (empty_content (held_by first.prefix.kind)) else content_at cache task.site number first.dver
 
-abbrev pub after_use : Task → Cache → ℕ → First → Cache
-after_use task cache number first = if first.dver == 0 then cache else used task.site number cache
+-- what was looked for in the cache is its newest entry from then on
+abbrev pub after_search : Task → Cache → ℕ → First → Cache
+after_search task cache number first = if first.dver == 0 then cache else searched task.site number first.dver cache
 
 abbrev pub opened_with : Task → Gathered → ℕ → Suite → First → Option Content → Option Gathered
 opened_with task all number suite first (Some content) = Some (record {
   suites = with_suite number (record suite { content = Some content }) all.suites;
-  cache = after_use task all.cache number first;
+  cache = after_search task all.cache number first;
 })
 opened_with task all number suite first None = None
 
