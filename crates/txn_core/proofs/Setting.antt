@@ -28,10 +28,10 @@ use Rattle.txn_core.specs.Transactions.{heard_on}
 
 -- ---- what is known of a suite
 
-abbrev KnownAt : Suites → ℕ → Suite → First → Type 0
+abbrev pub KnownAt : Suites → ℕ → Suite → First → Type 0
 KnownAt suites number suite first = known.known_of (known_of suites) number ≡ Some (known_row suite first)
 
-known_at : (suites : Suites) (number : ℕ) (suite : Suite) (first : First) → suite_of suites number ≡ Some suite → suite.first ≡ Some first → KnownAt suites number suite first
+pub known_at : (suites : Suites) (number : ℕ) (suite : Suite) (first : First) → suite_of suites number ≡ Some suite → suite.first ≡ Some first → KnownAt suites number suite first
 known_at [] number suite first is was = cc
 known_at (e ∷ es) number suite first is was = of (λ is. known_at es number suite first is was) (is_at (nat_cmp number) e.0) refl is
   where

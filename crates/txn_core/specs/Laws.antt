@@ -272,6 +272,14 @@ EndsAreCaused =
 
 -- ---- 7
 
+-- a list of numbers as a test
+abbrev pub among : List ℕ → ℕ → Bool
+among numbers number = list_any (λ one. one == number) numbers
+
+-- these are all servers that are asked
+abbrev pub asks_only : List ℕ → List Exchange → Bool
+asks_only servers past = list_all (λ one. among servers one.server) past
+
 -- a request of the steps in which a transaction is prepared, decided and told
 abbrev pub is_late : Request → Bool
 is_late (request.Prepare t parts) = true
@@ -279,14 +287,12 @@ is_late (request.Decide t decision) = true
 is_late (request.Finish t v) = true
 is_late _ = false
 
--- at servers below 16 these are 2*16 + 1 at most
+-- there are at most two of them a server, and the decision
 abbrev pub LateStepsAreFew : Type 0
 LateStepsAreFew =
-    (fixed : Fixed) (agent : Agent) (caller : Identity) (site : ℕ) (ops : List Op) (events : List Event) → is_idle agent.doing ≡ true
-    → count_of (λ one. is_late one.request) (of_job fixed agent (Transaction caller site ops) events) ≤ 33
-
-abbrev pub among : List ℕ → ℕ → Bool
-among numbers number = list_any (λ one. one == number) numbers
+    (fixed : Fixed) (agent : Agent) (caller : Identity) (site : ℕ) (ops : List Op) (events : List Event) (servers : List ℕ) → is_idle agent.doing ≡ true
+    → asks_only servers (of_job fixed agent (Transaction caller site ops) events) ≡ true
+    → count_of (λ one. is_late one.request) (of_job fixed agent (Transaction caller site ops) events) ≤ 2 * length servers + 1
 
 -- a request names no suite but these
 abbrev pub names_of : List ℕ → Request → Bool
@@ -295,9 +301,15 @@ names_of suites (request.Upgrade t number) = among suites number
 names_of suites (request.Fetch t number) = among suites number
 names_of suites _ = true
 
--- stated only: what bounds all steps of a transaction, by the servers that it asks and the suites that it names
+-- these are all suites that are named
+abbrev pub names_only : List ℕ → List Exchange → Bool
+names_only suites past = list_all (λ one. names_of suites one.request) past
+
+-- A transaction that asks these servers and names these suites is at an end within so many own steps: two locks a suite and server and a
+-- content a suite, and the late steps.
 abbrev pub EndsInTime : Type 0
 EndsInTime =
     (fixed : Fixed) (agent : Agent) (caller : Identity) (site : ℕ) (ops : List Op) (events : List Event) (servers suites : List ℕ) → is_idle agent.doing ≡ true
-    → list_all (λ one. among servers one.server && names_of suites one.request) (of_job fixed agent (Transaction caller site ops) events) ≡ true
+    → asks_only servers (of_job fixed agent (Transaction caller site ops) events) ≡ true
+    → names_only suites (of_job fixed agent (Transaction caller site ops) events) ≡ true
     → length (of_job fixed agent (Transaction caller site ops) events) ≤ length suites * (2 * length servers + 1) + 2 * length servers + 1

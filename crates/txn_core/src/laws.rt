@@ -1,6 +1,6 @@
 //! What holds of every agent that began a job, whatever it is told.
 
-ghost use Rattle.txn_core.specs.Laws.{NobodyIsPolledTwice, DecideIsSentOnce, NothingFollowsAnEnd, PrepareListsTheLocks, AllPrepareFirst, FinishCarriesTheVerdict, WhatIsWrittenIsFixed, DecidesOnQuorums, EndsAreCaused, LateStepsAreFew};
+ghost use Rattle.txn_core.specs.Laws.{NobodyIsPolledTwice, DecideIsSentOnce, NothingFollowsAnEnd, PrepareListsTheLocks, AllPrepareFirst, FinishCarriesTheVerdict, WhatIsWrittenIsFixed, DecidesOnQuorums, EndsAreCaused, LateStepsAreFew, EndsInTime};
 
 /// A law: Decide is sent once at most. It does nothing.
 pub fn decide_is_sent_once()
@@ -51,7 +51,14 @@ pub fn ends_are_caused()
     ensures { EndsAreCaused }
 {}
 
-/// A law: a transaction is prepared, decided and told in 33 steps at most. It does nothing.
+/// A law: a transaction is prepared, decided and told in two steps a server and one more at most. It does
+/// nothing.
 pub fn late_steps_are_few()
     ensures { LateStepsAreFew }
+{}
+
+/// A law: with `n` servers asked and `k` suites named a transaction takes `k*(2n + 1) + 2n + 1` steps at
+/// most. It does nothing.
+pub fn ends_in_time()
+    ensures { EndsInTime }
 {}
