@@ -27,7 +27,7 @@ use Rattle.txn_core.specs.declared.job.Job.{Job}
 use Rattle.txn_core.specs.declared.word.Word.TheVariants.{Replied, Lacked}
 use Rattle.txn_core.specs.declared.ending.Cause.TheVariants.{Unavailable, Busy, Lost, Overruled, HomeDown, Full, Memory}
 use Rattle.txn_core.specs.declared.ending.Ending.TheVariants.{Undecided}
-use Rattle.txn_core.specs.declared.job.Job.TheVariants.{Transaction}
+use Rattle.txn_core.specs.declared.job.Job.TheVariants.{Transaction, Sweep}
 use Rattle.txn_core.specs.Doing.{Changes, Fixed, Outcome, Deciding, Finishing, Course, Running}
 use Rattle.txn_core.specs.Transactions.{changes_of, votes_after, verdict_in, said_to}
 use Rattle.rep_core.specs.declared.stamped.Lack.{Lack}
@@ -313,3 +313,18 @@ EndsInTime =
     → asks_only servers (of_job fixed agent (Transaction caller site ops) events) ≡ true
     → names_only suites (of_job fixed agent (Transaction caller site ops) events) ≡ true
     → length (of_job fixed agent (Transaction caller site ops) events) ≤ length suites * (2 * length servers + 1) + 2 * length servers + 1
+
+-- how many locks were listed
+abbrev pub listed_in : Request → Word → ℕ
+listed_in request.Locks (Replied (reply.Locked locks)) = length locks
+listed_in _ _ = 0
+
+abbrev pub listed : List Exchange → ℕ
+listed [] = 0
+listed (one ∷ past) = listed_in one.request one.word + listed past
+
+-- a sweep lists the locks, and takes at most two steps for each that it was told
+abbrev pub SweepEndsInTime : Type 0
+SweepEndsInTime =
+    (fixed : Fixed) (agent : Agent) (server : ℕ) (events : List Event) → is_idle agent.doing ≡ true
+    → length (of_job fixed agent (Sweep server) events) ≤ 1 + 2 * listed (of_job fixed agent (Sweep server) events)

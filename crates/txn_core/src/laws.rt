@@ -1,6 +1,6 @@
 //! What holds of every agent that began a job, whatever it is told.
 
-ghost use Rattle.txn_core.specs.Laws.{NobodyIsPolledTwice, DecideIsSentOnce, NothingFollowsAnEnd, PrepareListsTheLocks, AllPrepareFirst, FinishCarriesTheVerdict, WhatIsWrittenIsFixed, DecidesOnQuorums, EndsAreCaused, LateStepsAreFew, EndsInTime};
+ghost use Rattle.txn_core.specs.Laws.{NobodyIsPolledTwice, DecideIsSentOnce, NothingFollowsAnEnd, PrepareListsTheLocks, AllPrepareFirst, FinishCarriesTheVerdict, WhatIsWrittenIsFixed, DecidesOnQuorums, EndsAreCaused, LateStepsAreFew, EndsInTime, SweepEndsInTime};
 
 /// A law: Decide is sent once at most. It does nothing.
 pub fn decide_is_sent_once()
@@ -61,4 +61,9 @@ pub fn late_steps_are_few()
 /// most. It does nothing.
 pub fn ends_in_time()
     ensures { EndsInTime }
+{}
+
+/// A law: a sweep takes one step, and two more at most for each lock that it was told. It does nothing.
+pub fn sweep_ends_in_time()
+    ensures { SweepEndsInTime }
 {}
