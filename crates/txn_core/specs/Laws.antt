@@ -1,6 +1,8 @@
 -- What holds of every agent that began a job, whatever it is told. An exchange is a request with what was told of it.
-use Rattle.std.specs.Prelude.{◌≡◌, ℕ, ◌+◌, ◌*◌, length, ◌≤◌, ◌==◌, nat_lt, Bool, true, false, ◌&&◌, ◌||◌, if◌then◌else◌, List, [], ◌∷◌, ◌++◌, Contains, Option, Some, None}
+use Rattle.std.specs.Prelude.{◌≡◌, ℕ, ◌+◌, ◌*◌, length, ◌≤◌, ◌==◌, nat_lt, Bool, true, false, ◌&&◌, ◌||◌, if◌then◌else◌, List, [], ◌∷◌, ◌++◌, map, Contains, Option, Some, None}
 use Rattle.std.specs.List.{list_any, list_all}
+use Rattle.std.specs.List.Sorted.{IsStrictlySortedBy}
+use Rattle.std.specs.Ordering.{nat_cmp}
 use Rattle.acl_core.specs.Identity.{Identity}
 use Rattle.file_ops.specs.declared.operation.Op.{Op}
 use Rattle.vote_core.specs.Quorums.{votes_in, is_write_quorum}
@@ -144,6 +146,13 @@ PrepareListsTheLocks =
     (fixed : Fixed) (agent : Agent) (job : Job) (events : List Event) (server t suite : ℕ) (parts : List Part) → is_idle agent.doing ≡ true
     → next_of fixed (after_all fixed (begin fixed agent job) events) ≡ Some (server, request.Prepare t parts)
     → list_any (λ part. part.suite == suite) parts ≡ was_held (of_job fixed agent job events) suite server
+
+-- and the suites rise
+abbrev pub APrepareRises : Type 0
+APrepareRises =
+    (fixed : Fixed) (agent : Agent) (job : Job) (events : List Event) (server t : ℕ) (parts : List Part) → is_idle agent.doing ≡ true
+    → next_of fixed (after_all fixed (begin fixed agent job) events) ≡ Some (server, request.Prepare t parts)
+    → IsStrictlySortedBy nat_cmp (map (λ part. part.suite) parts)
 
 -- ---- 3
 

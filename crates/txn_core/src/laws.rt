@@ -1,6 +1,6 @@
 //! What holds of every agent that began a job, whatever it is told.
 
-ghost use Rattle.txn_core.specs.Laws.{NobodyIsPolledTwice, DecideIsSentOnce, NothingFollowsAnEnd, PrepareListsTheLocks, AllPrepareFirst, FinishCarriesTheVerdict, WhatIsWrittenIsFixed, DecidesOnQuorums, EndsAreCaused, LateStepsAreFew, EndsInTime, SweepEndsInTime};
+ghost use Rattle.txn_core.specs.Laws.{NobodyIsPolledTwice, DecideIsSentOnce, NothingFollowsAnEnd, PrepareListsTheLocks, APrepareRises, AllPrepareFirst, FinishCarriesTheVerdict, WhatIsWrittenIsFixed, DecidesOnQuorums, EndsAreCaused, LateStepsAreFew, EndsInTime, SweepEndsInTime};
 
 /// A law: Decide is sent once at most. It does nothing.
 pub fn decide_is_sent_once()
@@ -16,6 +16,11 @@ pub fn finish_carries_the_verdict()
 /// does nothing.
 pub fn prepare_lists_the_locks()
     ensures { PrepareListsTheLocks }
+{}
+
+/// A law: the suites of a Prepare rise. It does nothing.
+pub fn a_prepare_rises()
+    ensures { APrepareRises }
 {}
 
 /// A law: after a cause was met, or the home has said how it ended, nothing is prepared or decided any
