@@ -51,7 +51,7 @@ pub fn decides_on_quorums()
     ensures { DecidesOnQuorums }
 {}
 
-/// A law: a transaction or a sweep that ends undecided met the cause that it names. It does nothing.
+/// A law: a transaction or a sweep that ends undecided was told the cause that it names. It does nothing.
 pub fn ends_are_caused()
     ensures { EndsAreCaused }
 {}
