@@ -1,5 +1,5 @@
 -- How many steps a transaction takes.
-use Rattle.std.proofs.Common.{◌≡◌, ℕ, zero, suc, ◌+◌, ◌≤◌, Bool, true, false, cond, List, [], ◌∷◌, ◌++◌, Option, Some, None, refl, sym, ap, subst, ◌∙◌, arith}
+use Rattle.std.proofs.Common.{◌≡◌, ℕ, ◌+◌, ◌≤◌, Bool, true, false, cond, List, [], ◌∷◌, ◌++◌, Option, Some, None, refl, sym, ap, subst, ◌∙◌, arith}
 use Rattle.std.specs.Prelude.{◌==◌, ◌&&◌, ◌||◌, ◌*◌, length}
 use Rattle.std.specs.List.{list_all}
 use Rattle.std.proofs.Math.Nat.{suc-mul}
@@ -286,7 +286,7 @@ ends_in_time fixed agent caller site ops events servers suites idle asked named 
     let most = length_most servers suites past asked ours named in
     let late = late_total fixed agent caller site ops events servers idle in
     let early = sum_most suites (λ n. sum servers (λ s. asked_for_locks past n s) + fetched_in n past) (2 * length servers + 1) (λ n.
-        let all = sum_most servers (λ s. asked_for_locks past n s) 2 (λ s. locks_are_few fixed agent (Transaction caller site ops) events n s idle) in
-        let once = fetches_are_few fixed agent caller site ops events n idle in
-        omega (arith, all, once)) in
+    let all = sum_most servers (λ s. asked_for_locks past n s) 2 (λ s. locks_are_few fixed agent (Transaction caller site ops) events n s idle) in
+    let once = fetches_are_few fixed agent caller site ops events n idle in
+    omega (arith, all, once)) in
     omega (arith, most, late, early)

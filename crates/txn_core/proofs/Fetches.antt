@@ -1,9 +1,8 @@
 -- A transaction fetches no content twice.
 use Rattle.std.proofs.Common.{◌≡◌, ℕ, zero, suc, ◌+◌, ◌≤◌, Bool, true, false, cond, List, [], ◌∷◌, ◌++◌, Option, Some, None, Ok, Err, refl, sym, ap, subst, ◌∙◌, arith}
 use Rattle.std.specs.Prelude.{◌==◌, ◌&&◌, ◌*◌, length, nat_lt, is_some}
-use Rattle.std.specs.Ordering.{nat_cmp}
 use Rattle.std.specs.Cmp.{unsigned_tied}
-use Rattle.std.proofs.lemmas.Bool.{eqb-true, false≢true}
+use Rattle.std.proofs.lemmas.Bool.{eqb-true}
 use Rattle.std.proofs.lemmas.Cmp.{nat_cmp_total}
 use Rattle.std.proofs.lemmas.Option.{same_Some}
 use Rattle.sorted_map.specs.Laws.{get-insert}
@@ -40,7 +39,7 @@ use Rattle.txn_core.specs.declared.ending.Cause.TheVariants.{Lost}
 use Rattle.txn_core.specs.declared.ending.Ending.{Ending}
 use Rattle.txn_core.specs.declared.ending.Ending.TheVariants.{Undecided}
 use Rattle.txn_core.specs.declared.job.Job.TheVariants.{Transaction}
-use Rattle.txn_core.specs.Doing.{Changes, Granted, home_of, Fixed, Task, Outcome, Phase, Gathering, Fetching, Widening, Preparing, Deciding, Finishing, Course, Doing, Running, Rounding, After, GoesOn, Ends}
+use Rattle.txn_core.specs.Doing.{Granted, home_of, Fixed, Task, Outcome, Phase, Gathering, Fetching, Widening, Preparing, Deciding, Finishing, Course, Doing, Running, Rounding, After, GoesOn, Ends}
 use Rattle.txn_core.specs.Writing.{parts_at}
 use Rattle.txn_core.specs.Transactions.{Step, Gathered, tell_end, give_up, prepare, locked_at, short_cause, gather_by, widen_by, widen_one, widened, widen_all, opened, or_all, open_needed, open_suite, open_first, opened_with, free_content, heard_on, raised_or_new, keep_content, heard_of, said_to, proceed, execute, collected, hear, fetched, prepared, after_lack, after_word, asked_by, asked_for, fetched_at, fetched_for, request_in, changes_of, decision_of, given_in, verdict_in, ending_by, cause_of_abort, lack_cause}
 use Rattle.txn_core.specs.Agents as agents
@@ -429,7 +428,6 @@ all_bounded before fixed agent (Take word ∷ events) number in' =
     let rest = all_bounded one.0 fixed (take fixed agent word).agent events number one.1 in
     let sum = fetched-append number (exchange_of (next_of fixed agent) word) (exchanges fixed (take fixed agent word).agent events) in
     omega (arith, same, rest, sum)
-
 
 begin_in : (fixed : Fixed) (agent : Agent) (caller : Identity) (site : ℕ) (ops : List Op) → is_idle agent.doing ≡ true → InDoing (λ number. 0) (begin fixed agent (Transaction caller site ops)).doing
 begin_in fixed agent caller site ops idle =

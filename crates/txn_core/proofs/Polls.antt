@@ -32,7 +32,7 @@ use Rattle.suite_collect.proofs.Collected.{nobody_is_asked_twice}
 use Rattle.suite_collect.proofs.Fewness.{times, Few, few_more, never}
 use Rattle.suite_collect.specs.declared.told.Said.TheVariants.{Down}
 use Rattle.txn_core.proofs.Over.{IsOver, LeftOver, over_end, over_give_up, over_lack, stays_over}
-use Rattle.txn_core.proofs.Locks.{told_at, told_in, Are, Leaves, told_with, leaves_collected, leaves_execute, leaves_widen, leaves_fetched, leaves_prepared, asks_lock, are_nil, all_told-tell, or_false, or_or}
+use Rattle.txn_core.proofs.Locks.{told_at, told_in, Are, Leaves, told_with, leaves_collected, leaves_execute, leaves_widen, leaves_fetched, leaves_prepared, asks_lock, are_nil, all_told-tell}
 use Rattle.rep_core.specs.declared.reply.Verdict.TheVariants as verdict
 
 -- ---- who was asked, and how often
@@ -410,12 +410,12 @@ none_asked (one ∷ past) number who is = of ((one.server == who) && locks numbe
 pub nobody_is_polled_twice : NobodyIsPolledTwice
 nobody_is_polled_twice fixed agent job events server t suite mode idle is =
     let none = fresh (plus_all nobody (of_job fixed agent job events)) fixed (after_all fixed (begin fixed agent job) events).doing server t suite mode
-        (all_keep nobody fixed (begin fixed agent job) events (begin_keeps fixed agent job idle)) is in
+    (all_keep nobody fixed (begin fixed agent job) events (begin_keeps fixed agent job idle)) is in
     none_asked (of_job fixed agent job events) suite server (omega (arith, none))
 
 -- no server is asked more than twice for a lock on a suite
 pub locks_are_few : (fixed : Fixed) (agent : Agent) (job : Job) (events : List Event) (number who : ℕ) → is_idle agent.doing ≡ true → asked_for_locks (of_job fixed agent job events) number who ≤ 2
 locks_are_few fixed agent job events number who idle =
     let bound = keeps_bounded (plus_all nobody (of_job fixed agent job events)) (after_all fixed (begin fixed agent job) events).doing
-        (all_keep nobody fixed (begin fixed agent job) events (begin_keeps fixed agent job idle)) number who in
+    (all_keep nobody fixed (begin fixed agent job) events (begin_keeps fixed agent job idle)) number who in
     omega (arith, bound)

@@ -1,15 +1,13 @@
 -- What a collector that falls short was told, in the words of the exchanges.
-use Rattle.std.proofs.Common.{◌≡◌, ℕ, ◌+◌, Bool, true, false, cond, ◌⊎◌, inl, inr, List, [], ◌∷◌, ◌++◌, Option, Some, None, refl, sym, ap, subst, ◌∙◌}
+use Rattle.std.proofs.Common.{◌≡◌, ℕ, ◌+◌, Bool, true, false, cond, ◌⊎◌, inl, inr, List, [], ◌∷◌, ◌++◌, Option, Some, None, refl, sym, ap, ◌∙◌}
 use Rattle.std.specs.Prelude.{◌==◌, ◌&&◌, ◌||◌, nat_le, find}
-use Rattle.vote_core.specs.Quorums.{Representative, Configuration, votes_in}
-use Rattle.suite_prefix.specs.declared.copies.Prefix.{Prefix}
+use Rattle.vote_core.specs.Quorums.{Representative, votes_in}
 use Rattle.suite_prefix.specs.declared.lock_mode.LockMode.{LockMode}
 use Rattle.suite_prefix.specs.declared.lock_mode.LockMode.TheVariants.{Exclusive}
-use Rattle.rep_core.specs.declared.request.Request.{Request}
 use Rattle.suite_collect.specs.declared.told.Said.{Said}
 use Rattle.suite_collect.specs.declared.told.Said.TheVariants as said
 use Rattle.suite_collect.specs.declared.told.Told.{Told}
-use Rattle.suite_collect.specs.Telling.{newest, has_told, holds, has_refused, first_busy, busy_in}
+use Rattle.suite_collect.specs.Telling.{newest, has_told, has_refused, first_busy, busy_in}
 use Rattle.suite_collect.specs.Collecting.{Collector, told_since, votes_or, mode_or, all_told, counted, wanted, is_member, is_left, needed, got, ask_or_short, mode_of, Next, Current, Ask, Short, next}
 use Rattle.suite_collect.specs.Collecting as collecting
 use Rattle.suite_collect.specs.Laws as collector
@@ -19,7 +17,7 @@ use Rattle.txn_core.specs.declared.word.Word.TheVariants.{Replied, Lacked}
 use Rattle.txn_core.specs.declared.ending.Cause.{Cause}
 use Rattle.txn_core.specs.declared.ending.Cause.TheVariants.{Unavailable, Busy, Lost, Overruled, HomeDown, Full, Memory}
 use Rattle.txn_core.specs.Transactions.{said_to}
-use Rattle.txn_core.specs.Laws.{Exchange, of_job, locks, told_of, told_by, more_told, heard_in, is_said, has_said, holding, refusing, down, busy_at, first_of, first_busy_in, IsShort, IsCaused, EndsAreCaused}
+use Rattle.txn_core.specs.Laws.{Exchange, locks, told_of, told_by, more_told, heard_in, is_said, has_said, holding, refusing, down, busy_at, first_of, first_busy_in, IsShort, IsCaused, EndsAreCaused}
 use Rattle.txn_core.proofs.Causes.{ShortBy, CausedBy, ends_by}
 
 abbrev kind_of : (LockMode → Said → Bool) → Told → Bool
@@ -151,9 +149,9 @@ shown past suite had wanting busy by = record {
 
     which : (widening : Option collecting.Widening) → by.collector.widening ≡ widening → (counted by.collector ≡ (newest by.collector.start (told_of suite [] past)).votes) ⊎ (wanted by.collector ≡ Exclusive)
     which None is = inl (
-      ap (λ w. votes_or w (newest by.collector.start by.collector.told)) is
-      ∙ ap (λ told. (newest by.collector.start told).votes) (sym (ap (λ w. told_since w ++ by.collector.told) is) ∙ by.told)
-    )
+        ap (λ w. votes_or w (newest by.collector.start by.collector.told)) is
+        ∙ ap (λ told. (newest by.collector.start told).votes) (sym (ap (λ w. told_since w ++ by.collector.told) is) ∙ by.told)
+        )
     which (Some w) is = inr (ap (λ w. mode_or w by.collector.mode) is)
 
 caused : (cause : Cause) (past : List Exchange) → CausedBy cause past → IsCaused cause past

@@ -6,7 +6,7 @@ use Rattle.rep_core.specs.declared.request.Request.{Request}
 use Rattle.rep_core.specs.declared.request.Request.TheVariants as request
 use Rattle.rep_core.specs.declared.reply.Reply.{Reply}
 use Rattle.rep_core.specs.declared.reply.Reply.TheVariants as reply
-use Rattle.rep_core.specs.Locks.{before, with_lock, has_prepared}
+use Rattle.rep_core.specs.Locks.{before, has_prepared}
 use Rattle.file_ops.specs.declared.service.Service.{Service}
 use Rattle.txn_core.specs.declared.word.Word.{Word}
 use Rattle.txn_core.specs.declared.word.Word.TheVariants.{Replied, Lacked}

@@ -32,7 +32,11 @@ pub enum Ending {
     /// Refused.
     Refused(Refusal),
     /// So many locks were broken, and transactions finished; of so many others the home was down.
-    Swept { broken: u64, finished: u64, left: u64 },
+    Swept {
+        broken: u64,
+        finished: u64,
+        left: u64,
+    },
     /// Without a decision.
     Undecided(Cause),
 }
