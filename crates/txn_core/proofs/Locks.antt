@@ -1,0 +1,633 @@
+-- What an agent keeps of locks is what it heard.
+use Rattle.std.proofs.Common.{◌≡◌, ℕ, zero, suc, ◌+◌, Bool, true, false, cond, List, [], ◌∷◌, ◌++◌, Option, Some, None, Ok, Err, refl, sym, ap, subst, ◌∙◌, arith}
+use Rattle.std.specs.Prelude.{◌==◌, ◌&&◌, ◌||◌, length, map, filter, nat_lt, ◌*◌}
+use Rattle.std.specs.List.{list_any, AllByRecursion}
+use Rattle.std.specs.Ordering.{nat_cmp}
+use Rattle.std.specs.declared.cmp.Ordering.TheVariants.{Less}
+use Rattle.std.specs.BTreeMap.{is_at}
+use Rattle.std.specs.Cmp.{unsigned_tied}
+use Rattle.std.specs.Map.{keys_of}
+use Rattle.std.specs.List.Sorted.{IsStrictlySortedBy}
+use Rattle.std.proofs.lemmas.Bool.{eqb-true, false≢true}
+use Rattle.std.proofs.lemmas.Option.{same_Some}
+use Rattle.std.proofs.lemmas.Bool.Decides.{nat_tests}
+use Rattle.std.proofs.lemmas.Cmp.{nat_cmp_total, eq_by_cmp_equiv}
+use Rattle.std.proofs.lemmas.Map.{lookup-none}
+use Rattle.std.proofs.lemmas.Map.Entries.{none_past_head}
+use Rattle.std.proofs.lemmas.Map.Keys.{IsDistinct-from_sorted, sorted_tail}
+use Rattle.sorted_map.specs.SortedMap.{IsOrdered}
+use Rattle.sorted_map.specs.Laws.{get-insert, IsOrdered-insert}
+use Rattle.suite_content.specs.declared.content.Content.{Content}
+use Rattle.suite_prefix.specs.declared.lock_mode.LockMode.{LockMode}
+use Rattle.suite_prefix.specs.declared.lock_mode.LockMode.TheVariants.{Shared, Exclusive}
+use Rattle.rep_core.specs.declared.request.Request.{Request}
+use Rattle.rep_core.specs.declared.request.Request.TheVariants as request
+use Rattle.rep_core.specs.declared.reply.Verdict.{Verdict}
+use Rattle.rep_core.specs.declared.reply.Reply.{Reply}
+use Rattle.rep_core.specs.declared.reply.Reply.TheVariants as reply
+use Rattle.suite_prefix.specs.LockModes.{serves}
+use Rattle.txn_core.specs.Laws.{Exchange, exchange_of, exchanges, of_job, locks, says_held, is_prepare, was_held, PrepareListsTheLocks, APrepareRises}
+use Rattle.txn_core.specs.Agents as agents
+use Rattle.txn_core.specs.Agents.{Agent, Event, Take, Forget, next_in, next_of, take_in, take, begin, started, forget, is_idle, has_sense, most_jobs, after_all}
+use Rattle.txn_core.specs.Sweeps as sweep
+use Rattle.rep_core.specs.declared.request.Part.{Part}
+use Rattle.rep_core.specs.Fits.{is_prepared}
+use Rattle.file_exec.specs.declared.need.Need.TheVariants.{Hold, Know}
+use Rattle.file_exec.specs.declared.executor.Outcome.{Outcome as Executed}
+use Rattle.file_exec.specs.declared.executor.Outcome.TheVariants as exec
+use Rattle.suite_collect.specs.declared.told.Said.TheVariants as said
+use Rattle.suite_collect.specs.declared.told.Told.{Told}
+use Rattle.suite_collect.specs.declared.told.Said.{Said}
+use Rattle.suite_collect.specs.Telling.{is_held, holds}
+use Rattle.suite_collect.specs.Collecting.{Collector, told_since, all_told, tell, tell_at, mode_of, request_for, Asked, Poll, Upgrade, Next, Ask, Current, Short, next}
+use Rattle.suite_collect.specs.Collecting as collecting
+use Rattle.weak_cache.specs.Entries.{Cache}
+use Rattle.txn_core.specs.Suites.{First, Suite, Suites, suite_of, with_suite, settled, holds_lock}
+use Rattle.txn_core.specs.declared.word.Word.{Word}
+use Rattle.txn_core.specs.declared.ending.Cause.{Cause}
+use Rattle.txn_core.specs.declared.ending.Ending.{Ending}
+use Rattle.txn_core.specs.declared.job.Job.{Job}
+use Rattle.txn_core.specs.declared.word.Word.TheVariants.{Replied, Lacked}
+use Rattle.txn_core.specs.declared.ending.Cause.TheVariants.{Lost}
+use Rattle.txn_core.specs.declared.job.Job.TheVariants.{Transaction, Sweep}
+use Rattle.txn_core.specs.Doing.{Changes, Granted, home_of, Fixed, Task, Outcome, Phase, Gathering, Fetching, Widening, Preparing, Deciding, Finishing, Course, Sweeping, Listing, Resolving, Telling, Breaking, Round, Doing, Running, Rounding, After, GoesOn, Ends}
+use Rattle.txn_core.specs.Transactions.{Step, Gathered, tell_end, give_up, prepare, locked_at, short_cause, gather_by, widen_by, widen_one, widened, widen_all, opened, or_all, open_needed, open_suite, open_first, opened_with, free_content, heard_on, raised_or_new, keep_content, heard_of, is_poll, said_to, proceed, execute, collected, hear, fetched, prepared, after_lack, after_word, asked_by, asked_for, fetched_at, fetched_for, request_in, changes_of, decision_of, given_in, verdict_in, ending_by, cause_of_abort, lack_cause}
+use Rattle.txn_core.specs.Writing.{parts_at, part_of}
+use Rattle.txn_core.proofs.Mild.{asks_same}
+use Rattle.rep_core.specs.declared.stamped.Lack.{Lack}
+use Rattle.rep_core.specs.declared.reply.Verdict.TheVariants as verdict
+
+-- ---- what was told of each suite
+
+abbrev pub told_in : Option Suite → List Told
+told_in (Some suite) = all_told suite.collector
+told_in None = []
+
+abbrev pub told_at : Suites → ℕ → List Told
+told_at suites number = told_in (suite_of suites number)
+
+-- suites in order, of which this was told
+abbrev pub Are : (ℕ → List Told) → Suites → Type 0
+Are told suites = IsOrdered nat_cmp suites × ((number : ℕ) → told_at suites number ≡ told number)
+
+-- the same, once another suite stands at a number, of which something is told
+abbrev pub told_with : ℕ → List Told → (ℕ → List Told) → ℕ → List Told
+told_with number now told other = cond (number == other) now (told other)
+
+pub are_with : (told : ℕ → List Told) (suites : Suites) (number : ℕ) (suite : Suite) → Are told suites → Are (told_with number (all_told suite.collector) told) (with_suite number suite suites)
+are_with told suites number suite are = (
+  IsOrdered-insert nat_cmp_total suites number suite are.0,
+  λ other.
+      ap told_in (get-insert nat_cmp_total suites number suite other)
+      ∙ ap (λ b. told_in (cond b (Some suite) (suite_of suites other))) (unsigned_tied number other)
+      ∙ at other (number == other),
+)
+  where
+    at : (other : ℕ) (b : Bool) → told_in (cond b (Some suite) (suite_of suites other)) ≡ cond b (all_told suite.collector) (told other)
+    at other true = refl
+    at other false = are.1 other
+
+-- nothing new is told
+pub are_same : (told : ℕ → List Told) (suites : Suites) (number : ℕ) (suite : Suite) → Are told suites → all_told suite.collector ≡ told_at suites number → Are told (with_suite number suite suites)
+are_same told suites number suite are same =
+    let with' = are_with told suites number suite are in
+    (with'.0, λ other. with'.1 other ∙ at other (number == other) refl)
+  where
+    at : (other : ℕ) (b : Bool) → (number == other) ≡ b → cond b (all_told suite.collector) (told other) ≡ told other
+    at other true is = same ∙ are.1 number ∙ ap told (eqb-true number other is)
+    at other false is = refl
+
+pub are_nil : Are (λ number. []) []
+unfolding IsStrictlySortedBy
+are_nil = (tt, λ number. refl)
+
+-- ---- steps that hear nothing
+
+-- what is left of a step has suites of which this was told
+abbrev pub Leaves : (ℕ → List Told) → After Course → Type 0
+Leaves told (GoesOn course) = Are told course.suites
+Leaves told (Ends ending) = Unit {0}
+
+leaves_end : (told : ℕ → List Told) (task : Task) (cache : Cache) (suites : Suites) (v : Verdict) (ending : Ending) (servers : List ℕ) → Are told suites → Leaves told (tell_end task cache suites v ending servers).after
+leaves_end told task cache suites v ending [] are = tt
+leaves_end told task cache suites v ending (server ∷ servers) are = are
+
+leaves_give_up : (told : ℕ → List Told) (task : Task) (cache : Cache) (suites : Suites) (cause : Cause) → Are told suites → Leaves told (give_up task cache suites cause).after
+leaves_give_up told task cache suites cause are = leaves_end told task cache suites _ _ (locked_at suites) are
+
+leaves_prepare : (told : ℕ → List Told) (task : Task) (cache : Cache) (suites : Suites) (outcome : Outcome) (servers : List ℕ) → Are told suites → Leaves told (prepare task cache suites outcome servers).after
+leaves_prepare told task cache suites outcome [] are = are
+leaves_prepare told task cache suites outcome (server ∷ servers) are = are
+
+leaves_gather : (told : ℕ → List Told) (task : Task) (cache : Cache) (suites : Suites) (number : ℕ) (next : Next) → Are told suites → Leaves told (gather_by task cache suites number next).after
+leaves_gather told task cache suites number (Short got needed busy) are = leaves_give_up told task cache suites (short_cause number got needed busy) are
+leaves_gather told task cache suites number (Ask server asked) are = are
+leaves_gather told task cache suites number (Current prefix dver members) are = are
+
+leaves_widen_by : (told : ℕ → List Told) (task : Task) (cache : Cache) (suites : Suites) (phase : Phase) (number : ℕ) (next : Next) (go_on : Suites → Step) → Are told suites → ((suites : Suites) → Are told suites → Leaves told (go_on suites).after)
+    → Leaves told (widen_by task cache suites phase number next go_on).after
+leaves_widen_by told task cache suites phase number (Current prefix dver members) go_on are more = more suites are
+leaves_widen_by told task cache suites phase number (Ask server asked) go_on are more = are
+leaves_widen_by told task cache suites phase number (Short got needed busy) go_on are more = leaves_give_up told task cache suites (short_cause number got needed busy) are
+
+leaves_widen_one : (told : ℕ → List Told) (task : Task) (cache : Cache) (suites : Suites) (phase : Phase) (changes : Changes) (number : ℕ) (found : Option Suite) (go_on : Suites → Step) → suite_of suites number ≡ found → Are told suites
+    → ((suites : Suites) → Are told suites → Leaves told (go_on suites).after) → Leaves told (widen_one task cache suites phase changes number found go_on).after
+leaves_widen_one told task cache suites phase changes number (Some suite) go_on is are more =
+    leaves_widen_by told task cache (with_suite number (widened changes number suite) suites) phase number (next (widened changes number suite).collector) go_on
+    (are_same told suites number (widened changes number suite) are (sym (ap told_in is))) more
+leaves_widen_one told task cache suites phase changes number None go_on is are more = more suites are
+
+pub leaves_widen : (told : ℕ → List Told) (task : Task) (cache : Cache) (suites : Suites) (granted : Granted) (left : List ℕ) → Are told suites → Leaves told (widen_all task cache suites granted left).after
+leaves_widen told task cache suites granted [] are = leaves_prepare told task cache suites (Ok granted) (locked_at suites) are
+leaves_widen told task cache suites granted (number ∷ left) are =
+    leaves_widen_one told task cache suites (Widening (number ∷ left) granted) granted.changes number (suite_of suites number) _ refl are (λ suites are. leaves_widen told task cache suites granted left are)
+
+-- a content that is opened
+pub are_opened : (told : ℕ → List Told) (n : ℕ) (fixed : Fixed) (task : Task) (all : Gathered) → Are told all.suites → Are told (opened n fixed task all).suites
+are_opened told zero fixed task all are = are
+are_opened told (suc n) fixed task all are = of (heard_on fixed task all.suites) (λ more are. are_opened told n fixed task more are)
+  where
+    or' : (found : Option Gathered) → ((more : Gathered) → found ≡ Some more → Are told more.suites) → ((more : Gathered) → Are told more.suites → Are told (opened n fixed task more).suites) → Are told (or_all all found (λ all. opened n fixed task all)).suites
+    or' (Some more) found_are later = later more (found_are more refl)
+    or' None found_are later = are
+
+    with_content : (number : ℕ) (suite : Suite) (first : First) (content : Option Content) (more : Gathered) → suite_of all.suites number ≡ Some suite → opened_with task all number suite first content ≡ Some more → Are told more.suites
+    with_content number suite first (Some content) more there is =
+        subst (λ (more : Gathered). Are told more.suites) (same_Some _ more is) (are_same told all.suites number (record suite { content = Some content }) are (sym (ap told_in there)))
+    with_content number suite first None more there is = cc
+
+    at_first : (number : ℕ) (suite : Suite) (first : Option First) (more : Gathered) → suite_of all.suites number ≡ Some suite → open_first task all number suite first ≡ Some more → Are told more.suites
+    at_first number suite (Some first) more there is = with_content number suite first (free_content task all.cache number first) more there is
+    at_first number suite None more there is = cc
+
+    at_suite : (number : ℕ) (found : Option Suite) (more : Gathered) → suite_of all.suites number ≡ found → open_suite task all number found ≡ Some more → Are told more.suites
+    at_suite number (Some suite) more there is = at_first number suite suite.first more there is
+    at_suite number None more there is = cc
+
+    needed' : (heard : Executed) (more : Gathered) → open_needed task all heard ≡ Some more → Are told more.suites
+    needed' (exec.Need (Know number)) more is = at_suite number (suite_of all.suites number) more refl is
+    needed' (exec.Need (Hold number mode)) more is = cc
+    needed' (exec.Done answers changes) more is = cc
+    needed' (exec.Refused refusal) more is = cc
+
+    of : (heard : Executed) → ((more : Gathered) → Are told more.suites → Are told (opened n fixed task more).suites) → Are told (or_all all (open_needed task all heard) (λ all. opened n fixed task all)).suites
+    of heard later = or' (open_needed task all heard) (needed' heard) later
+
+pub told_raised : (fixed : Fixed) (task : Task) (cache : Cache) (number : ℕ) (mode : LockMode) (found : Option Suite) → all_told (raised_or_new fixed task cache number mode found).collector ≡ told_in found
+told_raised fixed task cache number mode (Some suite) = refl
+told_raised fixed task cache number mode None = refl
+
+leaves_proceed : (told : ℕ → List Told) (fixed : Fixed) (task : Task) (cache : Cache) (suites : Suites) (heard : Executed) → Are told suites → Leaves told (proceed fixed task cache suites heard).after
+leaves_proceed told fixed task cache suites (exec.Need (Hold number mode)) are =
+    let suite = raised_or_new fixed task cache number mode (suite_of suites number) in
+    leaves_gather told task cache (with_suite number suite suites) number (next suite.collector) (are_same told suites number suite are (told_raised fixed task cache number mode (suite_of suites number)))
+leaves_proceed told fixed task cache suites (exec.Need (Know number)) are = are
+leaves_proceed told fixed task cache suites (exec.Done answers changes) are = leaves_widen told task cache suites (record { answers = answers; changes = changes }) _ are
+leaves_proceed told fixed task cache suites (exec.Refused refusal) are = leaves_prepare told task cache suites (Err refusal) (locked_at suites) are
+
+pub leaves_execute : (told : ℕ → List Told) (fixed : Fixed) (task : Task) (all : Gathered) → Are told all.suites → Leaves told (execute fixed task all).after
+leaves_execute told fixed task all are =
+    let open' = opened (length all.suites) fixed task all in
+    leaves_proceed told fixed task open'.cache open'.suites (heard_on fixed task open'.suites) (are_opened told (length all.suites) fixed task all are)
+
+-- ---- a step that hears something
+
+pub all_told-tell : (one : Told) (c : Collector) → all_told (tell one c) ≡ one ∷ all_told c
+all_told-tell one c = of c.widening refl
+  where
+    of : (w : Option collecting.Widening) → c.widening ≡ w → all_told (tell_at w one c) ≡ one ∷ all_told c
+    of None is = ap (λ w. told_since w ++ (one ∷ c.told)) is ∙ ap (λ w. one ∷ (told_since w ++ c.told)) (sym is)
+    of (Some w) is = ap (λ w. one ∷ (told_since w ++ c.told)) (sym is)
+
+pub leaves_collected : (told : ℕ → List Told) (task : Task) (cache : Cache) (suites : Suites) (phase : Phase) (number : ℕ) (suite : Suite) (next : Next) (go_on : Suites → Step) → Are told suites
+    → ((suites : Suites) → Are (told_with number (all_told suite.collector) told) suites → Leaves (told_with number (all_told suite.collector) told) (go_on suites).after)
+    → Leaves (told_with number (all_told suite.collector) told) (collected task cache suites phase number suite next (λ suite. go_on (with_suite number suite suites))).after
+leaves_collected told task cache suites phase number suite (Ask server asked) go_on are more = are_with told suites number suite are
+leaves_collected told task cache suites phase number suite (Short got needed busy) go_on are more =
+    leaves_give_up (told_with number (all_told suite.collector) told) task cache (with_suite number suite suites) (short_cause number got needed busy) (are_with told suites number suite are)
+leaves_collected told task cache suites phase number suite (Current prefix dver members) go_on are more =
+    more (with_suite number (settled prefix dver members suite) suites) (are_with told suites number (settled prefix dver members suite) are)
+
+-- which servers hold a lock for it
+abbrev pub Held : (ℕ → ℕ → Bool) → (ℕ → List Told) → Type 0
+Held held told = (number server : ℕ) → holds Shared (told number) server ≡ held number server
+
+-- what an exchange adds
+abbrev adds : ℕ → Request → Word → ℕ → ℕ → Bool
+adds server asked word number other = (server == other) && locks number asked && says_held word
+
+abbrev plus : (ℕ → ℕ → Bool) → ℕ → Request → Word → ℕ → ℕ → Bool
+plus held server asked word number other = held number other || adds server asked word number other
+
+-- suites in order, on which these servers hold locks
+record LeftWith (held : ℕ → ℕ → Bool) (after : After Course) : Type 0 where
+  told : ℕ → List Told
+  leaves : Leaves told after
+  agree : Held held told
+
+pub or_false : (a : Bool) → (a || false) ≡ a
+or_false true = refl
+or_false false = refl
+
+and_false : (a b : Bool) → (a && b && false) ≡ false
+and_false true true = refl
+and_false true false = refl
+and_false false b = refl
+
+-- nothing new is held
+nothing_new : (held : ℕ → ℕ → Bool) (server : ℕ) (asked : Request) (word : Word) → says_held word ≡ false → (told : ℕ → List Told) → Held held told → Held (plus held server asked word) told
+nothing_new held server asked word none told holds' number other =
+    holds' number other ∙ sym (ap (λ b. held number other || ((server == other) && locks number asked && b)) none ∙ ap (λ b. held number other || b) (and_false (server == other) (locks number asked)) ∙ or_false (held number other))
+
+no_lock : (held : ℕ → ℕ → Bool) (server : ℕ) (asked : Request) (word : Word) → ((number : ℕ) → locks number asked ≡ false) → (told : ℕ → List Told) → Held held told → Held (plus held server asked word) told
+no_lock held server asked word none told holds' number other =
+    holds' number other ∙ sym (ap (λ b. held number other || ((server == other) && b && says_held word)) (none number) ∙ ap (λ b. held number other || b) (of (server == other)) ∙ or_false (held number other))
+  where
+    of : (a : Bool) → (a && false && says_held word) ≡ false
+    of true = refl
+    of false = refl
+
+serves_shared : (mode : LockMode) → serves mode Shared ≡ true
+serves_shared Shared = refl
+serves_shared Exclusive = refl
+
+-- what was said is held where the word says so
+said_held : (asked : Request) (said : Reply) (heard : Said) → said_to asked said ≡ Some heard → is_held heard ≡ says_held (Replied said)
+said_held asked (reply.Held prefix dver) heard is = ap is_held (sym (same_Some _ heard is))
+said_held asked (reply.Busy holder prepared) heard is = ap is_held (sym (same_Some _ heard is))
+said_held asked reply.Down heard is = of (is_poll asked) is
+  where
+    of : (b : Bool) → cond b (Some said.Down) None ≡ Some heard → is_held heard ≡ false
+    of true is = ap is_held (sym (same_Some _ heard is))
+    of false is = cc
+said_held asked reply.Lost heard is = cc
+said_held asked (reply.Given dver content) heard is = cc
+said_held asked reply.Prepared heard is = cc
+said_held asked (reply.Verdict v) heard is = cc
+said_held asked reply.Done heard is = cc
+said_held asked (reply.Locked locks) heard is = cc
+
+said_none : (asked : Request) (said : Reply) → said_to asked said ≡ None → says_held (Replied said) ≡ false
+said_none asked (reply.Held prefix dver) is = cc
+said_none asked (reply.Busy holder prepared) is = refl
+said_none asked reply.Down is = refl
+said_none asked reply.Lost is = refl
+said_none asked (reply.Given dver content) is = refl
+said_none asked reply.Prepared is = refl
+said_none asked (reply.Verdict v) is = refl
+said_none asked reply.Done is = refl
+said_none asked (reply.Locked locks) is = refl
+
+-- one more is told of a suite
+held_more : (held : ℕ → ℕ → Bool) (told : ℕ → List Told) (number server : ℕ) (mode : LockMode) (heard : Said) (before : List Told) (asked : Request) (word : Word) → Held held told → before ≡ told number
+    → ((other : ℕ) → locks other asked ≡ (number == other)) → is_held heard ≡ says_held word
+    → Held (plus held server asked word) (told_with number (record { server = server; mode = mode; said = heard } ∷ before) told)
+held_more held told number server mode heard before asked word holds' was lock same other who =
+    of (number == other) refl
+    ∙ sym (ap (λ b. held other who || ((server == who) && b && says_held word)) (lock other))
+  where
+    swap : (a b c d : Bool) → d ≡ true → ((a && (b && d)) || c) ≡ (c || (a && true && b))
+    swap true true true d is = ap (λ d. d || true) is
+    swap true true false d is = ap (λ d. d || false) is
+    swap true false true d is = refl
+    swap true false false d is = refl
+    swap false b true d is = refl
+    swap false b false d is = refl
+
+    out : (a b c : Bool) → c ≡ (c || (a && false && b))
+    out true b true = refl
+    out true b false = refl
+    out false b true = refl
+    out false b false = refl
+
+    of : (b : Bool) → (number == other) ≡ b → holds Shared (cond b (record { server = server; mode = mode; said = heard } ∷ before) (told other)) who ≡ (held other who || ((server == who) && b && says_held word))
+    of true is =
+        let here : number ≡ other = eqb-true number other is in
+        ap (λ (told : List Told). ((server == who) && (is_held heard && serves mode Shared)) || holds Shared told who) (was ∙ ap told here)
+        ∙ ap (λ b. ((server == who) && (is_held heard && serves mode Shared)) || b) (holds' other who)
+        ∙ swap (server == who) (is_held heard) (held other who) (serves mode Shared) (serves_shared mode)
+        ∙ ap (λ b. held other who || ((server == who) && true && b)) same
+    of false is = holds' other who ∙ out (server == who) (says_held word) (held other who)
+
+-- ---- one word
+
+pub lock_of : (t number : ℕ) (question : Asked) (other : ℕ) → locks other (request_for t number question) ≡ (number == other)
+lock_of t number (Poll mode) other = refl
+lock_of t number Upgrade other = refl
+
+-- what a collector asks is for a lock on its suite
+pub asks_lock : (task : Task) (number : ℕ) (found : Option Suite) (server : ℕ) (asked : Request) → asked_for task number found ≡ Some (server, asked) → (other : ℕ) → locks other asked ≡ (number == other)
+asks_lock task number None server asked is other = cc
+asks_lock task number (Some suite) server asked is other = of (next suite.collector) is
+  where
+    of : (after : Next) → asked_by task number after ≡ Some (server, asked) → locks other asked ≡ (number == other)
+    of (Ask who question) is = ap (locks other) (sym (asks_same who server (request_for task.t number question) asked is)) ∙ lock_of task.t number question other
+    of (Current prefix dver members) is = cc
+    of (Short had wanting busy) is = cc
+
+left_give_up : (held : ℕ → ℕ → Bool) (told : ℕ → List Told) (task : Task) (cache : Cache) (suites : Suites) (cause : Cause) → Are told suites → Held held told → LeftWith held (give_up task cache suites cause).after
+left_give_up held told task cache suites cause are agree = record { told = told; leaves = leaves_give_up told task cache suites cause are; agree = agree }
+
+left_heard : (held : ℕ → ℕ → Bool) (told : ℕ → List Told) (task : Task) (cache : Cache) (suites : Suites) (phase : Phase) (number : ℕ) (found : Option Suite) (server : ℕ) (asked : Request) (said : Reply) (go_on : Suites → Step)
+    → Are told suites → Held held told → suite_of suites number ≡ found → asked_for task number found ≡ Some (server, asked)
+    → ((told : ℕ → List Told) (suites : Suites) → Are told suites → Leaves told (go_on suites).after)
+    → LeftWith (plus held server asked (Replied said)) (heard_of task cache suites phase number found server asked said go_on).after
+left_heard held told task cache suites phase number None server asked said go_on are agree there is more = cc
+left_heard held told task cache suites phase number (Some suite) server asked said go_on are agree there is more = of (said_to asked said) refl
+  where
+    of : (heard : Option Said) → said_to asked said ≡ heard → LeftWith (plus held server asked (Replied said)) (hear task cache suites phase number suite server asked heard (λ suite. go_on (with_suite number suite suites))).after
+    of None was = left_give_up (plus held server asked (Replied said)) told task cache suites (Lost server) are (nothing_new held server asked (Replied said) (said_none asked said was) told agree)
+    of (Some heard) was =
+        let one : Told = record { server = server; mode = mode_of asked; said = heard } in
+        let now : Suite = record suite { collector = tell one suite.collector } in
+        let told' = told_with number (all_told now.collector) told in
+        record {
+          told = told';
+          leaves = leaves_collected told task cache suites phase number now (next now.collector) go_on are (λ suites are. more told' suites are);
+          agree = λ other who. ap (λ list. holds Shared (told_with number list told other) who) (all_told-tell one suite.collector)
+              ∙ held_more held told number server (mode_of asked) heard (all_told suite.collector) asked (Replied said) agree (ap told_in (sym there) ∙ are.1 number) (asks_lock task number (Some suite) server asked is) (said_held asked said heard was) other who;
+        }
+
+-- a step that hears of no lock
+left_quiet : (held : ℕ → ℕ → Bool) (told : ℕ → List Told) (server : ℕ) (asked : Request) (word : Word) (after : After Course) → Held held told → ((number : ℕ) → locks number asked ≡ false) → Leaves told after → LeftWith (plus held server asked word) after
+left_quiet held told server asked word after agree none leaves = record { told = told; leaves = leaves; agree = no_lock held server asked word none told agree }
+
+left_lacked : (held : ℕ → ℕ → Bool) (told : ℕ → List Told) (server : ℕ) (asked : Request) (lacked : Lack) (after : After Course) → Held held told → Leaves told after → LeftWith (plus held server asked (Lacked lacked)) after
+left_lacked held told server asked lacked after agree leaves = record { told = told; leaves = leaves; agree = nothing_new held server asked (Lacked lacked) refl told agree }
+
+leaves_lack : (told : ℕ → List Told) (task : Task) (cache : Cache) (suites : Suites) (phase : Phase) (server : ℕ) (lacked : Lack) → Are told suites → Leaves told (after_lack task cache suites phase server lacked).after
+leaves_lack told task cache suites (Gathering number) server lacked are = leaves_give_up told task cache suites (lack_cause server lacked) are
+leaves_lack told task cache suites (Fetching number) server lacked are = leaves_give_up told task cache suites (lack_cause server lacked) are
+leaves_lack told task cache suites (Widening left granted) server lacked are = leaves_give_up told task cache suites (lack_cause server lacked) are
+leaves_lack told task cache suites (Preparing left outcome) server lacked are = leaves_give_up told task cache suites (lack_cause server lacked) are
+leaves_lack told task cache suites (Deciding outcome) server lacked are = leaves_give_up told task cache suites (lack_cause server lacked) are
+leaves_lack told task cache suites (Finishing [] v ending) server lacked are = leaves_end told task cache suites v ending [] are
+leaves_lack told task cache suites (Finishing (now ∷ left) v ending) server lacked are = leaves_end told task cache suites v ending left are
+
+pub leaves_fetched : (told : ℕ → List Told) (fixed : Fixed) (task : Task) (cache : Cache) (suites : Suites) (number : ℕ) (found : Option Suite) (server : ℕ) (given : Option Content) → suite_of suites number ≡ found → Are told suites
+    → Leaves told (fetched fixed task cache suites number found server given).after
+leaves_fetched told fixed task cache suites number None server (Some content) there are = leaves_give_up told task cache suites (Lost server) are
+leaves_fetched told fixed task cache suites number None server None there are = leaves_give_up told task cache suites (Lost server) are
+leaves_fetched told fixed task cache suites number (Some suite) server None there are = leaves_give_up told task cache suites (Lost server) are
+leaves_fetched told fixed task cache suites number (Some suite) server (Some content) there are = of suite.first
+  where
+    of : (first : Option First) → Leaves told (keep_content fixed task cache suites number suite content first server).after
+    of None = leaves_give_up told task cache suites (Lost server) are
+    of (Some first) = leaves_execute told fixed task _ (are_same told suites number (record suite { content = Some content }) are (sym (ap told_in there)))
+
+pub leaves_prepared : (told : ℕ → List Told) (task : Task) (cache : Cache) (suites : Suites) (outcome : Outcome) (server : ℕ) (left : List ℕ) (said : Reply) → Are told suites → Leaves told (prepared task cache suites outcome server left said).after
+leaves_prepared told task cache suites outcome server left said are =
+    elim (is_prepared said) as (λ b. Leaves told (cond b (prepare task cache suites outcome left) (give_up task cache suites (Lost server))).after) [
+      | true ↦ leaves_prepare told task cache suites outcome left are
+      | false ↦ leaves_give_up told task cache suites (Lost server) are
+    ]
+
+left_word : (held : ℕ → ℕ → Bool) (told : ℕ → List Told) (fixed : Fixed) (task : Task) (cache : Cache) (suites : Suites) (phase : Phase) (server : ℕ) (asked : Request) (word : Word) → Are told suites → Held held told
+    → request_in fixed task suites phase ≡ Some (server, asked) → LeftWith (plus held server asked word) (after_word fixed (record { task = task; suites = suites; phase = phase }) cache server asked word).after
+left_word held told fixed task cache suites phase server asked (Lacked lacked) are agree is = left_lacked held told server asked lacked _ agree (leaves_lack told task cache suites phase server lacked are)
+left_word held told fixed task cache suites (Gathering number) server asked (Replied said) are agree is =
+    left_heard held told task cache suites (Gathering number) number (suite_of suites number) server asked said _ are agree refl is (λ told suites are. leaves_execute told fixed task (record { suites = suites; cache = cache }) are)
+left_word held told fixed task cache suites (Fetching number) server asked (Replied said) are agree is =
+    left_quiet held told server asked (Replied said) _ agree (fetch_locks (suite_of suites number) is) (leaves_fetched told fixed task cache suites number (suite_of suites number) server (given_in said) refl are)
+  where
+    fetch_first : (first : Option First) → fetched_at task number first ≡ Some (server, asked) → (other : ℕ) → locks other asked ≡ false
+    fetch_first (Some first) is other = ap (locks other) (sym (asks_same first.source server (request.Fetch task.t number) asked is))
+    fetch_first None is other = cc
+
+    fetch_locks : (found : Option Suite) → fetched_for task number found ≡ Some (server, asked) → (other : ℕ) → locks other asked ≡ false
+    fetch_locks (Some suite) is other = fetch_first suite.first is other
+    fetch_locks None is other = cc
+left_word held told fixed task cache suites (Widening [] granted) server asked (Replied said) are agree is = cc
+left_word held told fixed task cache suites (Widening (number ∷ left) granted) server asked (Replied said) are agree is =
+    left_heard held told task cache suites (Widening (number ∷ left) granted) number (suite_of suites number) server asked said _ are agree refl is (λ told suites are. leaves_widen told task cache suites granted left are)
+left_word held told fixed task cache suites (Preparing [] outcome) server asked (Replied said) are agree is = cc
+left_word held told fixed task cache suites (Preparing (now ∷ left) outcome) server asked (Replied said) are agree is =
+    left_quiet held told server asked (Replied said) _ agree (λ other. ap (locks other) (sym (asks_same now server (request.Prepare task.t (parts_at suites (changes_of outcome) now)) asked is))) (leaves_prepared told task cache suites outcome server left said are)
+left_word held told fixed task cache suites (Deciding outcome) server asked (Replied said) are agree is =
+    left_quiet held told server asked (Replied said) _ agree (λ other. ap (locks other) (sym (asks_same (home_of fixed.service task.t) server (request.Decide task.t (decision_of task outcome)) asked is)))
+    (leaves_end told task cache suites (verdict_in said verdict.Aborted) (ending_by (verdict_in said verdict.Aborted) (cause_of_abort said)) (locked_at suites) are)
+left_word held told fixed task cache suites (Finishing [] v ending) server asked (Replied said) are agree is = cc
+left_word held told fixed task cache suites (Finishing (now ∷ left) v ending) server asked (Replied said) are agree is =
+    left_quiet held told server asked (Replied said) _ agree (λ other. ap (locks other) (sym (asks_same now server (request.Finish task.t v) asked is))) (leaves_end told task cache suites v ending left are)
+
+-- ---- all words
+
+-- what an agent's transaction keeps
+abbrev pub Keeps : (ℕ → ℕ → Bool) → Option Doing → Type 0
+Keeps held (Some (Running course)) = IsOrdered nat_cmp course.suites × Held held (told_at course.suites)
+Keeps held (Some (Rounding round)) = Unit {0}
+Keeps held None = Unit {0}
+
+left_keeps : (held : ℕ → ℕ → Bool) (after : After Course) → LeftWith held after → Keeps held (agents.left Running after)
+left_keeps held (GoesOn course) with' = (with'.leaves.0, λ number who. ap (λ told. holds Shared told who) (with'.leaves.1 number) ∙ with'.agree number who)
+left_keeps held (Ends ending) with' = tt
+
+round_keeps : (held : ℕ → ℕ → Bool) (after : After Round) → Keeps held (agents.left Rounding after)
+round_keeps held (GoesOn round) = tt
+round_keeps held (Ends ending) = tt
+
+-- what a list of exchanges adds
+abbrev pub plus_all : (ℕ → ℕ → Bool) → List Exchange → ℕ → ℕ → Bool
+plus_all held past number who = held number who || was_held past number who
+
+same_keeps : (held other : ℕ → ℕ → Bool) (doing : Option Doing) → ((number who : ℕ) → held number who ≡ other number who) → Keeps held doing → Keeps other doing
+same_keeps held other (Some (Running course)) same keeps = (keeps.0, λ number who. keeps.1 number who ∙ same number who)
+same_keeps held other (Some (Rounding round)) same keeps = tt
+same_keeps held other None same keeps = tt
+
+take_keeps : (held : ℕ → ℕ → Bool) (fixed : Fixed) (agent : Agent) (word : Word) (doing : Option Doing) (asked : Option (ℕ × Request)) → agent.doing ≡ doing → next_in fixed doing ≡ asked → Keeps held doing
+    → Keeps (plus_all held (exchange_of asked word)) (take_in fixed agent word doing asked).agent.doing
+take_keeps held fixed agent word (Some (Running running)) (Some asked) was is keeps =
+    same_keeps (plus held asked.0 asked.1 word) (plus_all held (exchange_of (Some asked) word)) _ (λ number who. ap (λ b. held number who || b) (sym (or_false (adds asked.0 asked.1 word number who))))
+    (left_keeps (plus held asked.0 asked.1 word) _ (left_word held (told_at running.suites) fixed running.task agent.cache running.suites running.phase asked.0 asked.1 word (keeps.0, λ number. refl) keeps.1 is))
+take_keeps held fixed agent word (Some (Running running)) None was is keeps = subst (Keeps (plus_all held [])) (sym was) (same_keeps held (plus_all held []) (Some (Running running)) (λ number who. sym (or_false (held number who))) keeps)
+take_keeps held fixed agent word (Some (Rounding round)) (Some asked) was is keeps = round_keeps _ (sweep.after_word fixed.service round asked.0 word)
+take_keeps held fixed agent word (Some (Rounding round)) None was is keeps = cc
+take_keeps held fixed agent word None (Some asked) was is keeps = cc
+take_keeps held fixed agent word None None was is keeps = subst (Keeps (plus_all held [])) (sym was) tt
+
+held-append : (past later : List Exchange) (number who : ℕ) → was_held (past ++ later) number who ≡ (was_held past number who || was_held later number who)
+held-append [] later number who = refl
+held-append (one ∷ past) later number who = of ((one.server == who) && locks number one.request && says_held one.word) _ _ _ (held-append past later number who)
+  where
+    of : (a b c d : Bool) → b ≡ (c || d) → (a || b) ≡ ((a || c) || d)
+    of true b c d is = refl
+    of false b c d is = is
+
+pub or_or : (a b c : Bool) → ((a || b) || c) ≡ (a || (b || c))
+or_or true b c = refl
+or_or false b c = refl
+
+pub all_keep : (held : ℕ → ℕ → Bool) (fixed : Fixed) (agent : Agent) (events : List Event) → Keeps held agent.doing → Keeps (plus_all held (exchanges fixed agent events)) (after_all fixed agent events).doing
+all_keep held fixed agent [] keeps = same_keeps held (plus_all held []) agent.doing (λ number who. sym (or_false (held number who))) keeps
+all_keep held fixed agent (Forget site ∷ events) keeps = all_keep held fixed (forget agent site) events keeps
+all_keep held fixed agent (Take word ∷ events) keeps =
+    let one = exchange_of (next_of fixed agent) word in
+    let rest = exchanges fixed (take fixed agent word).agent events in
+    same_keeps (plus_all (plus_all held one) rest) (plus_all held (one ++ rest)) (after_all fixed agent (Take word ∷ events)).doing
+    (λ number who. or_or (held number who) (was_held one number who) (was_held rest number who) ∙ ap (λ b. held number who || b) (sym (held-append one rest number who)))
+    (all_keep (plus_all held one) fixed (take fixed agent word).agent events (take_keeps held fixed agent word agent.doing (next_of fixed agent) refl refl keeps))
+
+abbrev pub nothing_held : ℕ → ℕ → Bool
+nothing_held number who = false
+
+pub begin_keeps : (fixed : Fixed) (agent : Agent) (job : Job) → is_idle agent.doing ≡ true → Keeps nothing_held (begin fixed agent job).doing
+begin_keeps fixed agent job idle =
+    elim (is_idle agent.doing && has_sense fixed job && nat_lt agent.count most_jobs) as (λ b. Keeps nothing_held (cond b (record (started fixed agent job) { count = agent.count + 1 }) agent).doing) [
+      | true ↦ of job
+      | false ↦ at agent.doing idle
+    ]
+  where
+    at : (doing : Option Doing) → is_idle doing ≡ true → Keeps nothing_held doing
+    at None idle = tt
+    at (Some doing) idle = cc
+
+    of : (job : Job) → Keeps nothing_held (started fixed agent job).doing
+    of (Transaction caller site ops) =
+        let task : Task = record { t = 64 * agent.count + agent.index; caller = caller; site = site; ops = ops } in
+        left_keeps nothing_held _ (record { told = λ number. []; leaves = leaves_execute (λ number. []) fixed task (record { suites = []; cache = agent.cache }) are_nil; agree = λ number who. refl })
+    of (Sweep server) = tt
+
+-- ---- what a Prepare lists
+
+-- a suite that is listed, where it holds something
+abbrev holds_in : (Suite → Bool) → Option Suite → Bool
+holds_in p (Some suite) = p suite
+holds_in p None = false
+
+any_at : (p : Suite → Bool) (suites : Suites) (number : ℕ) → IsOrdered nat_cmp suites → list_any (λ one. (one.0 == number) && p one.1) suites ≡ holds_in p (suite_of suites number)
+any_at p [] number ordered = refl
+any_at p (e ∷ es) number ordered =
+    ap (λ b. (b && p e.1) || list_any (λ one. (one.0 == number) && p one.1) es) (flip e.0 number ∙ sym (unsigned_tied number e.0))
+    ∙ of (is_at (nat_cmp number) e.0) refl (any_at p es number (sorted_tail nat_cmp e.0 (keys_of es) ordered))
+  where
+    flip : (a b : ℕ) → (a == b) ≡ (b == a)
+    flip a b = grind (arith, nat_tests)
+
+    of : (b : Bool) → is_at (nat_cmp number) e.0 ≡ b → list_any (λ one. (one.0 == number) && p one.1) es ≡ holds_in p (suite_of es number)
+        → ((b && p e.1) || list_any (λ one. (one.0 == number) && p one.1) es) ≡ holds_in p (cond b (Some e.1) (suite_of es number))
+    of true is tail' =
+        let none : suite_of es number ≡ None = lookup-none (is_at (nat_cmp number)) es (none_past_head (eq_by_cmp_equiv nat_cmp_total) number e es (IsDistinct-from_sorted nat_cmp _ ordered) is) in
+        ap (λ b. p e.1 || b) (tail' ∙ ap (holds_in p) none) ∙ or_false (p e.1)
+    of false is tail' = tail'
+
+-- of the suites, filtered and mapped
+any_filtered : (changes : Changes) (server number : ℕ) (suites : Suites) → list_any (λ part. part.suite == number) (parts_at suites changes server) ≡ list_any (λ one. (one.0 == number) && holds_lock one.1 server) suites
+any_filtered changes server number [] = refl
+any_filtered changes server number (e ∷ es) =
+    elim (holds_lock e.1 server) as (λ b. list_any (λ part. part.suite == number) (map (part_of changes server) (cond b (e ∷ filter (λ one. holds_lock one.1 server) es) (filter (λ one. holds_lock one.1 server) es))) ≡ (((e.0 == number) && b) || list_any (λ one. (one.0 == number) && holds_lock one.1 server) es)) [
+      | true ↦ of (e.0 == number) (any_filtered changes server number es)
+      | false ↦ other (e.0 == number) (any_filtered changes server number es)
+    ]
+  where
+    of : (a : Bool) {b c : Bool} → b ≡ c → (a || b) ≡ ((a && true) || c)
+    of true is = refl
+    of false is = is
+
+    other : (a : Bool) {b c : Bool} → b ≡ c → b ≡ ((a && false) || c)
+    other true is = is
+    other false is = is
+
+listed : (changes : Changes) (server number : ℕ) (suites : Suites) → IsOrdered nat_cmp suites → list_any (λ part. part.suite == number) (parts_at suites changes server) ≡ holds Shared (told_at suites number) server
+listed changes server number suites ordered = any_filtered changes server number suites ∙ any_at (λ suite. holds_lock suite server) suites number ordered ∙ of (suite_of suites number)
+  where
+    of : (found : Option Suite) → holds_in (λ suite. holds_lock suite server) found ≡ holds Shared (told_in found) server
+    of (Some suite) = refl
+    of None = refl
+
+abbrev parts_in : Request → List Part
+parts_in (request.Prepare t parts) = parts
+parts_in _ = []
+
+-- a request that is no Prepare
+no_prepare : {P : Type 0} (a b t : ℕ) (asked : Request) (parts : List Part) → is_prepare asked ≡ false → ◌≡◌ {A = Option (ℕ × Request)} (Some (a, asked)) (Some (b, request.Prepare t parts)) → P
+no_prepare a b t asked parts other is = absurd (false≢true (sym other ∙ ap is_prepare (asks_same a b asked (request.Prepare t parts) is)))
+
+-- a Prepare is of the locks that were heard to be held
+record IsPrepare (held : ℕ → ℕ → Bool) (server : ℕ) (list : List Part) : Type 0 where
+  suites : Suites
+  changes : Changes
+  ordered : IsOrdered nat_cmp suites
+  told : (number who : ℕ) → holds Shared (told_at suites number) who ≡ held number who
+  parts : parts_at suites changes server ≡ list
+
+prepare_is : (held : ℕ → ℕ → Bool) (fixed : Fixed) (doing : Option Doing) (server t : ℕ) (parts : List Part) → Keeps held doing → next_in fixed doing ≡ Some (server, request.Prepare t parts)
+    → IsPrepare held server parts
+prepare_is held fixed None server t parts keeps is = cc
+prepare_is held fixed (Some (Rounding round)) server t parts keeps is = of round.now is
+  where
+    of : (now : Sweeping) → ◌≡◌ {A = Option (ℕ × Request)} (Some (sweep.asked_now fixed.service round now)) (Some (server, request.Prepare t parts)) → IsPrepare held server parts
+    of Listing is = no_prepare _ server t request.Locks parts refl is
+    of (Resolving other left) is = no_prepare _ server t (request.Resolve other) parts refl is
+    of (Telling other v left) is = no_prepare _ server t (request.Finish other v) parts refl is
+    of (Breaking lock left) is = no_prepare _ server t (request.Break lock.t lock.suite) parts refl is
+prepare_is held fixed (Some (Running course)) server t parts keeps is = of course.phase is
+  where
+    by_next : (who : ℕ) (after : Next) → asked_by course.task who after ≡ Some (server, request.Prepare t parts) → IsPrepare held server parts
+    by_next who (Ask at (Poll mode)) is = no_prepare at server t (request.Poll course.task.t who mode) parts refl is
+    by_next who (Ask at Upgrade) is = no_prepare at server t (request.Upgrade course.task.t who) parts refl is
+    by_next who (Current prefix dver members) is = cc
+    by_next who (Short had wanting busy) is = cc
+
+    by_suite : (who : ℕ) (found : Option Suite) → asked_for course.task who found ≡ Some (server, request.Prepare t parts) → IsPrepare held server parts
+    by_suite who (Some suite) is = by_next who (next suite.collector) is
+    by_suite who None is = cc
+
+    by_first : (who : ℕ) (first : Option First) → fetched_at course.task who first ≡ Some (server, request.Prepare t parts) → IsPrepare held server parts
+    by_first who (Some first) is = no_prepare first.source server t (request.Fetch course.task.t who) parts refl is
+    by_first who None is = cc
+
+    by_fetch : (who : ℕ) (found : Option Suite) → fetched_for course.task who found ≡ Some (server, request.Prepare t parts) → IsPrepare held server parts
+    by_fetch who (Some suite) is = by_first who suite.first is
+    by_fetch who None is = cc
+
+    of : (phase : Phase) → request_in fixed course.task course.suites phase ≡ Some (server, request.Prepare t parts) → IsPrepare held server parts
+    of (Gathering who) is = by_suite who (suite_of course.suites who) is
+    of (Fetching who) is = by_fetch who (suite_of course.suites who) is
+    of (Widening [] granted) is = cc
+    of (Widening (who ∷ left) granted) is = by_suite who (suite_of course.suites who) is
+    of (Preparing [] outcome) is = cc
+    of (Preparing (now ∷ left) outcome) is =
+        let at : now ≡ server = ap (λ (pair : ℕ × Request). pair.0) (same_Some (now, request.Prepare course.task.t (parts_at course.suites (changes_of outcome) now)) (server, request.Prepare t parts) is) in
+        let same : parts_at course.suites (changes_of outcome) now ≡ parts = ap parts_in (asks_same now server (request.Prepare course.task.t (parts_at course.suites (changes_of outcome) now)) (request.Prepare t parts) is) in
+        record { suites = course.suites; changes = changes_of outcome; ordered = keeps.0; told = keeps.1; parts = ap (parts_at course.suites (changes_of outcome)) (sym at) ∙ same }
+    of (Deciding outcome) is = no_prepare (home_of fixed.service course.task.t) server t (request.Decide course.task.t (decision_of course.task outcome)) parts refl is
+    of (Finishing [] v ending) is = cc
+    of (Finishing (now ∷ left) v ending) is = no_prepare now server t (request.Finish course.task.t v) parts refl is
+
+prepare_there : (fixed : Fixed) (agent : Agent) (job : Job) (events : List Event) (server t : ℕ) (parts : List Part) → is_idle agent.doing ≡ true
+    → next_of fixed (after_all fixed (begin fixed agent job) events) ≡ Some (server, request.Prepare t parts) → IsPrepare (plus_all nothing_held (of_job fixed agent job events)) server parts
+prepare_there fixed agent job events server t parts idle is =
+    prepare_is (plus_all nothing_held (of_job fixed agent job events)) fixed (after_all fixed (begin fixed agent job) events).doing server t parts
+    (all_keep nothing_held fixed (begin fixed agent job) events (begin_keeps fixed agent job idle)) is
+
+pub prepare_lists_the_locks : PrepareListsTheLocks
+prepare_lists_the_locks fixed agent job events server t suite parts idle is =
+    let prepare = prepare_there fixed agent job events server t parts idle is in
+    ap (list_any (λ part. part.suite == suite)) (sym prepare.parts) ∙ listed prepare.changes server suite prepare.suites prepare.ordered ∙ prepare.told suite server
+
+-- ---- the suites of a Prepare rise
+
+all_above : (k : ℕ) (changes : Changes) (server : ℕ) (suites : Suites) → AllByRecursion (λ y. nat_cmp k y ≡ Less) (keys_of suites) → AllByRecursion (λ y. nat_cmp k y ≡ Less) (map (λ part. part.suite) (parts_at suites changes server))
+all_above k changes server [] above = tt
+all_above k changes server (e ∷ es) above =
+    let rest = all_above k changes server es above.1 in
+    elim (holds_lock e.1 server) as (λ b. AllByRecursion (λ y. nat_cmp k y ≡ Less) (map (λ part. part.suite) (map (part_of changes server) (cond b (e ∷ filter (λ one. holds_lock one.1 server) es) (filter (λ one. holds_lock one.1 server) es))))) [
+      | true ↦ (above.0, rest)
+      | false ↦ rest
+    ]
+
+parts_rise : (changes : Changes) (server : ℕ) (suites : Suites) → IsOrdered nat_cmp suites → IsStrictlySortedBy nat_cmp (map (λ part. part.suite) (parts_at suites changes server))
+unfolding IsStrictlySortedBy
+parts_rise changes server [] ordered = tt
+parts_rise changes server (e ∷ es) ordered =
+    let rest = parts_rise changes server es ordered.1 in
+    elim (holds_lock e.1 server) as (λ b. IsStrictlySortedBy nat_cmp (map (λ part. part.suite) (map (part_of changes server) (cond b (e ∷ filter (λ one. holds_lock one.1 server) es) (filter (λ one. holds_lock one.1 server) es))))) [
+      | true ↦ (all_above e.0 changes server es ordered.0, rest)
+      | false ↦ rest
+    ]
+
+pub a_prepare_rises : APrepareRises
+a_prepare_rises fixed agent job events server t parts idle is =
+    let prepare = prepare_there fixed agent job events server t parts idle is in
+    subst (λ parts. IsStrictlySortedBy nat_cmp (map (λ part. part.suite) parts)) prepare.parts (parts_rise prepare.changes server prepare.suites prepare.ordered)

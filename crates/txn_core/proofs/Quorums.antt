@@ -1,0 +1,617 @@
+-- What is decided is decided on quorums.
+use Rattle.std.proofs.Common.{◌≡◌, ℕ, zero, suc, ◌+◌, ◌≤◌, ◌<◌, Bool, true, false, cond, ◌⊎◌, inl, inr, List, [], ◌∷◌, Option, Some, None, Ok, Err, refl, sym, ap, subst, ◌∙◌, arith}
+use Rattle.std.specs.Prelude.{◌==◌, ◌&&◌, ◌||◌, length, map, filter, find, nat_lt, nat_le, ◌*◌}
+use Rattle.std.specs.List.{list_any}
+use Rattle.std.specs.Ordering.{nat_cmp}
+use Rattle.std.specs.BTreeMap.{is_at}
+use Rattle.std.specs.Cmp.{unsigned_tied}
+use Rattle.std.proofs.lemmas.Bool.{eqb-true, false≢true}
+use Rattle.std.proofs.lemmas.Bool.Decides.{nat_tests}
+use Rattle.std.proofs.lemmas.Cmp.{nat_cmp_total}
+use Rattle.std.proofs.lemmas.Option.{same_Some}
+use Rattle.sorted_map.specs.Laws.{get-insert}
+use Rattle.vote_core.specs.Quorums.{Representative, Configuration, votes_in, is_write_quorum}
+use Rattle.suite_content.specs.declared.content.Content.{Content}
+use Rattle.suite_prefix.specs.declared.copies.Prefix.{Prefix}
+use Rattle.file_ops.specs.declared.answer.Answer.{Answer}
+use Rattle.suite_prefix.specs.declared.lock_mode.LockMode.{LockMode}
+use Rattle.suite_prefix.specs.declared.lock_mode.LockMode.TheVariants.{Exclusive}
+use Rattle.rep_core.specs.declared.request.Request.{Request}
+use Rattle.rep_core.specs.declared.reply.Reply.{Reply}
+use Rattle.rep_core.specs.declared.reply.Verdict.{Verdict}
+use Rattle.rep_core.specs.declared.reply.Verdict.TheVariants as verdict
+use Rattle.rep_core.specs.declared.stamped.Lack.{Lack}
+use Rattle.rep_core.specs.Fits.{is_prepared}
+use Rattle.file_exec.specs.declared.changes.Change.{Change}
+use Rattle.file_exec.specs.declared.executor.Outcome.{Outcome as Executed}
+use Rattle.file_exec.specs.declared.executor.Outcome.TheVariants as exec
+use Rattle.file_exec.specs.declared.need.Need.TheVariants.{Hold, Know}
+use Rattle.suite_collect.specs.declared.told.Told.{Told}
+use Rattle.suite_collect.specs.declared.told.Said.{Said}
+use Rattle.suite_collect.specs.declared.told.Said.TheVariants.{Held, Busy, Down}
+use Rattle.suite_collect.specs.Telling.{newer, newest, holds}
+use Rattle.suite_collect.specs.Collecting.{told_since, Collector, all_told, needed_of, needed, got, counted, is_member, is_left, members_of, version, votes_or, mode_or, ask_or_short, tell, tell_at, mode_of, Next, Ask, Current, Short, next}
+use Rattle.suite_collect.specs.Collecting as collecting
+use Rattle.weak_cache.specs.Entries.{Cache}
+use Rattle.txn_core.specs.Suites.{First, Suite, Suites, suite_of, with_suite, settled, first_or, source_of}
+use Rattle.txn_core.specs.Writing.{is_changed, gets_votes, sets_votes, change_of}
+use Rattle.txn_core.specs.declared.word.Word.{Word}
+use Rattle.txn_core.specs.declared.ending.Cause.{Cause}
+use Rattle.txn_core.specs.declared.ending.Ending.{Ending}
+use Rattle.txn_core.specs.declared.job.Job.{Job}
+use Rattle.txn_core.specs.declared.word.Word.TheVariants.{Replied, Lacked}
+use Rattle.txn_core.specs.declared.ending.Cause.TheVariants.{Lost}
+use Rattle.txn_core.specs.declared.ending.Ending.TheVariants.{Undecided}
+use Rattle.txn_core.specs.declared.job.Job.TheVariants.{Transaction, Sweep}
+use Rattle.txn_core.specs.Doing.{Changes, Granted, Fixed, Task, Outcome, Phase, Gathering, Fetching, Widening, Preparing, Deciding, Finishing, Course, Round, Doing, Running, Rounding, After, GoesOn, Ends}
+use Rattle.txn_core.specs.Transactions.{Step, Gathered, tell_end, give_up, prepare, locked_at, short_cause, gather_by, widen_by, widen_one, widened, widen_all, to_widen, votes_then, votes_after, opened, or_all, open_needed, open_suite, open_first, opened_with, free_content, heard_on, raised_or_new, keep_content, heard_of, said_to, proceed, execute, collected, hear, fetched, prepared, after_lack, after_word, changes_of, given_in, verdict_in, ending_by, cause_of_abort, lack_cause}
+use Rattle.txn_core.specs.Sweeps as sweep
+use Rattle.txn_core.specs.Agents as agents
+use Rattle.txn_core.specs.Agents.{Agent, Event, Take, Forget, next_in, next_of, take_in, take, begin, started, forget, is_idle, has_sense, most_jobs, after_event, after_all}
+use Rattle.txn_core.specs.Laws.{newest_of, IsReady, DecidesOnQuorums}
+use Rattle.txn_core.proofs.Setting.{Keeps, changed_held, changed_keeps}
+use Rattle.txn_core.proofs.Locks.{all_told-tell}
+
+-- ---- quorums and newer prefixes
+
+abbrev Enough : LockMode → Configuration → List Told → Type 0
+Enough mode votes told = needed_of mode votes ≤ votes_in votes.reps (holds mode told)
+
+or_true : (a : Bool) {b : Bool} → b ≡ true → (a || b) ≡ true
+or_true true is = refl
+or_true false is = is
+
+votes_more : (reps : List Representative) (f g : ℕ → Bool) → ((server : ℕ) → f server ≡ true → g server ≡ true) → votes_in reps f ≤ votes_in reps g
+votes_more [] f g h = omega arith
+votes_more (rep ∷ reps) f g h = let one = term (f rep.0) (g rep.0) rep.1 (h rep.0) in let rest = votes_more reps f g h in omega (arith, one, rest)
+  where
+    term : (a b : Bool) (v : ℕ) → (a ≡ true → b ≡ true) → cond a v 0 ≤ cond b v 0
+    term false b v h = omega arith
+    term true true v h = omega arith
+    term true false v h = absurd (false≢true (h refl))
+
+enough_more : (mode : LockMode) (votes : Configuration) (one : Told) (told : List Told) → Enough mode votes told → Enough mode votes (one ∷ told)
+enough_more mode votes one told enough =
+    let more = votes_more votes.reps (holds mode told) (holds mode (one ∷ told)) (λ server is. or_true _ is) in omega (arith, enough, more)
+
+-- a prefix is the same, or it is newer
+abbrev IsSince : Prefix → Prefix → Type 0
+IsSince old new = (new ≡ old) ⊎ (old.pver < new.pver)
+
+since_least : (old new : Prefix) → IsSince old new → old.pver ≤ new.pver
+since_least old new since = elim since [
+  | inl same ↦ subst (λ (new : Prefix). old.pver ≤ new.pver) (sym same) (omega arith)
+  | inr less ↦ omega (arith, less)
+]
+
+newer_since : (old prefix : Prefix) (said : Said) → IsSince old prefix → IsSince old (newer prefix said)
+newer_since old prefix (Held other dver) since =
+    elim (nat_lt prefix.pver other.pver) as (λ b. nat_lt prefix.pver other.pver ≡ b → IsSince old (cond b other prefix)) [
+      | true ↦ λ less. inr (above less (since_least old prefix since))
+      | false ↦ λ _. since
+    ] refl
+  where
+    above : nat_lt prefix.pver other.pver ≡ true → old.pver ≤ prefix.pver → old.pver < other.pver
+    above less least = grind (arith, nat_tests)
+newer_since old prefix (Busy holder) since = since
+newer_since old prefix Down since = since
+
+tell_since : (old : Prefix) (one : Told) (c : Collector) → IsSince old (newest c.start c.told) → IsSince old (newest (tell one c).start (tell one c).told)
+tell_since old one c since = of c.widening
+  where
+    of : (w : Option collecting.Widening) → IsSince old (newest (tell_at w one c).start (tell_at w one c).told)
+    of None = newer_since old (newest c.start c.told) one.said since
+    of (Some w) = since
+
+tell_narrow : (one : Told) (c : Collector) → c.widening ≡ None → (tell one c).widening ≡ None
+tell_narrow one c none = of c.widening none
+  where
+    of : (w : Option collecting.Widening) → w ≡ None → (tell_at w one c).widening ≡ None
+    of None is = none
+    of (Some w) is = cc
+
+tell_mode : (one : Told) (c : Collector) → (tell one c).mode ≡ c.mode
+tell_mode one c = of c.widening
+  where
+    of : (w : Option collecting.Widening) → (tell_at w one c).mode ≡ c.mode
+    of None = refl
+    of (Some w) = refl
+
+-- ---- a Current
+
+abbrev EnoughWith : Collector → Option collecting.Widening → Type 0
+EnoughWith c w = Enough (mode_or w c.mode) (votes_or w (newest c.start c.told)) (all_told c)
+
+current_of : (c : Collector) (prefix : Prefix) (dver : ℕ) (members : List ℕ) → next c ≡ Current prefix dver members → EnoughWith c c.widening × (newest c.start c.told ≡ prefix)
+current_of c prefix dver members is = of (nat_le (needed c) (got c)) refl is
+  where
+    none : (found : Option Representative) → ask_or_short c found ≡ Current prefix dver members → ⊥
+    none (Some rep) is = cc
+    none None is = cc
+
+    least : nat_le (needed c) (got c) ≡ true → needed c ≤ got c
+    least enough = grind (arith, nat_tests)
+
+    of : (b : Bool) → nat_le (needed c) (got c) ≡ b
+        → cond b (Current (newest c.start c.told) (version c) (members_of (counted c) (is_member c))) (ask_or_short c (find (is_left c) (counted c).reps)) ≡ Current prefix dver members
+        → EnoughWith c c.widening × (newest c.start c.told ≡ prefix)
+    of true enough is = (least enough, cc)
+    of false enough is = absurd (none _ is)
+
+-- ---- what holds of a suite
+
+-- its prefixes only grow newer; and once it had a Current, a quorum of its mode is held
+abbrev Grown : Suite → Type 0
+Grown suite = (first : First) → suite.first ≡ Some first → IsSince first.prefix (newest_of suite)
+
+record Sound (suite : Suite) : Type 0 where
+  first : First
+  was : suite.first ≡ Some first
+  since : IsSince first.prefix (newest_of suite)
+  mode : suite.mode ≡ suite.collector.mode
+  quorum : Enough suite.mode (newest_of suite).votes (all_told suite.collector)
+
+sound_grown : (suite : Suite) → Sound suite → Grown suite
+sound_grown suite sound first is = subst (λ (first : First). IsSince first.prefix (newest_of suite)) (same_Some sound.first first (sym sound.was ∙ is)) sound.since
+
+sound_content : (suite : Suite) (content : Option Content) → Sound suite → Sound (record suite { content = content })
+sound_content suite content sound = record { first = sound.first; was = sound.was; since = sound.since; mode = sound.mode; quorum = sound.quorum }
+
+sound_settled : (suite : Suite) (prefix : Prefix) (dver : ℕ) (members : List ℕ) → Grown suite → suite.collector.widening ≡ None → next suite.collector ≡ Current prefix dver members → Sound (settled prefix dver members suite)
+sound_settled suite prefix dver members grown narrow is = of suite.first refl
+  where
+    current : EnoughWith suite.collector suite.collector.widening × (newest_of suite ≡ prefix)
+    current = current_of suite.collector prefix dver members is
+
+    new : First
+    new = record { prefix = prefix; dver = dver; source = source_of suite.collector dver members }
+
+    of : (first : Option First) → suite.first ≡ first → Sound (settled prefix dver members suite)
+    of (Some first) was = record { first = first; was = ap (λ first. first_or first new) was; since = grown first was; mode = refl; quorum = subst (EnoughWith suite.collector) narrow current.0 }
+    of None was = record { first = new; was = ap (λ first. first_or first new) was; since = inl current.1; mode = refl; quorum = subst (EnoughWith suite.collector) narrow current.0 }
+
+-- ---- all suites
+
+abbrev Each : (ℕ → Suite → Type 0) → Suites → Type 0
+Each p suites = (number : ℕ) (suite : Suite) → suite_of suites number ≡ Some suite → p number suite
+
+each_with : (p q : ℕ → Suite → Type 0) (suites : Suites) (number : ℕ) (suite : Suite) → ((other : ℕ) (it : Suite) → (number == other) ≡ false → p other it → q other it) → q number suite → Each p suites → Each q (with_suite number suite suites)
+each_with p q suites number suite others here each other it is =
+    of (number == other) refl (ap (λ b. cond b (Some suite) (suite_of suites other)) (sym (unsigned_tied number other)) ∙ sym (get-insert nat_cmp_total suites number suite other) ∙ is)
+  where
+    of : (b : Bool) → (number == other) ≡ b → cond b (Some suite) (suite_of suites other) ≡ Some it → q other it
+    of true same found = subst (λ other. q other it) (eqb-true number other same) (subst (q number) (same_Some suite it found) here)
+    of false no' found = others other it no' (each other it found)
+
+-- in order: gathered; gathered but for one; and done, but for the widenings that are to do
+abbrev IsNarrow : Suite → Type 0
+IsNarrow suite = suite.collector.widening ≡ None
+
+abbrev Settled : ℕ → Suite → Type 0
+Settled number suite = Sound suite × IsNarrow suite
+
+abbrev But : ℕ → ℕ → Suite → Type 0
+But now number suite = Grown suite × IsNarrow suite × ((now == number) ≡ false → Sound suite)
+
+abbrev Wide : Changes → ℕ → Suite → Type 0
+Wide changes number suite = Enough Exclusive (votes_after changes number suite) (all_told suite.collector)
+
+abbrev among : List ℕ → ℕ → Bool
+among numbers number = list_any (λ one. one == number) numbers
+
+abbrev Ready : Changes → List ℕ → ℕ → Suite → Type 0
+Ready changes todo number suite = Sound suite × (is_changed changes number ≡ true → suite.mode ≡ Exclusive) × (among todo number ≡ false → sets_votes changes number ≡ true → Wide changes number suite) × Keeps changes number suite
+
+record IsWidened (changes : Changes) (number : ℕ) (suite : Suite) : Type 0 where
+  widening : collecting.Widening
+  is : suite.collector.widening ≡ Some widening
+  votes : widening.votes ≡ votes_after changes number suite
+
+abbrev InWidening : Changes → ℕ → List ℕ → ℕ → Suite → Type 0
+InWidening changes now left number suite = Ready changes (now ∷ left) number suite × ((now == number) ≡ true → IsWidened changes number suite)
+
+abbrev PhaseReady : Suites → Phase → Type 0
+PhaseReady suites (Gathering now) = Each (But now) suites
+PhaseReady suites (Fetching number) = Each Settled suites
+PhaseReady suites (Widening [] granted) = Unit {0}
+PhaseReady suites (Widening (now ∷ left) granted) = Each (InWidening granted.changes now left) suites
+PhaseReady suites (Preparing left outcome) = Each (Ready (changes_of outcome) []) suites
+PhaseReady suites (Deciding outcome) = Each (Ready (changes_of outcome) []) suites
+PhaseReady suites (Finishing servers v ending) = Unit {0}
+
+abbrev LeftReady : After Course → Type 0
+LeftReady (GoesOn course) = PhaseReady course.suites course.phase
+LeftReady (Ends ending) = Unit {0}
+
+self : (number : ℕ) → (number == number) ≡ true
+self number = grind (arith, nat_tests)
+
+-- ---- the widenings
+
+ready_end : (task : Task) (cache : Cache) (suites : Suites) (v : Verdict) (ending : Ending) (servers : List ℕ) → LeftReady (tell_end task cache suites v ending servers).after
+ready_end task cache suites v ending [] = tt
+ready_end task cache suites v ending (server ∷ servers) = tt
+
+ready_give_up : (task : Task) (cache : Cache) (suites : Suites) (cause : Cause) → LeftReady (give_up task cache suites cause).after
+ready_give_up task cache suites cause = ready_end task cache suites verdict.Aborted (Undecided cause) (locked_at suites)
+
+ready_prepare : (task : Task) (cache : Cache) (suites : Suites) (outcome : Outcome) (left : List ℕ) → Each (Ready (changes_of outcome) []) suites → LeftReady (prepare task cache suites outcome left).after
+ready_prepare task cache suites outcome [] each = each
+ready_prepare task cache suites outcome (server ∷ servers) each = each
+
+sound_widened : (changes : Changes) (number : ℕ) (suite : Suite) → Sound suite → Sound (widened changes number suite)
+sound_widened changes number suite sound = record { first = sound.first; was = sound.was; since = sound.since; mode = sound.mode; quorum = sound.quorum }
+
+wide_current : (changes : Changes) (number : ℕ) (suite : Suite) (prefix : Prefix) (dver : ℕ) (members : List ℕ) → IsWidened changes number suite → next suite.collector ≡ Current prefix dver members → Wide changes number suite
+wide_current changes number suite prefix dver members wide is =
+    subst (λ (votes : Configuration). Enough Exclusive votes (all_told suite.collector)) wide.votes (subst (EnoughWith suite.collector) wide.is (current_of suite.collector prefix dver members is).0)
+
+-- another suite has no less to do
+less_to_do : (changes : Changes) (now : ℕ) (left : List ℕ) (number : ℕ) (suite : Suite) → (now == number) ≡ false → Ready changes (now ∷ left) number suite → Ready changes left number suite
+less_to_do changes now left number suite other ready = (ready.0, ready.1, λ none. ready.2 (ap (λ b. b || among left number) other ∙ none), ready.3)
+
+still_ready : (changes : Changes) (now : ℕ) (left : List ℕ) (number : ℕ) (suite : Suite) → (now == number) ≡ false → Ready changes (now ∷ left) number suite → InWidening changes now left number suite
+still_ready changes now left number suite other ready = (ready, λ same. absurd (false≢true (sym other ∙ same)))
+
+ready_widen_by : (task : Task) (cache : Cache) (suites : Suites) (left : List ℕ) (granted : Granted) (number : ℕ) (suite : Suite) (after : Next) (go_on : Suites → Step) → next suite.collector ≡ after
+    → Ready granted.changes (number ∷ left) number suite → IsWidened granted.changes number suite → Each (Ready granted.changes (number ∷ left)) suites → ((suites : Suites) → Each (Ready granted.changes left) suites → LeftReady (go_on suites).after)
+    → LeftReady (widen_by task cache (with_suite number suite suites) (Widening (number ∷ left) granted) number after go_on).after
+ready_widen_by task cache suites left granted number suite (Current prefix dver members) go_on is ready wide each more =
+    more (with_suite number suite suites) (each_with (Ready granted.changes (number ∷ left)) (Ready granted.changes left) suites number suite (less_to_do granted.changes number left)
+    (ready.0, ready.1, λ _ _. wide_current granted.changes number suite prefix dver members wide is, ready.3) each)
+ready_widen_by task cache suites left granted number suite (Ask server asked) go_on is ready wide each more =
+    each_with (Ready granted.changes (number ∷ left)) (InWidening granted.changes number left) suites number suite (still_ready granted.changes number left) (ready, λ _. wide) each
+ready_widen_by task cache suites left granted number suite (Short had wanting busy) go_on is ready wide each more = ready_give_up task cache (with_suite number suite suites) (short_cause number had wanting busy)
+
+ready_widen_one : (task : Task) (cache : Cache) (suites : Suites) (left : List ℕ) (granted : Granted) (number : ℕ) (found : Option Suite) (go_on : Suites → Step) → suite_of suites number ≡ found
+    → Each (Ready granted.changes (number ∷ left)) suites → ((suites : Suites) → Each (Ready granted.changes left) suites → LeftReady (go_on suites).after)
+    → LeftReady (widen_one task cache suites (Widening (number ∷ left) granted) granted.changes number found go_on).after
+ready_widen_one task cache suites left granted number (Some suite) go_on there each more =
+    let ready = each number suite there in
+    let now = widened granted.changes number suite in
+    ready_widen_by task cache suites left granted number now (next now.collector) go_on refl
+    (sound_widened granted.changes number suite ready.0, ready.1, λ not' sets'. ready.2 not' sets', ready.3)
+    (record { widening = record { votes = votes_after granted.changes number suite; told = told_since suite.collector.widening }; is = refl; votes = refl }) each more
+ready_widen_one task cache suites left granted number None go_on there each more = more suites (λ other suite is. less_to_do granted.changes number left other suite (differs other suite is (number == other) refl) (each other suite is))
+  where
+    differs : (other : ℕ) (suite : Suite) → suite_of suites other ≡ Some suite → (b : Bool) → (number == other) ≡ b → (number == other) ≡ false
+    differs other suite is false same = same
+    differs other suite is true same = absurd (nothing (sym there ∙ ap (suite_of suites) (eqb-true number other same) ∙ is))
+      where
+        nothing : ◌≡◌ {A = Option Suite} None (Some suite) → ⊥
+        nothing is = cc
+
+ready_widen : (task : Task) (cache : Cache) (suites : Suites) (granted : Granted) (left : List ℕ) → Each (Ready granted.changes left) suites → LeftReady (widen_all task cache suites granted left).after
+ready_widen task cache suites granted [] each = ready_prepare task cache suites (Ok granted) (locked_at suites) each
+ready_widen task cache suites granted (number ∷ left) each =
+    ready_widen_one task cache suites left granted number (suite_of suites number) _ refl each (λ suites each. ready_widen task cache suites granted left each)
+
+-- a suite that gets votes is to be widened
+to_do : (changes : Changes) (number : ℕ) → sets_votes changes number ≡ true → among (to_widen changes) number ≡ true
+to_do [] number sets' = cc
+to_do (e ∷ changes) number sets' = of (to_do changes number) (is_at (nat_cmp number) e.0) refl sets'
+  where
+    later : (b : Bool) → among (to_widen changes) number ≡ true → among (map (λ one. one.0) (cond b (e ∷ filter (λ one. one.1.votes) changes) (filter (λ one. one.1.votes) changes))) number ≡ true
+    later true is = or_true (e.0 == number) is
+    later false is = is
+
+    here : (number == e.0) ≡ true → e.1.votes ≡ true → among (to_widen (e ∷ changes)) number ≡ true
+    here same votes =
+        subst (λ b. among (map (λ one. one.0) (cond b (e ∷ filter (λ one. one.1.votes) changes) (filter (λ one. one.1.votes) changes))) number ≡ true)
+        (sym votes) (ap (λ b. b || among (to_widen changes) number) (ap (λ n. e.0 == n) (eqb-true number e.0 same) ∙ self e.0))
+
+    of : (sets_votes changes number ≡ true → among (to_widen changes) number ≡ true) → (b : Bool) → is_at (nat_cmp number) e.0 ≡ b → gets_votes (cond b (Some e.1) (change_of changes number)) ≡ true → among (to_widen (e ∷ changes)) number ≡ true
+    of again true at votes = here (sym (unsigned_tied number e.0) ∙ at) votes
+    of again false _ is = later e.1.votes (again is)
+
+ready_done : (fixed : Fixed) (task : Task) (suites : Suites) (answers : List Answer) (changes : Changes) → heard_on fixed task suites ≡ exec.Done answers changes → Each Settled suites → Each (Ready changes (to_widen changes)) suites
+ready_done fixed task suites answers changes is each number suite there =
+    let sound = (each number suite there).0 in (
+      sound,
+      λ changed'. changed_held fixed task suites answers changes number suite sound.first is there sound.was changed',
+      λ none sets'. absurd (false≢true (sym none ∙ to_do changes number sets')),
+      changed_keeps fixed task suites answers changes number suite is there,
+    )
+
+-- ---- the executor
+
+settled_content : (suites : Suites) (number : ℕ) (suite : Suite) (content : Option Content) → suite_of suites number ≡ Some suite → Each Settled suites → Each Settled (with_suite number (record suite { content = content }) suites)
+settled_content suites number suite content there each =
+    let was = each number suite there in
+    each_with Settled Settled suites number (record suite { content = content }) (λ other it _ is. is) (sound_content suite content was.0, was.1) each
+
+settled_opened : (n : ℕ) (fixed : Fixed) (task : Task) (all : Gathered) → Each Settled all.suites → Each Settled (opened n fixed task all).suites
+settled_opened zero fixed task all each = each
+settled_opened (suc n) fixed task all each = of (heard_on fixed task all.suites) (λ more each. settled_opened n fixed task more each)
+  where
+    or' : (found : Option Gathered) → ((more : Gathered) → found ≡ Some more → Each Settled more.suites) → ((more : Gathered) → Each Settled more.suites → Each Settled (opened n fixed task more).suites) → Each Settled (or_all all found (λ all. opened n fixed task all)).suites
+    or' (Some more) found_are later = later more (found_are more refl)
+    or' None found_are later = each
+
+    with_content : (number : ℕ) (suite : Suite) (first : First) (content : Option Content) (more : Gathered) → suite_of all.suites number ≡ Some suite → opened_with task all number suite first content ≡ Some more → Each Settled more.suites
+    with_content number suite first (Some content) more there is = subst (λ (more : Gathered). Each Settled more.suites) (same_Some _ more is) (settled_content all.suites number suite (Some content) there each)
+    with_content number suite first None more there is = cc
+
+    at_first : (number : ℕ) (suite : Suite) (first : Option First) (more : Gathered) → suite_of all.suites number ≡ Some suite → open_first task all number suite first ≡ Some more → Each Settled more.suites
+    at_first number suite (Some first) more there is = with_content number suite first (free_content task all.cache number first) more there is
+    at_first number suite None more there is = cc
+
+    at_suite : (number : ℕ) (found : Option Suite) (more : Gathered) → suite_of all.suites number ≡ found → open_suite task all number found ≡ Some more → Each Settled more.suites
+    at_suite number (Some suite) more there is = at_first number suite suite.first more there is
+    at_suite number None more there is = cc
+
+    needed' : (heard : Executed) (more : Gathered) → open_needed task all heard ≡ Some more → Each Settled more.suites
+    needed' (exec.Need (Know number)) more is = at_suite number (suite_of all.suites number) more refl is
+    needed' (exec.Need (Hold number mode)) more is = cc
+    needed' (exec.Done answers changes) more is = cc
+    needed' (exec.Refused refusal) more is = cc
+
+    of : (heard : Executed) → ((more : Gathered) → Each Settled more.suites → Each Settled (opened n fixed task more).suites) → Each Settled (or_all all (open_needed task all heard) (λ all. opened n fixed task all)).suites
+    of heard later = or' (open_needed task all heard) (needed' heard) later
+
+ready_gather : (task : Task) (cache : Cache) (suites : Suites) (number : ℕ) (after : Next) → Each (But number) suites → LeftReady (gather_by task cache suites number after).after
+ready_gather task cache suites number (Short had wanting busy) each = ready_give_up task cache suites (short_cause number had wanting busy)
+ready_gather task cache suites number (Ask server asked) each = each
+ready_gather task cache suites number (Current prefix dver members) each = each
+
+-- a suite that is gathered now
+but_here : (number : ℕ) (suite : Suite) → Grown suite → IsNarrow suite → But number number suite
+but_here number suite grown narrow = (grown, narrow, λ other. absurd (false≢true (sym other ∙ self number)))
+
+but_raised : (fixed : Fixed) (task : Task) (cache : Cache) (number : ℕ) (mode : LockMode) (suites : Suites) (found : Option Suite) → suite_of suites number ≡ found → Each Settled suites → But number number (raised_or_new fixed task cache number mode found)
+but_raised fixed task cache number mode suites None there each = but_here number (raised_or_new fixed task cache number mode None) (λ first is. cc) refl
+but_raised fixed task cache number mode suites (Some suite) there each =
+    let was = each number suite there in but_here number (raised_or_new fixed task cache number mode (Some suite)) (λ first is. sound_grown suite was.0 first is) was.1
+
+ready_proceed : (fixed : Fixed) (task : Task) (cache : Cache) (suites : Suites) (heard : Executed) → heard_on fixed task suites ≡ heard → Each Settled suites → LeftReady (proceed fixed task cache suites heard).after
+ready_proceed fixed task cache suites (exec.Need (Hold number mode)) is each =
+    let suite = raised_or_new fixed task cache number mode (suite_of suites number) in
+    ready_gather task cache (with_suite number suite suites) number (next suite.collector)
+    (each_with Settled (But number) suites number suite (λ other it _ was. (sound_grown it was.0, was.1, λ _. was.0)) (but_raised fixed task cache number mode suites (suite_of suites number) refl each) each)
+ready_proceed fixed task cache suites (exec.Need (Know number)) is each = each
+ready_proceed fixed task cache suites (exec.Done answers changes) is each = ready_widen task cache suites (record { answers = answers; changes = changes }) (to_widen changes) (ready_done fixed task suites answers changes is each)
+ready_proceed fixed task cache suites (exec.Refused refusal) is each = ready_prepare task cache suites (Err refusal) (locked_at suites) (λ number suite there. ((each number suite there).0, λ changed'. cc, λ _ sets'. cc, λ change first is. cc))
+
+ready_execute : (fixed : Fixed) (task : Task) (all : Gathered) → Each Settled all.suites → LeftReady (execute fixed task all).after
+ready_execute fixed task all each =
+    let open' = opened (length all.suites) fixed task all in
+    ready_proceed fixed task open'.cache open'.suites (heard_on fixed task open'.suites) refl (settled_opened (length all.suites) fixed task all each)
+
+-- ---- a reply to a collector
+
+ready_heard : (fixed : Fixed) (task : Task) (cache : Cache) (suites : Suites) (number : ℕ) (found : Option Suite) (server : ℕ) (asked : Request) (said : Reply) → suite_of suites number ≡ found → Each (But number) suites
+    → LeftReady (heard_of task cache suites (Gathering number) number found server asked said (λ suites. execute fixed task (record { suites = suites; cache = cache }))).after
+ready_heard fixed task cache suites number None server asked said there each = ready_give_up task cache suites (Lost server)
+ready_heard fixed task cache suites number (Some suite) server asked said there each = of (said_to asked said)
+  where
+    but : (one : Told) → But number number (record suite { collector = tell one suite.collector })
+    but one =
+        let was = each number suite there in
+        but_here number (record suite { collector = tell one suite.collector }) (λ first is. tell_since first.prefix one suite.collector (was.0 first is)) (tell_narrow one suite.collector was.1)
+
+    by : (now : Suite) → But number number now → (after : Next) → next now.collector ≡ after
+        → LeftReady (collected task cache suites (Gathering number) number now after (λ suite. execute fixed task (record { suites = with_suite number suite suites; cache = cache }))).after
+    by now was (Ask who question) is = each_with (But number) (But number) suites number now (λ other it _ was. was) was each
+    by now was (Short had wanting busy) is = ready_give_up task cache (with_suite number now suites) (short_cause number had wanting busy)
+    by now was (Current prefix dver members) is =
+        let new = settled prefix dver members now in
+        ready_execute fixed task (record { suites = with_suite number new suites; cache = cache })
+        (each_with (But number) Settled suites number new (λ other it differs was. (was.2 differs, was.1)) (sound_settled now prefix dver members was.0 was.1 is, was.1) each)
+
+    of : (heard : Option Said) → LeftReady (hear task cache suites (Gathering number) number suite server asked heard (λ suite. execute fixed task (record { suites = with_suite number suite suites; cache = cache }))).after
+    of None = ready_give_up task cache suites (Lost server)
+    of (Some heard) =
+        let one : Told = record { server = server; mode = mode_of asked; said = heard } in
+        by (record suite { collector = tell one suite.collector }) (but one) (next (tell one suite.collector)) refl
+
+-- something told of a widening
+sound_told : (suite : Suite) (w : collecting.Widening) (one : Told) → suite.collector.widening ≡ Some w → Sound suite → Sound (record suite { collector = tell one suite.collector })
+sound_told suite w one is sound = record {
+  first = sound.first;
+  was = sound.was;
+  since = tell_since sound.first.prefix one suite.collector sound.since;
+  mode = sound.mode ∙ sym (tell_mode one suite.collector);
+  quorum = subst (λ (prefix : Prefix). Enough suite.mode prefix.votes (all_told (tell one suite.collector))) (sym same)
+      (subst (λ told. Enough suite.mode (newest_of suite).votes told) (sym (all_told-tell one suite.collector)) (enough_more suite.mode (newest_of suite).votes one (all_told suite.collector) sound.quorum));
+}
+  where
+    same : newest_of (record suite { collector = tell one suite.collector }) ≡ newest_of suite
+    same = ap (λ w. let c = tell_at w one suite.collector in newest c.start c.told) is
+
+widened_told : (changes : Changes) (number : ℕ) (suite : Suite) (one : Told) → Sound suite → IsWidened changes number suite → IsWidened changes number (record suite { collector = tell one suite.collector })
+widened_told changes number suite one sound wide = record {
+  widening = record wide.widening { told = one ∷ wide.widening.told };
+  is = ap (λ w. (tell_at w one suite.collector).widening) wide.is;
+  votes = wide.votes ∙ of (change_of changes number) suite.first suite.collector.start.votes (tell one suite.collector).start.votes sound.was;
+}
+  where
+    of : (change : Option Change) (first : Option First) (a b : Configuration) → first ≡ Some sound.first → votes_then change first a ≡ votes_then change first b
+    of (Some change) first a b is = refl
+    of None (Some first) a b is = refl
+    of None None a b is = cc
+
+ready_told : (changes : Changes) (now : ℕ) (left : List ℕ) (suite : Suite) (one : Told) → InWidening changes now left now suite → InWidening changes now left now (record suite { collector = tell one suite.collector })
+ready_told changes now left suite one was =
+    let wide = was.1 (self now) in
+    ((sound_told suite wide.widening one wide.is was.0.0, was.0.1, λ not' sets'. absurd (false≢true (sym not' ∙ ap (λ b. b || among left now) (self now))), was.0.3), λ _. widened_told changes now suite one was.0.0 wide)
+
+-- a Current again
+sound_again : (suite : Suite) (prefix : Prefix) (dver : ℕ) (members : List ℕ) → Sound suite → Sound (settled prefix dver members suite)
+sound_again suite prefix dver members sound = record {
+  first = sound.first;
+  was = ap (λ first. first_or first (record { prefix = prefix; dver = dver; source = source_of suite.collector dver members })) sound.was;
+  since = sound.since;
+  mode = refl;
+  quorum = subst (λ (mode : LockMode). Enough mode (newest_of suite).votes (all_told suite.collector)) sound.mode sound.quorum;
+}
+
+ready_again : (changes : Changes) (now : ℕ) (left : List ℕ) (suite : Suite) (prefix : Prefix) (dver : ℕ) (members : List ℕ) → InWidening changes now left now suite → next suite.collector ≡ Current prefix dver members → Ready changes left now (settled prefix dver members suite)
+unfolding sound_again
+ready_again changes now left suite prefix dver members was is =
+    let sound = was.0.0 in
+    let again = sound_again suite prefix dver members sound in
+    let wide = wide_current changes now suite prefix dver members (was.1 (self now)) is in (
+      again,
+      λ changed'. sym sound.mode ∙ was.0.1 changed',
+      λ _ _. subst (λ first. Enough Exclusive (votes_then (change_of changes now) first suite.collector.start.votes) (all_told suite.collector)) (sound.was ∙ sym again.was) wide,
+      λ change first told is. was.0.3 change first told (sound.was ∙ sym again.was ∙ is),
+    )
+
+ready_widened : (task : Task) (cache : Cache) (suites : Suites) (number : ℕ) (left : List ℕ) (granted : Granted) (found : Option Suite) (server : ℕ) (asked : Request) (said : Reply) → suite_of suites number ≡ found → Each (InWidening granted.changes number left) suites
+    → LeftReady (heard_of task cache suites (Widening (number ∷ left) granted) number found server asked said (λ suites. widen_all task cache suites granted left)).after
+ready_widened task cache suites number left granted None server asked said there each = ready_give_up task cache suites (Lost server)
+ready_widened task cache suites number left granted (Some suite) server asked said there each = of (said_to asked said)
+  where
+    by : (now : Suite) → InWidening granted.changes number left number now → (after : Next) → next now.collector ≡ after
+        → LeftReady (collected task cache suites (Widening (number ∷ left) granted) number now after (λ suite. widen_all task cache (with_suite number suite suites) granted left)).after
+    by now was (Ask who question) is = each_with (InWidening granted.changes number left) (InWidening granted.changes number left) suites number now (λ other it _ was. was) was each
+    by now was (Short had wanting busy) is = ready_give_up task cache (with_suite number now suites) (short_cause number had wanting busy)
+    by now was (Current prefix dver members) is =
+        let new = settled prefix dver members now in
+        ready_widen task cache (with_suite number new suites) granted left
+        (each_with (InWidening granted.changes number left) (Ready granted.changes left) suites number new (λ other it differs was. less_to_do granted.changes number left other it differs was.0) (ready_again granted.changes number left now prefix dver members was is) each)
+
+    of : (heard : Option Said) → LeftReady (hear task cache suites (Widening (number ∷ left) granted) number suite server asked heard (λ suite. widen_all task cache (with_suite number suite suites) granted left)).after
+    of None = ready_give_up task cache suites (Lost server)
+    of (Some heard) =
+        let one : Told = record { server = server; mode = mode_of asked; said = heard } in
+        by (record suite { collector = tell one suite.collector }) (ready_told granted.changes number left suite one (each number suite there)) (next (tell one suite.collector)) refl
+
+-- ---- one word
+
+ready_fetched : (fixed : Fixed) (task : Task) (cache : Cache) (suites : Suites) (number : ℕ) (found : Option Suite) (server : ℕ) (given : Option Content) → suite_of suites number ≡ found → Each Settled suites
+    → LeftReady (fetched fixed task cache suites number found server given).after
+ready_fetched fixed task cache suites number None server (Some content) there each = ready_give_up task cache suites (Lost server)
+ready_fetched fixed task cache suites number None server None there each = ready_give_up task cache suites (Lost server)
+ready_fetched fixed task cache suites number (Some suite) server None there each = ready_give_up task cache suites (Lost server)
+ready_fetched fixed task cache suites number (Some suite) server (Some content) there each = of suite.first
+  where
+    of : (first : Option First) → LeftReady (keep_content fixed task cache suites number suite content first server).after
+    of None = ready_give_up task cache suites (Lost server)
+    of (Some first) = ready_execute fixed task _ (settled_content suites number suite (Some content) there each)
+
+ready_lack : (task : Task) (cache : Cache) (suites : Suites) (phase : Phase) (server : ℕ) (lacked : Lack) → LeftReady (after_lack task cache suites phase server lacked).after
+ready_lack task cache suites (Gathering number) server lacked = ready_give_up task cache suites (lack_cause server lacked)
+ready_lack task cache suites (Fetching number) server lacked = ready_give_up task cache suites (lack_cause server lacked)
+ready_lack task cache suites (Widening left granted) server lacked = ready_give_up task cache suites (lack_cause server lacked)
+ready_lack task cache suites (Preparing left outcome) server lacked = ready_give_up task cache suites (lack_cause server lacked)
+ready_lack task cache suites (Deciding outcome) server lacked = ready_give_up task cache suites (lack_cause server lacked)
+ready_lack task cache suites (Finishing [] v ending) server lacked = tt
+ready_lack task cache suites (Finishing (now ∷ left) v ending) server lacked = ready_end task cache suites v ending left
+
+ready_prepared : (task : Task) (cache : Cache) (suites : Suites) (outcome : Outcome) (server : ℕ) (left : List ℕ) (said : Reply) → Each (Ready (changes_of outcome) []) suites → LeftReady (prepared task cache suites outcome server left said).after
+ready_prepared task cache suites outcome server left said each =
+    elim (is_prepared said) as (λ b. LeftReady (cond b (prepare task cache suites outcome left) (give_up task cache suites (Lost server))).after) [
+      | true ↦ ready_prepare task cache suites outcome left each
+      | false ↦ ready_give_up task cache suites (Lost server)
+    ]
+
+ready_word : (fixed : Fixed) (task : Task) (cache : Cache) (suites : Suites) (phase : Phase) (server : ℕ) (asked : Request) (word : Word) → PhaseReady suites phase
+    → LeftReady (after_word fixed (record { task = task; suites = suites; phase = phase }) cache server asked word).after
+ready_word fixed task cache suites phase server asked (Lacked lacked) ready = ready_lack task cache suites phase server lacked
+ready_word fixed task cache suites (Gathering number) server asked (Replied said) ready = ready_heard fixed task cache suites number (suite_of suites number) server asked said refl ready
+ready_word fixed task cache suites (Fetching number) server asked (Replied said) ready = ready_fetched fixed task cache suites number (suite_of suites number) server (given_in said) refl ready
+ready_word fixed task cache suites (Widening [] granted) server asked (Replied said) ready = ready_give_up task cache suites (Lost server)
+ready_word fixed task cache suites (Widening (number ∷ left) granted) server asked (Replied said) ready = ready_widened task cache suites number left granted (suite_of suites number) server asked said refl ready
+ready_word fixed task cache suites (Preparing [] outcome) server asked (Replied said) ready = ready_give_up task cache suites (Lost server)
+ready_word fixed task cache suites (Preparing (now ∷ left) outcome) server asked (Replied said) ready = ready_prepared task cache suites outcome server left said ready
+ready_word fixed task cache suites (Deciding outcome) server asked (Replied said) ready =
+    ready_end task cache suites (verdict_in said verdict.Aborted) (ending_by (verdict_in said verdict.Aborted) (cause_of_abort said)) (locked_at suites)
+ready_word fixed task cache suites (Finishing [] v ending) server asked (Replied said) ready = tt
+ready_word fixed task cache suites (Finishing (now ∷ left) v ending) server asked (Replied said) ready = ready_end task cache suites v ending left
+
+-- ---- all words
+
+abbrev DoingReady : Option Doing → Type 0
+DoingReady (Some (Running course)) = PhaseReady course.suites course.phase
+DoingReady (Some (Rounding round)) = Unit {0}
+DoingReady None = Unit {0}
+
+left_ready : (after : After Course) → LeftReady after → DoingReady (agents.left Running after)
+left_ready (GoesOn course) ready = ready
+left_ready (Ends ending) ready = tt
+
+round_ready : (after : After Round) → DoingReady (agents.left Rounding after)
+round_ready (GoesOn round) = tt
+round_ready (Ends ending) = tt
+
+take_ready : (fixed : Fixed) (agent : Agent) (word : Word) (doing : Option Doing) (asked : Option (ℕ × Request)) → DoingReady agent.doing → agent.doing ≡ doing → DoingReady (take_in fixed agent word doing asked).agent.doing
+take_ready fixed agent word (Some (Running running)) (Some asked) ready was =
+    left_ready _ (ready_word fixed running.task agent.cache running.suites running.phase asked.0 asked.1 word (subst DoingReady was ready))
+take_ready fixed agent word (Some (Running running)) None ready was = ready
+take_ready fixed agent word (Some (Rounding round)) (Some asked) ready was = round_ready (sweep.after_word fixed.service round asked.0 word)
+take_ready fixed agent word (Some (Rounding round)) None ready was = ready
+take_ready fixed agent word None (Some asked) ready was = ready
+take_ready fixed agent word None None ready was = ready
+
+all_ready : (fixed : Fixed) (agent : Agent) (events : List Event) → DoingReady agent.doing → DoingReady (after_all fixed agent events).doing
+all_ready fixed agent [] ready = ready
+all_ready fixed agent (Forget site ∷ events) ready = all_ready fixed (forget agent site) events ready
+all_ready fixed agent (Take word ∷ events) ready = all_ready fixed (take fixed agent word).agent events (take_ready fixed agent word agent.doing (next_of fixed agent) ready refl)
+
+begin_ready : (fixed : Fixed) (agent : Agent) (job : Job) → is_idle agent.doing ≡ true → DoingReady (begin fixed agent job).doing
+begin_ready fixed agent job idle =
+    elim (is_idle agent.doing && has_sense fixed job && nat_lt agent.count most_jobs) as (λ b. DoingReady (cond b (record (started fixed agent job) { count = agent.count + 1 }) agent).doing) [
+      | true ↦ of job
+      | false ↦ at agent.doing idle
+    ]
+  where
+    at : (doing : Option Doing) → is_idle doing ≡ true → DoingReady doing
+    at None idle = tt
+    at (Some doing) idle = cc
+
+    of : (job : Job) → DoingReady (started fixed agent job).doing
+    of (Transaction caller site ops) =
+        left_ready _ (ready_execute fixed (record { t = 64 * agent.count + agent.index; caller = caller; site = site; ops = ops }) (record { suites = []; cache = agent.cache }) (λ number suite is. cc))
+    of (Sweep server) = tt
+
+-- ---- the law
+
+is_ready : (changes : Changes) (number : ℕ) (suite : Suite) → Ready changes [] number suite → IsReady suite number changes
+is_ready changes number suite ready = record {
+  first = sound.first;
+  was = sound.was;
+  not_older = since_least sound.first.prefix (newest_of suite) sound.since;
+  quorum = sound.quorum;
+  before = before;
+  after = λ changed' fine. of (sets_votes changes number) refl changed' fine;
+}
+  where
+    sound : Sound suite
+    sound = ready.0
+
+    quorum_is : (votes : Configuration) → Enough Exclusive votes (all_told suite.collector) → is_write_quorum votes (λ server. holds Exclusive (all_told suite.collector) server) ≡ true
+    quorum_is votes enough = grind (arith, nat_tests)
+
+    before : is_changed changes number ≡ true → is_write_quorum (newest_of suite).votes (λ server. holds Exclusive (all_told suite.collector) server) ≡ true
+    before changed' = quorum_is (newest_of suite).votes (subst (λ (mode : LockMode). Enough mode (newest_of suite).votes (all_told suite.collector)) (ready.1 changed') sound.quorum)
+
+    kept : sets_votes changes number ≡ false → votes_after changes number suite ≡ sound.first.prefix.votes
+    kept none = by (change_of changes number) refl
+      where
+        by : (change : Option Change) → change_of changes number ≡ change → votes_after changes number suite ≡ sound.first.prefix.votes
+        by (Some change) is =
+            ap (λ change. votes_then change suite.first suite.collector.start.votes) is ∙ ready.3 change sound.first is sound.was (sym (ap gets_votes is) ∙ none)
+        by None is =
+            ap (λ change. votes_then change suite.first suite.collector.start.votes) is ∙ ap (λ first. votes_then None first suite.collector.start.votes) sound.was
+
+    same_prefix : ((newest_of suite).pver == sound.first.prefix.pver) ≡ true → newest_of suite ≡ sound.first.prefix
+    same_prefix same = elim sound.since [
+      | inl is ↦ is
+      | inr less ↦ let at = eqb-true (newest_of suite).pver sound.first.prefix.pver same in absurd (omega (arith, less, at))
+    ]
+
+    of : (b : Bool) → sets_votes changes number ≡ b → is_changed changes number ≡ true → (b || ((newest_of suite).pver == sound.first.prefix.pver)) ≡ true
+        → is_write_quorum (votes_after changes number suite) (λ server. holds Exclusive (all_told suite.collector) server) ≡ true
+    of true sets' changed' fine = quorum_is (votes_after changes number suite) (ready.2 refl sets')
+    of false none changed' same =
+        subst (λ (votes : Configuration). is_write_quorum votes (λ server. holds Exclusive (all_told suite.collector) server) ≡ true)
+        (ap (λ (prefix : Prefix). prefix.votes) (same_prefix same) ∙ sym (kept none)) (before changed')
+
+ready_in : (suites : Suites) (phase : Phase) (outcome : Outcome) → phase ≡ Deciding outcome → PhaseReady suites phase → Each (Ready (changes_of outcome) []) suites
+ready_in suites phase outcome is ready = subst (PhaseReady suites) is ready
+
+pub decides_on_quorums : DecidesOnQuorums
+decides_on_quorums fixed agent job events course' outcome number suite idle is deciding there =
+    is_ready (changes_of outcome) number suite
+    (ready_in course'.suites course'.phase outcome deciding (subst DoingReady is (all_ready fixed (begin fixed agent job) events (begin_ready fixed agent job idle))) number suite there)

@@ -1,0 +1,42 @@
+//! How a job ends.
+
+use file_ops::{Answers, Refusal};
+
+/// Why a transaction or a sweep was not decided. An undecided transaction changed nothing, and never will.
+#[derive(Clone, Copy, Debug)]
+pub enum Cause {
+    /// Of a suite too few votes were to be had, so many of those that were needed, and all other servers
+    /// that have a vote there were down.
+    Unavailable { suite: u64, got: u32, needed: u32 },
+    /// Too few votes were to be had. This server had a lock of another transaction in the way: the first
+    /// that was met.
+    Busy { server: u8, holder: u64 },
+    /// A lock was lost at this server, or the server was down where a lock had been had; or the server
+    /// that was swept was down.
+    Lost { server: u8 },
+    /// Somebody had the transaction aborted.
+    Overruled,
+    /// The server where it was to be decided was down.
+    HomeDown,
+    /// This server was full.
+    Full { server: u8 },
+    /// A server wanted memory.
+    Memory,
+}
+
+/// How a job ended.
+#[derive(Debug, Drop)]
+pub enum Ending {
+    /// With these replies.
+    Answered(Answers),
+    /// Refused.
+    Refused(Refusal),
+    /// So many locks were broken, and transactions finished; of so many others the home was down.
+    Swept {
+        broken: u64,
+        finished: u64,
+        left: u64,
+    },
+    /// Without a decision.
+    Undecided(Cause),
+}
