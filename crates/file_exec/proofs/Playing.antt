@@ -1,6 +1,7 @@
 -- Operations of a transaction one after the other.
-use Rattle.std.proofs.Common.{◌≡◌, ℕ, ◌+◌, ◌≤◌, true, false, cond, List, [], ◌∷◌, ◌++◌, Some, Result, Ok, Err, length, arith, refl, ap, ◌∙◌}
-use Rattle.std.specs.Prelude.{◌==◌, ◌||◌, IfOk}
+use Rattle.std.proofs.Common.{◌≡◌, ℕ, ◌+◌, ◌≤◌, true, false, cond, List, [], ◌∷◌, ◌++◌, Some, Result, Ok, Err, length, get_or, take, arith, refl, sym, ap, subst, ◌∙◌, ◌<◌, ◌⊎◌, inl, inr}
+use Rattle.std.proofs.Math.Nat.{eq-zero-or-pos}
+use Rattle.std.specs.Prelude.{◌==◌, ◌||◌, IfOk, OnErr}
 use Rattle.std.proofs.lemmas.Bool.Decides.{nat_tests}
 use Rattle.std.specs.Result.{result_ok}
 use Rattle.acl_core.specs.Identity.{Identity}
@@ -19,7 +20,7 @@ use Rattle.file_exec.specs.declared.stop.Stop.TheVariants as stop
 use Rattle.file_exec.specs.Courses.{Course, Give, Refuse, Look, Read, Set, at_place}
 use Rattle.file_exec.specs.Following.{Edits, is_set, looked, content_read}
 use Rattle.file_exec.specs.Operations.{operation, play}
-use Rattle.file_exec.specs.Known.{Known, known_rows, is_met, Heard, Needs, Done, exec_of}
+use Rattle.file_exec.specs.Known.{Known, known_rows, is_met, Heard, Needs, Done, is_given, exec_of}
 use Rattle.file_exec.specs.Runs.{run, then_run}
 use Rattle.file_exec.specs.Changes.{answered}
 use Rattle.file_exec.specs.Ends.{end_of}
@@ -69,7 +70,7 @@ module _ (known : Known) (service : Service) (t : ℕ) (caller : Identity) where
   one_ends before after answers at op ops e (Err error) ended is = tt
   one_ends before after answers at op ops e (Ok outcome) ended is = of e ended.told is
     where
-      of : (e : Stop) → Told (λ (answer : Answer). answer) (Err e) after (run known before (operation service t at caller op)) → Some outcome ≡ end_of at e → outcome ≡ answered known (run known before (play service answers t at caller (op ∷ ops)))
+      of : (e : Stop) → Told (λ heard. is_given heard ≡ true) (λ (answer : Answer). answer) (Err e) after (run known before (operation service t at caller op)) → Some outcome ≡ end_of at e → outcome ≡ answered known (run known before (play service answers t at caller (op ∷ ops)))
       of (stop.Needs need) told is =
           cc (is, ap (answered known) (from_one before answers at op ops ∙ ap (λ heard. then_run known (λ answer. play service (answers ++ answer ∷ []) t (at + 1) caller ops) (named at heard)) told))
       of (stop.Refused why) told is =
@@ -82,3 +83,42 @@ module _ (known : Known) (service : Service) (t : ℕ) (caller : Identity) where
 
 pub well_counted : (ops : List Op) → false ≡ (length ops == 0) → length ops ≤ 8 → is_miscounted ops ≡ false
 well_counted ops some few = grind (arith, nat_tests)
+
+-- ---- the first operation
+
+-- the executor gives something of one operation alone where that does
+first_given : (known : Known) (service : Service) (t : ℕ) (caller : Identity) (op : Op) → is_given (run known [] (operation service t 0 caller op)) ≡ true → is_given (exec_of service known t caller (op ∷ [])) ≡ true
+first_given known service t caller op given =
+    ap is_given (exec_plays known service t caller (op ∷ []) refl ∙ from_one known service t caller [] [] 0 op []) ∙ of (run known [] (operation service t 0 caller op)) given
+  where
+    next : Answer → Course (List Answer) Refusal
+    next answer = play service ([] ++ answer ∷ []) t 1 caller []
+
+    of : (heard : Heard Answer Why) → is_given heard ≡ true → is_given (then_run known next (named 0 heard)) ≡ true
+    of (Needs need) given = cc
+    of (Done (Ok ended)) given = refl
+    of (Done (Err why)) given = cc
+
+first_taken : (ops : List Op) (op : Op) → 0 < length ops → op ≡ get_or ops 0 op → op ∷ [] ≡ take 1 ops
+first_taken [] op some is = absurd (omega arith)
+first_taken (first ∷ later) op some is = ap (λ op. op ∷ []) is
+
+-- once an operation gives something, the first one did
+pub begins : (known : Known) (service : Service) (t : ℕ) (caller : Identity) (ops : List Op) (log : Edits) (at index : ℕ) (op : Op)
+    → (index ≡ 0 → log ≡ []) → (0 < index → is_given (exec_of service known t caller (take 1 ops)) ≡ true) → at ≡ index → index < length ops → op ≡ get_or ops index op
+    → is_given (run known log (operation service t at caller op)) ≡ true → is_given (exec_of service known t caller (take 1 ops)) ≡ true
+begins known service t caller ops log at index op unbegun begun counted below is given = of (eq-zero-or-pos index)
+  where
+    of : (index ≡ 0) ⊎ (0 < index) → is_given (exec_of service known t caller (take 1 ops)) ≡ true
+    of (inr later) = begun later
+    of (inl none) =
+        subst (λ ops. is_given (exec_of service known t caller ops) ≡ true) (first_taken ops op (subst (λ index. index < length ops) none below) (is ∙ ap (λ index. get_or ops index op) none))
+        (first_given known service t caller op (ap (λ log. is_given (run known log (operation service t 0 caller op))) (sym (unbegun none)) ∙ ap (λ at. is_given (run known log (operation service t at caller op))) (sym (counted ∙ none)) ∙ given))
+
+-- memory is refused to an operation only where it gives something
+pub ends_given : {E : Type 0} (at : ℕ) (e : Stop) (result : Result Outcome E) (heard : Heard Answer Why) (after : Edits) {P : Type 0} → Told (λ heard. is_given heard ≡ true) (λ (answer : Answer). answer) (Err e) after heard
+    → result_ok result ≡ end_of at e → (is_given heard ≡ true → P) → OnErr result P
+ends_given at e (Ok outcome) heard after told is then = tt
+ends_given at (stop.Needs need) (Err error) heard after told is then = cc
+ends_given at (stop.Refused why) (Err error) heard after told is then = cc
+ends_given at stop.Memory (Err error) heard after told is then = then told

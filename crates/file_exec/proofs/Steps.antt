@@ -1,15 +1,18 @@
 -- The code of a course step by step.
-use Rattle.std.proofs.Common.{◌≡◌, ℕ, Result, Ok, Err, refl, ap, subst, ◌∙◌}
+use Rattle.std.proofs.Common.{◌≡◌, ℕ, Bool, true, false, cond, ◌∷◌, Result, Ok, Err, refl, sym, ap, subst, ◌∙◌}
+use Rattle.std.proofs.lemmas.Bool.{false≢true}
 use Rattle.std.specs.Result.{IsErr, IsErrAnd}
 use Rattle.file_ops.specs.declared.refusal.Why.{Why}
 use Rattle.file_exec.specs.declared.stop.Stop.{Stop}
 use Rattle.file_exec.specs.declared.stop.Stop.TheVariants as stop
 use Rattle.file_exec.specs.declared.log.Edit.{Edit}
-use Rattle.file_exec.specs.Courses.{Course, Set, ◌>>=◌, rule, set}
+use Rattle.file_exec.specs.Courses.{Course, Give, Set, ◌>>=◌, rule, set}
+use Rattle.suite_prefix.specs.declared.lock_mode.LockMode.TheVariants.{Exclusive}
+use Rattle.file_exec.specs.declared.need.Need.TheVariants.{Hold}
 use Rattle.file_exec.specs.Following.{Edits}
-use Rattle.file_exec.specs.Known.{Known}
+use Rattle.file_exec.specs.Known.{Known, is_met, Heard, Needs, Done, is_given}
 use Rattle.file_exec.specs.Runs.{run, then_run}
-use Rattle.file_exec.specs.Steps.{Told, Runs}
+use Rattle.file_exec.specs.Steps.{Told, RunsOr, Runs}
 use Rattle.file_exec.proofs.Running.{runs_in_turn}
 
 -- an error that `?` hands on
@@ -21,46 +24,73 @@ failed (Ok x) e fails = cc (fails.0)
 failed (Err error) e fails = ap (λ e. Err e) fails.1
 
 -- the same course for what is run, in other words
-pub in_other_words : {A B : Type 0} {see : A → B} {result : Result A Stop} {known : Known} {before after : Edits} {course other : Course B Why}
-    → run known before course ≡ run known before other → Runs see result known before after course → Runs see result known before after other
-in_other_words {see = see} {result = result} {after = after} same runs = record { told = subst (Told see result after) same runs.told }
+pub in_other_words : {A B : Type 0} {memory : Heard B Why → Type 0} {see : A → B} {result : Result A Stop} {known : Known} {before after : Edits} {course other : Course B Why}
+    → run known before course ≡ run known before other → RunsOr memory see result known before after course → RunsOr memory see result known before after other
+in_other_words {memory = memory} {see = see} {result = result} {after = after} same runs = record { told = subst (Told memory see result after) same runs.told }
 
-pub goes_on : {A B D : Type 0} {see : A → B} {known : Known} {before middle : Edits} {first : Course B Why} {x : A} (next : B → Course D Why)
-    → Runs see (Ok x) known before middle first → run known before (◌>>=◌ first next) ≡ run known middle (next (see x))
+pub goes_on : {A B D : Type 0} {memory : Heard B Why → Type 0} {see : A → B} {known : Known} {before middle : Edits} {first : Course B Why} {x : A} (next : B → Course D Why)
+    → RunsOr memory see (Ok x) known before middle first → run known before (◌>>=◌ first next) ≡ run known middle (next (see x))
 goes_on {known = known} {before = before} {first = first} next gave = runs_in_turn known before first next ∙ ap (then_run known next) gave.told
 
-module _ {A B C D : Type 0} {see : A → B} {known : Known} {before middle : Edits} {first : Course B Why} where
+module _ {A B C D : Type 0} {memory : Heard B Why → Type 0} {see : A → B} {known : Known} {before middle : Edits} {first : Course B Why} where
   -- after a part that gave something the rest goes on from there
-  pub goes : {x : A} {after : Edits} (next : B → Course D Why) {see' : C → D} {result : Result C Stop}
-      → Runs see (Ok x) known before middle first → Runs see' result known middle after (next (see x)) → Runs see' result known before after (◌>>=◌ first next)
-  goes {x = x} {after = after} next {see' = see'} {result = result} gave later = record { told = of result later.told }
-    where
-      same : run known before (◌>>=◌ first next) ≡ run known middle (next (see x))
-      same = goes_on next gave
+  pub goes : {x : A} {after : Edits} (next : B → Course D Why) {memory' : Heard D Why → Type 0} {see' : C → D} {result : Result C Stop}
+      → RunsOr memory see (Ok x) known before middle first → RunsOr memory' see' result known middle after (next (see x)) → RunsOr memory' see' result known before after (◌>>=◌ first next)
+  goes {x = x} {after = after} next {memory' = memory'} {see' = see'} {result = result} gave later =
+      record { told = subst (Told memory' see' result after) (sym (goes_on next gave)) later.told }
 
-      of : (result : Result C Stop) → Told see' result after (run known middle (next (see x))) → Told see' result after (run known before (◌>>=◌ first next))
-      of (Ok given) told = same ∙ told
-      of (Err (stop.Needs need)) told = same ∙ told
-      of (Err (stop.Refused why)) told = same ∙ told
-      of (Err stop.Memory) told = tt
-
-  -- after a part that did not go on nothing does
-  pub stops : {e : Stop} {after : Edits} (next : B → Course D Why) {see' : C → D} {result : Result C Stop}
-      → Runs see (Err e) known before middle first → Fails result e → Runs see' result known before after (◌>>=◌ first next)
-  stops {e = e} {after = after} next {see' = see'} {result = result} stopped fails = rw (failed result e fails) (record { told = of e stopped.told })
+  -- after a part that did not go on nothing does, where that is so of one that was refused memory
+  pub stops_with : {e : Stop} {after : Edits} (next : B → Course D Why) {memory' : Heard D Why → Type 0} {see' : C → D} {result : Result C Stop}
+      → (memory (run known before first) → memory' (run known before (◌>>=◌ first next)))
+      → RunsOr memory see (Err e) known before middle first → Fails result e → RunsOr memory' see' result known before after (◌>>=◌ first next)
+  stops_with {e = e} {after = after} next {memory' = memory'} {see' = see'} {result = result} refused stopped fails = rw (failed result e fails) (record { told = of e stopped.told })
     where
-      of : (e : Stop) → Told see (Err e) middle (run known before first) → Told see' (Err e) after (run known before (◌>>=◌ first next))
+      of : (e : Stop) → Told memory see (Err e) middle (run known before first) → Told memory' see' (Err e) after (run known before (◌>>=◌ first next))
       of (stop.Needs need) told = runs_in_turn known before first next ∙ ap (then_run known next) told
       of (stop.Refused why) told = runs_in_turn known before first next ∙ ap (then_run known next) told
-      of stop.Memory told = tt
+      of stop.Memory told = refused told
 
-module _ {B C D : Type 0} {r : Result B Why} {known : Known} {before after : Edits} where
+-- the same after a part that takes no memory
+pub stops : {A B C D : Type 0} {see : A → B} {known : Known} {before middle after : Edits} {first : Course B Why} {e : Stop} (next : B → Course D Why) {memory : Heard D Why → Type 0} {see' : C → D} {result : Result C Stop}
+    → RunsOr (λ heard. true ≡ false) see (Err e) known before middle first → Fails result e → RunsOr memory see' result known before after (◌>>=◌ first next)
+stops next stopped fails = stops_with next (λ never. absurd (false≢true (sym never))) stopped fails
+
+-- the same before a part that gives something in each case
+pub stops_last : {A B C D : Type 0} {see : A → B} {known : Known} {before middle after : Edits} {first : Course B Why} {e : Stop} (last : B → D) {see' : C → D} {result : Result C Stop}
+    → Runs see (Err e) known before middle first → Fails result e → Runs see' result known before after (◌>>=◌ first (λ given. Give (last given)))
+stops_last {B = B} {D = D} {known = known} {before = before} {first = first} last stopped fails =
+    stops_with (λ given. Give (last given)) (λ given. ap is_given (runs_in_turn known before first (λ given. Give (last given))) ∙ of (run known before first) given) stopped fails
+  where
+    next : B → Course D Why
+    next given = Give (last given)
+
+    of : (heard : Heard B Why) → is_given heard ≡ true → is_given (then_run known next heard) ≡ true
+    of (Needs need) given = cc
+    of (Done (Ok ended)) given = refl
+    of (Done (Err why)) given = cc
+
+module _ {B C D : Type 0} {r : Result B Why} {known : Known} {before after : Edits} {memory : Heard D Why → Type 0} where
   -- what a rule gives, and its refusal
-  pub ruled : {x : B} (next : B → Course D Why) {see' : C → D} {result : Result C Stop} → r ≡ Ok x → Runs see' result known before after (next x) → Runs see' result known before after (◌>>=◌ (rule r) next)
+  pub ruled : {x : B} (next : B → Course D Why) {see' : C → D} {result : Result C Stop} → r ≡ Ok x → RunsOr memory see' result known before after (next x) → RunsOr memory see' result known before after (◌>>=◌ (rule r) next)
   ruled next is later = rw is later
 
-  pub overruled : {why : Why} (next : B → Course D Why) {see' : C → D} {result : Result C Stop} → r ≡ Err why → Fails result (stop.Refused why) → Runs see' result known before after (◌>>=◌ (rule r) next)
+  pub overruled : {why : Why} (next : B → Course D Why) {see' : C → D} {result : Result C Stop} → r ≡ Err why → Fails result (stop.Refused why) → RunsOr memory see' result known before after (◌>>=◌ (rule r) next)
   overruled {why = why} next {result = result} is fails = rw (failed result (stop.Refused why) fails, is) (record { told = refl })
+
+-- where memory was refused to a course that gives something
+pub out_of_memory : {A B : Type 0} {see : A → B} {result : Result A Stop} {known : Known} {before after : Edits} {course : Course B Why}
+    → is_given (run known before course) ≡ true → Fails result stop.Memory → Runs see result known before after course
+out_of_memory {result = result} given fails = rw (failed result stop.Memory fails) (record { told = given })
+
+-- a suite that is held exclusively
+pub record HoldsAll (known : Known) (suite : ℕ) : Type 0 where
+  pub held : is_met known (Hold suite Exclusive) ≡ true
+
+-- an edit of a suite that is held gives what follows on it
+set_gives : {D : Type 0} (known : Known) (before : Edits) (suite : ℕ) (edit : Edit) (later : Course D Why) → HoldsAll known suite
+    → is_given (run known ((suite, edit) ∷ before) later) ≡ true → is_given (run known before (Set suite edit later)) ≡ true
+set_gives known before suite edit later holds given =
+    ap (λ b. is_given (cond b (run known ((suite, edit) ∷ before) later) (Needs (Hold suite Exclusive)))) holds.held ∙ given
 
 -- an edit in other words
 pub same_set : {A : Type 0} {see : A → Unit {0}} {result : Result A Stop} {known : Known} {before after : Edits} {suite : ℕ} {edit other : Edit}
@@ -73,5 +103,30 @@ module _ {A C D : Type 0} {see : A → Unit {0}} {known : Known} {before middle 
       → Runs see' result known before after (Set suite edit later)
   after_set gave rest = goes (λ _. later) gave rest
 
-  pub stopped_set : {e : Stop} {after : Edits} {see' : C → D} {result : Result C Stop} → Runs see (Err e) known before middle (set suite edit) → Fails result e → Runs see' result known before after (Set suite edit later)
-  stopped_set stopped fails = stops (λ _. later) stopped fails
+  pub stopped_set : {e : Stop} {after : Edits} {see' : C → D} {result : Result C Stop} → is_given (run known ((suite, edit) ∷ before) later) ≡ true
+      → Runs see (Err e) known before middle (set suite edit) → Fails result e → Runs see' result known before after (Set suite edit later)
+  stopped_set rest stopped fails = stops_with (λ _. later) (of (is_met known (Hold suite Exclusive)) rest) stopped fails
+    where
+      was_set : Heard (Unit {0}) Why
+      was_set = Done (Ok (record { given = tt; edits = (suite, edit) ∷ before }))
+
+      of : (b : Bool) → is_given (run known ((suite, edit) ∷ before) later) ≡ true → is_given (cond b was_set (Needs (Hold suite Exclusive))) ≡ true
+          → is_given (cond b (run known ((suite, edit) ∷ before) later) (Needs (Hold suite Exclusive))) ≡ true
+      of true rest given = rest
+      of false rest given = cc
+
+-- memory was refused before an edit
+pub unset : {C D : Type 0} {known : Known} {before after : Edits} {suite : ℕ} {edit : Edit} {later : Course D Why} {see' : C → D} {result : Result C Stop}
+    → HoldsAll known suite → is_given (run known ((suite, edit) ∷ before) later) ≡ true → Fails result stop.Memory → Runs see' result known before after (Set suite edit later)
+unset {known = known} {before = before} {suite = suite} {edit = edit} {later = later} holds given fails = out_of_memory (set_gives known before suite edit later holds given) fails
+
+-- two edits one after the other, of suites that are held
+module _ {C D : Type 0} {known : Known} {before : Edits} {suite other : ℕ} {edit next : Edit} {later : Course D Why} where
+  pub unset_both : {after : Edits} {see' : C → D} {result : Result C Stop} → HoldsAll known suite → HoldsAll known other → is_given (run known ((other, next) ∷ (suite, edit) ∷ before) later) ≡ true → Fails result stop.Memory
+      → Runs see' result known before after (Set suite edit (Set other next later))
+  unset_both first second given fails =
+      out_of_memory (set_gives known before suite edit (Set other next later) first (set_gives known ((suite, edit) ∷ before) other next later second given)) fails
+
+  pub stopped_first : {A : Type 0} {see : A → Unit {0}} {middle after : Edits} {e : Stop} {see' : C → D} {result : Result C Stop} → HoldsAll known other → is_given (run known ((other, next) ∷ (suite, edit) ∷ before) later) ≡ true
+      → Runs see (Err e) known before middle (set suite edit) → Fails result e → Runs see' result known before after (Set suite edit (Set other next later))
+  stopped_first second given stopped fails = stopped_set (set_gives known ((suite, edit) ∷ before) other next later second given) stopped fails

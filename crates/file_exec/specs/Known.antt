@@ -88,6 +88,12 @@ abbrev pub heard : {A E : Type 0} → Option Need → Result (Ended A) E → Hea
 heard (Some need) end = Needs need
 heard None end = Done end
 
+-- whether something is given: nothing is needed, and nothing refused
+abbrev pub is_given : {A E : Type 0} → Heard A E → Bool
+is_given (Needs need) = false
+is_given (Done (Ok ended)) = true
+is_given (Done (Err why)) = false
+
 -- a course on some rows, of which so much is known
 abbrev pub followed : {A E : Type 0} → Known → (ℕ → Option Row) → Course A E → Heard A E
 followed known rows course = heard (first_unmet known (needs rows [] course)) (ending rows [] course)

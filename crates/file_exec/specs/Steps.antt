@@ -1,26 +1,34 @@
 -- What the code answers for a part of a course.
-use Rattle.std.specs.Prelude.{◌≡◌, Result, Ok, Err}
+use Rattle.std.specs.Prelude.{◌≡◌, true, false, Result, Ok, Err}
 use Rattle.file_ops.specs.declared.refusal.Why.{Why}
 use Rattle.file_exec.specs.declared.stop.Stop.{Stop}
 use Rattle.file_exec.specs.declared.stop.Stop.TheVariants as stop
 use Rattle.file_exec.specs.declared.view.View.{View}
 use Rattle.file_exec.specs.Courses.{Course}
 use Rattle.file_exec.specs.Following.{Edits}
-use Rattle.file_exec.specs.Known.{Known, Heard, Needs, Done}
+use Rattle.file_exec.specs.Known.{Known, Heard, Needs, Done, is_given}
 use Rattle.file_exec.specs.Runs.{run}
 
--- what it gives, seen as the course gives it, with the edits after it; or what it needs, or its refusal; nothing is said where
--- memory was refused
-abbrev pub Told : {A B : Type 0} → (A → B) → Result A Stop → Edits → Heard B Why → Type 0
-Told see (Ok given) after heard = heard ≡ Done (Ok (record { given = see given; edits = after }))
-Told see (Err (stop.Needs need)) after heard = heard ≡ Needs need
-Told see (Err (stop.Refused why)) after heard = heard ≡ Done (Err why)
-Told see (Err stop.Memory) after heard = Unit {0}
+-- what it gives, seen as the course gives it, with the edits after it; or what it needs, or its refusal; or, where memory was refused,
+-- what is said of that
+abbrev pub Told : {A B : Type 0} → (Heard B Why → Type 0) → (A → B) → Result A Stop → Edits → Heard B Why → Type 0
+Told memory see (Ok given) after heard = heard ≡ Done (Ok (record { given = see given; edits = after }))
+Told memory see (Err (stop.Needs need)) after heard = heard ≡ Needs need
+Told memory see (Err (stop.Refused why)) after heard = heard ≡ Done (Err why)
+Told memory see (Err stop.Memory) after heard = memory heard
 
 -- the code runs this course on what is known, from some edits to others
-pub record Runs {A B : Type 0} (see : A → B) (result : Result A Stop) (known : Known) (before after : Edits) (course : Course B Why) : Type 0 where
-  pub told : Told see result after (run known before course)
+pub record RunsOr {A B : Type 0} (memory : Heard B Why → Type 0) (see : A → B) (result : Result A Stop) (known : Known) (before after : Edits) (course : Course B Why) : Type 0 where
+  pub told : Told memory see result after (run known before course)
+
+-- memory is refused only where the course gives something: its needs and refusals come first
+abbrev pub Runs : {A B : Type 0} → (A → B) → Result A Stop → Known → Edits → Edits → Course B Why → Type 0
+Runs see result known before after course = RunsOr (λ heard. is_given heard ≡ true) see result known before after course
 
 -- the same of a part that sets nothing
+abbrev pub Answers : {A B : Type 0} → (A → B) → Result A Stop → View → Course B Why → Type 0
+Answers see result view course = Runs see result view.known.now.suites view.log.now view.log.now course
+
+-- the same of a part that sets nothing and takes no memory
 abbrev pub Sees : {A B : Type 0} → (A → B) → Result A Stop → View → Course B Why → Type 0
-Sees see result view course = Runs see result view.known.now.suites view.log.now view.log.now course
+Sees see result view course = RunsOr (λ heard. true ≡ false) see result view.known.now.suites view.log.now view.log.now course

@@ -10,7 +10,7 @@ ghost use Rattle.file_ops.specs.Rows.{new_row};
 ghost use Rattle.file_exec.specs.Courses.{set};
 ghost use Rattle.file_exec.specs.Operations.{bytes_read, names_listed, list_shown, votes_shown, bytes_written, list_set, votes_set, made, refuse_used, dropped, operation};
 ghost use Rattle.file_exec.specs.Overlay.{seen_head};
-ghost use Rattle.file_exec.specs.Steps.{Runs, Sees};
+ghost use Rattle.file_exec.specs.Steps.{Answers, Runs, Sees};
 
 use crate::known::Known;
 use crate::log::{Edit, Log};
@@ -96,7 +96,7 @@ fn without_name(names: &FolderNames, name: &Name) -> Result<FolderNames, AllocEr
 
 /// The bytes of a file.
 fn read(view: View<'_>, caller: &Caller, names: &[Name]) -> Result<Answer, Stop>
-    ensures { Sees (λ answer. answer) result view.entry (bytes_read caller.now names.now) }
+    ensures { Answers (λ answer. answer) result view.entry (bytes_read caller.now names.now) }
 {
     let place = view.reach(caller, names, LockMode::Shared)?;
     place.permit(caller, Perms::READ)?;
@@ -107,7 +107,7 @@ fn read(view: View<'_>, caller: &Caller, names: &[Name]) -> Result<Answer, Stop>
 
 /// The names of a folder.
 fn list(view: View<'_>, caller: &Caller, names: &[Name]) -> Result<Answer, Stop>
-    ensures { Sees (λ answer. answer) result view.entry (names_listed caller.now names.now) }
+    ensures { Answers (λ answer. answer) result view.entry (names_listed caller.now names.now) }
 {
     let place = view.reach(caller, names, LockMode::Shared)?;
     place.permit(caller, Perms::READ)?;
@@ -119,7 +119,7 @@ fn list(view: View<'_>, caller: &Caller, names: &[Name]) -> Result<Answer, Stop>
 
 /// The access list of a file or folder.
 fn get_acl(view: View<'_>, caller: &Caller, names: &[Name]) -> Result<Answer, Stop>
-    ensures { Sees (λ answer. answer) result view.entry (list_shown caller.now names.now) }
+    ensures { Answers (λ answer. answer) result view.entry (list_shown caller.now names.now) }
 {
     let place = view.shown(caller, names)?;
     let acl = place.row.acl.clone()?;
@@ -128,7 +128,7 @@ fn get_acl(view: View<'_>, caller: &Caller, names: &[Name]) -> Result<Answer, St
 
 /// The votes of a file or folder.
 fn get_votes(view: View<'_>, caller: &Caller, names: &[Name]) -> Result<Answer, Stop>
-    ensures { Sees (λ answer. answer) result view.entry (votes_shown caller.now names.now) }
+    ensures { Answers (λ answer. answer) result view.entry (votes_shown caller.now names.now) }
 {
     let place = view.shown(caller, names)?;
     Ok(Answer::Votes(*place.row.votes))

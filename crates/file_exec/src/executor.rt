@@ -1,12 +1,12 @@
 //! A transaction on what is known.
 
-ghost use Rattle.std.specs.Prelude.{◌≡◌, ◌<◌, ◌^◌, true, Ok, IfOk};
+ghost use Rattle.std.specs.Prelude.{◌≡◌, ◌<◌, ◌^◌, true, take, Ok, IfOk, OnErr};
 ghost use Rattle.std.specs.Result.{result_ok};
 ghost use Rattle.file_ops.specs.Transactions.{is_miscounted};
 ghost use Rattle.file_ops.specs.declared.refusal.Why.TheVariants as why;
 ghost use Rattle.file_exec.specs.Changes.{answered};
 ghost use Rattle.file_exec.specs.Ends.{end_of};
-ghost use Rattle.file_exec.specs.Known.{exec_of};
+ghost use Rattle.file_exec.specs.Known.{exec_of, is_given};
 ghost use Rattle.file_exec.specs.declared.executor.Outcome.TheVariants as told;
 
 use crate::act::{Transaction, operate};
@@ -45,6 +45,10 @@ pub fn exec(
 
     // No memory is asked for where the operations are too few or too many.
     ensures counted { is_miscounted ops.now ≡ true → result ≡ Ok (told.Refused (record { op = 0; why = why.OpCount })) }
+
+    // Nor before the first operation is done: what it needs, and its refusal, is told however little
+    // memory there is.
+    ensures first { OnErr result (is_given (exec_of known.now.service known.now.suites t caller.now (take 1 ops.now)) ≡ true) }
 {
     if ops.is_empty() || ops.len() > MOST_OPERATIONS {
         return Ok(Outcome::Refused(Refusal {

@@ -7,7 +7,7 @@ ghost use Rattle.file_ops.specs.Walks.{bytes_in, names_in, permit, permit_others
 ghost use Rattle.file_exec.specs.Courses.{look, read};
 ghost use Rattle.file_exec.specs.Operations.{held, bytes_at, names_at, step, walk, reach, shown, owned, parent_of};
 ghost use Rattle.file_exec.specs.Overlay.{seen_row, seen_head, seen_place, seen_parent, seen_content};
-ghost use Rattle.file_exec.specs.Steps.{Sees};
+ghost use Rattle.file_exec.specs.Steps.{Answers, Sees};
 
 use crate::known::Known;
 use crate::log::{Log, seen, sets_content};
@@ -136,7 +136,7 @@ impl<'a> View<'a> {
 
     /// The bytes of a file, which shares them.
     pub(crate) fn bytes_at(self, suite: u64) -> Result<FileBytes, Stop>
-        ensures { Sees (λ bytes. bytes) result self.entry (bytes_at suite) }
+        ensures { Answers (λ bytes. bytes) result self.entry (bytes_at suite) }
     {
         let content = self.read(suite)?;
         match content {

@@ -1,5 +1,5 @@
 use Rattle.std.proofs.Common.{refl, sym}
-use Rattle.file_exec.proofs.Steps.{goes, stops, ruled, overruled}
+use Rattle.file_exec.proofs.Steps.{goes, stops, out_of_memory, ruled, overruled}
 use Rattle.file_exec.proofs.act.list.Goals as goal
 
 pub returns-in_err-place : goal.returns-in_err-place
@@ -16,3 +16,6 @@ returns-in_err-entries c = goes _ c.in_ok-place.ensures (ruled _ (sym c.in_ok-pe
 
 pub returns : goal.returns
 returns c = goes _ c.in_ok-place.ensures (ruled _ (sym c.in_ok-permit.ensures) (ruled _ (sym c.in_ok-require_folder.ensures) (goes _ c.in_ok-entries.ensures (rw c.in_ok-list.ensures (record { told = refl })))))
+
+pub returns-in_err-list : goal.returns-in_err-list
+returns-in_err-list c = goes _ c.in_ok-place.ensures (ruled _ (sym c.in_ok-permit.ensures) (ruled _ (sym c.in_ok-require_folder.ensures) (goes _ c.in_ok-entries.ensures (out_of_memory refl c.from_residual-in_err-list.ensures))))

@@ -20,7 +20,7 @@ pub returns-in_err-read : goal.returns-in_err-read
 returns-in_err-read c = ruled _ (voted c.args.given.now c.service-service.ensures c.in_ok-votes.ensures) (goes _ c.in_ok-suite.ensures (stops _ c.in_err-read.ensures c.from_residual-in_err-read.ensures))
 
 pub returns-in_err-set : goal.returns-in_err-set
-returns-in_err-set c = ruled _ (voted c.args.given.now c.service-service.ensures c.in_ok-votes.ensures) (goes _ c.in_ok-suite.ensures (goes _ c.in_ok-read.ensures (stopped_set c.in_err-set.ensures c.from_residual-in_err-set.ensures)))
+returns-in_err-set c = ruled _ (voted c.args.given.now c.service-service.ensures c.in_ok-votes.ensures) (goes _ c.in_ok-suite.ensures (goes _ c.in_ok-read.ensures (stopped_set refl c.in_err-set.ensures c.from_residual-in_err-set.ensures)))
 
 pub returns : goal.returns
 returns c = ruled _ (voted c.args.given.now c.service-service.ensures c.in_ok-votes.ensures) (goes _ c.in_ok-suite.ensures (goes _ c.in_ok-read.ensures (after_set c.in_ok-set.ensures (record { told = refl }))))

@@ -1,5 +1,6 @@
 use Rattle.std.proofs.Common.{◌≡◌, refl, sym, ap}
-use Rattle.file_exec.proofs.Steps.{goes, stops, ruled, overruled, same_set, after_set, stopped_set}
+use Rattle.file_exec.proofs.Holding.{reached}
+use Rattle.file_exec.proofs.Steps.{goes, stops, unset, ruled, overruled, same_set, after_set, stopped_set}
 use Rattle.suite_content.specs.declared.content.Content.TheVariants.{Bytes}
 use Rattle.file_exec.specs.declared.log.Edit.TheVariants.{SetContent}
 use Rattle.file_exec.proofs.act.write.Goals as goal
@@ -17,7 +18,11 @@ pub returns-in_err-require_file : goal.returns-in_err-require_file
 returns-in_err-require_file c = ruled _ (sym c.in_ok-require_fit.ensures) (goes _ c.in_ok-place.ensures (ruled _ (sym c.in_ok-permit.ensures) (overruled _ (sym c.in_err-require_file.ensures) c.from_residual-in_err-require_file.ensures)))
 
 pub returns-in_err-set : goal.returns-in_err-set
-returns-in_err-set c = let copied : c.in_ok-bytes.bytes ≡ c.args.bytes.now = c.in_ok-bytes.ensures.cases in ruled _ (sym c.in_ok-require_fit.ensures) (goes _ c.in_ok-place.ensures (ruled _ (sym c.in_ok-permit.ensures) (ruled _ (sym c.in_ok-require_file.ensures) (stopped_set (same_set (ap (λ x. SetContent (Bytes x)) copied) c.in_err-set.ensures) c.from_residual-in_err-set.ensures))))
+returns-in_err-set c = let copied : c.in_ok-bytes.bytes ≡ c.args.bytes.now = c.in_ok-bytes.ensures.cases in ruled _ (sym c.in_ok-require_fit.ensures) (goes _ c.in_ok-place.ensures (ruled _ (sym c.in_ok-permit.ensures) (ruled _ (sym c.in_ok-require_file.ensures) (stopped_set refl (same_set (ap (λ x. SetContent (Bytes x)) copied) c.in_err-set.ensures) c.from_residual-in_err-set.ensures))))
 
 pub returns : goal.returns
 returns c = let copied : c.in_ok-bytes.bytes ≡ c.args.bytes.now = c.in_ok-bytes.ensures.cases in ruled _ (sym c.in_ok-require_fit.ensures) (goes _ c.in_ok-place.ensures (ruled _ (sym c.in_ok-permit.ensures) (ruled _ (sym c.in_ok-require_file.ensures) (after_set (same_set (ap (λ x. SetContent (Bytes x)) copied) c.in_ok-set.ensures) (record { told = refl })))))
+
+pub returns-in_err-bytes : goal.returns-in_err-bytes
+returns-in_err-bytes c =
+    ruled _ (sym c.in_ok-require_fit.ensures) (goes _ c.in_ok-place.ensures (ruled _ (sym c.in_ok-permit.ensures) (ruled _ (sym c.in_ok-require_file.ensures) (unset (reached c.args.caller.now c.args.names.now c.in_ok-place.ensures) refl c.from_residual-in_err-bytes.ensures))))
