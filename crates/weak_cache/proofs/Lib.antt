@@ -6,3 +6,4 @@ pub mod Found
 pub mod LettingGo
 pub mod SiteLists
 pub mod Beside
+pub mod Room

@@ -5,5 +5,5 @@ use Rattle.weak_cache.specs.Cache.{Limited}
 abbrev pub limited_in : Inside → Limited
 limited_in fields = record {
   limits = record { budget = fields.budget; quota = fields.quota; slots = fields.slots };
-  entries = fields.entries.items;
+  entries = fields.entries;
 }

@@ -17,6 +17,10 @@ pub record Entry : Type 0 where
 abbrev pub Cache : Type 0
 Cache = List Entry
 
+-- how many sites an agent has at most
+abbrev pub most_sites : ℕ
+most_sites = 16
+
 -- ---- sizes
 
 -- how many bytes a content takes: as many as in a copy, but for the length of a file

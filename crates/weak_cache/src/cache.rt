@@ -1,18 +1,18 @@
 //! The cache of an agent's sites.
 
-ghost use Rattle.std.specs.Prelude.{◌≡◌, ◌==◌, ◌&&◌, ◌<◌, IfOk, OnOk, OnErr, IsOk, IsTrue, [], false};
+ghost use Rattle.std.specs.Prelude.{◌≡◌, ◌==◌, ◌&&◌, ◌-◌, ◌<◌, ◌≤◌, IfOk, OnOk, OnErr, IsOk, IsSome, IsTrue, [], length, false};
 ghost use Rattle.std.specs.Option.{option_copied, SomeIff};
 ghost use Rattle.std.specs.Borrow.{sem};
 
 use crate::entry::{SizedEntry, size_within};
-use crate::list::{self, Beside, Entries};
+use crate::list::{Beside, Entries, EntryList};
 use std::alloc::{AllocError, Global};
 use std::marker::Model;
 use suite_content::Content;
 use suite_prefix::Prefix;
 
-/// For how many entries there is room at once.
-const FIRST_ROOM: usize = 16;
+/// How many sites an agent has at most: their numbers are below it.
+pub const MAX_SITES: u8 = 16;
 
 /// What an agent's sites keep of suites: for each a prefix that it had, and the content that it had at a
 /// version. What was used last is let go last.
@@ -21,7 +21,7 @@ pub struct WeakCache {
     budget: usize,
     quota: usize,
     slots: usize,
-    entries: Vec<SizedEntry>,
+    entries: EntryList,
 }
 
 /// A content that may be put for a site and a suite: it and its version.
@@ -46,7 +46,7 @@ impl Model for WeakCache {
 
 impl WeakCache {
     ghost use Rattle.weak_cache.specs.Cache.{IsWithin, hint, has_room, put, searched, content_at};
-    ghost use Rattle.weak_cache.specs.Entries.{size_of, keys_of, forgotten};
+    ghost use Rattle.weak_cache.specs.Entries.{size_of, keys_of, forgotten, entry_of, most_sites};
     ghost use Rattle.weak_cache.specs.Loans.{EndsWith};
     ghost use Rattle.suite_prefix.specs.declared.copies.Prefix.{Prefix};
 
@@ -60,7 +60,7 @@ impl WeakCache {
     ) -> Result<WeakCache, AllocError>
         ensures { IfOk result (λ cache. cache ≡ record { limits = record { budget = budget; quota = quota; slots = slots }; entries = [] }) }
     {
-        let entries = Vec::with_capacity(alloc, slots.min(FIRST_ROOM))?;
+        let entries = EntryList::new(alloc, slots)?;
         Ok(WeakCache {
             budget,
             quota,
@@ -81,14 +81,14 @@ impl WeakCache {
     pub fn entries(&self) -> Entries<'_>
         ensures { result ≡ keys_of self.now.entries }
     {
-        list::keys(&self.entries)
+        self.entries.keys()
     }
 
     /// The prefix that a site keeps of a suite.
     pub fn hint(&self, site: u8, suite: u64) -> Option<&Prefix>
         ensures { option_copied result ≡ hint self.now.entries site suite }
     {
-        list::find(&self.entries, site, suite).map(|entry| entry.prefix())
+        self.entries.find(site, suite).map(|entry| entry.prefix())
     }
 
     /// The content that a site keeps of a suite, if it is of this version. It is the newest then.
@@ -96,9 +96,9 @@ impl WeakCache {
         ensures* after { sem 𝓛 (EndsWith self.entry (searched site suite dver self.old.entries)) }
         ensures value { option_copied result ≡ content_at self.old.entries site suite dver }
     {
-        let at = list::place_at(&self.entries, site, suite, dver)?;
-        list::to_front(&mut self.entries, at);
-        Some(self.entries[0].content())
+        let at = self.entries.place_at(site, suite, dver)?;
+        self.entries.to_front(at);
+        Some(self.entries.newest().content())
     }
 
     /// The content that would be found once another was put, of a site and suite at this version. It changes
@@ -117,19 +117,15 @@ impl WeakCache {
             if is_new {
                 return None;
             }
-            return list::find(&self.entries, site, suite)?.content_at(dver);
+            return self.entries.find(site, suite)?.content_at(dver);
         };
         if is_new {
             return (new.dver == dver).then_some(new.content);
         }
-        let beside = Beside {
-            site: new.site,
-            suite: new.suite,
-            quota: self.quota - size,
-            budget: self.budget - size,
-            slots: self.slots - 1,
-        };
-        list::find_beside(&self.entries, beside, site, suite)?.content_at(dver)
+        let beside = self.beside(new.site, new.suite, size);
+        self.entries
+            .find_beside(beside, site, suite)?
+            .content_at(dver)
     }
 
     /// Keeps a prefix and a content for a site, as the newest, in place of what it kept of the suite; if
@@ -143,20 +139,18 @@ impl WeakCache {
         dver: u64,
         content: Content,
     ) -> Result<(), AllocError>
-        requires { site < 16 }
+        requires { site < most_sites }
         ensures ok { OnOk result (self.new ≡ record self.old { entries = put self.old.limits (record { site = site; suite = suite; prefix = prefix; dver = dver; content = content }) self.old.entries }) }
         ensures err { OnErr result (self.new ≡ self.old) }
         ensures too_large { has_room self.old.limits content ≡ false → IsOk result }
+        ensures full { length self.old.entries ≡ self.old.limits.slots → IsOk result }
+        ensures kept { IsSome (entry_of self.old.entries site suite) → IsOk result }
     {
         let Some(size) = self.size_in_room(&content) else {
-            list::remove(&mut self.entries, site, suite);
+            self.entries.remove(site, suite);
             return Ok(());
         };
-        self.entries.reserve(1)?;
-        let entries = &mut self.entries;
-        list::remove(entries, site, suite);
-        list::keep_in_quota(entries, site, self.quota - size);
-        list::keep_in_budget(entries, self.budget - size, self.slots - 1);
+        let beside = self.beside(site, suite, size);
         let entry = SizedEntry {
             site,
             suite,
@@ -165,8 +159,22 @@ impl WeakCache {
             content,
             size,
         };
-        list::put_first(entries, entry);
-        Ok(())
+        self.entries.put(entry, beside)
+    }
+
+    /// The room beside an entry of this size that is put.
+    fn beside(&self, site: u8, suite: u64, size: usize) -> Beside
+        requires room { (size ≤ self.now.limits.budget) × (size ≤ self.now.limits.quota) }
+        requires slot { 0 < self.now.limits.slots }
+        ensures { result ≡ record { site = site; suite = suite; quota = self.now.limits.quota - size; budget = self.now.limits.budget - size; slots = self.now.limits.slots - 1 } }
+    {
+        Beside {
+            site,
+            suite,
+            quota: self.quota - size,
+            budget: self.budget - size,
+            slots: self.slots - 1,
+        }
     }
 
     /// The size of a content that has room at all.
@@ -181,10 +189,10 @@ impl WeakCache {
 
     /// Lets go what a site keeps.
     pub fn forget(&mut self, site: u8)
-        requires { site < 16 }
+        requires { site < most_sites }
         ensures { self.new ≡ record self.old { entries = forgotten site self.old.entries } }
     {
-        list::forget(&mut self.entries, site);
+        self.entries.forget(site);
     }
 }
 

@@ -13,7 +13,7 @@
 //!
 //! What would be found once an entry were put can be asked before it is put ([`WeakCache::content_beside`]).
 //!
-//! What a caller owes: a site's number is below 16.
+//! What a caller owes: a site's number is below [`MAX_SITES`].
 #![tactic(auto)]
 
 mod cache;
@@ -21,9 +21,11 @@ mod entry;
 mod laws;
 mod list;
 
-pub use cache::{NewContent, WeakCache};
+pub use cache::{MAX_SITES, NewContent, WeakCache};
 pub use laws::{found_was_put, oldest_go, site_lists};
 pub use list::Entries;
 
 #[cfg(test)]
 mod tests;
+#[cfg(test)]
+mod uses;

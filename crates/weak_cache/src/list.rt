@@ -1,15 +1,19 @@
 //! The list of a cache's entries, the newest first. Nothing else knows that it is a vector.
 
-ghost use Rattle.std.specs.Prelude.{◌≡◌, ◌≤◌, ◌<◌, ◌+◌, ◌^◌, ◌⊎◌, ◌∷◌, ◌++◌, [], length, vec_len, vec_capacity, None, IfSome, IfNone, MatchOption, true, false};
+ghost use Rattle.std.specs.Prelude.{◌≡◌, ◌≤◌, ◌<◌, ◌+◌, ◌^◌, ◌⊎◌, ◌∷◌, ◌++◌, [], length, vec_len, vec_capacity, None, IfSome, IfNone, IfOk, OnOk, OnErr, IsOk, IsSome, MatchOption, get_or, true, false};
 ghost use Rattle.std.specs.List.{position_from};
 ghost use Rattle.std.specs.Option.{option_copied};
 ghost use Rattle.weak_cache.specs.Entries.{Entry, Cache, is_of, sum_of, list_of, forgotten, entry_of, without, keys_of};
 ghost use Rattle.weak_cache.specs.Cache.{content_at, within_quota, within_budget};
-ghost use Rattle.weak_cache.specs.Beside.{room_after};
+ghost use Rattle.weak_cache.specs.Beside.{room_after, stays};
 ghost use Rattle.weak_cache.specs.Places.{IsPlaceOf, IsLastOf, EvictsLast, EvictsLastOf};
 
 use crate::entry::SizedEntry;
+use std::alloc::{AllocError, Global};
 use std::marker::Model;
+
+/// For how many entries there is room at once.
+const FIRST_ROOM: usize = 16;
 
 /// The sites and suites of a cache's entries that are still to come, the newest first.
 #[derive(Drop)]
@@ -42,20 +46,6 @@ impl<'a> Iterator for Entries<'a> {
     }
 }
 
-/// The sites and suites of entries.
-pub(crate) fn keys(entries: &[SizedEntry]) -> Entries<'_>
-    ensures { result ≡ keys_of entries.now }
-{
-    Entries { left: entries }
-}
-
-/// What a site keeps of a suite.
-pub(crate) fn find(entries: &[SizedEntry], site: u8, suite: u64) -> Option<&SizedEntry>
-    ensures { option_copied result ≡ entry_of entries.now site suite }
-{
-    entries.iter().find(|entry| entry.is_of(site, suite))
-}
-
 /// What a put of an entry leaves to the others: of which site and suite it is, and how much room there is
 /// beside it.
 #[derive(Clone, Copy)]
@@ -67,38 +57,134 @@ pub(crate) struct Beside {
     pub(crate) slots: usize,
 }
 
-/// What a site would keep of a suite beside an entry that is put.
-pub(crate) fn find_beside(
-    entries: &[SizedEntry],
-    new: Beside,
-    site: u8,
-    suite: u64,
-) -> Option<&SizedEntry>
-    ensures { option_copied result ≡ entry_of (within_budget new.budget new.slots (within_quota new.site new.quota (without new.site new.suite entries.now))) site suite }
-{
-    let mut quota = Some(new.quota);
-    let mut budget = new.budget;
-    let mut slots = new.slots;
-    for entry in entries {
-        if entry.is_of(new.site, new.suite) {
-            continue;
+/// The entries of a cache, the newest first.
+#[derive(Drop)]
+pub(crate) struct EntryList {
+    entries: Vec<SizedEntry>,
+}
+
+impl Model for EntryList {
+    ghost use Rattle.weak_cache.specs.Entries.{Cache};
+
+    ghost Value = { Cache };
+
+    ghost view = { λ list. list.entries.items };
+}
+
+impl EntryList {
+    /// A list without entries, with room for the first of so many.
+    pub(crate) fn new(alloc: Global, slots: usize) -> Result<EntryList, AllocError>
+        ensures { IfOk result (λ list. list ≡ []) }
+    {
+        let entries = Vec::with_capacity(alloc, slots.min(FIRST_ROOM))?;
+        Ok(EntryList { entries })
+    }
+
+    /// The sites and suites of the entries.
+    pub(crate) fn keys(&self) -> Entries<'_>
+        ensures { result ≡ keys_of self.now }
+    {
+        Entries {
+            left: &self.entries,
         }
-        if entry.is_at(new.site) {
-            quota = quota_after(quota, entry.size());
-            if quota.is_none() {
+    }
+
+    /// What a site keeps of a suite.
+    pub(crate) fn find(&self, site: u8, suite: u64) -> Option<&SizedEntry>
+        ensures { option_copied result ≡ entry_of self.now site suite }
+    {
+        self.entries.iter().find(|entry| entry.is_of(site, suite))
+    }
+
+    /// What a site would keep of a suite beside an entry that is put.
+    pub(crate) fn find_beside(&self, new: Beside, site: u8, suite: u64) -> Option<&SizedEntry>
+        ensures { option_copied result ≡ entry_of (stays new.site new.suite new.quota new.budget new.slots self.now) site suite }
+    {
+        let entries = self.entries.as_slice();
+        let mut quota = Some(new.quota);
+        let mut budget = new.budget;
+        let mut slots = new.slots;
+        for entry in entries {
+            if entry.is_of(new.site, new.suite) {
                 continue;
             }
+            if entry.is_at(new.site) {
+                quota = quota_after(quota, entry.size());
+                if quota.is_none() {
+                    continue;
+                }
+            }
+            if slots == 0 || budget < entry.size() {
+                return None;
+            }
+            if entry.is_of(site, suite) {
+                return Some(entry);
+            }
+            slots -= 1;
+            budget -= entry.size();
         }
-        if slots == 0 || budget < entry.size() {
+        None
+    }
+
+    /// The place of what a site keeps of a suite, if it is of this version.
+    pub(crate) fn place_at(&self, site: u8, suite: u64, dver: u64) -> Option<usize>
+        ensures { MatchOption result (content_at self.now site suite dver ≡ None) (IsPlaceOf site suite dver self.now) }
+    {
+        let entries = self.entries.as_slice();
+        let at = place_of(entries, site, suite)?;
+        if !entries[at].is_at_version(dver) {
             return None;
         }
-        if entry.is_of(site, suite) {
-            return Some(entry);
-        }
-        slots -= 1;
-        budget -= entry.size();
+        Some(at)
     }
-    None
+
+    /// Makes an entry the newest: those before it move back by one place.
+    pub(crate) fn to_front(&mut self, at: usize)
+        requires { at < length self.old }
+        ensures { (newer : Cache) (entry : Entry) (older : Cache) → self.old ≡ newer ++ entry ∷ older → at ≡ length newer → self.new ≡ entry ∷ newer ++ older }
+    {
+        to_front(&mut self.entries, at);
+    }
+
+    /// The newest entry.
+    pub(crate) fn newest(&self) -> &SizedEntry
+        requires { 0 < length self.now }
+        ensures { result.now ≡ get_or self.now 0 result.now }
+    {
+        &self.entries[0]
+    }
+
+    /// Lets go what a site keeps of a suite.
+    pub(crate) fn remove(&mut self, site: u8, suite: u64)
+        ensures { self.new ≡ without site suite self.old }
+    {
+        remove(&mut self.entries, site, suite);
+    }
+
+    /// Lets go what a site keeps.
+    pub(crate) fn forget(&mut self, site: u8)
+        ensures { self.new ≡ forgotten site self.old }
+    {
+        self.entries.retain(|entry| !entry.is_at(site));
+    }
+
+    /// Makes an entry the newest; what has no room beside it goes. Room is made only for an entry that adds
+    /// to their number.
+    pub(crate) fn put(&mut self, entry: SizedEntry, new: Beside) -> Result<(), AllocError>
+        requires { sum_of self.old < 2 ^ 64 }
+        ensures ok { OnOk result (self.new ≡ entry ∷ stays new.site new.suite new.quota new.budget new.slots self.old) }
+        ensures err { OnErr result (self.new ≡ self.old) }
+        ensures full { new.slots < length self.old → IsOk result }
+        ensures kept { IsSome (entry_of self.old new.site new.suite) → IsOk result }
+    {
+        let entries = &mut self.entries;
+        make_room(entries, new)?;
+        remove(entries, new.site, new.suite);
+        keep_in_quota(entries, new.site, new.quota);
+        keep_in_budget(entries, new.budget, new.slots);
+        put_first(entries, entry);
+        Ok(())
+    }
 }
 
 /// What so many bytes leave of a room, if there is still one and they have room there.
@@ -111,17 +197,6 @@ const fn quota_after(room: Option<usize>, size: usize) -> Option<usize>
     }
 }
 
-/// The place of what a site keeps of a suite, if it is of this version.
-pub(crate) fn place_at(entries: &[SizedEntry], site: u8, suite: u64, dver: u64) -> Option<usize>
-    ensures { MatchOption result (content_at entries.now site suite dver ≡ None) (IsPlaceOf site suite dver entries.now) }
-{
-    let at = place_of(entries, site, suite)?;
-    if !entries[at].is_at_version(dver) {
-        return None;
-    }
-    Some(at)
-}
-
 /// The place of what a site keeps of a suite.
 fn place_of(entries: &[SizedEntry], site: u8, suite: u64) -> Option<usize>
     ensures place { result ≡ position_from (is_of site suite) 0 entries.now }
@@ -131,7 +206,7 @@ fn place_of(entries: &[SizedEntry], site: u8, suite: u64) -> Option<usize>
 }
 
 /// Makes an entry the newest: those before it move back by one place.
-pub(crate) fn to_front(entries: &mut [SizedEntry], at: usize)
+fn to_front(entries: &mut [SizedEntry], at: usize)
     requires { at < length entries.old }
     ensures { (newer : Cache) (entry : Entry) (older : Cache) → entries.old ≡ newer ++ entry ∷ older → at ≡ length newer → entries.new ≡ entry ∷ newer ++ older }
 {
@@ -139,8 +214,24 @@ pub(crate) fn to_front(entries: &mut [SizedEntry], at: usize)
     newest.rotate_right(1);
 }
 
+/// Makes room for an entry where it adds to their number.
+fn make_room(entries: &mut Vec<SizedEntry>, new: Beside) -> Result<(), AllocError>
+    ensures items { entries.new.items ≡ entries.old.items }
+    ensures room { OnOk result (length (stays new.site new.suite new.quota new.budget new.slots entries.old.items) < vec_capacity entries.new) }
+    ensures full { new.slots < length entries.old.items → IsOk result }
+    ensures kept { IsSome (entry_of entries.old.items new.site new.suite) → IsOk result }
+{
+    if entries.len() > new.slots {
+        return Ok(());
+    }
+    if place_of(entries, new.site, new.suite).is_some() {
+        return Ok(());
+    }
+    entries.reserve(1)
+}
+
 /// Lets go what a site keeps of a suite.
-pub(crate) fn remove(entries: &mut Vec<SizedEntry>, site: u8, suite: u64)
+fn remove(entries: &mut Vec<SizedEntry>, site: u8, suite: u64)
     ensures items { entries.new.items ≡ without site suite entries.old.items }
     ensures fewer { vec_len entries.new ≤ vec_len entries.old }
     ensures capacity { vec_capacity entries.new ≡ vec_capacity entries.old }
@@ -148,15 +239,8 @@ pub(crate) fn remove(entries: &mut Vec<SizedEntry>, site: u8, suite: u64)
     entries.retain(|entry| !entry.is_of(site, suite));
 }
 
-/// Lets go what a site keeps.
-pub(crate) fn forget(entries: &mut Vec<SizedEntry>, site: u8)
-    ensures { entries.new.items ≡ forgotten site entries.old.items }
-{
-    entries.retain(|entry| !entry.is_at(site));
-}
-
 /// Lets a site's oldest entries go until its others have this room together.
-pub(crate) fn keep_in_quota(entries: &mut Vec<SizedEntry>, site: u8, room: usize)
+fn keep_in_quota(entries: &mut Vec<SizedEntry>, site: u8, room: usize)
     requires { sum_of (list_of site entries.old.items) < 2 ^ 64 }
     ensures items { entries.new.items ≡ within_quota site room entries.old.items }
     ensures fewer { vec_len entries.new ≤ vec_len entries.old }
@@ -172,7 +256,7 @@ pub(crate) fn keep_in_quota(entries: &mut Vec<SizedEntry>, site: u8, room: usize
 }
 
 /// Lets the oldest entries go until the others have this room together, and these slots.
-pub(crate) fn keep_in_budget(entries: &mut Vec<SizedEntry>, room: usize, slots: usize)
+fn keep_in_budget(entries: &mut Vec<SizedEntry>, room: usize, slots: usize)
     requires { sum_of entries.old.items < 2 ^ 64 }
     ensures items { entries.new.items ≡ within_budget room slots entries.old.items }
     ensures fewer { vec_len entries.new ≤ vec_len entries.old }
@@ -188,7 +272,7 @@ pub(crate) fn keep_in_budget(entries: &mut Vec<SizedEntry>, room: usize, slots: 
 }
 
 /// Makes an entry the newest, in room that there is.
-pub(crate) fn put_first(entries: &mut Vec<SizedEntry>, entry: SizedEntry)
+fn put_first(entries: &mut Vec<SizedEntry>, entry: SizedEntry)
     requires { vec_len entries.old < vec_capacity entries.old }
     ensures { entries.new.items ≡ entry ∷ entries.old.items }
 {

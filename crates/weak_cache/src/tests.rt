@@ -1,7 +1,7 @@
 //! A cache as its users meet it: a table of calls with the entries that each leaves, memory that is
 //! refused, and the most entries that there may be, turned over.
 
-use crate::WeakCache;
+use crate::{MAX_SITES, WeakCache, found_was_put, oldest_go, site_lists};
 use acl_core::{Acl, Mode};
 use std::alloc::{AllocError, Global};
 use std::process::Abort;
@@ -34,7 +34,7 @@ fn put(
     version: u64,
     length: usize,
 ) -> Result<(), AllocError> {
-    assert!(rt; key.0 < 16);
+    assert!(rt; key.0 < MAX_SITES);
     let bytes = vec![in alloc; 7u8; length]?;
     let content = Content::Bytes(FileBytes::from_vec(bytes)?);
     let prefix = prefix(rt, alloc, version)?;
@@ -123,6 +123,9 @@ fn the_least_recently_used_goes_first(rt: HostRuntime) -> Result<(), Fail> {
     assert!(rt; cache.content_at(2, 5, 2).is_none());
     stand(&rt, alloc, &cache, "(2,5)")?;
     cache.forget(2);
+    found_was_put();
+    oldest_go();
+    site_lists();
     stand(&rt, alloc, &cache, "")
 }
 
