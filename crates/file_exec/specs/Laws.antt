@@ -1,5 +1,5 @@
 -- What holds of the executor beside a table, and of what it is told more.
-use Rattle.std.specs.Prelude.{◌≡◌, ℕ, ◌<◌, Bool, true, false, not, if◌then◌else◌, List, [], length, filter, Option, Some, None, Result, Ok, Err}
+use Rattle.std.specs.Prelude.{◌≡◌, ℕ, ◌<◌, Bool, true, false, not, if◌then◌else◌, List, [], length, filter, is_some, option_map, Option, Some, None, Result, Ok, Err}
 use Rattle.std.specs.Ordering.{nat_cmp}
 use Rattle.sorted_map.specs.SortedMap.{get}
 use Rattle.suite_prefix.specs.LockModes.{serves}
@@ -13,9 +13,11 @@ use Rattle.file_ops.specs.Transactions as plain
 use Rattle.file_exec.specs.declared.changes.Change.{Change}
 use Rattle.file_exec.specs.declared.known.KnownSuite.{KnownSuite}
 use Rattle.file_exec.specs.declared.need.Need.{Need}
-use Rattle.file_exec.specs.Changes.{touches, change_of, changes_of}
+use Rattle.file_exec.specs.Changes.{touches, change_of, changes_of, answered}
+use Rattle.file_exec.specs.declared.executor.Outcome.TheVariants as outcome
+use Rattle.suite_prefix.specs.declared.lock_mode.LockMode.TheVariants.{Exclusive}
 use Rattle.file_exec.specs.Following.{Edits, Ended, head, content_in, needs, with_edits}
-use Rattle.file_exec.specs.Known.{Known, known_of, is_met, Needs, Done, exec_of, AgreesWith, on_table}
+use Rattle.file_exec.specs.Known.{Known, known_of, known_rows, is_held, is_met, Needs, Done, exec_of, AgreesWith, on_table}
 use Rattle.file_exec.specs.Operations.{transaction}
 
 -- With every table that agrees with what is known: where the executor is done, the table's own transaction ends so, rows included.
@@ -32,6 +34,20 @@ abbrev pub ChangesBySuite : Type 0
 ChangesBySuite =
     (known : Known) (edits : Edits) (suite : ℕ)
     → get nat_cmp (changes_of known edits) suite ≡ (if touches edits suite then change_of known edits suite else None)
+
+-- each suite that is changed is held exclusively
+abbrev pub ChangesAreHeld : Type 0
+ChangesAreHeld =
+    (service : Service) (known : Known) (t : ℕ) (caller : Identity) (ops : List Op) (answers : List Answer) (changes : List (ℕ × Change)) (suite : ℕ)
+    → answered known (exec_of service known t caller ops) ≡ outcome.Done answers changes
+    → is_some (get nat_cmp changes suite) ≡ true → is_held Exclusive (known_of known suite) ≡ true
+
+-- a change that sets no votes tells those that were known
+abbrev pub UnsetVotesStay : Type 0
+UnsetVotesStay =
+    (service : Service) (known : Known) (t : ℕ) (caller : Identity) (ops : List Op) (answers : List Answer) (changes : List (ℕ × Change)) (suite : ℕ) (change : Change)
+    → answered known (exec_of service known t caller ops) ≡ outcome.Done answers changes
+    → get nat_cmp changes suite ≡ Some change → change.votes ≡ false → option_map (λ (row : Row). row.votes) (known_rows known suite) ≡ Some change.row.votes
 
 -- What a change says of a suite's row before and after: of a suite without a change the row stays. Else the new row is the one that
 -- the change tells, but for the content, which it tells where that was set; elsewhere the content stays.

@@ -1,7 +1,7 @@
 //! What holds of the executor.
 
 ghost use Rattle.file_exec.specs.Known.{GoesAsOnTheTable, IsTheTransaction, SetsWhatIsHeld, NeedsWhatIsUnmet};
-ghost use Rattle.file_exec.specs.Laws.{DoneIsTheTables, ChangesBySuite, ChangesLeadOn, MoreKnownChangesNothing, AMetNeedIsProgress};
+ghost use Rattle.file_exec.specs.Laws.{DoneIsTheTables, ChangesBySuite, ChangesAreHeld, UnsetVotesStay, ChangesLeadOn, MoreKnownChangesNothing, AMetNeedIsProgress};
 ghost use Rattle.file_exec.specs.Runs.{ExecRuns};
 
 /// A law: on what is known of any table the executor goes as on the table. It does nothing.
@@ -37,6 +37,16 @@ pub fn done_is_the_tables()
 /// A law: what the changes have of a suite. It does nothing.
 pub fn changes_by_suite()
     ensures { ChangesBySuite }
+{}
+
+/// A law: each suite that is changed is held exclusively. It does nothing.
+pub fn changes_are_held()
+    ensures { ChangesAreHeld }
+{}
+
+/// A law: a change that sets no votes tells those that were known. It does nothing.
+pub fn unset_votes_stay()
+    ensures { UnsetVotesStay }
 {}
 
 /// A law: the changes that are answered lead from the table's rows to those after the transaction. It

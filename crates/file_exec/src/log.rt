@@ -16,7 +16,7 @@ use vote_core::Votes;
 
 /// What an operation sets of a suite: its list, its votes, its content, or all of it, where it is made.
 #[derive(Drop)]
-pub enum Edit {
+pub(crate) enum Edit {
     SetAcl(Acl),
     SetVotes(Votes),
     SetContent(Content),

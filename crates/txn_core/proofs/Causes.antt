@@ -24,8 +24,8 @@ use Rattle.rep_core.specs.declared.stamped.Lack.{Lack}
 use Rattle.rep_core.specs.declared.stamped.Lack.TheVariants as lack
 use Rattle.rep_core.specs.Fits.{is_prepared, fits}
 use Rattle.file_exec.specs.declared.need.Need.TheVariants.{Hold, Know}
-use Rattle.file_exec.specs.Following.{Ended}
-use Rattle.file_exec.specs.Known.{Heard, Needs, Done}
+use Rattle.file_exec.specs.declared.executor.Outcome.{Outcome as Executed}
+use Rattle.file_exec.specs.declared.executor.Outcome.TheVariants as exec
 use Rattle.suite_collect.specs.declared.told.Told.{Told}
 use Rattle.suite_collect.specs.declared.told.Said.{Said}
 use Rattle.suite_collect.specs.Collecting.{Collector, all_told, tell, mode_of, request_for, Asked, Poll, Upgrade, Next, Ask, Current, Short, next}
@@ -40,8 +40,8 @@ use Rattle.txn_core.specs.declared.word.Word.TheVariants.{Replied, Lacked}
 use Rattle.txn_core.specs.declared.ending.Cause.TheVariants.{Unavailable, Busy, Lost, Overruled, HomeDown, Full, Memory}
 use Rattle.txn_core.specs.declared.ending.Ending.TheVariants.{Answered, Refused, Swept, Undecided}
 use Rattle.txn_core.specs.declared.job.Job.TheVariants.{Transaction, Sweep}
-use Rattle.txn_core.specs.Doing.{home_of, Fixed, Task, Outcome, Phase, Gathering, Fetching, Widening, Preparing, Deciding, Finishing, Course, Sweeping, Listing, Resolving, Telling, Breaking, Round, Doing, Running, Rounding, After, GoesOn, Ends}
-use Rattle.txn_core.specs.Transactions.{Step, Gathered, tell_end, give_up, prepare, locked_at, short_cause, gather_by, widen_by, widen_one, widened, widen_all, to_widen, opened, heard_on, raised_or_new, keep_content, heard_of, said_to, proceed, execute, collected, hear, fetched, prepared, after_lack, after_word, asked_by, asked_for, fetched_at, fetched_for, request_in, edits_of, decision_of, given_in, verdict_in, ending_by, cause_of_abort, lack_cause}
+use Rattle.txn_core.specs.Doing.{Granted, home_of, Fixed, Task, Outcome, Phase, Gathering, Fetching, Widening, Preparing, Deciding, Finishing, Course, Sweeping, Listing, Resolving, Telling, Breaking, Round, Doing, Running, Rounding, After, GoesOn, Ends}
+use Rattle.txn_core.specs.Transactions.{Step, Gathered, tell_end, give_up, prepare, locked_at, short_cause, gather_by, widen_by, widen_one, widened, widen_all, to_widen, opened, heard_on, raised_or_new, keep_content, heard_of, said_to, proceed, execute, collected, hear, fetched, prepared, after_lack, after_word, asked_by, asked_for, fetched_at, fetched_for, request_in, changes_of, decision_of, given_in, verdict_in, ending_by, cause_of_abort, lack_cause}
 use Rattle.txn_core.specs.Sweeps as sweep
 use Rattle.txn_core.specs.Agents as agents
 use Rattle.txn_core.specs.Agents.{Agent, Event, Take, Forget, next_in, next_of, end_of, take_in, take, begin, started, forget, is_idle, has_sense, most_jobs, after_all}
@@ -179,38 +179,38 @@ caused_gather past task cache suites number collector (Short had wanting busy) a
 caused_gather past task cache suites number collector (Ask server asked) are same is = are
 caused_gather past task cache suites number collector (Current prefix dver members) are same is = are
 
-caused_widen_by : (past : List Exchange) (task : Task) (cache : Cache) (suites : Suites) (left : List ℕ) (ended : Ended (List Answer)) (number : ℕ) (collector : Collector) (after : Next) (go_on : Suites → Step)
+caused_widen_by : (past : List Exchange) (task : Task) (cache : Cache) (suites : Suites) (left : List ℕ) (granted : Granted) (number : ℕ) (collector : Collector) (after : Next) (go_on : Suites → Step)
     → Are (Tells past) suites → all_told collector ≡ Tells past number → next collector ≡ after → ((suites : Suites) → Are (Tells past) suites → LeftCaused past (go_on suites).after)
-    → LeftCaused past (widen_by task cache suites (Widening left ended) number after go_on).after
-caused_widen_by past task cache suites left ended number collector (Current prefix dver members) go_on are same is more = more suites are
-caused_widen_by past task cache suites left ended number collector (Ask server asked) go_on are same is more = are
-caused_widen_by past task cache suites left ended number collector (Short had wanting busy) go_on are same is more = caused_give_up past task cache suites (short_cause number had wanting busy) (short_caused past number collector had wanting busy same is)
+    → LeftCaused past (widen_by task cache suites (Widening left granted) number after go_on).after
+caused_widen_by past task cache suites left granted number collector (Current prefix dver members) go_on are same is more = more suites are
+caused_widen_by past task cache suites left granted number collector (Ask server asked) go_on are same is more = are
+caused_widen_by past task cache suites left granted number collector (Short had wanting busy) go_on are same is more = caused_give_up past task cache suites (short_cause number had wanting busy) (short_caused past number collector had wanting busy same is)
 
 told_there : (past : List Exchange) (suites : Suites) (number : ℕ) (found : Option Suite) → suite_of suites number ≡ found → Are (Tells past) suites → told_in found ≡ Tells past number
 told_there past suites number found there are = ap told_in (sym there) ∙ are.1 number
 
-caused_widen_one : (past : List Exchange) (task : Task) (cache : Cache) (suites : Suites) (left : List ℕ) (ended : Ended (List Answer)) (number : ℕ) (found : Option Suite) (go_on : Suites → Step) → suite_of suites number ≡ found
+caused_widen_one : (past : List Exchange) (task : Task) (cache : Cache) (suites : Suites) (left : List ℕ) (granted : Granted) (number : ℕ) (found : Option Suite) (go_on : Suites → Step) → suite_of suites number ≡ found
     → Are (Tells past) suites → ((suites : Suites) → Are (Tells past) suites → LeftCaused past (go_on suites).after)
-    → LeftCaused past (widen_one task cache suites (Widening left ended) ended.edits number found go_on).after
-caused_widen_one past task cache suites left ended number (Some suite) go_on there are more =
-    let now = widened ended.edits number suite in
-    caused_widen_by past task cache (with_suite number now suites) left ended number now.collector (next now.collector) go_on
+    → LeftCaused past (widen_one task cache suites (Widening left granted) granted.changes number found go_on).after
+caused_widen_one past task cache suites left granted number (Some suite) go_on there are more =
+    let now = widened granted.changes number suite in
+    caused_widen_by past task cache (with_suite number now suites) left granted number now.collector (next now.collector) go_on
     (are_same (Tells past) suites number now are (sym (ap told_in there))) (told_there past suites number (Some suite) there are) refl more
-caused_widen_one past task cache suites left ended number None go_on there are more = more suites are
+caused_widen_one past task cache suites left granted number None go_on there are more = more suites are
 
-caused_widen : (past : List Exchange) (task : Task) (cache : Cache) (suites : Suites) (ended : Ended (List Answer)) (left : List ℕ) → Are (Tells past) suites → LeftCaused past (widen_all task cache suites ended left).after
-caused_widen past task cache suites ended [] are = caused_prepare past task cache suites (Ok ended) (locked_at suites) are
-caused_widen past task cache suites ended (number ∷ left) are =
-    caused_widen_one past task cache suites (number ∷ left) ended number (suite_of suites number) _ refl are (λ suites are. caused_widen past task cache suites ended left are)
+caused_widen : (past : List Exchange) (task : Task) (cache : Cache) (suites : Suites) (granted : Granted) (left : List ℕ) → Are (Tells past) suites → LeftCaused past (widen_all task cache suites granted left).after
+caused_widen past task cache suites granted [] are = caused_prepare past task cache suites (Ok granted) (locked_at suites) are
+caused_widen past task cache suites granted (number ∷ left) are =
+    caused_widen_one past task cache suites (number ∷ left) granted number (suite_of suites number) _ refl are (λ suites are. caused_widen past task cache suites granted left are)
 
-caused_proceed : (past : List Exchange) (fixed : Fixed) (task : Task) (cache : Cache) (suites : Suites) (heard : Heard (List Answer) Refusal) → Are (Tells past) suites → LeftCaused past (proceed fixed task cache suites heard).after
-caused_proceed past fixed task cache suites (Needs (Hold number mode)) are =
+caused_proceed : (past : List Exchange) (fixed : Fixed) (task : Task) (cache : Cache) (suites : Suites) (heard : Executed) → Are (Tells past) suites → LeftCaused past (proceed fixed task cache suites heard).after
+caused_proceed past fixed task cache suites (exec.Need (Hold number mode)) are =
     let suite = raised_or_new fixed task cache number mode (suite_of suites number) in
     let same = told_raised fixed task cache number mode (suite_of suites number) in
     caused_gather past task cache (with_suite number suite suites) number suite.collector (next suite.collector) (are_same (Tells past) suites number suite are same) (same ∙ are.1 number) refl
-caused_proceed past fixed task cache suites (Needs (Know number)) are = are
-caused_proceed past fixed task cache suites (Done (Ok ended)) are = caused_widen past task cache suites ended (to_widen suites ended.edits) are
-caused_proceed past fixed task cache suites (Done (Err refusal)) are = caused_prepare past task cache suites (Err refusal) (locked_at suites) are
+caused_proceed past fixed task cache suites (exec.Need (Know number)) are = are
+caused_proceed past fixed task cache suites (exec.Done answers changes) are = caused_widen past task cache suites (record { answers = answers; changes = changes }) (to_widen changes) are
+caused_proceed past fixed task cache suites (exec.Refused refusal) are = caused_prepare past task cache suites (Err refusal) (locked_at suites) are
 
 caused_execute : (past : List Exchange) (fixed : Fixed) (task : Task) (all : Gathered) → Are (Tells past) all.suites → LeftCaused past (execute fixed task all).after
 caused_execute past fixed task all are =
@@ -304,7 +304,7 @@ caused_lack : (past : List Exchange) (task : Task) (cache : Cache) (suites : Sui
     → LeftCaused (push past server asked (Lacked lacked)) (after_lack task cache suites phase server lacked).after
 caused_lack past task cache suites (Gathering number) server asked lacked fixed is caused = caused_give_up _ task cache suites (lack_cause server lacked) (lack_caused past server asked lacked)
 caused_lack past task cache suites (Fetching number) server asked lacked fixed is caused = caused_give_up _ task cache suites (lack_cause server lacked) (lack_caused past server asked lacked)
-caused_lack past task cache suites (Widening left ended) server asked lacked fixed is caused = caused_give_up _ task cache suites (lack_cause server lacked) (lack_caused past server asked lacked)
+caused_lack past task cache suites (Widening left granted) server asked lacked fixed is caused = caused_give_up _ task cache suites (lack_cause server lacked) (lack_caused past server asked lacked)
 caused_lack past task cache suites (Preparing left outcome) server asked lacked fixed is caused = caused_give_up _ task cache suites (lack_cause server lacked) (lack_caused past server asked lacked)
 caused_lack past task cache suites (Deciding outcome) server asked lacked fixed is caused = caused_give_up _ task cache suites (lack_cause server lacked) (lack_caused past server asked lacked)
 caused_lack past task cache suites (Finishing [] v ending) server asked lacked fixed is caused = cc
@@ -332,19 +332,19 @@ caused_word past fixed task cache suites phase server asked (Lacked lacked) is f
 caused_word past fixed task cache suites (Gathering number) server asked (Replied said) is fine caused =
     caused_heard past task cache suites (Gathering number) number (suite_of suites number) server asked said _ caused refl is fine (λ suites are. are) (λ suites are. caused_execute (push past server asked (Replied said)) fixed task (record { suites = suites; cache = cache }) are)
 caused_word past fixed task cache suites (Fetching number) server asked (Replied said) is fine caused = caused_fetched past fixed task cache suites number (suite_of suites number) server asked said caused refl is fine
-caused_word past fixed task cache suites (Widening [] ended) server asked (Replied said) is fine caused = cc
-caused_word past fixed task cache suites (Widening (number ∷ left) ended) server asked (Replied said) is fine caused =
-    caused_heard past task cache suites (Widening (number ∷ left) ended) number (suite_of suites number) server asked said _ caused refl is fine (λ suites are. are) (λ suites are. caused_widen (push past server asked (Replied said)) task cache suites ended left are)
+caused_word past fixed task cache suites (Widening [] granted) server asked (Replied said) is fine caused = cc
+caused_word past fixed task cache suites (Widening (number ∷ left) granted) server asked (Replied said) is fine caused =
+    caused_heard past task cache suites (Widening (number ∷ left) granted) number (suite_of suites number) server asked said _ caused refl is fine (λ suites are. are) (λ suites are. caused_widen (push past server asked (Replied said)) task cache suites granted left are)
 caused_word past fixed task cache suites (Preparing [] outcome) server asked (Replied said) is fine caused = cc
 caused_word past fixed task cache suites (Preparing (now ∷ left) outcome) server asked (Replied said) is fine caused =
     elim (is_prepared said) as (λ b. is_prepared said ≡ b → LeftCaused (push past server asked (Replied said)) (cond b (prepare task cache suites outcome left) (give_up task cache suites (Lost server))).after) [
       | true ↦ λ _. caused_prepare (push past server asked (Replied said)) task cache suites outcome left (are_quiet past suites server asked (Replied said) (λ number. ap (locks number) (sym what)) caused)
       | false ↦ λ not'. caused_give_up (push past server asked (Replied said)) task cache suites (Lost server) (was_now past server asked (Replied said) loses
-          (subst (λ asked. fits asked said ≡ true → loses asked (Replied said) ≡ true) what (λ fine. lost_prepare task.t (parts_at suites (edits_of outcome) now) said fine not') fine))
+          (subst (λ asked. fits asked said ≡ true → loses asked (Replied said) ≡ true) what (λ fine. lost_prepare task.t (parts_at suites (changes_of outcome) now) said fine not') fine))
     ] refl
   where
-    what : request.Prepare task.t (parts_at suites (edits_of outcome) now) ≡ asked
-    what = asks_same now server (request.Prepare task.t (parts_at suites (edits_of outcome) now)) asked is
+    what : request.Prepare task.t (parts_at suites (changes_of outcome) now) ≡ asked
+    what = asks_same now server (request.Prepare task.t (parts_at suites (changes_of outcome) now)) asked is
 caused_word past fixed task cache suites (Deciding outcome) server asked (Replied said) is fine caused =
     caused_end (push past server asked (Replied said)) task cache suites (verdict_in said verdict.Aborted) (ending_by (verdict_in said verdict.Aborted) (cause_of_abort said)) (locked_at suites)
     (subst (λ asked. fits asked said ≡ true → EndCaused (push past server asked (Replied said)) (ending_by (verdict_in said verdict.Aborted) (cause_of_abort said)))

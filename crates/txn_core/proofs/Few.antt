@@ -66,7 +66,7 @@ few_prepare task cache suites outcome (server ∷ servers) = omega arith
 few_early : (task : Task) (suites : Suites) (phase : Phase) → IsEarly phase → IsFew (GoesOn (record { task = task; suites = suites; phase = phase }))
 few_early task suites (Gathering number) is = omega arith
 few_early task suites (Fetching number) is = omega arith
-few_early task suites (Widening left ended) is = omega arith
+few_early task suites (Widening left granted) is = omega arith
 few_early task suites (Preparing servers outcome) is = absurd is
 few_early task suites (Deciding outcome) is = absurd is
 few_early task suites (Finishing servers v ending) is = absurd is
@@ -113,8 +113,8 @@ few_word : (fixed : Fixed) (task : Task) (cache : Cache) (suites : Suites) (phas
     → cond (is_late asked) 1 0 + then_may fixed task cache suites phase server asked word ≤ may_in phase
 few_word fixed task cache suites (Gathering number) server asked word is = calm fixed task cache suites (Gathering number) server asked word tt (early_suite task number (suite_of suites number) server asked is)
 few_word fixed task cache suites (Fetching number) server asked word is = calm fixed task cache suites (Fetching number) server asked word tt (early_fetch task number (suite_of suites number) server asked is)
-few_word fixed task cache suites (Widening [] ended) server asked word is = cc
-few_word fixed task cache suites (Widening (number ∷ left) ended) server asked word is = calm fixed task cache suites (Widening (number ∷ left) ended) server asked word tt (early_suite task number (suite_of suites number) server asked is)
+few_word fixed task cache suites (Widening [] granted) server asked word is = cc
+few_word fixed task cache suites (Widening (number ∷ left) granted) server asked word is = calm fixed task cache suites (Widening (number ∷ left) granted) server asked word tt (early_suite task number (suite_of suites number) server asked is)
 few_word fixed task cache suites (Preparing [] outcome) server asked word is = cc
 few_word fixed task cache suites (Preparing (now ∷ servers) outcome) server asked word is = let one = one_most (is_late asked) in let rest = of word in omega (arith, one, rest)
   where

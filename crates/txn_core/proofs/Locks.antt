@@ -34,8 +34,8 @@ use Rattle.txn_core.specs.Sweeps as sweep
 use Rattle.rep_core.specs.declared.request.Part.{Part}
 use Rattle.rep_core.specs.Fits.{is_prepared}
 use Rattle.file_exec.specs.declared.need.Need.TheVariants.{Hold, Know}
-use Rattle.file_exec.specs.Following.{Ended, Edits}
-use Rattle.file_exec.specs.Known.{Heard, Needs, Done}
+use Rattle.file_exec.specs.declared.executor.Outcome.{Outcome as Executed}
+use Rattle.file_exec.specs.declared.executor.Outcome.TheVariants as exec
 use Rattle.suite_collect.specs.declared.told.Said.TheVariants as said
 use Rattle.suite_collect.specs.declared.told.Told.{Told}
 use Rattle.suite_collect.specs.declared.told.Said.{Said}
@@ -51,8 +51,8 @@ use Rattle.txn_core.specs.declared.job.Job.{Job}
 use Rattle.txn_core.specs.declared.word.Word.TheVariants.{Replied, Lacked}
 use Rattle.txn_core.specs.declared.ending.Cause.TheVariants.{Lost}
 use Rattle.txn_core.specs.declared.job.Job.TheVariants.{Transaction, Sweep}
-use Rattle.txn_core.specs.Doing.{home_of, Fixed, Task, Outcome, Phase, Gathering, Fetching, Widening, Preparing, Deciding, Finishing, Course, Sweeping, Listing, Resolving, Telling, Breaking, Round, Doing, Running, Rounding, After, GoesOn, Ends}
-use Rattle.txn_core.specs.Transactions.{Step, Gathered, tell_end, give_up, prepare, locked_at, short_cause, gather_by, widen_by, widen_one, widened, widen_all, opened, or_all, open_needed, open_suite, open_first, opened_with, free_content, heard_on, raised_or_new, keep_content, heard_of, is_poll, said_to, proceed, execute, collected, hear, fetched, prepared, after_lack, after_word, asked_by, asked_for, fetched_at, fetched_for, request_in, edits_of, decision_of, given_in, verdict_in, ending_by, cause_of_abort, lack_cause}
+use Rattle.txn_core.specs.Doing.{Changes, Granted, home_of, Fixed, Task, Outcome, Phase, Gathering, Fetching, Widening, Preparing, Deciding, Finishing, Course, Sweeping, Listing, Resolving, Telling, Breaking, Round, Doing, Running, Rounding, After, GoesOn, Ends}
+use Rattle.txn_core.specs.Transactions.{Step, Gathered, tell_end, give_up, prepare, locked_at, short_cause, gather_by, widen_by, widen_one, widened, widen_all, opened, or_all, open_needed, open_suite, open_first, opened_with, free_content, heard_on, raised_or_new, keep_content, heard_of, is_poll, said_to, proceed, execute, collected, hear, fetched, prepared, after_lack, after_word, asked_by, asked_for, fetched_at, fetched_for, request_in, changes_of, decision_of, given_in, verdict_in, ending_by, cause_of_abort, lack_cause}
 use Rattle.txn_core.specs.Writing.{parts_at, part_of}
 use Rattle.txn_core.proofs.Mild.{asks_same}
 use Rattle.rep_core.specs.declared.stamped.Lack.{Lack}
@@ -131,17 +131,17 @@ leaves_widen_by told task cache suites phase number (Current prefix dver members
 leaves_widen_by told task cache suites phase number (Ask server asked) go_on are more = are
 leaves_widen_by told task cache suites phase number (Short got needed busy) go_on are more = leaves_give_up told task cache suites (short_cause number got needed busy) are
 
-leaves_widen_one : (told : ℕ → List Told) (task : Task) (cache : Cache) (suites : Suites) (phase : Phase) (edits : Edits) (number : ℕ) (found : Option Suite) (go_on : Suites → Step) → suite_of suites number ≡ found → Are told suites
-    → ((suites : Suites) → Are told suites → Leaves told (go_on suites).after) → Leaves told (widen_one task cache suites phase edits number found go_on).after
-leaves_widen_one told task cache suites phase edits number (Some suite) go_on is are more =
-    leaves_widen_by told task cache (with_suite number (widened edits number suite) suites) phase number (next (widened edits number suite).collector) go_on
-    (are_same told suites number (widened edits number suite) are (sym (ap told_in is))) more
-leaves_widen_one told task cache suites phase edits number None go_on is are more = more suites are
+leaves_widen_one : (told : ℕ → List Told) (task : Task) (cache : Cache) (suites : Suites) (phase : Phase) (changes : Changes) (number : ℕ) (found : Option Suite) (go_on : Suites → Step) → suite_of suites number ≡ found → Are told suites
+    → ((suites : Suites) → Are told suites → Leaves told (go_on suites).after) → Leaves told (widen_one task cache suites phase changes number found go_on).after
+leaves_widen_one told task cache suites phase changes number (Some suite) go_on is are more =
+    leaves_widen_by told task cache (with_suite number (widened changes number suite) suites) phase number (next (widened changes number suite).collector) go_on
+    (are_same told suites number (widened changes number suite) are (sym (ap told_in is))) more
+leaves_widen_one told task cache suites phase changes number None go_on is are more = more suites are
 
-pub leaves_widen : (told : ℕ → List Told) (task : Task) (cache : Cache) (suites : Suites) (ended : Ended (List Answer)) (left : List ℕ) → Are told suites → Leaves told (widen_all task cache suites ended left).after
-leaves_widen told task cache suites ended [] are = leaves_prepare told task cache suites (Ok ended) (locked_at suites) are
-leaves_widen told task cache suites ended (number ∷ left) are =
-    leaves_widen_one told task cache suites (Widening (number ∷ left) ended) ended.edits number (suite_of suites number) _ refl are (λ suites are. leaves_widen told task cache suites ended left are)
+pub leaves_widen : (told : ℕ → List Told) (task : Task) (cache : Cache) (suites : Suites) (granted : Granted) (left : List ℕ) → Are told suites → Leaves told (widen_all task cache suites granted left).after
+leaves_widen told task cache suites granted [] are = leaves_prepare told task cache suites (Ok granted) (locked_at suites) are
+leaves_widen told task cache suites granted (number ∷ left) are =
+    leaves_widen_one told task cache suites (Widening (number ∷ left) granted) granted.changes number (suite_of suites number) _ refl are (λ suites are. leaves_widen told task cache suites granted left are)
 
 -- a content that is opened
 pub are_opened : (told : ℕ → List Told) (n : ℕ) (fixed : Fixed) (task : Task) (all : Gathered) → Are told all.suites → Are told (opened n fixed task all).suites
@@ -165,25 +165,26 @@ are_opened told (suc n) fixed task all are = of (heard_on fixed task all.suites)
     at_suite number (Some suite) more there is = at_first number suite suite.first more there is
     at_suite number None more there is = cc
 
-    needed' : (heard : Heard (List Answer) Refusal) (more : Gathered) → open_needed task all heard ≡ Some more → Are told more.suites
-    needed' (Needs (Know number)) more is = at_suite number (suite_of all.suites number) more refl is
-    needed' (Needs (Hold number mode)) more is = cc
-    needed' (Done outcome) more is = cc
+    needed' : (heard : Executed) (more : Gathered) → open_needed task all heard ≡ Some more → Are told more.suites
+    needed' (exec.Need (Know number)) more is = at_suite number (suite_of all.suites number) more refl is
+    needed' (exec.Need (Hold number mode)) more is = cc
+    needed' (exec.Done answers changes) more is = cc
+    needed' (exec.Refused refusal) more is = cc
 
-    of : (heard : Heard (List Answer) Refusal) → ((more : Gathered) → Are told more.suites → Are told (opened n fixed task more).suites) → Are told (or_all all (open_needed task all heard) (λ all. opened n fixed task all)).suites
+    of : (heard : Executed) → ((more : Gathered) → Are told more.suites → Are told (opened n fixed task more).suites) → Are told (or_all all (open_needed task all heard) (λ all. opened n fixed task all)).suites
     of heard later = or' (open_needed task all heard) (needed' heard) later
 
 pub told_raised : (fixed : Fixed) (task : Task) (cache : Cache) (number : ℕ) (mode : LockMode) (found : Option Suite) → all_told (raised_or_new fixed task cache number mode found).collector ≡ told_in found
 told_raised fixed task cache number mode (Some suite) = refl
 told_raised fixed task cache number mode None = refl
 
-leaves_proceed : (told : ℕ → List Told) (fixed : Fixed) (task : Task) (cache : Cache) (suites : Suites) (heard : Heard (List Answer) Refusal) → Are told suites → Leaves told (proceed fixed task cache suites heard).after
-leaves_proceed told fixed task cache suites (Needs (Hold number mode)) are =
+leaves_proceed : (told : ℕ → List Told) (fixed : Fixed) (task : Task) (cache : Cache) (suites : Suites) (heard : Executed) → Are told suites → Leaves told (proceed fixed task cache suites heard).after
+leaves_proceed told fixed task cache suites (exec.Need (Hold number mode)) are =
     let suite = raised_or_new fixed task cache number mode (suite_of suites number) in
     leaves_gather told task cache (with_suite number suite suites) number (next suite.collector) (are_same told suites number suite are (told_raised fixed task cache number mode (suite_of suites number)))
-leaves_proceed told fixed task cache suites (Needs (Know number)) are = are
-leaves_proceed told fixed task cache suites (Done (Ok ended)) are = leaves_widen told task cache suites ended _ are
-leaves_proceed told fixed task cache suites (Done (Err refusal)) are = leaves_prepare told task cache suites (Err refusal) (locked_at suites) are
+leaves_proceed told fixed task cache suites (exec.Need (Know number)) are = are
+leaves_proceed told fixed task cache suites (exec.Done answers changes) are = leaves_widen told task cache suites (record { answers = answers; changes = changes }) _ are
+leaves_proceed told fixed task cache suites (exec.Refused refusal) are = leaves_prepare told task cache suites (Err refusal) (locked_at suites) are
 
 pub leaves_execute : (told : ℕ → List Told) (fixed : Fixed) (task : Task) (all : Gathered) → Are told all.suites → Leaves told (execute fixed task all).after
 leaves_execute told fixed task all are =
@@ -358,7 +359,7 @@ left_lacked held told server asked lacked after agree leaves = record { told = t
 leaves_lack : (told : ℕ → List Told) (task : Task) (cache : Cache) (suites : Suites) (phase : Phase) (server : ℕ) (lacked : Lack) → Are told suites → Leaves told (after_lack task cache suites phase server lacked).after
 leaves_lack told task cache suites (Gathering number) server lacked are = leaves_give_up told task cache suites (lack_cause server lacked) are
 leaves_lack told task cache suites (Fetching number) server lacked are = leaves_give_up told task cache suites (lack_cause server lacked) are
-leaves_lack told task cache suites (Widening left ended) server lacked are = leaves_give_up told task cache suites (lack_cause server lacked) are
+leaves_lack told task cache suites (Widening left granted) server lacked are = leaves_give_up told task cache suites (lack_cause server lacked) are
 leaves_lack told task cache suites (Preparing left outcome) server lacked are = leaves_give_up told task cache suites (lack_cause server lacked) are
 leaves_lack told task cache suites (Deciding outcome) server lacked are = leaves_give_up told task cache suites (lack_cause server lacked) are
 leaves_lack told task cache suites (Finishing [] v ending) server lacked are = leaves_end told task cache suites v ending [] are
@@ -397,12 +398,12 @@ left_word held told fixed task cache suites (Fetching number) server asked (Repl
     fetch_locks : (found : Option Suite) → fetched_for task number found ≡ Some (server, asked) → (other : ℕ) → locks other asked ≡ false
     fetch_locks (Some suite) is other = fetch_first suite.first is other
     fetch_locks None is other = cc
-left_word held told fixed task cache suites (Widening [] ended) server asked (Replied said) are agree is = cc
-left_word held told fixed task cache suites (Widening (number ∷ left) ended) server asked (Replied said) are agree is =
-    left_heard held told task cache suites (Widening (number ∷ left) ended) number (suite_of suites number) server asked said _ are agree refl is (λ told suites are. leaves_widen told task cache suites ended left are)
+left_word held told fixed task cache suites (Widening [] granted) server asked (Replied said) are agree is = cc
+left_word held told fixed task cache suites (Widening (number ∷ left) granted) server asked (Replied said) are agree is =
+    left_heard held told task cache suites (Widening (number ∷ left) granted) number (suite_of suites number) server asked said _ are agree refl is (λ told suites are. leaves_widen told task cache suites granted left are)
 left_word held told fixed task cache suites (Preparing [] outcome) server asked (Replied said) are agree is = cc
 left_word held told fixed task cache suites (Preparing (now ∷ left) outcome) server asked (Replied said) are agree is =
-    left_quiet held told server asked (Replied said) _ agree (λ other. ap (locks other) (sym (asks_same now server (request.Prepare task.t (parts_at suites (edits_of outcome) now)) asked is))) (leaves_prepared told task cache suites outcome server left said are)
+    left_quiet held told server asked (Replied said) _ agree (λ other. ap (locks other) (sym (asks_same now server (request.Prepare task.t (parts_at suites (changes_of outcome) now)) asked is))) (leaves_prepared told task cache suites outcome server left said are)
 left_word held told fixed task cache suites (Deciding outcome) server asked (Replied said) are agree is =
     left_quiet held told server asked (Replied said) _ agree (λ other. ap (locks other) (sym (asks_same (home_of fixed.service task.t) server (request.Decide task.t (decision_of task outcome)) asked is)))
     (leaves_end told task cache suites (verdict_in said verdict.Aborted) (ending_by (verdict_in said verdict.Aborted) (cause_of_abort said)) (locked_at suites) are)
@@ -512,12 +513,12 @@ any_at p (e ∷ es) number ordered =
     of false is tail' = tail'
 
 -- of the suites, filtered and mapped
-any_filtered : (edits : Edits) (server number : ℕ) (suites : Suites) → list_any (λ part. part.suite == number) (parts_at suites edits server) ≡ list_any (λ one. (one.0 == number) && holds_lock one.1 server) suites
-any_filtered edits server number [] = refl
-any_filtered edits server number (e ∷ es) =
-    elim (holds_lock e.1 server) as (λ b. list_any (λ part. part.suite == number) (map (part_of edits server) (cond b (e ∷ filter (λ one. holds_lock one.1 server) es) (filter (λ one. holds_lock one.1 server) es))) ≡ (((e.0 == number) && b) || list_any (λ one. (one.0 == number) && holds_lock one.1 server) es)) [
-      | true ↦ of (e.0 == number) (any_filtered edits server number es)
-      | false ↦ other (e.0 == number) (any_filtered edits server number es)
+any_filtered : (changes : Changes) (server number : ℕ) (suites : Suites) → list_any (λ part. part.suite == number) (parts_at suites changes server) ≡ list_any (λ one. (one.0 == number) && holds_lock one.1 server) suites
+any_filtered changes server number [] = refl
+any_filtered changes server number (e ∷ es) =
+    elim (holds_lock e.1 server) as (λ b. list_any (λ part. part.suite == number) (map (part_of changes server) (cond b (e ∷ filter (λ one. holds_lock one.1 server) es) (filter (λ one. holds_lock one.1 server) es))) ≡ (((e.0 == number) && b) || list_any (λ one. (one.0 == number) && holds_lock one.1 server) es)) [
+      | true ↦ of (e.0 == number) (any_filtered changes server number es)
+      | false ↦ other (e.0 == number) (any_filtered changes server number es)
     ]
   where
     of : (a : Bool) {b c : Bool} → b ≡ c → (a || b) ≡ ((a && true) || c)
@@ -528,8 +529,8 @@ any_filtered edits server number (e ∷ es) =
     other true is = is
     other false is = is
 
-listed : (edits : Edits) (server number : ℕ) (suites : Suites) → IsOrdered nat_cmp suites → list_any (λ part. part.suite == number) (parts_at suites edits server) ≡ holds Shared (told_at suites number) server
-listed edits server number suites ordered = any_filtered edits server number suites ∙ any_at (λ suite. holds_lock suite server) suites number ordered ∙ of (suite_of suites number)
+listed : (changes : Changes) (server number : ℕ) (suites : Suites) → IsOrdered nat_cmp suites → list_any (λ part. part.suite == number) (parts_at suites changes server) ≡ holds Shared (told_at suites number) server
+listed changes server number suites ordered = any_filtered changes server number suites ∙ any_at (λ suite. holds_lock suite server) suites number ordered ∙ of (suite_of suites number)
   where
     of : (found : Option Suite) → holds_in (λ suite. holds_lock suite server) found ≡ holds Shared (told_in found) server
     of (Some suite) = refl
@@ -576,13 +577,13 @@ prepare_lists held fixed (Some (Running course)) server t number parts keeps is 
     of : (phase : Phase) → request_in fixed course.task course.suites phase ≡ Some (server, request.Prepare t parts) → list_any (λ part. part.suite == number) parts ≡ held number server
     of (Gathering who) is = by_suite who (suite_of course.suites who) is
     of (Fetching who) is = by_fetch who (suite_of course.suites who) is
-    of (Widening [] ended) is = cc
-    of (Widening (who ∷ left) ended) is = by_suite who (suite_of course.suites who) is
+    of (Widening [] granted) is = cc
+    of (Widening (who ∷ left) granted) is = by_suite who (suite_of course.suites who) is
     of (Preparing [] outcome) is = cc
     of (Preparing (now ∷ left) outcome) is =
-        let at : now ≡ server = ap (λ (pair : ℕ × Request). pair.0) (same_Some (now, request.Prepare course.task.t (parts_at course.suites (edits_of outcome) now)) (server, request.Prepare t parts) is) in
-        let same : parts_at course.suites (edits_of outcome) now ≡ parts = ap parts_in (asks_same now server (request.Prepare course.task.t (parts_at course.suites (edits_of outcome) now)) (request.Prepare t parts) is) in
-        ap (list_any (λ part. part.suite == number)) (sym same) ∙ listed (edits_of outcome) now number course.suites keeps.0 ∙ keeps.1 number now ∙ ap (held number) at
+        let at : now ≡ server = ap (λ (pair : ℕ × Request). pair.0) (same_Some (now, request.Prepare course.task.t (parts_at course.suites (changes_of outcome) now)) (server, request.Prepare t parts) is) in
+        let same : parts_at course.suites (changes_of outcome) now ≡ parts = ap parts_in (asks_same now server (request.Prepare course.task.t (parts_at course.suites (changes_of outcome) now)) (request.Prepare t parts) is) in
+        ap (list_any (λ part. part.suite == number)) (sym same) ∙ listed (changes_of outcome) now number course.suites keeps.0 ∙ keeps.1 number now ∙ ap (held number) at
     of (Deciding outcome) is = no_prepare (home_of fixed.service course.task.t) server t (request.Decide course.task.t (decision_of course.task outcome)) parts refl is
     of (Finishing [] v ending) is = cc
     of (Finishing (now ∷ left) v ending) is = no_prepare now server t (request.Finish course.task.t v) parts refl is

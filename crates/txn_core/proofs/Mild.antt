@@ -16,8 +16,8 @@ use Rattle.rep_core.specs.declared.reply.Verdict.{Verdict}
 use Rattle.rep_core.specs.declared.reply.Verdict.TheVariants as verdict
 use Rattle.rep_core.specs.declared.reply.Reply.{Reply}
 use Rattle.file_exec.specs.declared.need.Need.TheVariants.{Hold, Know}
-use Rattle.file_exec.specs.Following.{Ended}
-use Rattle.file_exec.specs.Known.{Heard, Needs, Done}
+use Rattle.file_exec.specs.declared.executor.Outcome.{Outcome as Executed}
+use Rattle.file_exec.specs.declared.executor.Outcome.TheVariants as exec
 use Rattle.suite_collect.specs.declared.told.Said.{Said}
 use Rattle.suite_collect.specs.Collecting.{Asked, Poll, Upgrade, request_for, Next, Ask, Current, Short, next}
 use Rattle.weak_cache.specs.Entries.{Cache}
@@ -29,8 +29,8 @@ use Rattle.txn_core.specs.declared.job.Job.{Job}
 use Rattle.txn_core.specs.declared.word.Word.TheVariants.{Replied, Lacked}
 use Rattle.txn_core.specs.declared.ending.Cause.TheVariants.{Lost}
 use Rattle.txn_core.specs.declared.job.Job.TheVariants.{Transaction, Sweep}
-use Rattle.txn_core.specs.Doing.{Fixed, Task, home_of, Outcome, Phase, Gathering, Fetching, Widening, Preparing, Deciding, Finishing, Course, Round, Doing, Running, Rounding, After, GoesOn, Ends}
-use Rattle.txn_core.specs.Transactions.{Step, Gathered, tell_end, give_up, prepare, locked_at, short_cause, gather_by, widen_by, widen_one, widened, widen_all, opened, heard_on, raised_or_new, keep_content, heard_of, said_to, proceed, execute, collected, hear, fetched, prepared, decided, after_lack, after_word, asked_by, asked_for, fetched_for, fetched_at, request_in, edits_of, decision_of, given_in, verdict_in}
+use Rattle.txn_core.specs.Doing.{Granted, Fixed, Task, home_of, Outcome, Phase, Gathering, Fetching, Widening, Preparing, Deciding, Finishing, Course, Round, Doing, Running, Rounding, After, GoesOn, Ends}
+use Rattle.txn_core.specs.Transactions.{Step, Gathered, tell_end, give_up, prepare, locked_at, short_cause, gather_by, widen_by, widen_one, widened, widen_all, opened, heard_on, raised_or_new, keep_content, heard_of, said_to, proceed, execute, collected, hear, fetched, prepared, decided, after_lack, after_word, asked_by, asked_for, fetched_for, fetched_at, request_in, changes_of, decision_of, given_in, verdict_in}
 use Rattle.rep_core.specs.Fits.{is_prepared}
 
 -- a phase that tells the end tells this verdict; before, the verdict is Aborted
@@ -62,27 +62,27 @@ mild_gather task cache suites number (Short got needed busy) = mild_give_up task
 mild_gather task cache suites number (Ask server asked) = refl
 mild_gather task cache suites number (Current prefix dver members) = refl
 
-mild_widen_by : (task : Task) (cache : Cache) (suites : Suites) (number : ℕ) (left : List ℕ) (ended : Ended (List Answer)) (next : Next) (go_on : Suites → Step) → ((suites : Suites) → IsMild (go_on suites))
-    → IsMild (widen_by task cache suites (Widening left ended) number next go_on)
-mild_widen_by task cache suites number left ended (Current prefix dver members) go_on mild = mild suites
-mild_widen_by task cache suites number left ended (Ask server asked) go_on mild = refl
-mild_widen_by task cache suites number left ended (Short got needed busy) go_on mild = mild_give_up task cache suites _
+mild_widen_by : (task : Task) (cache : Cache) (suites : Suites) (number : ℕ) (left : List ℕ) (granted : Granted) (next : Next) (go_on : Suites → Step) → ((suites : Suites) → IsMild (go_on suites))
+    → IsMild (widen_by task cache suites (Widening left granted) number next go_on)
+mild_widen_by task cache suites number left granted (Current prefix dver members) go_on mild = mild suites
+mild_widen_by task cache suites number left granted (Ask server asked) go_on mild = refl
+mild_widen_by task cache suites number left granted (Short got needed busy) go_on mild = mild_give_up task cache suites _
 
-mild_widen_one : (task : Task) (cache : Cache) (suites : Suites) (number : ℕ) (left : List ℕ) (ended : Ended (List Answer)) (found : Option Suite) (go_on : Suites → Step) → ((suites : Suites) → IsMild (go_on suites))
-    → IsMild (widen_one task cache suites (Widening left ended) ended.edits number found go_on)
-mild_widen_one task cache suites number left ended (Some suite) go_on mild = mild_widen_by task cache _ number left ended (next (widened ended.edits number suite).collector) go_on mild
-mild_widen_one task cache suites number left ended None go_on mild = mild suites
+mild_widen_one : (task : Task) (cache : Cache) (suites : Suites) (number : ℕ) (left : List ℕ) (granted : Granted) (found : Option Suite) (go_on : Suites → Step) → ((suites : Suites) → IsMild (go_on suites))
+    → IsMild (widen_one task cache suites (Widening left granted) granted.changes number found go_on)
+mild_widen_one task cache suites number left granted (Some suite) go_on mild = mild_widen_by task cache _ number left granted (next (widened granted.changes number suite).collector) go_on mild
+mild_widen_one task cache suites number left granted None go_on mild = mild suites
 
-mild_widen : (task : Task) (cache : Cache) (suites : Suites) (ended : Ended (List Answer)) (left : List ℕ) → IsMild (widen_all task cache suites ended left)
-mild_widen task cache suites ended [] = mild_prepare task cache suites (Ok ended) (locked_at suites)
-mild_widen task cache suites ended (number ∷ left) = mild_widen_one task cache suites number (number ∷ left) ended (suite_of suites number) _ (λ suites. mild_widen task cache suites ended left)
+mild_widen : (task : Task) (cache : Cache) (suites : Suites) (granted : Granted) (left : List ℕ) → IsMild (widen_all task cache suites granted left)
+mild_widen task cache suites granted [] = mild_prepare task cache suites (Ok granted) (locked_at suites)
+mild_widen task cache suites granted (number ∷ left) = mild_widen_one task cache suites number (number ∷ left) granted (suite_of suites number) _ (λ suites. mild_widen task cache suites granted left)
 
-mild_proceed : (fixed : Fixed) (task : Task) (cache : Cache) (suites : Suites) (heard : Heard (List Answer) Refusal) → IsMild (proceed fixed task cache suites heard)
-mild_proceed fixed task cache suites (Needs (Hold number mode)) =
+mild_proceed : (fixed : Fixed) (task : Task) (cache : Cache) (suites : Suites) (heard : Executed) → IsMild (proceed fixed task cache suites heard)
+mild_proceed fixed task cache suites (exec.Need (Hold number mode)) =
     let suite = raised_or_new fixed task cache number mode (suite_of suites number) in mild_gather task cache (with_suite number suite suites) number (next suite.collector)
-mild_proceed fixed task cache suites (Needs (Know number)) = refl
-mild_proceed fixed task cache suites (Done (Ok ended)) = mild_widen task cache suites ended _
-mild_proceed fixed task cache suites (Done (Err refusal)) = mild_prepare task cache suites (Err refusal) (locked_at suites)
+mild_proceed fixed task cache suites (exec.Need (Know number)) = refl
+mild_proceed fixed task cache suites (exec.Done answers changes) = mild_widen task cache suites (record { answers = answers; changes = changes }) _
+mild_proceed fixed task cache suites (exec.Refused refusal) = mild_prepare task cache suites (Err refusal) (locked_at suites)
 
 pub mild_execute : (fixed : Fixed) (task : Task) (all : Gathered) → IsMild (execute fixed task all)
 mild_execute fixed task all = let open' = opened (length all.suites) fixed task all in mild_proceed fixed task open'.cache open'.suites (heard_on fixed task open'.suites)
@@ -95,7 +95,7 @@ TellsNone _ = Unit {0}
 tells_none : (phase : Phase) → TellsNone phase → TellsOnly verdict.Aborted phase
 tells_none (Gathering number) none = refl
 tells_none (Fetching number) none = refl
-tells_none (Widening left ended) none = refl
+tells_none (Widening left granted) none = refl
 tells_none (Preparing left outcome) none = refl
 tells_none (Deciding outcome) none = refl
 tells_none (Finishing servers told ending) none = absurd none
@@ -167,7 +167,7 @@ calm asked word v after other aborted tells =
 lack_tells : (task : Task) (cache : Cache) (suites : Suites) (phase : Phase) (server : ℕ) (lacked : Lack) → TellsNone phase → IsMild (after_lack task cache suites phase server lacked)
 lack_tells task cache suites (Gathering number) server lacked none = mild_give_up task cache suites _
 lack_tells task cache suites (Fetching number) server lacked none = mild_give_up task cache suites _
-lack_tells task cache suites (Widening left ended) server lacked none = mild_give_up task cache suites _
+lack_tells task cache suites (Widening left granted) server lacked none = mild_give_up task cache suites _
 lack_tells task cache suites (Preparing left outcome) server lacked none = mild_give_up task cache suites _
 lack_tells task cache suites (Deciding outcome) server lacked none = mild_give_up task cache suites _
 lack_tells task cache suites (Finishing servers told ending) server lacked none = absurd none
@@ -192,15 +192,15 @@ word_tells fixed task cache suites (Fetching number) server asked (Replied said)
     calm asked (Replied said) v _ (fetch_asks task number (suite_of suites number) server asked is) tells (mild_fetched fixed task cache suites number (suite_of suites number) server (given_in said))
 word_tells fixed task cache suites (Fetching number) server asked (Lacked lacked) v is tells =
     calm asked (Lacked lacked) v _ (fetch_asks task number (suite_of suites number) server asked is) tells (lack_tells task cache suites (Fetching number) server lacked tt)
-word_tells fixed task cache suites (Widening [] ended) server asked word v is tells = cc
-word_tells fixed task cache suites (Widening (number ∷ left) ended) server asked (Replied said) v is tells =
+word_tells fixed task cache suites (Widening [] granted) server asked word v is tells = cc
+word_tells fixed task cache suites (Widening (number ∷ left) granted) server asked (Replied said) v is tells =
     calm asked (Replied said) v _ (suite_asks task number (suite_of suites number) server asked is) tells
-    (mild_heard task cache suites (Widening (number ∷ left) ended) number (suite_of suites number) server asked said _ tt (λ suites. mild_widen task cache suites ended left))
-word_tells fixed task cache suites (Widening (number ∷ left) ended) server asked (Lacked lacked) v is tells =
-    calm asked (Lacked lacked) v _ (suite_asks task number (suite_of suites number) server asked is) tells (lack_tells task cache suites (Widening (number ∷ left) ended) server lacked tt)
+    (mild_heard task cache suites (Widening (number ∷ left) granted) number (suite_of suites number) server asked said _ tt (λ suites. mild_widen task cache suites granted left))
+word_tells fixed task cache suites (Widening (number ∷ left) granted) server asked (Lacked lacked) v is tells =
+    calm asked (Lacked lacked) v _ (suite_asks task number (suite_of suites number) server asked is) tells (lack_tells task cache suites (Widening (number ∷ left) granted) server lacked tt)
 word_tells fixed task cache suites (Preparing [] outcome) server asked word v is tells = cc
 word_tells fixed task cache suites (Preparing (now ∷ left) outcome) server asked word v is tells =
-    let same = asks_same now server (request.Prepare task.t (parts_at suites (edits_of outcome) now)) asked is in
+    let same = asks_same now server (request.Prepare task.t (parts_at suites (changes_of outcome) now)) asked is in
     calm asked word v _ (ap is_decide (sym same)) tells (of word)
   where
     of : (word : Word) → IsMild (after_word fixed (record { task = task; suites = suites; phase = Preparing (now ∷ left) outcome }) cache server asked word)

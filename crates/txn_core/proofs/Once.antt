@@ -11,7 +11,7 @@ use Rattle.txn_core.specs.declared.ending.Ending.{Ending}
 use Rattle.txn_core.specs.declared.word.Word.TheVariants.{Replied, Lacked}
 use Rattle.txn_core.specs.declared.ending.Ending.TheVariants.{Undecided}
 use Rattle.txn_core.specs.Doing.{Fixed, Task, Phase, Gathering, Fetching, Widening, Preparing, Deciding, Finishing, Course, Sweeping, Listing, Resolving, Telling, Breaking, Round, Doing, Running, Rounding, After, GoesOn, Ends}
-use Rattle.txn_core.specs.Transactions.{tell_end, locked_at, after_word, request_in, edits_of, verdict_in, ending_by, cause_of_abort, lack_cause}
+use Rattle.txn_core.specs.Transactions.{tell_end, locked_at, after_word, request_in, changes_of, verdict_in, ending_by, cause_of_abort, lack_cause}
 use Rattle.txn_core.specs.Writing.{parts_at}
 use Rattle.txn_core.specs.Sweeps as sweep
 use Rattle.txn_core.specs.Agents as agents
@@ -35,7 +35,7 @@ may None = 0
 once : (phase : Phase) → may_in phase ≤ 1
 once (Gathering number) = omega arith
 once (Fetching number) = omega arith
-once (Widening left ended) = omega arith
+once (Widening left granted) = omega arith
 once (Preparing left outcome) = omega arith
 once (Deciding outcome) = omega arith
 once (Finishing servers told ending) = omega arith
@@ -56,11 +56,11 @@ word_once : (fixed : Fixed) (task : Task) (cache : Cache) (suites : Suites) (pha
     → cond (is_decide asked) 1 0 + may (left Running (after_word fixed (record { task = task; suites = suites; phase = phase }) cache server asked word).after) ≤ may_in phase
 word_once fixed task cache suites (Gathering number) server asked word is = calm asked _ (suite_asks task number (suite_of suites number) server asked is)
 word_once fixed task cache suites (Fetching number) server asked word is = calm asked _ (fetch_asks task number (suite_of suites number) server asked is)
-word_once fixed task cache suites (Widening [] ended) server asked word is = cc
-word_once fixed task cache suites (Widening (number ∷ left) ended) server asked word is = calm asked _ (suite_asks task number (suite_of suites number) server asked is)
+word_once fixed task cache suites (Widening [] granted) server asked word is = cc
+word_once fixed task cache suites (Widening (number ∷ left) granted) server asked word is = calm asked _ (suite_asks task number (suite_of suites number) server asked is)
 word_once fixed task cache suites (Preparing [] outcome) server asked word is = cc
 word_once fixed task cache suites (Preparing (now ∷ left) outcome) server asked word is =
-    calm asked _ (ap is_decide (sym (asks_same now server (request.Prepare task.t (parts_at suites (edits_of outcome) now)) asked is)))
+    calm asked _ (ap is_decide (sym (asks_same now server (request.Prepare task.t (parts_at suites (changes_of outcome) now)) asked is)))
 word_once fixed task cache suites (Deciding outcome) server asked (Replied said) is =
     let no' = no_more task cache suites (verdict_in said verdict.Aborted) (ending_by (verdict_in said verdict.Aborted) (cause_of_abort said)) (locked_at suites) in
     elim (is_decide asked) as (λ b. cond b 1 0 + may (left Running (after_word fixed (record { task = task; suites = suites; phase = Deciding outcome }) cache server asked (Replied said)).after) ≤ 1) [ true ↦ omega (arith, no') | false ↦ omega (arith, no') ]

@@ -48,7 +48,7 @@ over_give_up task cache suites cause = over_end task cache suites verdict.Aborte
 pub over_lack : (task : Task) (cache : Cache) (suites : Suites) (phase : Phase) (server : ℕ) (lacked : Lack) → LeftOver (after_lack task cache suites phase server lacked).after
 over_lack task cache suites (Gathering number) server lacked = over_give_up task cache suites (lack_cause server lacked)
 over_lack task cache suites (Fetching number) server lacked = over_give_up task cache suites (lack_cause server lacked)
-over_lack task cache suites (Widening left ended) server lacked = over_give_up task cache suites (lack_cause server lacked)
+over_lack task cache suites (Widening left granted) server lacked = over_give_up task cache suites (lack_cause server lacked)
 over_lack task cache suites (Preparing left outcome) server lacked = over_give_up task cache suites (lack_cause server lacked)
 over_lack task cache suites (Deciding outcome) server lacked = over_give_up task cache suites (lack_cause server lacked)
 over_lack task cache suites (Finishing [] v ending) server lacked = over_end task cache suites v ending []
@@ -121,8 +121,8 @@ over_word fixed task cache suites (Fetching number) server asked (Replied said) 
     of : (found : Option Suite) → LeftOver (fetched fixed task cache suites number found server None).after
     of (Some suite) = over_give_up task cache suites (Lost server)
     of None = over_give_up task cache suites (Lost server)
-over_word fixed task cache suites (Widening [] ended) server asked (Replied said) is = over_give_up task cache suites (Lost server)
-over_word fixed task cache suites (Widening (number ∷ left) ended) server asked (Replied said) is = over_heard task cache suites (Widening (number ∷ left) ended) number (suite_of suites number) server asked said _ is
+over_word fixed task cache suites (Widening [] granted) server asked (Replied said) is = over_give_up task cache suites (Lost server)
+over_word fixed task cache suites (Widening (number ∷ left) granted) server asked (Replied said) is = over_heard task cache suites (Widening (number ∷ left) granted) number (suite_of suites number) server asked said _ is
 over_word fixed task cache suites (Preparing [] outcome) server asked (Replied said) is = over_give_up task cache suites (Lost server)
 over_word fixed task cache suites (Preparing (now ∷ left) outcome) server asked (Replied said) is =
     subst (λ b. LeftOver (cond b (prepare task cache suites outcome left) (give_up task cache suites (Lost server))).after) (sym (ends_prepared asked said is)) (over_give_up task cache suites (Lost server))
@@ -138,7 +138,7 @@ stays_over fixed task cache suites (Finishing [] v ending) server asked (Lacked 
 stays_over fixed task cache suites (Finishing (now ∷ left) v ending) server asked (Lacked lacked) over = over_end task cache suites v ending left
 stays_over fixed task cache suites (Gathering number) server asked word over = absurd over
 stays_over fixed task cache suites (Fetching number) server asked word over = absurd over
-stays_over fixed task cache suites (Widening left ended) server asked word over = absurd over
+stays_over fixed task cache suites (Widening left granted) server asked word over = absurd over
 stays_over fixed task cache suites (Preparing left outcome) server asked word over = absurd over
 stays_over fixed task cache suites (Deciding outcome) server asked word over = absurd over
 
@@ -162,8 +162,8 @@ round_over (Ends ending) = tt
 abbrev any_ends : List Exchange → Bool
 any_ends past = list_any (λ one. ends_it one.request one.word) past
 
-take_over : (fixed : Fixed) (agent : Agent) (word : Word) (doing : Option Doing) (asked : Option (ℕ × Request)) (ended : Bool) → agent.doing ≡ doing → next_in fixed doing ≡ asked → Over ended doing
-    → Over (ended || any_ends (exchange_of asked word)) (take_in fixed agent word doing asked).agent.doing
+take_over : (fixed : Fixed) (agent : Agent) (word : Word) (doing : Option Doing) (asked : Option (ℕ × Request)) (granted : Bool) → agent.doing ≡ doing → next_in fixed doing ≡ asked → Over granted doing
+    → Over (granted || any_ends (exchange_of asked word)) (take_in fixed agent word doing asked).agent.doing
 take_over fixed agent word (Some (Running running)) (Some asked) true was is over = left_over _ (stays_over fixed running.task agent.cache running.suites running.phase asked.0 asked.1 word over)
 take_over fixed agent word (Some (Running running)) (Some asked) false was is over =
     elim (ends_it asked.1 word) as (λ b. ends_it asked.1 word ≡ b → Over (b || false) (take_in fixed agent word (Some (Running running)) (Some asked)).agent.doing) [
@@ -172,13 +172,13 @@ take_over fixed agent word (Some (Running running)) (Some asked) false was is ov
     ] refl
 take_over fixed agent word (Some (Running running)) None true was is over = subst (Over true) (sym was) over
 take_over fixed agent word (Some (Running running)) None false was is over = tt
-take_over fixed agent word (Some (Rounding round)) (Some asked) ended was is over = of (ended || any_ends (exchange_of (Some asked) word))
+take_over fixed agent word (Some (Rounding round)) (Some asked) granted was is over = of (granted || any_ends (exchange_of (Some asked) word))
   where
     of : (b : Bool) → Over b (agents.left Rounding (sweep.after_word fixed.service round asked.0 word))
     of true = round_over (sweep.after_word fixed.service round asked.0 word)
     of false = tt
-take_over fixed agent word (Some (Rounding round)) None ended was is over = cc
-take_over fixed agent word None (Some asked) ended was is over = cc
+take_over fixed agent word (Some (Rounding round)) None granted was is over = cc
+take_over fixed agent word None (Some asked) granted was is over = cc
 take_over fixed agent word None None true was is over = subst (Over true) (sym was) tt
 take_over fixed agent word None None false was is over = tt
 
@@ -190,15 +190,15 @@ ends-append (one ∷ past) later = of (ends_it one.request one.word) _ _ _ (ends
     of true b c d is = refl
     of false b c d is = is
 
-all_over : (fixed : Fixed) (agent : Agent) (ended : Bool) (events : List Event) → Over ended agent.doing → Over (ended || any_ends (exchanges fixed agent events)) (after_all fixed agent events).doing
+all_over : (fixed : Fixed) (agent : Agent) (granted : Bool) (events : List Event) → Over granted agent.doing → Over (granted || any_ends (exchanges fixed agent events)) (after_all fixed agent events).doing
 all_over fixed agent true [] over = over
 all_over fixed agent false [] over = tt
-all_over fixed agent ended (Forget site ∷ events) over = all_over fixed (forget agent site) ended events over
-all_over fixed agent ended (Take word ∷ events) over =
+all_over fixed agent granted (Forget site ∷ events) over = all_over fixed (forget agent site) granted events over
+all_over fixed agent granted (Take word ∷ events) over =
     let one = exchange_of (next_of fixed agent) word in
     let rest = exchanges fixed (take fixed agent word).agent events in
-    subst (λ b. Over b (after_all fixed (take fixed agent word).agent events).doing) (joined ended (any_ends one) (any_ends rest) ∙ ap (λ b. ended || b) (sym (ends-append one rest)))
-    (all_over fixed (take fixed agent word).agent (ended || any_ends one) events (take_over fixed agent word agent.doing (next_of fixed agent) ended refl refl over))
+    subst (λ b. Over b (after_all fixed (take fixed agent word).agent events).doing) (joined granted (any_ends one) (any_ends rest) ∙ ap (λ b. granted || b) (sym (ends-append one rest)))
+    (all_over fixed (take fixed agent word).agent (granted || any_ends one) events (take_over fixed agent word agent.doing (next_of fixed agent) granted refl refl over))
   where
     joined : (a b c : Bool) → ((a || b) || c) ≡ (a || (b || c))
     joined true b c = refl
@@ -219,7 +219,7 @@ over_asks fixed (Some (Running course)) server asked over is = of course.phase o
     of : (phase : Phase) → IsOver phase → request_in fixed course.task course.suites phase ≡ Some (server, asked) → (is_decide asked || is_prepare asked) ≡ false
     of (Gathering number) over is = absurd over
     of (Fetching number) over is = absurd over
-    of (Widening left ended) over is = absurd over
+    of (Widening left granted) over is = absurd over
     of (Preparing left outcome) over is = absurd over
     of (Deciding outcome) over is = absurd over
     of (Finishing [] v ending) over is = cc

@@ -25,7 +25,7 @@ use Rattle.txn_core.specs.declared.word.Word.TheVariants.{Replied, Lacked}
 use Rattle.txn_core.specs.declared.ending.Cause.TheVariants.{Lost}
 use Rattle.txn_core.specs.declared.job.Job.TheVariants.{Transaction, Sweep}
 use Rattle.txn_core.specs.Doing.{home_of, Fixed, Task, Phase, Gathering, Fetching, Widening, Preparing, Deciding, Finishing, Course, Sweeping, Listing, Resolving, Telling, Breaking, Round, Doing, Running, Rounding, After, GoesOn, Ends}
-use Rattle.txn_core.specs.Transactions.{Step, locked_at, heard_of, is_poll, said_to, hear, after_word, asked_by, asked_for, fetched_at, fetched_for, request_in, edits_of, decision_of, given_in, verdict_in, ending_by, cause_of_abort}
+use Rattle.txn_core.specs.Transactions.{Step, locked_at, heard_of, is_poll, said_to, hear, after_word, asked_by, asked_for, fetched_at, fetched_for, request_in, changes_of, decision_of, given_in, verdict_in, ending_by, cause_of_abort}
 use Rattle.txn_core.specs.Writing.{parts_at}
 use Rattle.txn_core.proofs.Mild.{asks_same}
 use Rattle.suite_collect.proofs.Collected.{nobody_is_asked_twice}
@@ -128,12 +128,12 @@ left_word before told fixed task cache suites (Fetching number) server asked (Re
     fetch_locks : (found : Option Suite) → fetched_for task number found ≡ Some (server, asked) → (other : ℕ) → locks other asked ≡ false
     fetch_locks (Some suite) is other = fetch_first suite.first is other
     fetch_locks None is other = cc
-left_word before told fixed task cache suites (Widening [] ended) server asked (Replied said) are agree is = cc
-left_word before told fixed task cache suites (Widening (number ∷ left) ended) server asked (Replied said) are agree is =
-    left_heard before told task cache suites (Widening (number ∷ left) ended) number (suite_of suites number) server asked said _ are agree refl is (λ told suites are. leaves_widen told task cache suites ended left are)
+left_word before told fixed task cache suites (Widening [] granted) server asked (Replied said) are agree is = cc
+left_word before told fixed task cache suites (Widening (number ∷ left) granted) server asked (Replied said) are agree is =
+    left_heard before told task cache suites (Widening (number ∷ left) granted) number (suite_of suites number) server asked said _ are agree refl is (λ told suites are. leaves_widen told task cache suites granted left are)
 left_word before told fixed task cache suites (Preparing [] outcome) server asked (Replied said) are agree is = cc
 left_word before told fixed task cache suites (Preparing (now ∷ left) outcome) server asked (Replied said) are agree is =
-    quiet before told server asked _ agree (λ other. ap (locks other) (sym (asks_same now server (request.Prepare task.t (parts_at suites (edits_of outcome) now)) asked is))) (leaves_prepared told task cache suites outcome server left said are)
+    quiet before told server asked _ agree (λ other. ap (locks other) (sym (asks_same now server (request.Prepare task.t (parts_at suites (changes_of outcome) now)) asked is))) (leaves_prepared told task cache suites outcome server left said are)
 left_word before told fixed task cache suites (Deciding outcome) server asked (Replied said) are agree is =
     inl (over_end task cache suites (verdict_in said verdict.Aborted) (ending_by (verdict_in said verdict.Aborted) (cause_of_abort said)) (locked_at suites))
 left_word before told fixed task cache suites (Finishing [] v ending) server asked (Replied said) are agree is = cc
@@ -276,11 +276,11 @@ fresh before fixed (Some (Running course)) server t number mode keeps is = of co
     of (Gathering who) (inl over) is = absurd over
     of (Gathering who) (inr keeps) is = by_suite who (suite_of course.suites who) refl keeps.1 is
     of (Fetching who) keeps is = by_fetch who (suite_of course.suites who) is
-    of (Widening [] ended) keeps is = cc
-    of (Widening (who ∷ left) ended) (inl over) is = absurd over
-    of (Widening (who ∷ left) ended) (inr keeps) is = by_suite who (suite_of course.suites who) refl keeps.1 is
+    of (Widening [] granted) keeps is = cc
+    of (Widening (who ∷ left) granted) (inl over) is = absurd over
+    of (Widening (who ∷ left) granted) (inr keeps) is = by_suite who (suite_of course.suites who) refl keeps.1 is
     of (Preparing [] outcome) keeps is = cc
-    of (Preparing (now ∷ left) outcome) keeps is = other_poll now server t number mode (request.Prepare course.task.t (parts_at course.suites (edits_of outcome) now)) refl is
+    of (Preparing (now ∷ left) outcome) keeps is = other_poll now server t number mode (request.Prepare course.task.t (parts_at course.suites (changes_of outcome) now)) refl is
     of (Deciding outcome) keeps is = other_poll (home_of fixed.service course.task.t) server t number mode (request.Decide course.task.t (decision_of course.task outcome)) refl is
     of (Finishing [] v ending) keeps is = cc
     of (Finishing (now ∷ left) v ending) keeps is = other_poll now server t number mode (request.Finish course.task.t v) refl is

@@ -27,13 +27,10 @@ use Rattle.rep_core.specs.declared.reply.Verdict.TheVariants as verdict
 use Rattle.rep_core.specs.declared.stamped.Lack.{Lack}
 use Rattle.rep_core.specs.Fits.{is_prepared}
 use Rattle.suite_prefix.specs.LockModes.{serves}
-use Rattle.file_exec.specs.declared.log.Edit.{Edit}
-use Rattle.file_exec.specs.declared.log.Edit.TheVariants.{SetAcl, SetVotes, SetContent, Make}
+use Rattle.file_exec.specs.declared.changes.Change.{Change}
+use Rattle.file_exec.specs.declared.executor.Outcome.{Outcome as Executed}
+use Rattle.file_exec.specs.declared.executor.Outcome.TheVariants as exec
 use Rattle.file_exec.specs.declared.need.Need.TheVariants.{Hold, Know}
-use Rattle.file_exec.specs.Following.{Edits, changed, seen, Ended}
-use Rattle.file_exec.specs.Known as known
-use Rattle.file_exec.specs.Known.{Known, Heard, Needs, Done, is_held_for}
-use Rattle.file_exec.proofs.Unmet.{sets_what_is_held}
 use Rattle.suite_collect.specs.declared.told.Said.TheVariants as told
 use Rattle.suite_collect.specs.declared.told.Told.{Told}
 use Rattle.suite_collect.specs.declared.told.Said.{Said}
@@ -43,7 +40,7 @@ use Rattle.suite_collect.specs.Collecting.{told_since, Collector, all_told, need
 use Rattle.suite_collect.specs.Collecting as collecting
 use Rattle.weak_cache.specs.Entries.{Cache}
 use Rattle.txn_core.specs.Suites.{First, Suite, Suites, suite_of, with_suite, row_with, known_row, known_if, known_of, settled, first_or, source_of}
-use Rattle.txn_core.specs.Writing.{is_changed, sets, sets_votes}
+use Rattle.txn_core.specs.Writing.{is_changed, gets_votes, sets_votes, change_of}
 use Rattle.txn_core.specs.declared.word.Word.{Word}
 use Rattle.txn_core.specs.declared.ending.Cause.{Cause}
 use Rattle.txn_core.specs.declared.ending.Ending.{Ending}
@@ -52,13 +49,14 @@ use Rattle.txn_core.specs.declared.word.Word.TheVariants.{Replied, Lacked}
 use Rattle.txn_core.specs.declared.ending.Cause.TheVariants.{Lost}
 use Rattle.txn_core.specs.declared.ending.Ending.TheVariants.{Undecided}
 use Rattle.txn_core.specs.declared.job.Job.TheVariants.{Transaction, Sweep}
-use Rattle.txn_core.specs.Doing.{Fixed, Task, Outcome, Phase, Gathering, Fetching, Widening, Preparing, Deciding, Finishing, Course, Round, Doing, Running, Rounding, After, GoesOn, Ends}
+use Rattle.txn_core.specs.Doing.{Changes, Granted, Fixed, Task, Outcome, Phase, Gathering, Fetching, Widening, Preparing, Deciding, Finishing, Course, Round, Doing, Running, Rounding, After, GoesOn, Ends}
 use Rattle.txn_core.specs.Transactions as course
-use Rattle.txn_core.specs.Transactions.{Step, Gathered, tell_end, give_up, prepare, locked_at, short_cause, gather_by, widen_by, widen_one, widened, widen_all, to_widen, votes_after, opened, or_all, open_needed, open_suite, open_first, opened_with, free_content, heard_on, raised_or_new, keep_content, heard_of, said_to, proceed, execute, collected, hear, fetched, prepared, after_lack, after_word, request_in, edits_of, given_in, verdict_in, ending_by, cause_of_abort, lack_cause}
+use Rattle.txn_core.specs.Transactions.{Step, Gathered, tell_end, give_up, prepare, locked_at, short_cause, gather_by, widen_by, widen_one, widened, widen_all, to_widen, votes_then, votes_after, opened, or_all, open_needed, open_suite, open_first, opened_with, free_content, heard_on, raised_or_new, keep_content, heard_of, said_to, proceed, execute, collected, hear, fetched, prepared, after_lack, after_word, request_in, changes_of, given_in, verdict_in, ending_by, cause_of_abort, lack_cause}
 use Rattle.txn_core.specs.Sweeps as sweep
 use Rattle.txn_core.specs.Agents as agents
 use Rattle.txn_core.specs.Agents.{Agent, Event, Take, Forget, next_in, next_of, take_in, take, begin, started, forget, is_idle, has_sense, most_jobs, after_event, after_all}
 use Rattle.txn_core.specs.Laws.{newest_of, IsReady, DecidesOnQuorums}
+use Rattle.txn_core.proofs.Setting.{Keeps, changed_held, changed_keeps}
 use Rattle.txn_core.proofs.Locks.{all_told-tell}
 
 -- ---- quorums and newer prefixes
@@ -202,30 +200,30 @@ Settled number suite = Sound suite × IsNarrow suite
 abbrev But : ℕ → ℕ → Suite → Type 0
 But now number suite = Grown suite × IsNarrow suite × ((now == number) ≡ false → Sound suite)
 
-abbrev Wide : Edits → ℕ → Suite → Type 0
-Wide edits number suite = Enough Exclusive (votes_after edits number suite suite.first) (all_told suite.collector)
+abbrev Wide : Changes → ℕ → Suite → Type 0
+Wide changes number suite = Enough Exclusive (votes_after changes number suite) (all_told suite.collector)
 
 abbrev among : List ℕ → ℕ → Bool
 among numbers number = list_any (λ one. one == number) numbers
 
-abbrev Ready : Edits → List ℕ → ℕ → Suite → Type 0
-Ready edits todo number suite = Sound suite × (is_changed edits number ≡ true → suite.mode ≡ Exclusive) × (among todo number ≡ false → sets sets_votes edits number ≡ true → Wide edits number suite)
+abbrev Ready : Changes → List ℕ → ℕ → Suite → Type 0
+Ready changes todo number suite = Sound suite × (is_changed changes number ≡ true → suite.mode ≡ Exclusive) × (among todo number ≡ false → sets_votes changes number ≡ true → Wide changes number suite) × Keeps changes number suite
 
-record IsWidened (edits : Edits) (number : ℕ) (suite : Suite) : Type 0 where
+record IsWidened (changes : Changes) (number : ℕ) (suite : Suite) : Type 0 where
   widening : collecting.Widening
   is : suite.collector.widening ≡ Some widening
-  votes : widening.votes ≡ votes_after edits number suite suite.first
+  votes : widening.votes ≡ votes_after changes number suite
 
-abbrev InWidening : Edits → ℕ → List ℕ → ℕ → Suite → Type 0
-InWidening edits now left number suite = Ready edits (now ∷ left) number suite × ((now == number) ≡ true → IsWidened edits number suite)
+abbrev InWidening : Changes → ℕ → List ℕ → ℕ → Suite → Type 0
+InWidening changes now left number suite = Ready changes (now ∷ left) number suite × ((now == number) ≡ true → IsWidened changes number suite)
 
 abbrev PhaseReady : Suites → Phase → Type 0
 PhaseReady suites (Gathering now) = Each (But now) suites
 PhaseReady suites (Fetching number) = Each Settled suites
-PhaseReady suites (Widening [] ended) = Unit {0}
-PhaseReady suites (Widening (now ∷ left) ended) = Each (InWidening ended.edits now left) suites
-PhaseReady suites (Preparing left outcome) = Each (Ready (edits_of outcome) []) suites
-PhaseReady suites (Deciding outcome) = Each (Ready (edits_of outcome) []) suites
+PhaseReady suites (Widening [] granted) = Unit {0}
+PhaseReady suites (Widening (now ∷ left) granted) = Each (InWidening granted.changes now left) suites
+PhaseReady suites (Preparing left outcome) = Each (Ready (changes_of outcome) []) suites
+PhaseReady suites (Deciding outcome) = Each (Ready (changes_of outcome) []) suites
 PhaseReady suites (Finishing servers v ending) = Unit {0}
 
 abbrev LeftReady : After Course → Type 0
@@ -244,44 +242,44 @@ ready_end task cache suites v ending (server ∷ servers) = tt
 ready_give_up : (task : Task) (cache : Cache) (suites : Suites) (cause : Cause) → LeftReady (give_up task cache suites cause).after
 ready_give_up task cache suites cause = ready_end task cache suites verdict.Aborted (Undecided cause) (locked_at suites)
 
-ready_prepare : (task : Task) (cache : Cache) (suites : Suites) (outcome : Outcome) (left : List ℕ) → Each (Ready (edits_of outcome) []) suites → LeftReady (prepare task cache suites outcome left).after
+ready_prepare : (task : Task) (cache : Cache) (suites : Suites) (outcome : Outcome) (left : List ℕ) → Each (Ready (changes_of outcome) []) suites → LeftReady (prepare task cache suites outcome left).after
 ready_prepare task cache suites outcome [] each = each
 ready_prepare task cache suites outcome (server ∷ servers) each = each
 
-sound_widened : (edits : Edits) (number : ℕ) (suite : Suite) → Sound suite → Sound (widened edits number suite)
-sound_widened edits number suite sound = record { first = sound.first; was = sound.was; since = sound.since; mode = sound.mode; quorum = sound.quorum }
+sound_widened : (changes : Changes) (number : ℕ) (suite : Suite) → Sound suite → Sound (widened changes number suite)
+sound_widened changes number suite sound = record { first = sound.first; was = sound.was; since = sound.since; mode = sound.mode; quorum = sound.quorum }
 
-wide_current : (edits : Edits) (number : ℕ) (suite : Suite) (prefix : Prefix) (dver : ℕ) (members : List ℕ) → IsWidened edits number suite → next suite.collector ≡ Current prefix dver members → Wide edits number suite
-wide_current edits number suite prefix dver members wide is =
+wide_current : (changes : Changes) (number : ℕ) (suite : Suite) (prefix : Prefix) (dver : ℕ) (members : List ℕ) → IsWidened changes number suite → next suite.collector ≡ Current prefix dver members → Wide changes number suite
+wide_current changes number suite prefix dver members wide is =
     subst (λ (votes : Configuration). Enough Exclusive votes (all_told suite.collector)) wide.votes (subst (EnoughWith suite.collector) wide.is (current_of suite.collector prefix dver members is).0)
 
 -- another suite has no less to do
-less_to_do : (edits : Edits) (now : ℕ) (left : List ℕ) (number : ℕ) (suite : Suite) → (now == number) ≡ false → Ready edits (now ∷ left) number suite → Ready edits left number suite
-less_to_do edits now left number suite other ready = (ready.0, ready.1, λ none. ready.2 (ap (λ b. b || among left number) other ∙ none))
+less_to_do : (changes : Changes) (now : ℕ) (left : List ℕ) (number : ℕ) (suite : Suite) → (now == number) ≡ false → Ready changes (now ∷ left) number suite → Ready changes left number suite
+less_to_do changes now left number suite other ready = (ready.0, ready.1, λ none. ready.2 (ap (λ b. b || among left number) other ∙ none), ready.3)
 
-still_ready : (edits : Edits) (now : ℕ) (left : List ℕ) (number : ℕ) (suite : Suite) → (now == number) ≡ false → Ready edits (now ∷ left) number suite → InWidening edits now left number suite
-still_ready edits now left number suite other ready = (ready, λ same. absurd (false≢true (sym other ∙ same)))
+still_ready : (changes : Changes) (now : ℕ) (left : List ℕ) (number : ℕ) (suite : Suite) → (now == number) ≡ false → Ready changes (now ∷ left) number suite → InWidening changes now left number suite
+still_ready changes now left number suite other ready = (ready, λ same. absurd (false≢true (sym other ∙ same)))
 
-ready_widen_by : (task : Task) (cache : Cache) (suites : Suites) (left : List ℕ) (ended : Ended (List Answer)) (number : ℕ) (suite : Suite) (after : Next) (go_on : Suites → Step) → next suite.collector ≡ after
-    → Ready ended.edits (number ∷ left) number suite → IsWidened ended.edits number suite → Each (Ready ended.edits (number ∷ left)) suites → ((suites : Suites) → Each (Ready ended.edits left) suites → LeftReady (go_on suites).after)
-    → LeftReady (widen_by task cache (with_suite number suite suites) (Widening (number ∷ left) ended) number after go_on).after
-ready_widen_by task cache suites left ended number suite (Current prefix dver members) go_on is ready wide each more =
-    more (with_suite number suite suites) (each_with (Ready ended.edits (number ∷ left)) (Ready ended.edits left) suites number suite (less_to_do ended.edits number left)
-    (ready.0, ready.1, λ _ _. wide_current ended.edits number suite prefix dver members wide is) each)
-ready_widen_by task cache suites left ended number suite (Ask server asked) go_on is ready wide each more =
-    each_with (Ready ended.edits (number ∷ left)) (InWidening ended.edits number left) suites number suite (still_ready ended.edits number left) (ready, λ _. wide) each
-ready_widen_by task cache suites left ended number suite (Short had wanting busy) go_on is ready wide each more = ready_give_up task cache (with_suite number suite suites) (short_cause number had wanting busy)
+ready_widen_by : (task : Task) (cache : Cache) (suites : Suites) (left : List ℕ) (granted : Granted) (number : ℕ) (suite : Suite) (after : Next) (go_on : Suites → Step) → next suite.collector ≡ after
+    → Ready granted.changes (number ∷ left) number suite → IsWidened granted.changes number suite → Each (Ready granted.changes (number ∷ left)) suites → ((suites : Suites) → Each (Ready granted.changes left) suites → LeftReady (go_on suites).after)
+    → LeftReady (widen_by task cache (with_suite number suite suites) (Widening (number ∷ left) granted) number after go_on).after
+ready_widen_by task cache suites left granted number suite (Current prefix dver members) go_on is ready wide each more =
+    more (with_suite number suite suites) (each_with (Ready granted.changes (number ∷ left)) (Ready granted.changes left) suites number suite (less_to_do granted.changes number left)
+    (ready.0, ready.1, λ _ _. wide_current granted.changes number suite prefix dver members wide is, ready.3) each)
+ready_widen_by task cache suites left granted number suite (Ask server asked) go_on is ready wide each more =
+    each_with (Ready granted.changes (number ∷ left)) (InWidening granted.changes number left) suites number suite (still_ready granted.changes number left) (ready, λ _. wide) each
+ready_widen_by task cache suites left granted number suite (Short had wanting busy) go_on is ready wide each more = ready_give_up task cache (with_suite number suite suites) (short_cause number had wanting busy)
 
-ready_widen_one : (task : Task) (cache : Cache) (suites : Suites) (left : List ℕ) (ended : Ended (List Answer)) (number : ℕ) (found : Option Suite) (go_on : Suites → Step) → suite_of suites number ≡ found
-    → Each (Ready ended.edits (number ∷ left)) suites → ((suites : Suites) → Each (Ready ended.edits left) suites → LeftReady (go_on suites).after)
-    → LeftReady (widen_one task cache suites (Widening (number ∷ left) ended) ended.edits number found go_on).after
-ready_widen_one task cache suites left ended number (Some suite) go_on there each more =
+ready_widen_one : (task : Task) (cache : Cache) (suites : Suites) (left : List ℕ) (granted : Granted) (number : ℕ) (found : Option Suite) (go_on : Suites → Step) → suite_of suites number ≡ found
+    → Each (Ready granted.changes (number ∷ left)) suites → ((suites : Suites) → Each (Ready granted.changes left) suites → LeftReady (go_on suites).after)
+    → LeftReady (widen_one task cache suites (Widening (number ∷ left) granted) granted.changes number found go_on).after
+ready_widen_one task cache suites left granted number (Some suite) go_on there each more =
     let ready = each number suite there in
-    let now = widened ended.edits number suite in
-    ready_widen_by task cache suites left ended number now (next now.collector) go_on refl
-    (sound_widened ended.edits number suite ready.0, ready.1, λ not' sets'. ready.2 not' sets')
-    (record { widening = record { votes = votes_after ended.edits number suite suite.first; told = told_since suite.collector.widening }; is = refl; votes = refl }) each more
-ready_widen_one task cache suites left ended number None go_on there each more = more suites (λ other suite is. less_to_do ended.edits number left other suite (differs other suite is (number == other) refl) (each other suite is))
+    let now = widened granted.changes number suite in
+    ready_widen_by task cache suites left granted number now (next now.collector) go_on refl
+    (sound_widened granted.changes number suite ready.0, ready.1, λ not' sets'. ready.2 not' sets', ready.3)
+    (record { widening = record { votes = votes_after granted.changes number suite; told = told_since suite.collector.widening }; is = refl; votes = refl }) each more
+ready_widen_one task cache suites left granted number None go_on there each more = more suites (λ other suite is. less_to_do granted.changes number left other suite (differs other suite is (number == other) refl) (each other suite is))
   where
     differs : (other : ℕ) (suite : Suite) → suite_of suites other ≡ Some suite → (b : Bool) → (number == other) ≡ b → (number == other) ≡ false
     differs other suite is false same = same
@@ -290,78 +288,36 @@ ready_widen_one task cache suites left ended number None go_on there each more =
         nothing : ◌≡◌ {A = Option Suite} None (Some suite) → ⊥
         nothing is = cc
 
-ready_widen : (task : Task) (cache : Cache) (suites : Suites) (ended : Ended (List Answer)) (left : List ℕ) → Each (Ready ended.edits left) suites → LeftReady (widen_all task cache suites ended left).after
-ready_widen task cache suites ended [] each = ready_prepare task cache suites (Ok ended) (locked_at suites) each
-ready_widen task cache suites ended (number ∷ left) each =
-    ready_widen_one task cache suites left ended number (suite_of suites number) _ refl each (λ suites each. ready_widen task cache suites ended left each)
-
--- ---- what is set is held
-
--- a suite that is known to be held exclusively has that mode
-held_mode : (suites : Suites) (number : ℕ) (suite : Suite) (first : First) → suite_of suites number ≡ Some suite → suite.first ≡ Some first → known.is_held Exclusive (known.known_of (known_of suites) number) ≡ true → suite.mode ≡ Exclusive
-held_mode [] number suite first is was held = cc
-held_mode (e ∷ es) number suite first is was held = of (λ is held. held_mode es number suite first is was held) e.1.first refl held
-  where
-    exclusive : (mode : LockMode) → serves mode Exclusive ≡ true → mode ≡ Exclusive
-    exclusive Shared is = cc
-    exclusive Exclusive is = refl
-
-    none : e.1.first ≡ None → e.1 ≡ suite → ⊥
-    none no' same = let bad : ◌≡◌ {A = Option First} None (Some first) = sym no' ∙ ap (λ (suite : Suite). suite.first) same ∙ was in cc
-
-    at_none : (suite_of es number ≡ Some suite → known.is_held Exclusive (known.known_of (known_of es) number) ≡ true → suite.mode ≡ Exclusive) → e.1.first ≡ None → (b : Bool) → cond b (Some e.1) (suite_of es number) ≡ Some suite → known.is_held Exclusive (known.known_of (known_of es) number) ≡ true → suite.mode ≡ Exclusive
-    at_none again no' true is held = absurd (none no' (same_Some e.1 suite is))
-    at_none again no' false is held = again is held
-
-    at_some : (suite_of es number ≡ Some suite → known.is_held Exclusive (known.known_of (known_of es) number) ≡ true → suite.mode ≡ Exclusive) → (other : First) (b : Bool) → cond b (Some e.1) (suite_of es number) ≡ Some suite → known.is_held Exclusive (cond b (Some (known_row e.1 other)) (known.known_of (known_of es) number)) ≡ true → suite.mode ≡ Exclusive
-    at_some again other true is held = sym (ap (λ (suite : Suite). suite.mode) (same_Some e.1 suite is)) ∙ exclusive e.1.mode held
-    at_some again other false is held = again is held
-
-    of : (suite_of es number ≡ Some suite → known.is_held Exclusive (known.known_of (known_of es) number) ≡ true → suite.mode ≡ Exclusive) → (found : Option First) → e.1.first ≡ found → known.is_held Exclusive (known.known_of (known_if e.0 e.1 found (known_of es)) number) ≡ true → suite.mode ≡ Exclusive
-    of again None no' held = at_none again no' (is_at (nat_cmp number) e.0) is held
-    of again (Some other) _ held = at_some again other (is_at (nat_cmp number) e.0) is held
-
-changed_held : (known' : Known) (edits : Edits) (number : ℕ) → list_all (is_held_for known') edits ≡ true → is_changed edits number ≡ true → known.is_held Exclusive (known.known_of known' number) ≡ true
-changed_held known' [] number all changed' = cc
-changed_held known' (e ∷ edits) number all changed' = of (changed_held known' edits number (second (is_held_for known' e) (list_all (is_held_for known') edits) all)) (e.0 == number) refl changed'
-  where
-    first : (a b : Bool) → (a && b) ≡ true → a ≡ true
-    first true b is = refl
-    first false b is = cc
-
-    second : (a b : Bool) → (a && b) ≡ true → b ≡ true
-    second true b is = is
-    second false b is = cc
-
-    of : (is_changed edits number ≡ true → known.is_held Exclusive (known.known_of known' number) ≡ true) → (b : Bool) → (e.0 == number) ≡ b → (b || is_changed edits number) ≡ true → known.is_held Exclusive (known.known_of known' number) ≡ true
-    of again true same _ = ap (λ number. known.is_held Exclusive (known.known_of known' number)) (sym (eqb-true e.0 number same)) ∙ first (is_held_for known' e) (list_all (is_held_for known') edits) all
-    of again false _ later = again later
+ready_widen : (task : Task) (cache : Cache) (suites : Suites) (granted : Granted) (left : List ℕ) → Each (Ready granted.changes left) suites → LeftReady (widen_all task cache suites granted left).after
+ready_widen task cache suites granted [] each = ready_prepare task cache suites (Ok granted) (locked_at suites) each
+ready_widen task cache suites granted (number ∷ left) each =
+    ready_widen_one task cache suites left granted number (suite_of suites number) _ refl each (λ suites each. ready_widen task cache suites granted left each)
 
 -- a suite that gets votes is to be widened
-to_do : (edits : Edits) (suites : Suites) (number : ℕ) (suite : Suite) → suite_of suites number ≡ Some suite → sets sets_votes edits number ≡ true → among (to_widen suites edits) number ≡ true
-to_do edits [] number suite is sets' = cc
-to_do edits (e ∷ es) number suite is sets' = of (λ is. to_do edits es number suite is sets') (is_at (nat_cmp number) e.0) refl is
+to_do : (changes : Changes) (number : ℕ) → sets_votes changes number ≡ true → among (to_widen changes) number ≡ true
+to_do [] number sets' = cc
+to_do (e ∷ changes) number sets' = of (to_do changes number) (is_at (nat_cmp number) e.0) refl sets'
   where
-    later : (b : Bool) → among (to_widen es edits) number ≡ true → among (map (λ one. one.0) (cond b (e ∷ filter (λ one. sets sets_votes edits one.0) es) (filter (λ one. sets sets_votes edits one.0) es))) number ≡ true
+    later : (b : Bool) → among (to_widen changes) number ≡ true → among (map (λ one. one.0) (cond b (e ∷ filter (λ one. one.1.votes) changes) (filter (λ one. one.1.votes) changes))) number ≡ true
     later true is = or_true (e.0 == number) is
     later false is = is
 
-    here : (number == e.0) ≡ true → among (to_widen (e ∷ es) edits) number ≡ true
-    here same =
-        let at : number ≡ e.0 = eqb-true number e.0 same in
-        subst (λ b. among (map (λ one. one.0) (cond b (e ∷ filter (λ one. sets sets_votes edits one.0) es) (filter (λ one. sets sets_votes edits one.0) es))) number ≡ true)
-        (sym (ap (sets sets_votes edits) (sym at) ∙ sets')) (ap (λ b. b || among (to_widen es edits) number) (ap (λ n. e.0 == n) at ∙ self e.0))
+    here : (number == e.0) ≡ true → e.1.votes ≡ true → among (to_widen (e ∷ changes)) number ≡ true
+    here same votes =
+        subst (λ b. among (map (λ one. one.0) (cond b (e ∷ filter (λ one. one.1.votes) changes) (filter (λ one. one.1.votes) changes))) number ≡ true)
+        (sym votes) (ap (λ b. b || among (to_widen changes) number) (ap (λ n. e.0 == n) (eqb-true number e.0 same) ∙ self e.0))
 
-    of : (suite_of es number ≡ Some suite → among (to_widen es edits) number ≡ true) → (b : Bool) → is_at (nat_cmp number) e.0 ≡ b → cond b (Some e.1) (suite_of es number) ≡ Some suite → among (to_widen (e ∷ es) edits) number ≡ true
-    of again true at _ = here (sym (unsigned_tied number e.0) ∙ at)
-    of again false _ is = later (sets sets_votes edits e.0) (again is)
+    of : (sets_votes changes number ≡ true → among (to_widen changes) number ≡ true) → (b : Bool) → is_at (nat_cmp number) e.0 ≡ b → gets_votes (cond b (Some e.1) (change_of changes number)) ≡ true → among (to_widen (e ∷ changes)) number ≡ true
+    of again true at votes = here (sym (unsigned_tied number e.0) ∙ at) votes
+    of again false _ is = later e.1.votes (again is)
 
-ready_done : (fixed : Fixed) (task : Task) (suites : Suites) (ended : Ended (List Answer)) → heard_on fixed task suites ≡ Done (Ok ended) → Each Settled suites → Each (Ready ended.edits (to_widen suites ended.edits)) suites
-ready_done fixed task suites ended is each number suite there =
+ready_done : (fixed : Fixed) (task : Task) (suites : Suites) (answers : List Answer) (changes : Changes) → heard_on fixed task suites ≡ exec.Done answers changes → Each Settled suites → Each (Ready changes (to_widen changes)) suites
+ready_done fixed task suites answers changes is each number suite there =
     let sound = (each number suite there).0 in (
       sound,
-      λ changed'. held_mode suites number suite sound.first there sound.was (changed_held (known_of suites) ended.edits number (sets_what_is_held fixed.service (known_of suites) task.t task.caller task.ops ended is) changed'),
-      λ none sets'. absurd (false≢true (sym none ∙ to_do ended.edits suites number suite there sets')),
+      λ changed'. changed_held fixed task suites answers changes number suite sound.first is there sound.was changed',
+      λ none sets'. absurd (false≢true (sym none ∙ to_do changes number sets')),
+      changed_keeps fixed task suites answers changes number suite is there,
     )
 
 -- ---- the executor
@@ -391,12 +347,13 @@ settled_opened (suc n) fixed task all each = of (heard_on fixed task all.suites)
     at_suite number (Some suite) more there is = at_first number suite suite.first more there is
     at_suite number None more there is = cc
 
-    needed' : (heard : Heard (List Answer) Refusal) (more : Gathered) → open_needed task all heard ≡ Some more → Each Settled more.suites
-    needed' (Needs (Know number)) more is = at_suite number (suite_of all.suites number) more refl is
-    needed' (Needs (Hold number mode)) more is = cc
-    needed' (Done outcome) more is = cc
+    needed' : (heard : Executed) (more : Gathered) → open_needed task all heard ≡ Some more → Each Settled more.suites
+    needed' (exec.Need (Know number)) more is = at_suite number (suite_of all.suites number) more refl is
+    needed' (exec.Need (Hold number mode)) more is = cc
+    needed' (exec.Done answers changes) more is = cc
+    needed' (exec.Refused refusal) more is = cc
 
-    of : (heard : Heard (List Answer) Refusal) → ((more : Gathered) → Each Settled more.suites → Each Settled (opened n fixed task more).suites) → Each Settled (or_all all (open_needed task all heard) (λ all. opened n fixed task all)).suites
+    of : (heard : Executed) → ((more : Gathered) → Each Settled more.suites → Each Settled (opened n fixed task more).suites) → Each Settled (or_all all (open_needed task all heard) (λ all. opened n fixed task all)).suites
     of heard later = or' (open_needed task all heard) (needed' heard) later
 
 ready_gather : (task : Task) (cache : Cache) (suites : Suites) (number : ℕ) (after : Next) → Each (But number) suites → LeftReady (gather_by task cache suites number after).after
@@ -413,14 +370,14 @@ but_raised fixed task cache number mode suites None there each = but_here number
 but_raised fixed task cache number mode suites (Some suite) there each =
     let was = each number suite there in but_here number (raised_or_new fixed task cache number mode (Some suite)) (λ first is. sound_grown suite was.0 first is) was.1
 
-ready_proceed : (fixed : Fixed) (task : Task) (cache : Cache) (suites : Suites) (heard : Heard (List Answer) Refusal) → heard_on fixed task suites ≡ heard → Each Settled suites → LeftReady (proceed fixed task cache suites heard).after
-ready_proceed fixed task cache suites (Needs (Hold number mode)) is each =
+ready_proceed : (fixed : Fixed) (task : Task) (cache : Cache) (suites : Suites) (heard : Executed) → heard_on fixed task suites ≡ heard → Each Settled suites → LeftReady (proceed fixed task cache suites heard).after
+ready_proceed fixed task cache suites (exec.Need (Hold number mode)) is each =
     let suite = raised_or_new fixed task cache number mode (suite_of suites number) in
     ready_gather task cache (with_suite number suite suites) number (next suite.collector)
     (each_with Settled (But number) suites number suite (λ other it _ was. (sound_grown it was.0, was.1, λ _. was.0)) (but_raised fixed task cache number mode suites (suite_of suites number) refl each) each)
-ready_proceed fixed task cache suites (Needs (Know number)) is each = each
-ready_proceed fixed task cache suites (Done (Ok ended)) is each = ready_widen task cache suites ended (to_widen suites ended.edits) (ready_done fixed task suites ended is each)
-ready_proceed fixed task cache suites (Done (Err refusal)) is each = ready_prepare task cache suites (Err refusal) (locked_at suites) (λ number suite there. ((each number suite there).0, λ changed'. cc, λ _ sets'. cc))
+ready_proceed fixed task cache suites (exec.Need (Know number)) is each = each
+ready_proceed fixed task cache suites (exec.Done answers changes) is each = ready_widen task cache suites (record { answers = answers; changes = changes }) (to_widen changes) (ready_done fixed task suites answers changes is each)
+ready_proceed fixed task cache suites (exec.Refused refusal) is each = ready_prepare task cache suites (Err refusal) (locked_at suites) (λ number suite there. ((each number suite there).0, λ changed'. cc, λ _ sets'. cc, λ change first is. cc))
 
 ready_execute : (fixed : Fixed) (task : Task) (all : Gathered) → Each Settled all.suites → LeftReady (execute fixed task all).after
 ready_execute fixed task all each =
@@ -468,21 +425,22 @@ sound_told suite w one is sound = record {
     same : newest_of (record suite { collector = tell one suite.collector }) ≡ newest_of suite
     same = ap (λ w. let c = tell_at w one suite.collector in newest c.start c.told) is
 
-widened_told : (edits : Edits) (number : ℕ) (suite : Suite) (one : Told) → Sound suite → IsWidened edits number suite → IsWidened edits number (record suite { collector = tell one suite.collector })
-widened_told edits number suite one sound wide = record {
+widened_told : (changes : Changes) (number : ℕ) (suite : Suite) (one : Told) → Sound suite → IsWidened changes number suite → IsWidened changes number (record suite { collector = tell one suite.collector })
+widened_told changes number suite one sound wide = record {
   widening = record wide.widening { told = one ∷ wide.widening.told };
   is = ap (λ w. (tell_at w one suite.collector).widening) wide.is;
-  votes = wide.votes ∙ of suite.first sound.was;
+  votes = wide.votes ∙ of (change_of changes number) suite.first suite.collector.start.votes (tell one suite.collector).start.votes sound.was;
 }
   where
-    of : (first : Option First) → first ≡ Some sound.first → votes_after edits number suite first ≡ votes_after edits number (record suite { collector = tell one suite.collector }) first
-    of (Some first) is = refl
-    of None is = cc
+    of : (change : Option Change) (first : Option First) (a b : Configuration) → first ≡ Some sound.first → votes_then change first a ≡ votes_then change first b
+    of (Some change) first a b is = refl
+    of None (Some first) a b is = refl
+    of None None a b is = cc
 
-ready_told : (edits : Edits) (now : ℕ) (left : List ℕ) (suite : Suite) (one : Told) → InWidening edits now left now suite → InWidening edits now left now (record suite { collector = tell one suite.collector })
-ready_told edits now left suite one was =
+ready_told : (changes : Changes) (now : ℕ) (left : List ℕ) (suite : Suite) (one : Told) → InWidening changes now left now suite → InWidening changes now left now (record suite { collector = tell one suite.collector })
+ready_told changes now left suite one was =
     let wide = was.1 (self now) in
-    ((sound_told suite wide.widening one wide.is was.0.0, was.0.1, λ not' sets'. absurd (false≢true (sym not' ∙ ap (λ b. b || among left now) (self now)))), λ _. widened_told edits now suite one was.0.0 wide)
+    ((sound_told suite wide.widening one wide.is was.0.0, was.0.1, λ not' sets'. absurd (false≢true (sym not' ∙ ap (λ b. b || among left now) (self now))), was.0.3), λ _. widened_told changes now suite one was.0.0 wide)
 
 -- a Current again
 sound_again : (suite : Suite) (prefix : Prefix) (dver : ℕ) (members : List ℕ) → Sound suite → Sound (settled prefix dver members suite)
@@ -494,36 +452,37 @@ sound_again suite prefix dver members sound = record {
   quorum = subst (λ (mode : LockMode). Enough mode (newest_of suite).votes (all_told suite.collector)) sound.mode sound.quorum;
 }
 
-ready_again : (edits : Edits) (now : ℕ) (left : List ℕ) (suite : Suite) (prefix : Prefix) (dver : ℕ) (members : List ℕ) → InWidening edits now left now suite → next suite.collector ≡ Current prefix dver members → Ready edits left now (settled prefix dver members suite)
+ready_again : (changes : Changes) (now : ℕ) (left : List ℕ) (suite : Suite) (prefix : Prefix) (dver : ℕ) (members : List ℕ) → InWidening changes now left now suite → next suite.collector ≡ Current prefix dver members → Ready changes left now (settled prefix dver members suite)
 unfolding sound_again
-ready_again edits now left suite prefix dver members was is =
+ready_again changes now left suite prefix dver members was is =
     let sound = was.0.0 in
     let again = sound_again suite prefix dver members sound in
-    let wide = wide_current edits now suite prefix dver members (was.1 (self now)) is in (
+    let wide = wide_current changes now suite prefix dver members (was.1 (self now)) is in (
       again,
       λ changed'. sym sound.mode ∙ was.0.1 changed',
-      λ _ _. subst (λ first. Enough Exclusive (votes_after edits now suite first) (all_told suite.collector)) (sound.was ∙ sym again.was) wide,
+      λ _ _. subst (λ first. Enough Exclusive (votes_then (change_of changes now) first suite.collector.start.votes) (all_told suite.collector)) (sound.was ∙ sym again.was) wide,
+      λ change first told is. was.0.3 change first told (sound.was ∙ sym again.was ∙ is),
     )
 
-ready_widened : (task : Task) (cache : Cache) (suites : Suites) (number : ℕ) (left : List ℕ) (ended : Ended (List Answer)) (found : Option Suite) (server : ℕ) (asked : Request) (said : Reply) → suite_of suites number ≡ found → Each (InWidening ended.edits number left) suites
-    → LeftReady (heard_of task cache suites (Widening (number ∷ left) ended) number found server asked said (λ suites. widen_all task cache suites ended left)).after
-ready_widened task cache suites number left ended None server asked said there each = ready_give_up task cache suites (Lost server)
-ready_widened task cache suites number left ended (Some suite) server asked said there each = of (said_to asked said)
+ready_widened : (task : Task) (cache : Cache) (suites : Suites) (number : ℕ) (left : List ℕ) (granted : Granted) (found : Option Suite) (server : ℕ) (asked : Request) (said : Reply) → suite_of suites number ≡ found → Each (InWidening granted.changes number left) suites
+    → LeftReady (heard_of task cache suites (Widening (number ∷ left) granted) number found server asked said (λ suites. widen_all task cache suites granted left)).after
+ready_widened task cache suites number left granted None server asked said there each = ready_give_up task cache suites (Lost server)
+ready_widened task cache suites number left granted (Some suite) server asked said there each = of (said_to asked said)
   where
-    by : (now : Suite) → InWidening ended.edits number left number now → (after : Next) → next now.collector ≡ after
-        → LeftReady (collected task cache suites (Widening (number ∷ left) ended) number now after (λ suite. widen_all task cache (with_suite number suite suites) ended left)).after
-    by now was (Ask who question) is = each_with (InWidening ended.edits number left) (InWidening ended.edits number left) suites number now (λ other it _ was. was) was each
+    by : (now : Suite) → InWidening granted.changes number left number now → (after : Next) → next now.collector ≡ after
+        → LeftReady (collected task cache suites (Widening (number ∷ left) granted) number now after (λ suite. widen_all task cache (with_suite number suite suites) granted left)).after
+    by now was (Ask who question) is = each_with (InWidening granted.changes number left) (InWidening granted.changes number left) suites number now (λ other it _ was. was) was each
     by now was (Short had wanting busy) is = ready_give_up task cache (with_suite number now suites) (short_cause number had wanting busy)
     by now was (Current prefix dver members) is =
         let new = settled prefix dver members now in
-        ready_widen task cache (with_suite number new suites) ended left
-        (each_with (InWidening ended.edits number left) (Ready ended.edits left) suites number new (λ other it differs was. less_to_do ended.edits number left other it differs was.0) (ready_again ended.edits number left now prefix dver members was is) each)
+        ready_widen task cache (with_suite number new suites) granted left
+        (each_with (InWidening granted.changes number left) (Ready granted.changes left) suites number new (λ other it differs was. less_to_do granted.changes number left other it differs was.0) (ready_again granted.changes number left now prefix dver members was is) each)
 
-    of : (heard : Option Said) → LeftReady (hear task cache suites (Widening (number ∷ left) ended) number suite server asked heard (λ suite. widen_all task cache (with_suite number suite suites) ended left)).after
+    of : (heard : Option Said) → LeftReady (hear task cache suites (Widening (number ∷ left) granted) number suite server asked heard (λ suite. widen_all task cache (with_suite number suite suites) granted left)).after
     of None = ready_give_up task cache suites (Lost server)
     of (Some heard) =
         let one : Told = record { server = server; mode = mode_of asked; said = heard } in
-        by (record suite { collector = tell one suite.collector }) (ready_told ended.edits number left suite one (each number suite there)) (next (tell one suite.collector)) refl
+        by (record suite { collector = tell one suite.collector }) (ready_told granted.changes number left suite one (each number suite there)) (next (tell one suite.collector)) refl
 
 -- ---- one word
 
@@ -541,13 +500,13 @@ ready_fetched fixed task cache suites number (Some suite) server (Some content) 
 ready_lack : (task : Task) (cache : Cache) (suites : Suites) (phase : Phase) (server : ℕ) (lacked : Lack) → LeftReady (after_lack task cache suites phase server lacked).after
 ready_lack task cache suites (Gathering number) server lacked = ready_give_up task cache suites (lack_cause server lacked)
 ready_lack task cache suites (Fetching number) server lacked = ready_give_up task cache suites (lack_cause server lacked)
-ready_lack task cache suites (Widening left ended) server lacked = ready_give_up task cache suites (lack_cause server lacked)
+ready_lack task cache suites (Widening left granted) server lacked = ready_give_up task cache suites (lack_cause server lacked)
 ready_lack task cache suites (Preparing left outcome) server lacked = ready_give_up task cache suites (lack_cause server lacked)
 ready_lack task cache suites (Deciding outcome) server lacked = ready_give_up task cache suites (lack_cause server lacked)
 ready_lack task cache suites (Finishing [] v ending) server lacked = tt
 ready_lack task cache suites (Finishing (now ∷ left) v ending) server lacked = ready_end task cache suites v ending left
 
-ready_prepared : (task : Task) (cache : Cache) (suites : Suites) (outcome : Outcome) (server : ℕ) (left : List ℕ) (said : Reply) → Each (Ready (edits_of outcome) []) suites → LeftReady (prepared task cache suites outcome server left said).after
+ready_prepared : (task : Task) (cache : Cache) (suites : Suites) (outcome : Outcome) (server : ℕ) (left : List ℕ) (said : Reply) → Each (Ready (changes_of outcome) []) suites → LeftReady (prepared task cache suites outcome server left said).after
 ready_prepared task cache suites outcome server left said each =
     elim (is_prepared said) as (λ b. LeftReady (cond b (prepare task cache suites outcome left) (give_up task cache suites (Lost server))).after) [
       | true ↦ ready_prepare task cache suites outcome left each
@@ -559,8 +518,8 @@ ready_word : (fixed : Fixed) (task : Task) (cache : Cache) (suites : Suites) (ph
 ready_word fixed task cache suites phase server asked (Lacked lacked) ready = ready_lack task cache suites phase server lacked
 ready_word fixed task cache suites (Gathering number) server asked (Replied said) ready = ready_heard fixed task cache suites number (suite_of suites number) server asked said refl ready
 ready_word fixed task cache suites (Fetching number) server asked (Replied said) ready = ready_fetched fixed task cache suites number (suite_of suites number) server (given_in said) refl ready
-ready_word fixed task cache suites (Widening [] ended) server asked (Replied said) ready = ready_give_up task cache suites (Lost server)
-ready_word fixed task cache suites (Widening (number ∷ left) ended) server asked (Replied said) ready = ready_widened task cache suites number left ended (suite_of suites number) server asked said refl ready
+ready_word fixed task cache suites (Widening [] granted) server asked (Replied said) ready = ready_give_up task cache suites (Lost server)
+ready_word fixed task cache suites (Widening (number ∷ left) granted) server asked (Replied said) ready = ready_widened task cache suites number left granted (suite_of suites number) server asked said refl ready
 ready_word fixed task cache suites (Preparing [] outcome) server asked (Replied said) ready = ready_give_up task cache suites (Lost server)
 ready_word fixed task cache suites (Preparing (now ∷ left) outcome) server asked (Replied said) ready = ready_prepared task cache suites outcome server left said ready
 ready_word fixed task cache suites (Deciding outcome) server asked (Replied said) ready =
@@ -615,45 +574,14 @@ begin_ready fixed agent job idle =
 
 -- ---- the law
 
--- where no votes are set they stay
-unset_votes : (edit : Edit) (row : Option Row) (prefix : Prefix) → sets_votes edit ≡ false → course.votes_in (changed edit row) prefix ≡ course.votes_in row prefix
-unset_votes (SetAcl acl) (Some row) prefix is = refl
-unset_votes (SetAcl acl) None prefix is = refl
-unset_votes (SetContent content) (Some row) prefix is = refl
-unset_votes (SetContent content) None prefix is = refl
-unset_votes (SetVotes votes) row prefix is = cc
-unset_votes (Make made) row prefix is = cc
-
-seen_votes : (edits : Edits) (number : ℕ) (row : Option Row) (prefix : Prefix) → sets sets_votes edits number ≡ false → course.votes_in (seen edits number row) prefix ≡ course.votes_in row prefix
-seen_votes [] number row prefix none = refl
-seen_votes (e ∷ edits) number row prefix none = of (seen_votes edits number row prefix) (e.0 == number) none
-  where
-    left : (a b : Bool) → (a || b) ≡ false → a ≡ false
-    left false b is = refl
-    left true b is = cc
-
-    right : (a b : Bool) → (a || b) ≡ false → b ≡ false
-    right false b is = is
-    right true b is = cc
-
-    of : (sets sets_votes edits number ≡ false → course.votes_in (seen edits number row) prefix ≡ course.votes_in row prefix) → (b : Bool) → ((b && sets_votes e.1) || sets sets_votes edits number) ≡ false
-        → course.votes_in (cond b (changed e.1 (seen edits number row)) (seen edits number row)) prefix ≡ course.votes_in row prefix
-    of again true none = unset_votes e.1 (seen edits number row) prefix (left (sets_votes e.1) (sets sets_votes edits number) none) ∙ again (right (sets_votes e.1) (sets sets_votes edits number) none)
-    of again false none = again none
-
-row_votes : (kind : PrefixKind) (prefix : Prefix) (content : Option Content) → course.votes_in (row_with kind prefix content) prefix ≡ prefix.votes
-row_votes kind.Absent prefix content = refl
-row_votes kind.File prefix content = refl
-row_votes kind.Folder prefix content = refl
-
-is_ready : (edits : Edits) (number : ℕ) (suite : Suite) → Ready edits [] number suite → IsReady suite number edits
-is_ready edits number suite ready = record {
+is_ready : (changes : Changes) (number : ℕ) (suite : Suite) → Ready changes [] number suite → IsReady suite number changes
+is_ready changes number suite ready = record {
   first = sound.first;
   was = sound.was;
   not_older = since_least sound.first.prefix (newest_of suite) sound.since;
   quorum = sound.quorum;
   before = before;
-  after = λ changed' fine. of (sets sets_votes edits number) refl changed' fine;
+  after = λ changed' fine. of (sets_votes changes number) refl changed' fine;
 }
   where
     sound : Sound suite
@@ -662,14 +590,17 @@ is_ready edits number suite ready = record {
     quorum_is : (votes : Configuration) → Enough Exclusive votes (all_told suite.collector) → is_write_quorum votes (λ server. holds Exclusive (all_told suite.collector) server) ≡ true
     quorum_is votes enough = grind (arith, nat_tests)
 
-    before : is_changed edits number ≡ true → is_write_quorum (newest_of suite).votes (λ server. holds Exclusive (all_told suite.collector) server) ≡ true
+    before : is_changed changes number ≡ true → is_write_quorum (newest_of suite).votes (λ server. holds Exclusive (all_told suite.collector) server) ≡ true
     before changed' = quorum_is (newest_of suite).votes (subst (λ (mode : LockMode). Enough mode (newest_of suite).votes (all_told suite.collector)) (ready.1 changed') sound.quorum)
 
-    kept : sets sets_votes edits number ≡ false → votes_after edits number suite suite.first ≡ sound.first.prefix.votes
-    kept none =
-        ap (votes_after edits number suite) sound.was
-        ∙ seen_votes edits number (row_with sound.first.prefix.kind sound.first.prefix suite.content) sound.first.prefix none
-        ∙ row_votes sound.first.prefix.kind sound.first.prefix suite.content
+    kept : sets_votes changes number ≡ false → votes_after changes number suite ≡ sound.first.prefix.votes
+    kept none = by (change_of changes number) refl
+      where
+        by : (change : Option Change) → change_of changes number ≡ change → votes_after changes number suite ≡ sound.first.prefix.votes
+        by (Some change) is =
+            ap (λ change. votes_then change suite.first suite.collector.start.votes) is ∙ ready.3 change sound.first is sound.was (sym (ap gets_votes is) ∙ none)
+        by None is =
+            ap (λ change. votes_then change suite.first suite.collector.start.votes) is ∙ ap (λ first. votes_then None first suite.collector.start.votes) sound.was
 
     same_prefix : ((newest_of suite).pver == sound.first.prefix.pver) ≡ true → newest_of suite ≡ sound.first.prefix
     same_prefix same = elim sound.since [
@@ -677,17 +608,17 @@ is_ready edits number suite ready = record {
       | inr less ↦ let at = eqb-true (newest_of suite).pver sound.first.prefix.pver same in absurd (omega (arith, less, at))
     ]
 
-    of : (b : Bool) → sets sets_votes edits number ≡ b → is_changed edits number ≡ true → (b || ((newest_of suite).pver == sound.first.prefix.pver)) ≡ true
-        → is_write_quorum (votes_after edits number suite suite.first) (λ server. holds Exclusive (all_told suite.collector) server) ≡ true
-    of true sets' changed' fine = quorum_is (votes_after edits number suite suite.first) (ready.2 refl sets')
+    of : (b : Bool) → sets_votes changes number ≡ b → is_changed changes number ≡ true → (b || ((newest_of suite).pver == sound.first.prefix.pver)) ≡ true
+        → is_write_quorum (votes_after changes number suite) (λ server. holds Exclusive (all_told suite.collector) server) ≡ true
+    of true sets' changed' fine = quorum_is (votes_after changes number suite) (ready.2 refl sets')
     of false none changed' same =
         subst (λ (votes : Configuration). is_write_quorum votes (λ server. holds Exclusive (all_told suite.collector) server) ≡ true)
         (ap (λ (prefix : Prefix). prefix.votes) (same_prefix same) ∙ sym (kept none)) (before changed')
 
-ready_in : (suites : Suites) (phase : Phase) (outcome : Outcome) → phase ≡ Deciding outcome → PhaseReady suites phase → Each (Ready (edits_of outcome) []) suites
+ready_in : (suites : Suites) (phase : Phase) (outcome : Outcome) → phase ≡ Deciding outcome → PhaseReady suites phase → Each (Ready (changes_of outcome) []) suites
 ready_in suites phase outcome is ready = subst (PhaseReady suites) is ready
 
 pub decides_on_quorums : DecidesOnQuorums
 decides_on_quorums fixed agent job events course' outcome number suite idle is deciding there =
-    is_ready (edits_of outcome) number suite
+    is_ready (changes_of outcome) number suite
     (ready_in course'.suites course'.phase outcome deciding (subst DoingReady is (all_ready fixed (begin fixed agent job) events (begin_ready fixed agent job idle))) number suite there)

@@ -21,8 +21,8 @@ use Rattle.txn_core.specs.Agents.{Agent, Event, Take, Forget, next_in, next_of, 
 use Rattle.txn_core.specs.Sweeps as sweep
 use Rattle.rep_core.specs.Fits.{is_prepared}
 use Rattle.file_exec.specs.declared.need.Need.TheVariants.{Hold, Know}
-use Rattle.file_exec.specs.Following.{Ended}
-use Rattle.file_exec.specs.Known.{Heard, Needs, Done}
+use Rattle.file_exec.specs.declared.executor.Outcome.{Outcome as Executed}
+use Rattle.file_exec.specs.declared.executor.Outcome.TheVariants as exec
 use Rattle.suite_collect.specs.declared.told.Said.{Said}
 use Rattle.suite_collect.specs.Telling.{holds}
 use Rattle.suite_collect.specs.Collecting.{tell, mode_of, Next, Ask, Current, Short, next}
@@ -36,8 +36,8 @@ use Rattle.txn_core.specs.declared.word.Word.TheVariants.{Replied, Lacked}
 use Rattle.txn_core.specs.declared.ending.Cause.TheVariants.{Lost}
 use Rattle.txn_core.specs.declared.ending.Ending.TheVariants.{Undecided}
 use Rattle.txn_core.specs.declared.job.Job.TheVariants.{Transaction, Sweep}
-use Rattle.txn_core.specs.Doing.{Fixed, Task, Outcome, Phase, Gathering, Fetching, Widening, Preparing, Deciding, Finishing, Course, Sweeping, Listing, Resolving, Telling, Breaking, Round, Doing, Running, Rounding, After, GoesOn, Ends}
-use Rattle.txn_core.specs.Transactions.{Step, Gathered, tell_end, give_up, prepare, locked_at, short_cause, gather_by, widen_by, widen_one, widened, widen_all, opened, heard_on, raised_or_new, keep_content, heard_of, said_to, proceed, execute, collected, hear, fetched, after_lack, after_word, request_in, edits_of, given_in, verdict_in, ending_by, cause_of_abort, lack_cause}
+use Rattle.txn_core.specs.Doing.{Granted, Fixed, Task, Outcome, Phase, Gathering, Fetching, Widening, Preparing, Deciding, Finishing, Course, Sweeping, Listing, Resolving, Telling, Breaking, Round, Doing, Running, Rounding, After, GoesOn, Ends}
+use Rattle.txn_core.specs.Transactions.{Step, Gathered, tell_end, give_up, prepare, locked_at, short_cause, gather_by, widen_by, widen_one, widened, widen_all, opened, heard_on, raised_or_new, keep_content, heard_of, said_to, proceed, execute, collected, hear, fetched, after_lack, after_word, request_in, changes_of, given_in, verdict_in, ending_by, cause_of_abort, lack_cause}
 use Rattle.txn_core.specs.Writing.{parts_at}
 use Rattle.txn_core.proofs.Mild.{asks_same, suite_asks, fetch_asks}
 use Rattle.rep_core.specs.declared.request.Decision.{Decision}
@@ -113,28 +113,28 @@ ready_gather done task cache suites number (Short got needed busy) = ready_give_
 ready_gather done task cache suites number (Ask server asked) = tt
 ready_gather done task cache suites number (Current prefix dver members) = tt
 
-ready_widen_by : (done : ℕ → Bool) (task : Task) (cache : Cache) (suites : Suites) (left : List ℕ) (ended : Ended (List Answer)) (number : ℕ) (next : Next) (go_on : Suites → Step) → ((suites : Suites) → LeftReady done (go_on suites).after)
-    → LeftReady done (widen_by task cache suites (Widening left ended) number next go_on).after
-ready_widen_by done task cache suites left ended number (Current prefix dver members) go_on more = more suites
-ready_widen_by done task cache suites left ended number (Ask server asked) go_on more = tt
-ready_widen_by done task cache suites left ended number (Short got needed busy) go_on more = ready_give_up done task cache suites (short_cause number got needed busy)
+ready_widen_by : (done : ℕ → Bool) (task : Task) (cache : Cache) (suites : Suites) (left : List ℕ) (granted : Granted) (number : ℕ) (next : Next) (go_on : Suites → Step) → ((suites : Suites) → LeftReady done (go_on suites).after)
+    → LeftReady done (widen_by task cache suites (Widening left granted) number next go_on).after
+ready_widen_by done task cache suites left granted number (Current prefix dver members) go_on more = more suites
+ready_widen_by done task cache suites left granted number (Ask server asked) go_on more = tt
+ready_widen_by done task cache suites left granted number (Short got needed busy) go_on more = ready_give_up done task cache suites (short_cause number got needed busy)
 
-ready_widen_one : (done : ℕ → Bool) (task : Task) (cache : Cache) (suites : Suites) (left : List ℕ) (ended : Ended (List Answer)) (number : ℕ) (found : Option Suite) (go_on : Suites → Step) → ((suites : Suites) → LeftReady done (go_on suites).after)
-    → LeftReady done (widen_one task cache suites (Widening left ended) ended.edits number found go_on).after
-ready_widen_one done task cache suites left ended number (Some suite) go_on more =
-    ready_widen_by done task cache (with_suite number (widened ended.edits number suite) suites) left ended number (next (widened ended.edits number suite).collector) go_on more
-ready_widen_one done task cache suites left ended number None go_on more = more suites
+ready_widen_one : (done : ℕ → Bool) (task : Task) (cache : Cache) (suites : Suites) (left : List ℕ) (granted : Granted) (number : ℕ) (found : Option Suite) (go_on : Suites → Step) → ((suites : Suites) → LeftReady done (go_on suites).after)
+    → LeftReady done (widen_one task cache suites (Widening left granted) granted.changes number found go_on).after
+ready_widen_one done task cache suites left granted number (Some suite) go_on more =
+    ready_widen_by done task cache (with_suite number (widened granted.changes number suite) suites) left granted number (next (widened granted.changes number suite).collector) go_on more
+ready_widen_one done task cache suites left granted number None go_on more = more suites
 
-ready_widen : (done : ℕ → Bool) (task : Task) (cache : Cache) (suites : Suites) (ended : Ended (List Answer)) (left : List ℕ) → LeftReady done (widen_all task cache suites ended left).after
-ready_widen done task cache suites ended [] = ready_all done task cache suites (Ok ended)
-ready_widen done task cache suites ended (number ∷ left) = ready_widen_one done task cache suites (number ∷ left) ended number (suite_of suites number) _ (λ suites. ready_widen done task cache suites ended left)
+ready_widen : (done : ℕ → Bool) (task : Task) (cache : Cache) (suites : Suites) (granted : Granted) (left : List ℕ) → LeftReady done (widen_all task cache suites granted left).after
+ready_widen done task cache suites granted [] = ready_all done task cache suites (Ok granted)
+ready_widen done task cache suites granted (number ∷ left) = ready_widen_one done task cache suites (number ∷ left) granted number (suite_of suites number) _ (λ suites. ready_widen done task cache suites granted left)
 
-ready_proceed : (done : ℕ → Bool) (fixed : Fixed) (task : Task) (cache : Cache) (suites : Suites) (heard : Heard (List Answer) Refusal) → LeftReady done (proceed fixed task cache suites heard).after
-ready_proceed done fixed task cache suites (Needs (Hold number mode)) =
+ready_proceed : (done : ℕ → Bool) (fixed : Fixed) (task : Task) (cache : Cache) (suites : Suites) (heard : Executed) → LeftReady done (proceed fixed task cache suites heard).after
+ready_proceed done fixed task cache suites (exec.Need (Hold number mode)) =
     let suite = raised_or_new fixed task cache number mode (suite_of suites number) in ready_gather done task cache (with_suite number suite suites) number (next suite.collector)
-ready_proceed done fixed task cache suites (Needs (Know number)) = tt
-ready_proceed done fixed task cache suites (Done (Ok ended)) = ready_widen done task cache suites ended _
-ready_proceed done fixed task cache suites (Done (Err refusal)) = ready_all done task cache suites (Err refusal)
+ready_proceed done fixed task cache suites (exec.Need (Know number)) = tt
+ready_proceed done fixed task cache suites (exec.Done answers changes) = ready_widen done task cache suites (record { answers = answers; changes = changes }) _
+ready_proceed done fixed task cache suites (exec.Refused refusal) = ready_all done task cache suites (Err refusal)
 
 ready_execute : (done : ℕ → Bool) (fixed : Fixed) (task : Task) (all : Gathered) → LeftReady done (execute fixed task all).after
 ready_execute done fixed task all = let open' = opened (length all.suites) fixed task all in ready_proceed done fixed task open'.cache open'.suites (heard_on fixed task open'.suites)
@@ -142,12 +142,12 @@ ready_execute done fixed task all = let open' = opened (length all.suites) fixed
 -- a phase that needs nothing prepared
 abbrev IsEarly : Phase → Type 0
 IsEarly (Gathering number) = Unit {0}
-IsEarly (Widening left ended) = Unit {0}
+IsEarly (Widening left granted) = Unit {0}
 IsEarly _ = ⊥
 
 early : (done : ℕ → Bool) (suites : Suites) (phase : Phase) → IsEarly phase → PhaseReady done suites phase
 early done suites (Gathering number) is = tt
-early done suites (Widening left ended) is = tt
+early done suites (Widening left granted) is = tt
 early done suites (Fetching number) is = tt
 early done suites (Preparing left outcome) is = absurd is
 early done suites (Deciding outcome) is = absurd is
@@ -183,7 +183,7 @@ ready_fetched done fixed task cache suites number (Some suite) server (Some cont
 ready_lack : (done : ℕ → Bool) (task : Task) (cache : Cache) (suites : Suites) (phase : Phase) (server : ℕ) (lacked : Lack) → LeftReady done (after_lack task cache suites phase server lacked).after
 ready_lack done task cache suites (Gathering number) server lacked = ready_give_up done task cache suites (lack_cause server lacked)
 ready_lack done task cache suites (Fetching number) server lacked = ready_give_up done task cache suites (lack_cause server lacked)
-ready_lack done task cache suites (Widening left ended) server lacked = ready_give_up done task cache suites (lack_cause server lacked)
+ready_lack done task cache suites (Widening left granted) server lacked = ready_give_up done task cache suites (lack_cause server lacked)
 ready_lack done task cache suites (Preparing left outcome) server lacked = ready_give_up done task cache suites (lack_cause server lacked)
 ready_lack done task cache suites (Deciding outcome) server lacked = ready_give_up done task cache suites (lack_cause server lacked)
 ready_lack done task cache suites (Finishing [] v ending) server lacked = tt
@@ -203,9 +203,9 @@ ready_word done fixed task cache suites phase server asked (Lacked lacked) ready
 ready_word done fixed task cache suites (Gathering number) server asked (Replied said) ready is =
     ready_heard _ task cache suites (Gathering number) number (suite_of suites number) server asked said _ tt (λ suites. ready_execute _ fixed task (record { suites = suites; cache = cache }))
 ready_word done fixed task cache suites (Fetching number) server asked (Replied said) ready is = ready_fetched _ fixed task cache suites number (suite_of suites number) server (given_in said)
-ready_word done fixed task cache suites (Widening [] ended) server asked (Replied said) ready is = cc
-ready_word done fixed task cache suites (Widening (number ∷ left) ended) server asked (Replied said) ready is =
-    ready_heard _ task cache suites (Widening (number ∷ left) ended) number (suite_of suites number) server asked said _ tt (λ suites. ready_widen _ task cache suites ended left)
+ready_word done fixed task cache suites (Widening [] granted) server asked (Replied said) ready is = cc
+ready_word done fixed task cache suites (Widening (number ∷ left) granted) server asked (Replied said) ready is =
+    ready_heard _ task cache suites (Widening (number ∷ left) granted) number (suite_of suites number) server asked said _ tt (λ suites. ready_widen _ task cache suites granted left)
 ready_word done fixed task cache suites (Preparing [] outcome) server asked (Replied said) ready is = cc
 ready_word done fixed task cache suites (Preparing (now ∷ left) outcome) server asked (Replied said) ready is =
     elim (is_prepared said) as (λ b. is_prepared said ≡ b → LeftReady (plus done server asked (Replied said)) (cond b (prepare task cache suites outcome left) (give_up task cache suites (Lost server))).after) [
@@ -216,10 +216,10 @@ ready_word done fixed task cache suites (Preparing (now ∷ left) outcome) serve
     ] refl
   where
     at : now ≡ server
-    at = ap (λ (pair : ℕ × Request). pair.0) (same_Some (now, request.Prepare task.t (parts_at suites (edits_of outcome) now)) (server, asked) is)
+    at = ap (λ (pair : ℕ × Request). pair.0) (same_Some (now, request.Prepare task.t (parts_at suites (changes_of outcome) now)) (server, asked) is)
 
-    what : request.Prepare task.t (parts_at suites (edits_of outcome) now) ≡ asked
-    what = asks_same now server (request.Prepare task.t (parts_at suites (edits_of outcome) now)) asked is
+    what : request.Prepare task.t (parts_at suites (changes_of outcome) now) ≡ asked
+    what = asks_same now server (request.Prepare task.t (parts_at suites (changes_of outcome) now)) asked is
 
     joined : (a b c d : Bool) → ((a || b) || c) ≡ true → (a ≡ true → d ≡ true) → (b || (c || d)) ≡ true
     joined true true c d ready is = refl
@@ -256,7 +256,7 @@ phase_same done other suites (Preparing left outcome) same ready = λ who few ha
 phase_same done other suites (Deciding outcome) same ready = λ who few has. sym (same who) ∙ ready who few has
 phase_same done other suites (Gathering number) same ready = tt
 phase_same done other suites (Fetching number) same ready = tt
-phase_same done other suites (Widening left ended) same ready = tt
+phase_same done other suites (Widening left granted) same ready = tt
 phase_same done other suites (Finishing servers v ending) same ready = tt
 
 same_ready : (done other : ℕ → Bool) (doing : Option Doing) → ((who : ℕ) → done who ≡ other who) → DoingReady done doing → DoingReady other doing
@@ -343,10 +343,10 @@ decide_ready held done fixed (Some (Running course)) home t number server decisi
     of : (phase : Phase) → PhaseReady done course.suites phase → request_in fixed course.task course.suites phase ≡ Some (home, request.Decide t decision) → done server ≡ true
     of (Gathering who) ready is = absurd (false≢true (sym (suite_asks course.task who (suite_of course.suites who) home (request.Decide t decision) is)))
     of (Fetching who) ready is = absurd (false≢true (sym (fetch_asks course.task who (suite_of course.suites who) home (request.Decide t decision) is)))
-    of (Widening [] ended) ready is = cc
-    of (Widening (who ∷ left) ended) ready is = absurd (false≢true (sym (suite_asks course.task who (suite_of course.suites who) home (request.Decide t decision) is)))
+    of (Widening [] granted) ready is = cc
+    of (Widening (who ∷ left) granted) ready is = absurd (false≢true (sym (suite_asks course.task who (suite_of course.suites who) home (request.Decide t decision) is)))
     of (Preparing [] outcome) ready is = cc
-    of (Preparing (now ∷ left) outcome) ready is = by_false (request.Prepare course.task.t (parts_at course.suites (edits_of outcome) now)) refl now is
+    of (Preparing (now ∷ left) outcome) ready is = by_false (request.Prepare course.task.t (parts_at course.suites (changes_of outcome) now)) refl now is
     of (Deciding outcome) ready is = ready server few (has_one course.suites number server (keeps.1 number server ∙ has))
     of (Finishing [] v ending) ready is = cc
     of (Finishing (now ∷ left) v ending) ready is = by_false (request.Finish course.task.t v) refl now is

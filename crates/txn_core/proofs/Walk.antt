@@ -7,8 +7,8 @@ use Rattle.file_ops.specs.declared.refusal.Refusal.{Refusal}
 use Rattle.rep_core.specs.declared.request.Request.{Request}
 use Rattle.rep_core.specs.declared.reply.Reply.{Reply}
 use Rattle.file_exec.specs.declared.need.Need.TheVariants.{Hold, Know}
-use Rattle.file_exec.specs.Following.{Ended}
-use Rattle.file_exec.specs.Known.{Heard, Needs, Done}
+use Rattle.file_exec.specs.declared.executor.Outcome.{Outcome as Executed}
+use Rattle.file_exec.specs.declared.executor.Outcome.TheVariants as exec
 use Rattle.suite_collect.specs.declared.told.Said.{Said}
 use Rattle.suite_collect.specs.Collecting.{tell, mode_of, Next, Ask, Current, Short, next}
 use Rattle.weak_cache.specs.Entries.{Cache}
@@ -17,14 +17,14 @@ use Rattle.txn_core.specs.declared.word.Word.{Word}
 use Rattle.txn_core.specs.declared.ending.Cause.{Cause}
 use Rattle.txn_core.specs.declared.word.Word.TheVariants.{Replied, Lacked}
 use Rattle.txn_core.specs.declared.ending.Cause.TheVariants.{Lost}
-use Rattle.txn_core.specs.Doing.{Fixed, Task, Outcome, Phase, Gathering, Fetching, Widening, Preparing, Deciding, Finishing, Course, After, GoesOn}
+use Rattle.txn_core.specs.Doing.{Granted, Fixed, Task, Outcome, Phase, Gathering, Fetching, Widening, Preparing, Deciding, Finishing, Course, After, GoesOn}
 use Rattle.txn_core.specs.Transactions.{Step, Gathered, give_up, prepare, locked_at, short_cause, gather_by, widen_by, widen_one, widened, widen_all, opened, heard_on, raised_or_new, keep_content, heard_of, said_to, proceed, execute, collected, hear, fetched, after_word, given_in, lack_cause}
 
 -- a phase in which locks and contents are gathered
 abbrev pub IsEarly : Phase → Type 0
 IsEarly (Gathering number) = Unit {0}
 IsEarly (Fetching number) = Unit {0}
-IsEarly (Widening left ended) = Unit {0}
+IsEarly (Widening left granted) = Unit {0}
 IsEarly _ = ⊥
 
 -- what holds of every early phase, wherever it is given up, and where the servers begin to prepare, holds after every step of an early phase
@@ -37,28 +37,28 @@ module _ (Left : After Course → Type 0)
   goes_gather task cache suites number (Ask server asked) = early task suites (Gathering number) tt
   goes_gather task cache suites number (Current prefix dver members) = early task suites (Gathering number) tt
 
-  goes_widen_by : (task : Task) (cache : Cache) (suites : Suites) (left : List ℕ) (ended : Ended (List Answer)) (number : ℕ) (next : Next) (go_on : Suites → Step) → ((suites : Suites) → Left (go_on suites).after)
-      → Left (widen_by task cache suites (Widening left ended) number next go_on).after
-  goes_widen_by task cache suites left ended number (Current prefix dver members) go_on more = more suites
-  goes_widen_by task cache suites left ended number (Ask server asked) go_on more = early task suites (Widening left ended) tt
-  goes_widen_by task cache suites left ended number (Short got needed busy) go_on more = given_up task cache suites (short_cause number got needed busy)
+  goes_widen_by : (task : Task) (cache : Cache) (suites : Suites) (left : List ℕ) (granted : Granted) (number : ℕ) (next : Next) (go_on : Suites → Step) → ((suites : Suites) → Left (go_on suites).after)
+      → Left (widen_by task cache suites (Widening left granted) number next go_on).after
+  goes_widen_by task cache suites left granted number (Current prefix dver members) go_on more = more suites
+  goes_widen_by task cache suites left granted number (Ask server asked) go_on more = early task suites (Widening left granted) tt
+  goes_widen_by task cache suites left granted number (Short got needed busy) go_on more = given_up task cache suites (short_cause number got needed busy)
 
-  goes_widen_one : (task : Task) (cache : Cache) (suites : Suites) (left : List ℕ) (ended : Ended (List Answer)) (number : ℕ) (found : Option Suite) (go_on : Suites → Step) → ((suites : Suites) → Left (go_on suites).after)
-      → Left (widen_one task cache suites (Widening left ended) ended.edits number found go_on).after
-  goes_widen_one task cache suites left ended number (Some suite) go_on more =
-      goes_widen_by task cache (with_suite number (widened ended.edits number suite) suites) left ended number (next (widened ended.edits number suite).collector) go_on more
-  goes_widen_one task cache suites left ended number None go_on more = more suites
+  goes_widen_one : (task : Task) (cache : Cache) (suites : Suites) (left : List ℕ) (granted : Granted) (number : ℕ) (found : Option Suite) (go_on : Suites → Step) → ((suites : Suites) → Left (go_on suites).after)
+      → Left (widen_one task cache suites (Widening left granted) granted.changes number found go_on).after
+  goes_widen_one task cache suites left granted number (Some suite) go_on more =
+      goes_widen_by task cache (with_suite number (widened granted.changes number suite) suites) left granted number (next (widened granted.changes number suite).collector) go_on more
+  goes_widen_one task cache suites left granted number None go_on more = more suites
 
-  pub goes_widen : (task : Task) (cache : Cache) (suites : Suites) (ended : Ended (List Answer)) (left : List ℕ) → Left (widen_all task cache suites ended left).after
-  goes_widen task cache suites ended [] = prepares task cache suites (Ok ended)
-  goes_widen task cache suites ended (number ∷ left) = goes_widen_one task cache suites (number ∷ left) ended number (suite_of suites number) _ (λ suites. goes_widen task cache suites ended left)
+  pub goes_widen : (task : Task) (cache : Cache) (suites : Suites) (granted : Granted) (left : List ℕ) → Left (widen_all task cache suites granted left).after
+  goes_widen task cache suites granted [] = prepares task cache suites (Ok granted)
+  goes_widen task cache suites granted (number ∷ left) = goes_widen_one task cache suites (number ∷ left) granted number (suite_of suites number) _ (λ suites. goes_widen task cache suites granted left)
 
-  goes_proceed : (fixed : Fixed) (task : Task) (cache : Cache) (suites : Suites) (heard : Heard (List Answer) Refusal) → Left (proceed fixed task cache suites heard).after
-  goes_proceed fixed task cache suites (Needs (Hold number mode)) =
+  goes_proceed : (fixed : Fixed) (task : Task) (cache : Cache) (suites : Suites) (heard : Executed) → Left (proceed fixed task cache suites heard).after
+  goes_proceed fixed task cache suites (exec.Need (Hold number mode)) =
       let suite = raised_or_new fixed task cache number mode (suite_of suites number) in goes_gather task cache (with_suite number suite suites) number (next suite.collector)
-  goes_proceed fixed task cache suites (Needs (Know number)) = early task suites (Fetching number) tt
-  goes_proceed fixed task cache suites (Done (Ok ended)) = goes_widen task cache suites ended _
-  goes_proceed fixed task cache suites (Done (Err refusal)) = prepares task cache suites (Err refusal)
+  goes_proceed fixed task cache suites (exec.Need (Know number)) = early task suites (Fetching number) tt
+  goes_proceed fixed task cache suites (exec.Done answers changes) = goes_widen task cache suites (record { answers = answers; changes = changes }) _
+  goes_proceed fixed task cache suites (exec.Refused refusal) = prepares task cache suites (Err refusal)
 
   pub goes_execute : (fixed : Fixed) (task : Task) (all : Gathered) → Left (execute fixed task all).after
   goes_execute fixed task all = let open' = opened (length all.suites) fixed task all in goes_proceed fixed task open'.cache open'.suites (heard_on fixed task open'.suites)
@@ -95,13 +95,13 @@ module _ (Left : After Course → Type 0)
       → Left (after_word fixed (record { task = task; suites = suites; phase = phase }) cache server asked word).after
   goes_word fixed task cache suites (Gathering number) server asked (Lacked lacked) is = given_up task cache suites (lack_cause server lacked)
   goes_word fixed task cache suites (Fetching number) server asked (Lacked lacked) is = given_up task cache suites (lack_cause server lacked)
-  goes_word fixed task cache suites (Widening left ended) server asked (Lacked lacked) is = given_up task cache suites (lack_cause server lacked)
+  goes_word fixed task cache suites (Widening left granted) server asked (Lacked lacked) is = given_up task cache suites (lack_cause server lacked)
   goes_word fixed task cache suites (Preparing left outcome) server asked word is = absurd is
   goes_word fixed task cache suites (Deciding outcome) server asked word is = absurd is
   goes_word fixed task cache suites (Finishing servers v ending) server asked word is = absurd is
   goes_word fixed task cache suites (Gathering number) server asked (Replied said) is =
       goes_heard task cache suites (Gathering number) number (suite_of suites number) server asked said _ tt (λ suites. goes_execute fixed task (record { suites = suites; cache = cache }))
   goes_word fixed task cache suites (Fetching number) server asked (Replied said) is = goes_fetched fixed task cache suites number (suite_of suites number) server (given_in said)
-  goes_word fixed task cache suites (Widening [] ended) server asked (Replied said) is = given_up task cache suites (Lost server)
-  goes_word fixed task cache suites (Widening (number ∷ left) ended) server asked (Replied said) is =
-      goes_heard task cache suites (Widening (number ∷ left) ended) number (suite_of suites number) server asked said _ tt (λ suites. goes_widen task cache suites ended left)
+  goes_word fixed task cache suites (Widening [] granted) server asked (Replied said) is = given_up task cache suites (Lost server)
+  goes_word fixed task cache suites (Widening (number ∷ left) granted) server asked (Replied said) is =
+      goes_heard task cache suites (Widening (number ∷ left) granted) number (suite_of suites number) server asked said _ tt (λ suites. goes_widen task cache suites granted left)

@@ -4,7 +4,6 @@ use Rattle.std.proofs.lemmas.Bool.{false≢true}
 use Rattle.std.proofs.lemmas.Option.{same_Some}
 use Rattle.suite_collect.proofs.Finding.{Has, has_from}
 use Rattle.suite_collect.specs.Collecting.{Poll, Upgrade, Next, Ask, Current, Short, next}
-use Rattle.file_exec.specs.Following.{Edits}
 use Rattle.rep_core.specs.Fits.{is_prepared}
 use Rattle.rep_core.specs.declared.request.Part.{Part}
 use Rattle.rep_core.specs.declared.request.Request.{Request}
@@ -19,8 +18,8 @@ use Rattle.txn_core.specs.declared.ending.Ending.{Ending}
 use Rattle.txn_core.specs.declared.word.Word.TheVariants.{Replied, Lacked}
 use Rattle.txn_core.specs.declared.ending.Cause.TheVariants.{Lost}
 use Rattle.txn_core.specs.declared.ending.Ending.TheVariants.{Undecided}
-use Rattle.txn_core.specs.Doing.{home_of, Fixed, Task, Outcome, Phase, Gathering, Fetching, Widening, Preparing, Deciding, Finishing, Sweeping, Listing, Resolving, Telling, Breaking, Round, Doing, Running, Rounding, After, GoesOn, Ends}
-use Rattle.txn_core.specs.Transactions.{tell_end, give_up, prepare, locked_at, after_word, asked_by, asked_for, fetched_at, fetched_for, request_in, edits_of, decision_of, verdict_in, ending_by, cause_of_abort, lack_cause}
+use Rattle.txn_core.specs.Doing.{Changes, home_of, Fixed, Task, Outcome, Phase, Gathering, Fetching, Widening, Preparing, Deciding, Finishing, Sweeping, Listing, Resolving, Telling, Breaking, Round, Doing, Running, Rounding, After, GoesOn, Ends}
+use Rattle.txn_core.specs.Transactions.{tell_end, give_up, prepare, locked_at, after_word, asked_by, asked_for, fetched_at, fetched_for, request_in, changes_of, decision_of, verdict_in, ending_by, cause_of_abort, lack_cause}
 use Rattle.txn_core.specs.Sweeps as sweep
 use Rattle.txn_core.specs.Agents as agents
 use Rattle.txn_core.specs.Agents.{Agent, Event, Take, Forget, next_in, next_of, take_in, take, begin, forget}
@@ -29,26 +28,26 @@ use Rattle.txn_core.proofs.Mild.{asks_same}
 
 -- ---- what later Prepares are of
 
--- a request that, if it is a Prepare, is of these suites and edits
-abbrev IsFrom : Suites → Edits → ℕ → Request → Type 0
-IsFrom suites edits server asked = (t : ℕ) (parts : List Part) → asked ≡ request.Prepare t parts → parts ≡ parts_at suites edits server
+-- a request that, if it is a Prepare, is of these suites and changes
+abbrev IsFrom : Suites → Changes → ℕ → Request → Type 0
+IsFrom suites changes server asked = (t : ℕ) (parts : List Part) → asked ≡ request.Prepare t parts → parts ≡ parts_at suites changes server
 
-abbrev Writes : Suites → Edits → List Exchange → Type 0
-Writes suites edits [] = Unit {0}
-Writes suites edits (one ∷ later) = IsFrom suites edits one.server one.request × Writes suites edits later
+abbrev Writes : Suites → Changes → List Exchange → Type 0
+Writes suites changes [] = Unit {0}
+Writes suites changes (one ∷ later) = IsFrom suites changes one.server one.request × Writes suites changes later
 
--- of some suites and edits; and, where none is a Prepare, of all
+-- of some suites and changes; and, where none is a Prepare, of all
 record SomeWrites (later : List Exchange) : Type 0 where
   suites : Suites
-  edits : Edits
-  writes : Writes suites edits later
+  changes : Changes
+  writes : Writes suites changes later
 
 abbrev AllWrite : List Exchange → Type 0
-AllWrite later = (suites : Suites) (edits : Edits) → Writes suites edits later
+AllWrite later = (suites : Suites) (changes : Changes) → Writes suites changes later
 
 abbrev InPhase : Suites → Phase → List Exchange → Type 0
-InPhase suites (Preparing left outcome) later = Writes suites (edits_of outcome) later
-InPhase suites (Deciding outcome) later = Writes suites (edits_of outcome) later
+InPhase suites (Preparing left outcome) later = Writes suites (changes_of outcome) later
+InPhase suites (Deciding outcome) later = Writes suites (changes_of outcome) later
 InPhase suites (Finishing servers v ending) later = AllWrite later
 InPhase suites _ later = SomeWrites later
 
@@ -58,14 +57,14 @@ InDoing (Some (Rounding round)) later = AllWrite later
 InDoing None later = AllWrite later
 
 some_of : {later : List Exchange} → AllWrite later → SomeWrites later
-some_of all = record { suites = []; edits = []; writes = all [] [] }
+some_of all = record { suites = []; changes = []; writes = all [] [] }
 
 some_phase : (suites : Suites) (phase : Phase) (later : List Exchange) → InPhase suites phase later → SomeWrites later
 some_phase suites (Gathering number) later in' = in'
 some_phase suites (Fetching number) later in' = in'
-some_phase suites (Widening left ended) later in' = in'
-some_phase suites (Preparing left outcome) later in' = record { suites = suites; edits = edits_of outcome; writes = in' }
-some_phase suites (Deciding outcome) later in' = record { suites = suites; edits = edits_of outcome; writes = in' }
+some_phase suites (Widening left granted) later in' = in'
+some_phase suites (Preparing left outcome) later in' = record { suites = suites; changes = changes_of outcome; writes = in' }
+some_phase suites (Deciding outcome) later in' = record { suites = suites; changes = changes_of outcome; writes = in' }
 some_phase suites (Finishing servers v ending) later in' = some_of in'
 
 some_doing : (doing : Option Doing) (later : List Exchange) → InDoing doing later → SomeWrites later
@@ -77,14 +76,14 @@ all_ended : (task : Task) (cache : Cache) (suites : Suites) (v : Verdict) (endin
 all_ended task cache suites v ending [] later in' = in'
 all_ended task cache suites v ending (server ∷ servers) later in' = in'
 
-writes_prepare : (task : Task) (cache : Cache) (suites : Suites) (outcome : Outcome) (servers : List ℕ) (later : List Exchange) → InDoing (agents.left Running (prepare task cache suites outcome servers).after) later → Writes suites (edits_of outcome) later
+writes_prepare : (task : Task) (cache : Cache) (suites : Suites) (outcome : Outcome) (servers : List ℕ) (later : List Exchange) → InDoing (agents.left Running (prepare task cache suites outcome servers).after) later → Writes suites (changes_of outcome) later
 writes_prepare task cache suites outcome [] later in' = in'
 writes_prepare task cache suites outcome (server ∷ servers) later in' = in'
 
 -- ---- requests that are no Prepare
 
-no_from : (suites : Suites) (edits : Edits) (server : ℕ) (asked : Request) → is_prepare asked ≡ false → IsFrom suites edits server asked
-no_from suites edits server asked other = λ t parts is. absurd (false≢true (sym other ∙ ap is_prepare is))
+no_from : (suites : Suites) (changes : Changes) (server : ℕ) (asked : Request) → is_prepare asked ≡ false → IsFrom suites changes server asked
+no_from suites changes server asked other = λ t parts is. absurd (false≢true (sym other ∙ ap is_prepare is))
 
 no_prepare_next : (task : Task) (number : ℕ) (next : Next) (server : ℕ) (asked : Request) → asked_by task number next ≡ Some (server, asked) → is_prepare asked ≡ false
 no_prepare_next task number (Ask at (Poll mode)) server asked is = ap is_prepare (sym (asks_same at server (request.Poll task.t number mode) asked is))
@@ -116,7 +115,7 @@ abbrev after' : Fixed → Task → Cache → Suites → Phase → ℕ → Reques
 after' fixed task cache suites phase server asked word = agents.left Running (after_word fixed (record { task = task; suites = suites; phase = phase }) cache server asked word).after
 
 one_more : (server : ℕ) (asked : Request) (word : Word) (later : List Exchange) → is_prepare asked ≡ false → SomeWrites later → SomeWrites (record { server = server; request = asked; word = word } ∷ later)
-one_more server asked word later other some = record { suites = some.suites; edits = some.edits; writes = (no_from some.suites some.edits server asked other, some.writes) }
+one_more server asked word later other some = record { suites = some.suites; changes = some.changes; writes = (no_from some.suites some.changes server asked other, some.writes) }
 
 word_writes : (fixed : Fixed) (task : Task) (cache : Cache) (suites : Suites) (phase : Phase) (server : ℕ) (asked : Request) (word : Word) (later : List Exchange) → request_in fixed task suites phase ≡ Some (server, asked)
     → InDoing (after' fixed task cache suites phase server asked word) later → InPhase suites phase (record { server = server; request = asked; word = word } ∷ later)
@@ -124,31 +123,31 @@ word_writes fixed task cache suites (Gathering number) server asked word later i
     one_more server asked word later (no_prepare_suite task number (suite_of suites number) server asked is) (some_doing (after' fixed task cache suites (Gathering number) server asked word) later in')
 word_writes fixed task cache suites (Fetching number) server asked word later is in' =
     one_more server asked word later (no_prepare_fetch task number (suite_of suites number) server asked is) (some_doing (after' fixed task cache suites (Fetching number) server asked word) later in')
-word_writes fixed task cache suites (Widening [] ended) server asked word later is in' = cc
-word_writes fixed task cache suites (Widening (number ∷ left) ended) server asked word later is in' =
-    one_more server asked word later (no_prepare_suite task number (suite_of suites number) server asked is) (some_doing (after' fixed task cache suites (Widening (number ∷ left) ended) server asked word) later in')
+word_writes fixed task cache suites (Widening [] granted) server asked word later is in' = cc
+word_writes fixed task cache suites (Widening (number ∷ left) granted) server asked word later is in' =
+    one_more server asked word later (no_prepare_suite task number (suite_of suites number) server asked is) (some_doing (after' fixed task cache suites (Widening (number ∷ left) granted) server asked word) later in')
 word_writes fixed task cache suites (Preparing [] outcome) server asked word later is in' = cc
 word_writes fixed task cache suites (Preparing (now ∷ left) outcome) server asked word later is in' = (from, rest word in')
   where
     at : now ≡ server
-    at = ap (λ (pair : ℕ × Request). pair.0) (same_Some (now, request.Prepare task.t (parts_at suites (edits_of outcome) now)) (server, asked) is)
+    at = ap (λ (pair : ℕ × Request). pair.0) (same_Some (now, request.Prepare task.t (parts_at suites (changes_of outcome) now)) (server, asked) is)
 
     parts_of : Request → List Part
     parts_of (request.Prepare t parts) = parts
     parts_of _ = []
 
-    from : IsFrom suites (edits_of outcome) server asked
+    from : IsFrom suites (changes_of outcome) server asked
     from = λ t parts same.
-        ap parts_of (sym (asks_same now server (request.Prepare task.t (parts_at suites (edits_of outcome) now)) asked is ∙ same)) ∙ ap (parts_at suites (edits_of outcome)) at
+        ap parts_of (sym (asks_same now server (request.Prepare task.t (parts_at suites (changes_of outcome) now)) asked is ∙ same)) ∙ ap (parts_at suites (changes_of outcome)) at
 
-    rest : (word : Word) → InDoing (after' fixed task cache suites (Preparing (now ∷ left) outcome) server asked word) later → Writes suites (edits_of outcome) later
-    rest (Lacked lacked) in' = all_ended task cache suites verdict.Aborted (Undecided (lack_cause server lacked)) (locked_at suites) later in' suites (edits_of outcome)
+    rest : (word : Word) → InDoing (after' fixed task cache suites (Preparing (now ∷ left) outcome) server asked word) later → Writes suites (changes_of outcome) later
+    rest (Lacked lacked) in' = all_ended task cache suites verdict.Aborted (Undecided (lack_cause server lacked)) (locked_at suites) later in' suites (changes_of outcome)
     rest (Replied said) in' =
-        elim (is_prepared said) as (λ b. InDoing (agents.left Running (cond b (prepare task cache suites outcome left) (give_up task cache suites (Lost server))).after) later → Writes suites (edits_of outcome) later) [
+        elim (is_prepared said) as (λ b. InDoing (agents.left Running (cond b (prepare task cache suites outcome left) (give_up task cache suites (Lost server))).after) later → Writes suites (changes_of outcome) later) [
           | true ↦ λ in'. writes_prepare task cache suites outcome left later in'
-          | false ↦ λ in'. all_ended task cache suites verdict.Aborted (Undecided (Lost server)) (locked_at suites) later in' suites (edits_of outcome)
+          | false ↦ λ in'. all_ended task cache suites verdict.Aborted (Undecided (Lost server)) (locked_at suites) later in' suites (changes_of outcome)
         ] in'
-word_writes fixed task cache suites (Deciding outcome) server asked word later is in' = (no_from suites (edits_of outcome) server asked other, rest word in' suites (edits_of outcome))
+word_writes fixed task cache suites (Deciding outcome) server asked word later is in' = (no_from suites (changes_of outcome) server asked other, rest word in' suites (changes_of outcome))
   where
     other : is_prepare asked ≡ false
     other = ap is_prepare (sym (asks_same (home_of fixed.service task.t) server (request.Decide task.t (decision_of task outcome)) asked is))
@@ -157,7 +156,7 @@ word_writes fixed task cache suites (Deciding outcome) server asked word later i
     rest (Lacked lacked) in' = all_ended task cache suites verdict.Aborted (Undecided (lack_cause server lacked)) (locked_at suites) later in'
     rest (Replied said) in' = all_ended task cache suites (verdict_in said verdict.Aborted) (ending_by (verdict_in said verdict.Aborted) (cause_of_abort said)) (locked_at suites) later in'
 word_writes fixed task cache suites (Finishing [] v ending) server asked word later is in' = cc
-word_writes fixed task cache suites (Finishing (now ∷ left) v ending) server asked word later is in' = λ suites' edits'. (no_from suites' edits' server asked other, rest word in' suites' edits')
+word_writes fixed task cache suites (Finishing (now ∷ left) v ending) server asked word later is in' = λ suites' changes'. (no_from suites' changes' server asked other, rest word in' suites' changes')
   where
     other : is_prepare asked ≡ false
     other = ap is_prepare (sym (asks_same now server (request.Finish task.t v) asked is))
@@ -176,19 +175,19 @@ take_writes : (fixed : Fixed) (agent : Agent) (word : Word) (later : List Exchan
     → InDoing (take_in fixed agent word doing asked).agent.doing later → InDoing doing (exchange_of asked word ++ later)
 take_writes fixed agent word later (Some (Running running)) (Some asked) was is in' = word_writes fixed running.task agent.cache running.suites running.phase asked.0 asked.1 word later is in'
 take_writes fixed agent word later (Some (Running running)) None was is in' = subst (λ doing. InDoing doing later) was in'
-take_writes fixed agent word later (Some (Rounding round)) (Some asked) was is in' = λ suites edits.
-    (no_from suites edits asked.0 asked.1 (no_prepare_round fixed round round.now asked.0 asked.1 is), round_all (sweep.after_word fixed.service round asked.0 word) later in' suites edits)
+take_writes fixed agent word later (Some (Rounding round)) (Some asked) was is in' = λ suites changes.
+    (no_from suites changes asked.0 asked.1 (no_prepare_round fixed round round.now asked.0 asked.1 is), round_all (sweep.after_word fixed.service round asked.0 word) later in' suites changes)
 take_writes fixed agent word later (Some (Rounding round)) None was is in' = cc
 take_writes fixed agent word later None (Some asked) was is in' = cc
 take_writes fixed agent word later None None was is in' = subst (λ doing. InDoing doing later) was in'
 
 all_none : AllWrite []
-all_none = λ suites edits. tt
+all_none = λ suites changes. tt
 
 phase_none : (suites : Suites) (phase : Phase) → InPhase suites phase []
 phase_none suites (Gathering number) = some_of all_none
 phase_none suites (Fetching number) = some_of all_none
-phase_none suites (Widening left ended) = some_of all_none
+phase_none suites (Widening left granted) = some_of all_none
 phase_none suites (Preparing left outcome) = tt
 phase_none suites (Deciding outcome) = tt
 phase_none suites (Finishing servers v ending) = all_none
@@ -204,12 +203,12 @@ all_writes fixed agent (Forget site ∷ events) = all_writes fixed (forget agent
 all_writes fixed agent (Take word ∷ events) =
     take_writes fixed agent word (exchanges fixed (take fixed agent word).agent events) agent.doing (next_of fixed agent) refl refl (all_writes fixed (take fixed agent word).agent events)
 
-from_has : (suites : Suites) (edits : Edits) (past : List Exchange) (one : Exchange) → Writes suites edits past → Has past one → IsFrom suites edits one.server one.request
-from_has suites edits [] one writes has = absurd has
-from_has suites edits (first ∷ past) one writes has =
+from_has : (suites : Suites) (changes : Changes) (past : List Exchange) (one : Exchange) → Writes suites changes past → Has past one → IsFrom suites changes one.server one.request
+from_has suites changes [] one writes has = absurd has
+from_has suites changes (first ∷ past) one writes has =
     elim has [
-      | inl same ↦ subst (λ (one : Exchange). IsFrom suites edits one.server one.request) same writes.0
-      | inr rest ↦ from_has suites edits past one writes.1 rest
+      | inl same ↦ subst (λ (one : Exchange). IsFrom suites changes one.server one.request) same writes.0
+      | inr rest ↦ from_has suites changes past one writes.1 rest
     ]
 
 pub what_is_written_is_fixed : WhatIsWrittenIsFixed
@@ -218,6 +217,6 @@ what_is_written_is_fixed fixed agent job events idle =
     let some = some_doing (begin fixed agent job).doing past (all_writes fixed (begin fixed agent job) events) in
     record {
       suites = some.suites;
-      edits = some.edits;
-      parts = λ one t parts there is. from_has some.suites some.edits past one some.writes (has_from past one there) t parts is;
+      changes = some.changes;
+      parts = λ one t parts there is. from_has some.suites some.changes past one some.writes (has_from past one there) t parts is;
     }

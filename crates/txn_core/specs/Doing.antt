@@ -4,12 +4,12 @@ use Rattle.acl_core.specs.Identity.{Identity}
 use Rattle.file_ops.specs.declared.answer.Answer.{Answer}
 use Rattle.file_ops.specs.declared.operation.Op.{Op}
 use Rattle.file_ops.specs.declared.refusal.Refusal.{Refusal}
+use Rattle.file_exec.specs.declared.changes.Change.{Change}
 use Rattle.file_ops.specs.declared.service.Service.{Service}
 use Rattle.rep_core.specs.declared.lock.Lock.{Lock}
 use Rattle.rep_core.specs.declared.reply.Reply.{Reply}
 use Rattle.rep_core.specs.declared.reply.Verdict.{Verdict}
 use Rattle.rep_core.specs.declared.stamped.Lack.{Lack}
-use Rattle.file_exec.specs.Following.{Ended}
 use Rattle.txn_core.specs.declared.ending.Ending.{Ending}
 use Rattle.weak_cache.specs.Cache.{Limits}
 use Rattle.txn_core.specs.Suites.{Suites}
@@ -30,16 +30,25 @@ pub record Task : Type 0 where
 abbrev pub home_of : Service → ℕ → ℕ
 home_of service t = (t % 64 + t / 64) % service.servers
 
--- what its operations came to on what was gathered: the answers, with what is set, or a refusal
+-- what is set of each suite, the suites rising
+abbrev pub Changes : Type 0
+Changes = List (ℕ × Change)
+
+-- its answers, with what they set
+pub record Granted : Type 0 where
+  pub answers : List Answer
+  pub changes : Changes
+
+-- what its operations came to on what was gathered
 abbrev pub Outcome : Type 0
-Outcome = Result (Ended (List Answer)) Refusal
+Outcome = Result Granted Refusal
 
 -- Where a transaction stands. It gathers a suite, or fetches its content; it widens the suites that get votes, the first of the list now;
 -- it prepares at servers, the first of the list now; it has its outcome decided; or it tells servers how it ended, the first of the list now.
 pub data Phase : Type 0 where
   Gathering : ℕ → Phase
   Fetching : ℕ → Phase
-  Widening : List ℕ → Ended (List Answer) → Phase
+  Widening : List ℕ → Granted → Phase
   Preparing : List ℕ → Outcome → Phase
   Deciding : Outcome → Phase
   Finishing : List ℕ → Verdict → Ending → Phase

@@ -14,13 +14,12 @@ use Rattle.rep_core.specs.declared.reply.Verdict.TheVariants as verdict
 use Rattle.rep_core.specs.declared.reply.Reply.TheVariants as reply
 use Rattle.rep_core.specs.Fits.{is_prepared, fits}
 use Rattle.rep_core.specs.declared.request.Decision.{Decision}
-use Rattle.file_exec.specs.Following.{Edits}
 use Rattle.suite_collect.specs.declared.told.Said.{Said}
 use Rattle.suite_collect.specs.declared.told.Told.{Told}
 use Rattle.suite_collect.specs.Telling.{newest, holds}
 use Rattle.suite_collect.specs.Collecting.{needed_of, all_told, Collector, mode_of, Short, next}
 use Rattle.txn_core.specs.Suites.{Suite, Suites, First, suite_of, holds_exclusively}
-use Rattle.txn_core.specs.Writing.{parts_at, is_changed, sets, sets_votes}
+use Rattle.txn_core.specs.Writing.{parts_at, is_changed, sets_votes}
 use Rattle.txn_core.specs.declared.word.Word.{Word}
 use Rattle.txn_core.specs.declared.ending.Cause.{Cause}
 use Rattle.txn_core.specs.declared.ending.Ending.{Ending}
@@ -29,8 +28,8 @@ use Rattle.txn_core.specs.declared.word.Word.TheVariants.{Replied, Lacked}
 use Rattle.txn_core.specs.declared.ending.Cause.TheVariants.{Unavailable, Busy, Lost, Overruled, HomeDown, Full, Memory}
 use Rattle.txn_core.specs.declared.ending.Ending.TheVariants.{Undecided}
 use Rattle.txn_core.specs.declared.job.Job.TheVariants.{Transaction}
-use Rattle.txn_core.specs.Doing.{Fixed, Outcome, Deciding, Finishing, Course, Running}
-use Rattle.txn_core.specs.Transactions.{edits_of, votes_after, verdict_in, said_to}
+use Rattle.txn_core.specs.Doing.{Changes, Fixed, Outcome, Deciding, Finishing, Course, Running}
+use Rattle.txn_core.specs.Transactions.{changes_of, votes_after, verdict_in, said_to}
 use Rattle.rep_core.specs.declared.stamped.Lack.{Lack}
 use Rattle.rep_core.specs.declared.stamped.Lack.TheVariants as lack
 use Rattle.txn_core.specs.Agents.{Agent, Event, Take, Forget, next_of, take, begin, forget, is_idle, after_all}
@@ -130,11 +129,11 @@ NothingFollowsAnEnd =
 
 -- ---- 2
 
--- what is to be written is fixed before the first Prepare: all Prepares are of the same suites and edits
+-- what is to be written is fixed before the first Prepare: all Prepares are of the same suites and changes
 pub record WrittenFrom (past : List Exchange) : Type 0 where
   pub suites : Suites
-  pub edits : Edits
-  pub parts : (one : Exchange) (t : ℕ) (parts : List Part) → Contains past one → one.request ≡ request.Prepare t parts → parts ≡ parts_at suites edits one.server
+  pub changes : Changes
+  pub parts : (one : Exchange) (t : ℕ) (parts : List Part) → Contains past one → one.request ≡ request.Prepare t parts → parts ≡ parts_at suites changes one.server
 
 abbrev pub WhatIsWrittenIsFixed : Type 0
 WhatIsWrittenIsFixed = (fixed : Fixed) (agent : Agent) (job : Job) (events : List Event) → is_idle agent.doing ≡ true → WrittenFrom (of_job fixed agent job events)
@@ -166,20 +165,20 @@ newest_of suite = newest suite.collector.start suite.collector.told
 -- was seen, which is the one of its first Current or a newer one; and where it was changed, a write quorum of its votes before and of those
 -- after. Where its votes were not set those after are the votes that its first Current gave: that they are the votes before too holds where
 -- no newer prefix was seen since.
-pub record IsReady (suite : Suite) (number : ℕ) (edits : Edits) : Type 0 where
+pub record IsReady (suite : Suite) (number : ℕ) (changes : Changes) : Type 0 where
   pub first : First
   pub was : suite.first ≡ Some first
   pub not_older : first.prefix.pver ≤ (newest_of suite).pver
   pub quorum : needed_of suite.mode (newest_of suite).votes ≤ votes_in (newest_of suite).votes.reps (holds suite.mode (all_told suite.collector))
-  pub before : is_changed edits number ≡ true → is_write_quorum (newest_of suite).votes (holds_exclusively suite) ≡ true
-  pub after : is_changed edits number ≡ true → (sets sets_votes edits number || ((newest_of suite).pver == first.prefix.pver)) ≡ true
-      → is_write_quorum (votes_after edits number suite suite.first) (holds_exclusively suite) ≡ true
+  pub before : is_changed changes number ≡ true → is_write_quorum (newest_of suite).votes (holds_exclusively suite) ≡ true
+  pub after : is_changed changes number ≡ true → (sets_votes changes number || ((newest_of suite).pver == first.prefix.pver)) ≡ true
+      → is_write_quorum (votes_after changes number suite) (holds_exclusively suite) ≡ true
 
 abbrev pub DecidesOnQuorums : Type 0
 DecidesOnQuorums =
     (fixed : Fixed) (agent : Agent) (job : Job) (events : List Event) (course : Course) (outcome : Outcome) (number : ℕ) (suite : Suite) → is_idle agent.doing ≡ true
     → (after_all fixed (begin fixed agent job) events).doing ≡ Some (Running course) → course.phase ≡ Deciding outcome
-    → suite_of course.suites number ≡ Some suite → IsReady suite number (edits_of outcome)
+    → suite_of course.suites number ≡ Some suite → IsReady suite number (changes_of outcome)
 
 -- ---- 5
 

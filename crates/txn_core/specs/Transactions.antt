@@ -7,7 +7,6 @@ use Rattle.suite_prefix.specs.Copies.{held_by}
 use Rattle.suite_prefix.specs.declared.copies.Prefix.{Prefix}
 use Rattle.file_ops.specs.declared.answer.Answer.{Answer}
 use Rattle.file_ops.specs.declared.refusal.Refusal.{Refusal}
-use Rattle.file_ops.specs.Rows.{Row}
 use Rattle.suite_prefix.specs.declared.lock_mode.LockMode.{LockMode}
 use Rattle.suite_prefix.specs.declared.lock_mode.LockMode.TheVariants.{Shared}
 use Rattle.rep_core.specs.declared.request.Decision.{Decision}
@@ -23,22 +22,25 @@ use Rattle.rep_core.specs.declared.stamped.Lack.TheVariants as lack
 use Rattle.suite_prefix.specs.Absent.{absent_prefix}
 use Rattle.rep_core.specs.Fits.{is_prepared}
 use Rattle.file_exec.specs.declared.need.Need.TheVariants.{Hold, Know}
-use Rattle.file_exec.specs.Following.{Ended, Edits, seen}
-use Rattle.file_exec.specs.Known.{Heard, Needs, Done, exec_of}
+use Rattle.file_exec.specs.declared.changes.Change.{Change}
+use Rattle.file_exec.specs.Changes.{answered}
+use Rattle.file_exec.specs.Known.{exec_of}
+use Rattle.file_exec.specs.declared.executor.Outcome.{Outcome as Executed}
+use Rattle.file_exec.specs.declared.executor.Outcome.TheVariants as exec
 use Rattle.suite_collect.specs.declared.told.Said.TheVariants as told
 use Rattle.suite_collect.specs.declared.told.Said.{Said}
 use Rattle.suite_collect.specs.Collecting.{Collector, Next, Ask, Current, Short, collect, raise, widen, tell, request_for, mode_of, next}
 use Rattle.weak_cache.specs.Entries.{Cache}
 use Rattle.weak_cache.specs.Cache.{hint, content_at, searched, put}
-use Rattle.txn_core.specs.Suites.{First, Suite, Suites, suite_of, with_suite, row_with, known_of, has_locks, settled}
-use Rattle.txn_core.specs.Writing.{sets, sets_votes, parts_at}
+use Rattle.txn_core.specs.Suites.{First, Suite, Suites, suite_of, with_suite, known_of, has_locks, settled}
+use Rattle.txn_core.specs.Writing.{change_of, parts_at}
 use Rattle.txn_core.specs.declared.word.Word.{Word}
 use Rattle.txn_core.specs.declared.ending.Cause.{Cause}
 use Rattle.txn_core.specs.declared.ending.Ending.{Ending}
 use Rattle.txn_core.specs.declared.word.Word.TheVariants.{Replied, Lacked}
 use Rattle.txn_core.specs.declared.ending.Cause.TheVariants.{Unavailable, Busy, Lost, Overruled, HomeDown, Full, Memory}
 use Rattle.txn_core.specs.declared.ending.Ending.TheVariants.{Answered, Refused, Undecided}
-use Rattle.txn_core.specs.Doing.{Fixed, Task, home_of, Outcome, Phase, Gathering, Fetching, Widening, Preparing, Deciding, Finishing, Course, After, GoesOn, Ends}
+use Rattle.txn_core.specs.Doing.{Changes, Granted, Fixed, Task, home_of, Outcome, Phase, Gathering, Fetching, Widening, Preparing, Deciding, Finishing, Course, After, GoesOn, Ends}
 
 -- what comes of a word, with the cache after it
 pub record Step : Type 0 where
@@ -102,21 +104,21 @@ raised_or_new fixed task cache number mode None =
 
 -- ---- 3: the suites that get votes are widened to them
 
--- the votes that a suite gets
-abbrev pub votes_in : Option Row → Prefix → Configuration
-votes_in (Some row) prefix = row.votes
-votes_in None prefix = prefix.votes
+-- the votes of a suite after what is set of it
+abbrev pub votes_then : Option Change → Option First → Configuration → Configuration
+votes_then (Some change) first before = change.row.votes
+votes_then None (Some first) before = first.prefix.votes
+votes_then None None before = before
 
-abbrev pub votes_after : Edits → ℕ → Suite → Option First → Configuration
-votes_after edits number suite (Some first) = votes_in (seen edits number (row_with first.prefix.kind first.prefix suite.content)) first.prefix
-votes_after edits number suite None = suite.collector.start.votes
+abbrev pub votes_after : Changes → ℕ → Suite → Configuration
+votes_after changes number suite = votes_then (change_of changes number) suite.first suite.collector.start.votes
 
-abbrev pub widened : Edits → ℕ → Suite → Suite
-widened edits number suite = record suite { collector = widen (votes_after edits number suite suite.first) suite.collector }
+abbrev pub widened : Changes → ℕ → Suite → Suite
+widened changes number suite = record suite { collector = widen (votes_after changes number suite) suite.collector }
 
 -- the suites that get votes, rising
-abbrev pub to_widen : Suites → Edits → List ℕ
-to_widen suites edits = map (λ one. one.0) (filter (λ one. sets sets_votes edits one.0) suites)
+abbrev pub to_widen : Changes → List ℕ
+to_widen changes = map (λ one. one.0) (filter (λ one. one.1.votes) changes)
 
 -- a suite is widened: it asks, or too few votes are to be had, or nothing has to be asked and the others follow
 abbrev pub widen_by : Task → Cache → Suites → Phase → ℕ → Next → (Suites → Step) → Step
@@ -124,21 +126,21 @@ widen_by task cache suites phase number (Current prefix dver members) go_on = go
 widen_by task cache suites phase number (Ask server asked) go_on = on_with task cache suites phase
 widen_by task cache suites phase number (Short got needed busy) go_on = give_up task cache suites (short_cause number got needed busy)
 
-abbrev pub widen_one : Task → Cache → Suites → Phase → Edits → ℕ → Option Suite → (Suites → Step) → Step
-widen_one task cache suites phase edits number (Some suite) go_on =
-    widen_by task cache (with_suite number (widened edits number suite) suites) phase number (next (widened edits number suite).collector) go_on
-widen_one task cache suites phase edits number None go_on = go_on suites
+abbrev pub widen_one : Task → Cache → Suites → Phase → Changes → ℕ → Option Suite → (Suites → Step) → Step
+widen_one task cache suites phase changes number (Some suite) go_on =
+    widen_by task cache (with_suite number (widened changes number suite) suites) phase number (next (widened changes number suite).collector) go_on
+widen_one task cache suites phase changes number None go_on = go_on suites
 
 -- each of these suites is widened, one after the other; then the servers prepare
-abbrev pub widen_all : Task → Cache → Suites → Ended (List Answer) → List ℕ → Step
-widen_all task cache suites ended [] = prepare task cache suites (Ok ended) (locked_at suites)
-widen_all task cache suites ended (number ∷ left) =
-    widen_one task cache suites (Widening (number ∷ left) ended) ended.edits number (suite_of suites number) (λ suites. widen_all task cache suites ended left)
+abbrev pub widen_all : Task → Cache → Suites → Granted → List ℕ → Step
+widen_all task cache suites granted [] = prepare task cache suites (Ok granted) (locked_at suites)
+widen_all task cache suites granted (number ∷ left) =
+    widen_one task cache suites (Widening (number ∷ left) granted) granted.changes number (suite_of suites number) (λ suites. widen_all task cache suites granted left)
 
 -- ---- 1 and 2: the executor says what is needed
 
-abbrev pub heard_on : Fixed → Task → Suites → Heard (List Answer) Refusal
-heard_on fixed task suites = exec_of fixed.service (known_of suites) task.t task.caller task.ops
+abbrev pub heard_on : Fixed → Task → Suites → Executed
+heard_on fixed task suites = answered (known_of suites) (exec_of fixed.service (known_of suites) task.t task.caller task.ops)
 
 -- what was gathered, and the cache
 pub record Gathered : Type 0 where
@@ -170,8 +172,8 @@ open_suite task all number (Some suite) = open_first task all number suite suite
 open_suite task all number None = None
 
 -- all that was gathered, with one content more where that is needed and to be had without asking
-abbrev pub open_needed : Task → Gathered → Heard (List Answer) Refusal → Option Gathered
-open_needed task all (Needs (Know number)) = open_suite task all number (suite_of all.suites number)
+abbrev pub open_needed : Task → Gathered → Executed → Option Gathered
+open_needed task all (exec.Need (Know number)) = open_suite task all number (suite_of all.suites number)
 open_needed task all other = None
 
 -- and so on, at most as often as there are suites
@@ -184,11 +186,11 @@ opened zero fixed task all = all
 opened (suc more) fixed task all = or_all all (open_needed task all (heard_on fixed task all.suites)) (λ all. opened more fixed task all)
 
 -- what the executor needs is asked for; where it is done, what it set is carried out
-abbrev pub proceed : Fixed → Task → Cache → Suites → Heard (List Answer) Refusal → Step
-proceed fixed task cache suites (Needs (Hold number mode)) = gather task cache suites number (raised_or_new fixed task cache number mode (suite_of suites number))
-proceed fixed task cache suites (Needs (Know number)) = on_with task cache suites (Fetching number)
-proceed fixed task cache suites (Done (Ok ended)) = widen_all task cache suites ended (to_widen suites ended.edits)
-proceed fixed task cache suites (Done (Err refusal)) = prepare task cache suites (Err refusal) (locked_at suites)
+abbrev pub proceed : Fixed → Task → Cache → Suites → Executed → Step
+proceed fixed task cache suites (exec.Need (Hold number mode)) = gather task cache suites number (raised_or_new fixed task cache number mode (suite_of suites number))
+proceed fixed task cache suites (exec.Need (Know number)) = on_with task cache suites (Fetching number)
+proceed fixed task cache suites (exec.Done answers changes) = widen_all task cache suites (record { answers = answers; changes = changes }) (to_widen changes)
+proceed fixed task cache suites (exec.Refused refusal) = prepare task cache suites (Err refusal) (locked_at suites)
 
 abbrev pub execute : Fixed → Task → Gathered → Step
 execute fixed task all =
@@ -214,22 +216,22 @@ fetched_for task number (Some suite) = fetched_at task number suite.first
 fetched_for task number None = None
 
 -- what an outcome sets, and as what it is to be recorded
-abbrev pub edits_of : Outcome → Edits
-edits_of (Ok ended) = ended.edits
-edits_of (Err refusal) = []
+abbrev pub changes_of : Outcome → Changes
+changes_of (Ok granted) = granted.changes
+changes_of (Err refusal) = []
 
 abbrev pub decision_of : Task → Outcome → Decision
-decision_of task (Ok ended) = decision.Answered ended.given
+decision_of task (Ok granted) = decision.Answered granted.answers
 decision_of task (Err refusal) = decision.Refused task.caller.uid refusal
 
 abbrev pub request_in : Fixed → Task → Suites → Phase → Option (ℕ × Request)
 request_in fixed task suites (Gathering number) = asked_for task number (suite_of suites number)
 request_in fixed task suites (Fetching number) = fetched_for task number (suite_of suites number)
-request_in fixed task suites (Widening [] ended) = None
-request_in fixed task suites (Widening (number ∷ left) ended) = asked_for task number (suite_of suites number)
+request_in fixed task suites (Widening [] granted) = None
+request_in fixed task suites (Widening (number ∷ left) granted) = asked_for task number (suite_of suites number)
 request_in fixed task suites (Preparing [] outcome) = None
 request_in fixed task suites (Preparing (server ∷ left) outcome) =
-    Some (server, request.Prepare task.t (parts_at suites (edits_of outcome) server))
+    Some (server, request.Prepare task.t (parts_at suites (changes_of outcome) server))
 request_in fixed task suites (Deciding outcome) = Some (home_of fixed.service task.t, request.Decide task.t (decision_of task outcome))
 request_in fixed task suites (Finishing [] verdict ending) = None
 request_in fixed task suites (Finishing (server ∷ left) verdict ending) = Some (server, request.Finish task.t verdict)
@@ -312,9 +314,9 @@ abbrev pub after_reply : Fixed → Task → Cache → Suites → Phase → ℕ �
 after_reply fixed task cache suites (Gathering number) server asked said =
     heard_of task cache suites (Gathering number) number (suite_of suites number) server asked said (λ suites. execute fixed task (record { suites = suites; cache = cache }))
 after_reply fixed task cache suites (Fetching number) server asked said = fetched fixed task cache suites number (suite_of suites number) server (given_in said)
-after_reply fixed task cache suites (Widening [] ended) server asked said = give_up task cache suites (Lost server)
-after_reply fixed task cache suites (Widening (number ∷ left) ended) server asked said =
-    heard_of task cache suites (Widening (number ∷ left) ended) number (suite_of suites number) server asked said (λ suites. widen_all task cache suites ended left)
+after_reply fixed task cache suites (Widening [] granted) server asked said = give_up task cache suites (Lost server)
+after_reply fixed task cache suites (Widening (number ∷ left) granted) server asked said =
+    heard_of task cache suites (Widening (number ∷ left) granted) number (suite_of suites number) server asked said (λ suites. widen_all task cache suites granted left)
 after_reply fixed task cache suites (Preparing [] outcome) server asked said = give_up task cache suites (Lost server)
 after_reply fixed task cache suites (Preparing (now ∷ left) outcome) server asked said = prepared task cache suites outcome server left said
 after_reply fixed task cache suites (Deciding outcome) server asked said = decided task cache suites said

@@ -1,0 +1,81 @@
+-- What the executor sets of the suites that were gathered.
+use Rattle.std.proofs.Common.{◌≡◌, ℕ, Bool, true, false, cond, List, [], ◌∷◌, Option, Some, None, Ok, Err, refl, sym, ap, subst, ◌∙◌}
+use Rattle.std.specs.Prelude.{option_map}
+use Rattle.std.specs.List.{list_all}
+use Rattle.std.specs.Ordering.{nat_cmp}
+use Rattle.std.specs.BTreeMap.{is_at}
+use Rattle.std.proofs.lemmas.Bool.{eqb-true}
+use Rattle.std.proofs.lemmas.Option.{same_Some}
+use Rattle.vote_core.specs.Quorums.{Configuration}
+use Rattle.suite_content.specs.declared.content.Content.{Content}
+use Rattle.suite_prefix.specs.declared.copies.Prefix.{Prefix}
+use Rattle.suite_prefix.specs.declared.copies.PrefixKind.{PrefixKind}
+use Rattle.suite_prefix.specs.declared.copies.PrefixKind.TheVariants as kind
+use Rattle.suite_prefix.specs.declared.lock_mode.LockMode.{LockMode}
+use Rattle.suite_prefix.specs.declared.lock_mode.LockMode.TheVariants.{Shared, Exclusive}
+use Rattle.suite_prefix.specs.LockModes.{serves}
+use Rattle.file_ops.specs.declared.answer.Answer.{Answer}
+use Rattle.file_ops.specs.declared.refusal.Refusal.{Refusal}
+use Rattle.file_ops.specs.Rows.{Row}
+use Rattle.file_exec.specs.declared.changes.Change.{Change}
+use Rattle.file_exec.specs.declared.executor.Outcome.TheVariants as exec
+use Rattle.file_exec.specs.Known as known
+use Rattle.file_exec.proofs.Unset.{changes_are_held, unset_votes_stay}
+use Rattle.txn_core.specs.Suites.{First, Suite, Suites, suite_of, row_with, known_row, known_if, known_of}
+use Rattle.txn_core.specs.Doing.{Changes, Fixed, Task}
+use Rattle.txn_core.specs.Writing.{change_of, is_changed}
+use Rattle.txn_core.specs.Transactions.{heard_on}
+
+-- ---- what is known of a suite
+
+abbrev KnownAt : Suites → ℕ → Suite → First → Type 0
+KnownAt suites number suite first = known.known_of (known_of suites) number ≡ Some (known_row suite first)
+
+known_at : (suites : Suites) (number : ℕ) (suite : Suite) (first : First) → suite_of suites number ≡ Some suite → suite.first ≡ Some first → KnownAt suites number suite first
+known_at [] number suite first is was = cc
+known_at (e ∷ es) number suite first is was = of (λ is. known_at es number suite first is was) (is_at (nat_cmp number) e.0) refl is
+  where
+    here : (found : Option First) → found ≡ Some first → is_at (nat_cmp number) e.0 ≡ true → known.known_of (known_if e.0 suite found (known_of es)) number ≡ Some (known_row suite first)
+    here (Some other) same at = ap (λ b. cond b (Some (known_row suite other)) (known.known_of (known_of es) number)) at ∙ ap (λ first. Some (known_row suite first)) (same_Some other first same)
+    here None same at = cc
+
+    later : (found : Option First) → is_at (nat_cmp number) e.0 ≡ false → KnownAt es number suite first → known.known_of (known_if e.0 e.1 found (known_of es)) number ≡ Some (known_row suite first)
+    later (Some other) at rest = ap (λ b. cond b (Some (known_row e.1 other)) (known.known_of (known_of es) number)) at ∙ rest
+    later None at rest = rest
+
+    of : (suite_of es number ≡ Some suite → KnownAt es number suite first) → (b : Bool) → is_at (nat_cmp number) e.0 ≡ b → cond b (Some e.1) (suite_of es number) ≡ Some suite → KnownAt (e ∷ es) number suite first
+    of again true at is =
+        let same : e.1 ≡ suite = same_Some e.1 suite is in
+        ap (λ (it : Suite). known.known_of (known_if e.0 it it.first (known_of es)) number) same ∙ here suite.first was at
+    of again false at is = later e.1.first at (again is)
+
+-- ---- what is changed is held
+
+pub changed_held : (fixed : Fixed) (task : Task) (suites : Suites) (answers : List Answer) (changes : Changes) (number : ℕ) (suite : Suite) (first : First) → heard_on fixed task suites ≡ exec.Done answers changes
+    → suite_of suites number ≡ Some suite → suite.first ≡ Some first → is_changed changes number ≡ true → suite.mode ≡ Exclusive
+changed_held fixed task suites answers changes number suite first is there was changed' =
+    exclusive suite.mode (ap (known.is_held Exclusive) (sym (known_at suites number suite first there was))
+    ∙ changes_are_held fixed.service (known_of suites) task.t task.caller task.ops answers changes number is changed')
+  where
+    exclusive : (mode : LockMode) → serves mode Exclusive ≡ true → mode ≡ Exclusive
+    exclusive Shared is = cc
+    exclusive Exclusive is = refl
+
+-- ---- where no votes are set they stay
+
+row_votes : (kind : PrefixKind) (prefix : Prefix) (content : Option Content) (votes : Configuration) → option_map (λ (row : Row). row.votes) (row_with kind prefix content) ≡ Some votes → votes ≡ prefix.votes
+row_votes kind.Absent prefix content votes is = cc
+row_votes kind.File prefix content votes is = sym (same_Some prefix.votes votes is)
+row_votes kind.Folder prefix content votes is = sym (same_Some prefix.votes votes is)
+
+-- a change that sets no votes has those of the prefix that was known
+abbrev pub Keeps : Changes → ℕ → Suite → Type 0
+Keeps changes number suite =
+    (change : Change) (first : First) → change_of changes number ≡ Some change → suite.first ≡ Some first → change.votes ≡ false → change.row.votes ≡ first.prefix.votes
+
+pub changed_keeps : (fixed : Fixed) (task : Task) (suites : Suites) (answers : List Answer) (changes : Changes) (number : ℕ) (suite : Suite) → heard_on fixed task suites ≡ exec.Done answers changes
+    → suite_of suites number ≡ Some suite → Keeps changes number suite
+changed_keeps fixed task suites answers changes number suite is there change first told was none =
+    row_votes first.prefix.kind first.prefix suite.content change.row.votes
+    (ap (λ held. option_map (λ (row : Row). row.votes) (known.row_in held)) (sym (known_at suites number suite first there was))
+    ∙ unset_votes_stay fixed.service (known_of suites) task.t task.caller task.ops answers changes number change is told none)
