@@ -2,12 +2,15 @@
 #![tactic(auto)]
 
 mod ending;
+mod first;
 mod home;
 mod job;
 mod laws;
 mod sorting;
+mod suites;
 mod sweep;
 mod word;
+mod writing;
 
 pub use ending::{Cause, Ending};
 pub use job::{Job, Ops};
