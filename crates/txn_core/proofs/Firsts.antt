@@ -1,9 +1,9 @@
 -- What a sweep asks of the first of the locks that are left.
-use Rattle.std.proofs.Common.{◌≡◌, ◌≤◌, ◌+◌, ◌==◌, ℕ, true, false, cond, List, [], ◌∷◌, length, refl, sym, ap, ◌∙◌, arith}
-use Rattle.std.specs.Prelude.{Option, Some, None, not}
+use Rattle.std.proofs.Common.{◌≡◌, ◌≤◌, ◌+◌, ◌==◌, ℕ, true, false, cond, List, [], ◌∷◌, length, sym, ap, ◌∙◌, arith}
+use Rattle.std.specs.Prelude.{Some, not}
 use Rattle.rep_core.specs.declared.lock.Lock.{Lock}
 use Rattle.rep_core.specs.Locks.{has_prepared}
-use Rattle.txn_core.specs.Doing.{Sweeping, Resolving, Breaking}
+use Rattle.txn_core.specs.Doing.{Resolving, Breaking}
 use Rattle.txn_core.specs.Sweeps.{others}
 use Rattle.txn_core.specs.RoundFields.{first_of}
 

@@ -1,7 +1,7 @@
 -- What is known, told suite by suite.
-use Rattle.std.proofs.Common.{◌≡◌, ◌<◌, ◌+◌, ℕ, suc, length, drop, get_or, subst, Bool, true, false, cond, List, [], ◌∷◌, ◌++◌, Less, Equal, Greater, refl, sym, ap, ◌∙◌, append_assoc, arith}
-use Rattle.std.specs.Prelude.{◌&&◌, ◌==◌, nat_lt, Option, Some, None, option_map, unwrap_or, is_some}
-use Rattle.std.specs.List.{list_all, AllByRecursion}
+use Rattle.std.proofs.Common.{◌≡◌, ◌<◌, ◌+◌, ℕ, suc, length, drop, get_or, subst, Bool, true, false, cond, [], ◌∷◌, ◌++◌, Less, Equal, Greater, refl, sym, ap, ◌∙◌, append_assoc, arith}
+use Rattle.std.specs.Prelude.{◌==◌, nat_lt, Option, Some, None, option_map, is_some}
+use Rattle.std.specs.List.{list_all}
 use Rattle.std.specs.Ordering.{nat_cmp, is_eq, match_ordering}
 use Rattle.std.specs.Option.{option_map_or}
 use Rattle.std.specs.Map.{keys_of}
@@ -13,14 +13,13 @@ use Rattle.std.proofs.lemmas.Map.Keys.{sorted_head, sorted_tail}
 use Rattle.sorted_map.specs.SortedMap.{IsOrdered, get, insert, replace}
 use Rattle.suite_content.specs.declared.content.Content.{Content}
 use Rattle.suite_prefix.specs.declared.copies.Prefix.{Prefix}
-use Rattle.suite_prefix.specs.declared.copies.PrefixKind.{PrefixKind}
 use Rattle.suite_prefix.specs.declared.copies.PrefixKind.TheVariants.{Absent, File, Folder}
 use Rattle.suite_prefix.specs.declared.lock_mode.LockMode.{LockMode}
 use Rattle.file_exec.specs.declared.known.KnownSuite.{KnownSuite}
 use Rattle.file_exec.specs.Known.{Known, held_suite, opened_suite, opened}
 use Rattle.file_exec.specs.Prefixes.{row_of_prefix}
 use Rattle.file_ops.specs.Rows.{Row, with_content}
-use Rattle.txn_core.specs.Suites.{First, Suite, Suites, row_with, known_row, known_if, known_of}
+use Rattle.txn_core.specs.Suites.{First, Suite, Suites, row_with, known_if, known_of}
 use Rattle.txn_core.specs.KnowingSuites.{told}
 
 -- ---- what stands behind all others
@@ -173,9 +172,9 @@ pub telling_more : (suites : Suites) (i : ℕ) (one : ℕ × Suite) (known new :
 telling_more suites i one known new below here is at =
     let rest = drop (i + 1) suites in
     let split : drop i suites ≡ one ∷ rest =
-        drop-cons suites i one below
-        ∙ ap (λ x. x ∷ drop (suc i) suites) (sym here)
-        ∙ ap (λ n. one ∷ drop n suites) (let e : suc i ≡ i + 1 = omega arith in e) in
+    drop-cons suites i one below
+    ∙ ap (λ x. x ∷ drop (suc i) suites) (sym here)
+    ∙ ap (λ n. one ∷ drop n suites) (let e : suc i ≡ i + 1 = omega arith in e) in
     let At : Suites → Type 0 = λ left. IsTelling suites left known in
     let Then : Known → Type 0 = λ known. IsTelling suites rest known in
     subst Then (sym is) (telling_step suites rest one known (subst At split at))

@@ -7,9 +7,7 @@ use Rattle.file_ops.specs.declared.refusal.Refusal.{Refusal}
 use Rattle.file_exec.specs.declared.changes.Change.{Change}
 use Rattle.file_ops.specs.declared.service.Service.{Service}
 use Rattle.rep_core.specs.declared.lock.Lock.{Lock}
-use Rattle.rep_core.specs.declared.reply.Reply.{Reply}
 use Rattle.rep_core.specs.declared.reply.Verdict.{Verdict}
-use Rattle.rep_core.specs.declared.stamped.Lack.{Lack}
 use Rattle.txn_core.specs.declared.ending.Ending.{Ending}
 use Rattle.weak_cache.specs.Cache.{Limits}
 use Rattle.txn_core.specs.Suites.{Suites}

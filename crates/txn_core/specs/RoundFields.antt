@@ -1,5 +1,5 @@
 -- The fields of `Round` as contracts see them, and what they keep.
-use Rattle.std.specs.Prelude.{◌≡◌, ◌+◌, ◌<◌, ◌≤◌, ◌^◌, ℕ, List, [], ◌∷◌, length, if◌then◌else◌, Option, Some, None}
+use Rattle.std.specs.Prelude.{◌≡◌, ◌+◌, ◌<◌, ◌^◌, ℕ, List, [], ◌∷◌, length, if◌then◌else◌, Option, Some, None}
 use Rattle.rep_core.specs.declared.lock.Lock.{Lock}
 use Rattle.rep_core.specs.Locks.{has_prepared}
 use Rattle.txn_core.specs.declared.sweep.Round.TheInside.{Inside}

@@ -5,8 +5,6 @@ use Rattle.suite_content.specs.declared.content.Content.{Content}
 use Rattle.suite_content.specs.Contents.{empty_content}
 use Rattle.suite_prefix.specs.Copies.{held_by}
 use Rattle.suite_prefix.specs.declared.copies.Prefix.{Prefix}
-use Rattle.file_ops.specs.declared.answer.Answer.{Answer}
-use Rattle.file_ops.specs.declared.refusal.Refusal.{Refusal}
 use Rattle.suite_prefix.specs.declared.lock_mode.LockMode.{LockMode}
 use Rattle.suite_prefix.specs.declared.lock_mode.LockMode.TheVariants.{Shared}
 use Rattle.rep_core.specs.declared.request.Decision.{Decision}
@@ -29,7 +27,7 @@ use Rattle.file_exec.specs.declared.executor.Outcome.{Outcome as Executed}
 use Rattle.file_exec.specs.declared.executor.Outcome.TheVariants as exec
 use Rattle.suite_collect.specs.declared.told.Said.TheVariants as told
 use Rattle.suite_collect.specs.declared.told.Said.{Said}
-use Rattle.suite_collect.specs.Collecting.{Collector, Next, Ask, Current, Short, collect, raise, widen, tell, request_for, mode_of, next}
+use Rattle.suite_collect.specs.Collecting.{Next, Ask, Current, Short, collect, raise, widen, tell, request_for, mode_of, next}
 use Rattle.weak_cache.specs.Entries.{Cache}
 use Rattle.weak_cache.specs.Cache.{hint, content_at, searched, put}
 use Rattle.txn_core.specs.Suites.{First, Suite, Suites, suite_of, with_suite, known_of, has_locks, settled}
