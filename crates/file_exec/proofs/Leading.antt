@@ -1,7 +1,6 @@
 -- The changes lead from the rows before to the rows after.
-use Rattle.std.proofs.Common.{◌≡◌, ℕ, Bool, true, false, cond, List, [], ◌∷◌, Option, Some, None, Result, Ok, refl, sym, ap, subst, ◌∙◌}
+use Rattle.std.proofs.Common.{◌≡◌, ℕ, Bool, true, false, cond, [], ◌∷◌, Option, Some, None, refl, sym, ap, subst, ◌∙◌}
 use Rattle.std.specs.Prelude.{◌==◌, ◌&&◌, ◌||◌, option_map}
-use Rattle.suite_content.specs.declared.content.Content.{Content}
 use Rattle.std.specs.List.{list_all}
 use Rattle.std.specs.Cmp.{unsigned_tied}
 use Rattle.std.specs.Ordering.{nat_cmp}
@@ -11,15 +10,14 @@ use Rattle.std.proofs.lemmas.Cmp.{nat_cmp_total}
 use Rattle.sorted_map.specs.Laws.{get-insert}
 use Rattle.sorted_map.specs.SortedMap.{get}
 use Rattle.suite_prefix.specs.declared.lock_mode.LockMode.TheVariants.{Exclusive}
-use Rattle.file_ops.specs.Rows.{Row, Rows, row_of, with_content}
+use Rattle.file_ops.specs.Rows.{Row, row_of, with_content}
 use Rattle.file_exec.specs.declared.changes.Change.{Change}
-use Rattle.file_exec.specs.declared.known.KnownSuite.{KnownSuite}
 use Rattle.file_exec.specs.declared.log.Edit.{Edit}
 use Rattle.file_exec.specs.declared.log.Edit.TheVariants.{SetAcl, SetVotes, SetContent, Make}
-use Rattle.file_exec.specs.Changes.{touches, makes, sets_acl, sets_votes, some, change_of, changes_at, changes_of, with_change}
+use Rattle.file_exec.specs.Changes.{touches, makes, sets_acl, sets_votes, some, change_of, changes_at, with_change}
 use Rattle.file_exec.specs.Following.{Edits, changed, seen, sets_content, is_set, emptied, head, content_in, with_edits}
-use Rattle.file_exec.specs.Known.{Known, known_of, row_in, known_rows, is_held, is_held_for, IsSoAt, AgreesWith}
-use Rattle.file_exec.specs.Laws.{Tells, TellsAt, ChangesBySuite, ChangesLeadOn}
+use Rattle.file_exec.specs.Known.{Known, known_of, known_rows, is_held, is_held_for}
+use Rattle.file_exec.specs.Laws.{TellsAt, ChangesBySuite, ChangesLeadOn}
 use Rattle.file_exec.proofs.Alike.{head_seen, content_seen, held_head}
 use Rattle.file_exec.proofs.OnTable.{row_of-with_edits}
 use Rattle.file_exec.proofs.Unmet.{sets_what_is_held}

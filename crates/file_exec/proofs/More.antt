@@ -1,18 +1,18 @@
 -- What knowing more comes to.
-use Rattle.std.proofs.Common.{◌≡◌, ℕ, ◌+◌, ◌<◌, ◌≤◌, Bool, true, false, cond, List, [], ◌∷◌, length, Option, Some, None, Result, Ok, refl, sym, ap, ◌∙◌, arith}
-use Rattle.std.specs.Prelude.{not, filter, find, ◌||◌}
+use Rattle.std.proofs.Common.{◌≡◌, ◌<◌, ◌≤◌, Bool, true, false, cond, List, [], ◌∷◌, length, Option, Some, None, Result, refl, sym, ap, ◌∙◌, arith}
+use Rattle.std.specs.Prelude.{not, filter, find}
 use Rattle.std.proofs.lemmas.Option.{same_Some}
 use Rattle.suite_prefix.specs.declared.lock_mode.LockMode.{LockMode}
 use Rattle.suite_prefix.specs.declared.lock_mode.LockMode.TheVariants.{Shared, Exclusive}
 use Rattle.suite_prefix.specs.LockModes.{serves}
-use Rattle.file_ops.specs.Rows.{Row, row_of}
+use Rattle.file_ops.specs.Rows.{row_of}
 use Rattle.file_exec.specs.declared.known.KnownSuite.{KnownSuite}
 use Rattle.file_exec.specs.declared.need.Need.{Need}
 use Rattle.file_exec.specs.declared.need.Need.TheVariants.{Hold, Know}
-use Rattle.file_exec.specs.Following.{Ended, head, needs, ending}
-use Rattle.file_exec.specs.Known.{Known, known_of, row_in, known_rows, is_held, is_opened, is_met, first_unmet, Heard, Needs, Done, heard, IsSo, IsSoAt, AgreesWith, on_table}
+use Rattle.file_exec.specs.Following.{Ended, needs, ending}
+use Rattle.file_exec.specs.Known.{Known, known_of, row_in, known_rows, is_held, is_opened, is_met, first_unmet, Needs, Done, heard, IsSoAt, AgreesWith, on_table}
 use Rattle.file_exec.specs.Operations.{transaction}
-use Rattle.file_exec.specs.Laws.{IsMore, IsMoreAt, MoreKnown, MoreKnownChangesNothing, AMetNeedIsProgress, DoneIsTheTables}
+use Rattle.file_exec.specs.Laws.{IsMoreAt, MoreKnown, MoreKnownChangesNothing, AMetNeedIsProgress, DoneIsTheTables}
 use Rattle.file_exec.proofs.Alike.{goes_alike}
 use Rattle.file_exec.proofs.OnTable.{on_transaction}
 

@@ -1,5 +1,5 @@
 -- The code of a course step by step.
-use Rattle.std.proofs.Common.{◌≡◌, ℕ, Result, Ok, Err, refl, sym, ap, subst, ◌∙◌}
+use Rattle.std.proofs.Common.{◌≡◌, ℕ, Result, Ok, Err, refl, ap, subst, ◌∙◌}
 use Rattle.std.specs.Result.{IsErr, IsErrAnd}
 use Rattle.file_ops.specs.declared.refusal.Why.{Why}
 use Rattle.file_exec.specs.declared.stop.Stop.{Stop}

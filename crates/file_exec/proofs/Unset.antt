@@ -66,7 +66,7 @@ pub changes_are_held : ChangesAreHeld
 changes_are_held service known t caller ops answers changes suite is told =
     let log = from_log known (exec_of service known t caller ops) answers changes is in
     let touched = changed_touched (touches log.0.edits suite) (change_of known log.0.edits suite)
-        (sym (ap is_some (changes_by_suite known log.0.edits suite)) ∙ ap (λ changes. is_some (get nat_cmp changes suite)) (sym log.2) ∙ told) in
+    (sym (ap is_some (changes_by_suite known log.0.edits suite)) ∙ ap (λ changes. is_some (get nat_cmp changes suite)) (sym log.2) ∙ told) in
     touched_held known log.0.edits suite (sets_what_is_held service known t caller ops log.0 log.1) touched
 
 -- ---- where no votes are set they stay

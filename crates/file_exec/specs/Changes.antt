@@ -1,5 +1,5 @@
 -- What a transaction has set, suite by suite.
-use Rattle.std.specs.Prelude.{ℕ, ◌==◌, Bool, true, false, ◌&&◌, if◌then◌else◌, List, [], ◌∷◌, Option, Some, None, option_map, Ok, Err}
+use Rattle.std.specs.Prelude.{ℕ, ◌==◌, Bool, true, false, ◌&&◌, List, [], ◌∷◌, Option, Some, None, option_map, Ok, Err}
 use Rattle.std.specs.List.{list_any}
 use Rattle.std.specs.Ordering.{nat_cmp}
 use Rattle.sorted_map.specs.SortedMap.{insert}
@@ -10,7 +10,7 @@ use Rattle.file_exec.specs.declared.executor.Outcome.{Outcome}
 use Rattle.file_exec.specs.declared.executor.Outcome.TheVariants as outcome
 use Rattle.file_exec.specs.declared.log.Edit.{Edit}
 use Rattle.file_exec.specs.declared.log.Edit.TheVariants.{SetAcl, SetVotes, SetContent, Make}
-use Rattle.file_exec.specs.Following.{Edits, seen, sets_content, is_set}
+use Rattle.file_exec.specs.Following.{Edits, seen, is_set}
 use Rattle.file_exec.specs.Known.{Known, known_rows, Heard, Needs, Done}
 
 -- whether an edit sets the list, the votes, or all; what is made is set in all its parts

@@ -1,5 +1,5 @@
 -- Courses of looks, reads and edits: what an operation does, said so that it can be followed on any rows, known wholly or in part.
-use Rattle.std.specs.Prelude.{ℕ, ◌+◌, List, Option, Result, Ok, Err}
+use Rattle.std.specs.Prelude.{ℕ, ◌+◌, Option, Result, Ok, Err}
 use Rattle.suite_content.specs.declared.content.Content.{Content}
 use Rattle.file_ops.specs.declared.refusal.Refusal.{Refusal}
 use Rattle.file_ops.specs.declared.refusal.Why.{Why}

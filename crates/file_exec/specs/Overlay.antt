@@ -8,11 +8,9 @@ use Rattle.file_ops.specs.Rows.{Row}
 use Rattle.file_ops.specs.Walks.{Place}
 use Rattle.file_ops.specs.Operations.{Parent}
 use Rattle.file_exec.specs.declared.seen.Seen.{Seen}
-use Rattle.file_exec.specs.declared.view.View.{View}
 use Rattle.file_exec.specs.declared.view.Place.{Place as SeenPlace}
 use Rattle.file_exec.specs.declared.view.Parent.{Parent as SeenParent}
-use Rattle.file_exec.specs.Following.{Edits, emptied, head}
-use Rattle.file_exec.specs.Known.{Known}
+use Rattle.file_exec.specs.Following.{emptied, head}
 
 -- the row that is seen
 abbrev pub seen_row : Seen → Row

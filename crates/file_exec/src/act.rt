@@ -230,7 +230,12 @@ fn make(
     let folder = parent.place.suite;
     let entries = with_name(parent.names, name, number)?;
     let row = new_row(alloc, kind, init, votes, caller)?;
-    set(known, log, folder, Edit::SetContent(Content::Names(entries)))?;
+    set(
+        known,
+        log,
+        folder,
+        Edit::SetContent(Content::Names(entries)),
+    )?;
     set(known, log, number, Edit::Make(row))?;
     Ok(Answer::Made(number))
 }
@@ -273,12 +278,7 @@ fn refuse_used(view: View<'_>, suite: u64, row: Option<Seen<'_>>) -> Result<(), 
 }
 
 /// Takes a name out of a folder.
-fn drop(
-    known: &Known,
-    log: &mut Log,
-    caller: &Caller,
-    names: &[Name],
-) -> Result<Answer, Stop>
+fn drop(known: &Known, log: &mut Log, caller: &Caller, names: &[Name]) -> Result<Answer, Stop>
     ensures { Runs (λ answer. answer) result known.now.suites log.old log.new (dropped caller.now names.now) }
 {
     let (name, folders) = last_name(names)?;
@@ -289,7 +289,12 @@ fn drop(
     refuse_used(view, number, row)?;
     let folder = parent.place.suite;
     let entries = without_name(parent.names, name)?;
-    set(known, log, folder, Edit::SetContent(Content::Names(entries)))?;
+    set(
+        known,
+        log,
+        folder,
+        Edit::SetContent(Content::Names(entries)),
+    )?;
     Ok(Answer::Dropped)
 }
 
@@ -306,7 +311,10 @@ pub(crate) fn operate(
     let path = Path::parse(op.path.as_bytes()).ok_or(Why::BadPath)?;
     let names = path.names();
     let Transaction {
-        known, t, caller, ..
+        known,
+        t,
+        caller,
+        ..
     } = transaction;
     match &op.action {
         Action::Read => read(View { known, log }, caller, names),

@@ -134,9 +134,7 @@ pub(crate) fn sets_content(edits: &[(u64, Edit)], suite: u64) -> bool
 pub(crate) fn makes(edits: &[(u64, Edit)], suite: u64) -> bool
     ensures { result ≡ some makes edits.now suite }
 {
-    edits
-        .iter()
-        .any(|(of, edit)| *of == suite && edit.makes())
+    edits.iter().any(|(of, edit)| *of == suite && edit.makes())
 }
 
 /// Whether the edits set the list of a suite.

@@ -15,15 +15,15 @@ use Rattle.suite_collect.specs.Laws.{among, Step, Raise, Widen, Take, told_or, a
 use Rattle.suite_collect.proofs.Collected.{nobody_is_asked_twice}
 
 -- how often a server was asked
-abbrev times : ℕ → List Told → ℕ
+abbrev pub times : ℕ → List Told → ℕ
 times server [] = 0
 times server (one ∷ told) = cond (one.server == server) 1 0 + times server told
 
 -- no server was asked more than twice, and none more than once that was not asked for an exclusive lock
-abbrev Few : List Told → Type 0
+abbrev pub Few : List Told → Type 0
 Few told = (server : ℕ) → (times server told ≤ 2) × (has_told (λ one. is_exclusive one.mode) told server ≡ false → times server told ≤ 1)
 
-never : (told : List Told) (server : ℕ) → has_told (λ _. true) told server ≡ false → times server told ≡ 0
+pub never : (told : List Told) (server : ℕ) → has_told (λ _. true) told server ≡ false → times server told ≡ 0
 never [] server none = refl
 never (one ∷ told) server none = step (one.server == server) none (never told server)
   where
@@ -32,7 +32,7 @@ never (one ∷ told) server none = step (one.server == server) none (never told 
     step false none rest = let zero = rest none in omega arith
 
 -- a server that is asked now is asked no oftener
-few_more : (c : Collector) (asked : Asked) (one : Told) → next c ≡ Ask one.server asked → one.mode ≡ mode_asked asked → Few (all_told c) → Few (one ∷ all_told c)
+pub few_more : (c : Collector) (asked : Asked) (one : Told) → next c ≡ Ask one.server asked → one.mode ≡ mode_asked asked → Few (all_told c) → Few (one ∷ all_told c)
 few_more c asked one is mode few server = at (one.server == server) refl
   where
     at : (b : Bool) → (one.server == server) ≡ b

@@ -8,8 +8,6 @@ use Rattle.std.proofs.lemmas.List.Elements.{Contains-append_left, Contains-push}
 use Rattle.std.proofs.lemmas.List.Folds.{list_all-append}
 use Rattle.std.proofs.lemmas.Option.{same_Some}
 use Rattle.suite_content.specs.declared.content.Content.{Content}
-use Rattle.file_ops.specs.declared.answer.Answer.{Answer}
-use Rattle.file_ops.specs.declared.refusal.Refusal.{Refusal}
 use Rattle.file_ops.specs.declared.service.Service.{Service}
 use Rattle.rep_core.specs.declared.lock.Lock.{Lock}
 use Rattle.rep_core.specs.declared.request.Decision.{Decision}
@@ -45,7 +43,7 @@ use Rattle.txn_core.specs.Transactions.{Step, Gathered, tell_end, give_up, prepa
 use Rattle.txn_core.specs.Sweeps as sweep
 use Rattle.txn_core.specs.Agents as agents
 use Rattle.txn_core.specs.Agents.{Agent, Event, Take, Forget, next_in, next_of, end_of, take_in, take, begin, started, forget, is_idle, has_sense, most_jobs, after_all}
-use Rattle.txn_core.specs.Laws.{Exchange, exchange_of, exchanges, locks, is_decide, is_down, told_of, told_by, more_told, IsShort, Was, loses, says_aborted, says_down, is_lack, IsCaused, fits_word, all_fit, EndsAreCaused}
+use Rattle.txn_core.specs.Laws.{Exchange, of_job, exchange_of, exchanges, locks, is_decide, is_down, told_of, told_by, more_told, Was, loses, says_aborted, says_down, is_lack, fits_word, all_fit}
 use Rattle.txn_core.proofs.Mild.{asks_same}
 use Rattle.txn_core.proofs.Locks.{told_in, Are, are_with, are_same, are_nil, are_opened, told_raised, all_told-tell, asks_lock}
 
@@ -101,8 +99,23 @@ push past server asked word = past ++ record { server = server; request = asked;
 abbrev Tells : List Exchange → ℕ → List Told
 Tells past number = told_of number [] past
 
+-- a collector that was told just this falls short
+pub record ShortBy (past : List Exchange) (suite got needed : ℕ) (busy : Option (ℕ × ℕ)) : Type 0 where
+  pub collector : Collector
+  pub told : all_told collector ≡ told_of suite [] past
+  pub short : next collector ≡ Short got needed busy
+
+abbrev pub CausedBy : Cause → List Exchange → Type 0
+CausedBy (Unavailable suite got needed) past = ShortBy past suite got needed None
+CausedBy (Busy server holder) past = (suite got needed : ℕ) × ShortBy past suite got needed (Some (server, holder))
+CausedBy (Lost server) past = Was past server loses
+CausedBy Overruled past = (server : ℕ) × Was past server (λ asked word. is_decide asked && says_aborted word)
+CausedBy HomeDown past = (server : ℕ) × Was past server (λ asked word. is_decide asked && says_down word)
+CausedBy (Full server) past = Was past server (λ asked word. is_lack lack.Full word)
+CausedBy Memory past = (server : ℕ) × Was past server (λ asked word. is_lack lack.Memory word)
+
 abbrev EndCaused : List Exchange → Ending → Type 0
-EndCaused past (Undecided cause) = IsCaused cause past
+EndCaused past (Undecided cause) = CausedBy cause past
 EndCaused past (Answered answers) = Unit {0}
 EndCaused past (Refused refusal) = Unit {0}
 EndCaused past (Swept broken finished left) = Unit {0}
@@ -134,10 +147,10 @@ are_quiet : (past : List Exchange) (suites : Suites) (server : ℕ) (asked : Req
 are_quiet past suites server asked word none are = (are.0, λ number. are.1 number ∙ sym (told_same past server asked word none number))
 
 -- what no lock is asked for leaves causes as they were
-short_still : (past : List Exchange) (server : ℕ) (asked : Request) (word : Word) → ((number : ℕ) → locks number asked ≡ false) → (suite had wanting : ℕ) (busy : Option (ℕ × ℕ)) → IsShort past suite had wanting busy → IsShort (push past server asked word) suite had wanting busy
+short_still : (past : List Exchange) (server : ℕ) (asked : Request) (word : Word) → ((number : ℕ) → locks number asked ≡ false) → (suite had wanting : ℕ) (busy : Option (ℕ × ℕ)) → ShortBy past suite had wanting busy → ShortBy (push past server asked word) suite had wanting busy
 short_still past server asked word none suite had wanting busy short = record { collector = short.collector; told = short.told ∙ sym (told_same past server asked word none suite); short = short.short }
 
-still_caused : (past : List Exchange) (server : ℕ) (asked : Request) (word : Word) → ((number : ℕ) → locks number asked ≡ false) → (cause : Cause) → IsCaused cause past → IsCaused cause (push past server asked word)
+still_caused : (past : List Exchange) (server : ℕ) (asked : Request) (word : Word) → ((number : ℕ) → locks number asked ≡ false) → (cause : Cause) → CausedBy cause past → CausedBy cause (push past server asked word)
 still_caused past server asked word none (Unavailable suite had wanting) is = short_still past server asked word none suite had wanting None is
 still_caused past server asked word none (Busy at holder) is = (is.0, is.1, is.2, short_still past server asked word none is.0 is.1 is.2 (Some (at, holder)) is.3)
 still_caused past server asked word none (Lost at) is = was_more past _ at _ is
@@ -152,11 +165,11 @@ still_ended past server asked word none (Answered answers) is = tt
 still_ended past server asked word none (Refused refusal) is = tt
 still_ended past server asked word none (Swept broken finished left) is = tt
 
-short_caused : (past : List Exchange) (number : ℕ) (collector : Collector) (had wanting : ℕ) (busy : Option (ℕ × ℕ)) → all_told collector ≡ Tells past number → next collector ≡ Short had wanting busy → IsCaused (short_cause number had wanting busy) past
+short_caused : (past : List Exchange) (number : ℕ) (collector : Collector) (had wanting : ℕ) (busy : Option (ℕ × ℕ)) → all_told collector ≡ Tells past number → next collector ≡ Short had wanting busy → CausedBy (short_cause number had wanting busy) past
 short_caused past number collector had wanting None same is = record { collector = collector; told = same; short = is }
 short_caused past number collector had wanting (Some busy) same is = (number, had, wanting, record { collector = collector; told = same; short = is })
 
-lack_caused : (past : List Exchange) (server : ℕ) (asked : Request) (lacked : Lack) → IsCaused (lack_cause server lacked) (push past server asked (Lacked lacked))
+lack_caused : (past : List Exchange) (server : ℕ) (asked : Request) (lacked : Lack) → CausedBy (lack_cause server lacked) (push past server asked (Lacked lacked))
 lack_caused past server asked lack.Full = was_now past server asked (Lacked lack.Full) (λ asked word. is_lack lack.Full word) refl
 lack_caused past server asked lack.Memory = (server, was_now past server asked (Lacked lack.Memory) (λ asked word. is_lack lack.Memory word) refl)
 
@@ -166,7 +179,7 @@ caused_end : (past : List Exchange) (task : Task) (cache : Cache) (suites : Suit
 caused_end past task cache suites v ending [] is = is
 caused_end past task cache suites v ending (server ∷ servers) is = is
 
-caused_give_up : (past : List Exchange) (task : Task) (cache : Cache) (suites : Suites) (cause : Cause) → IsCaused cause past → LeftCaused past (give_up task cache suites cause).after
+caused_give_up : (past : List Exchange) (task : Task) (cache : Cache) (suites : Suites) (cause : Cause) → CausedBy cause past → LeftCaused past (give_up task cache suites cause).after
 caused_give_up past task cache suites cause is = caused_end past task cache suites verdict.Aborted (Undecided cause) (locked_at suites) is
 
 caused_prepare : (past : List Exchange) (task : Task) (cache : Cache) (suites : Suites) (outcome : Outcome) (servers : List ℕ) → Are (Tells past) suites → LeftCaused past (prepare task cache suites outcome servers).after
@@ -432,11 +445,11 @@ round_caused : (past : List Exchange) (after : After Round) → DoingCaused past
 round_caused past (GoesOn round) = tt
 round_caused past (Ends ending) = tt
 
-course_ends : (past : List Exchange) (after : After Course) (cause : Cause) → LeftCaused past after → end_of after ≡ Some (Undecided cause) → IsCaused cause past
+course_ends : (past : List Exchange) (after : After Course) (cause : Cause) → LeftCaused past after → end_of after ≡ Some (Undecided cause) → CausedBy cause past
 course_ends past (GoesOn course) cause caused is = cc
 course_ends past (Ends ending) cause caused is = subst (EndCaused past) (same_Some ending (Undecided cause) is) caused
 
-round_ends : (past : List Exchange) (after : After Round) (cause : Cause) → RoundCaused past after → end_of after ≡ Some (Undecided cause) → IsCaused cause past
+round_ends : (past : List Exchange) (after : After Round) (cause : Cause) → RoundCaused past after → end_of after ≡ Some (Undecided cause) → CausedBy cause past
 round_ends past (GoesOn round) cause caused is = cc
 round_ends past (Ends ending) cause caused is = subst (EndCaused past) (same_Some ending (Undecided cause) is) caused
 
@@ -460,7 +473,7 @@ take_caused past fixed agent word None (Some asked) was is fine caused = cc
 take_caused past fixed agent word None None was is fine caused = subst (DoingCaused (past ++ [])) (sym was) tt
 
 take_ends : (past : List Exchange) (fixed : Fixed) (agent : Agent) (word : Word) (doing : Option Doing) (asked : Option (ℕ × Request)) (cause : Cause) → next_in fixed doing ≡ asked → all_fit (exchange_of asked word) ≡ true
-    → DoingCaused past doing → (take_in fixed agent word doing asked).ending ≡ Some (Undecided cause) → IsCaused cause (past ++ exchange_of asked word)
+    → DoingCaused past doing → (take_in fixed agent word doing asked).ending ≡ Some (Undecided cause) → CausedBy cause (past ++ exchange_of asked word)
 take_ends past fixed agent word (Some (Running running)) (Some asked) cause is fine caused ends =
     course_ends (push past asked.0 asked.1 word) (after_word fixed running agent.cache asked.0 asked.1 word).after cause
     (caused_word past fixed running.task agent.cache running.suites running.phase asked.0 asked.1 word is (first_fits asked.1 word asked.0 [] fine) caused) ends
@@ -481,17 +494,17 @@ both_fit past later fine = of (all_fit past) (all_fit later) (sym (list_all-appe
     of false b is = cc
 
 all_ends : (past : List Exchange) (fixed : Fixed) (agent : Agent) (events : List Event) (word : Word) (cause : Cause) → DoingCaused past agent.doing → all_fit (exchanges fixed agent (events ++ Take word ∷ [])) ≡ true
-    → (take fixed (after_all fixed agent events) word).ending ≡ Some (Undecided cause) → IsCaused cause (past ++ exchanges fixed agent (events ++ Take word ∷ []))
+    → (take fixed (after_all fixed agent events) word).ending ≡ Some (Undecided cause) → CausedBy cause (past ++ exchanges fixed agent (events ++ Take word ∷ []))
 all_ends past fixed agent [] word cause caused fine ends =
     let one = exchange_of (next_of fixed agent) word in
-    subst (λ later. IsCaused cause (past ++ later)) (sym (append-nil one))
+    subst (λ later. CausedBy cause (past ++ later)) (sym (append-nil one))
     (take_ends past fixed agent word agent.doing (next_of fixed agent) cause refl (both_fit one [] fine).0 caused ends)
 all_ends past fixed agent (Forget site ∷ events) word cause caused fine ends = all_ends past fixed (forget agent site) events word cause caused fine ends
 all_ends past fixed agent (Take first ∷ events) word cause caused fine ends =
     let one = exchange_of (next_of fixed agent) first in
     let rest = exchanges fixed (take fixed agent first).agent (events ++ Take word ∷ []) in
     let fit = both_fit one rest fine in
-    subst (IsCaused cause) (append_assoc past one rest)
+    subst (CausedBy cause) (append_assoc past one rest)
     (all_ends (past ++ one) fixed (take fixed agent first).agent events word cause (take_caused past fixed agent first agent.doing (next_of fixed agent) refl refl fit.0 caused) fit.1 ends)
 
 begin_caused : (fixed : Fixed) (agent : Agent) (job : Job) → is_idle agent.doing ≡ true → DoingCaused [] (begin fixed agent job).doing
@@ -511,5 +524,8 @@ begin_caused fixed agent job idle =
         left_caused [] _ (caused_execute [] fixed task (record { suites = []; cache = agent.cache }) are_nil)
     of (Sweep server) = tt
 
-pub ends_are_caused : EndsAreCaused
-ends_are_caused fixed agent job events word cause idle fine ends = all_ends [] fixed (begin fixed agent job) events word cause (begin_caused fixed agent job idle) fine ends
+pub ends_by : (fixed : Fixed) (agent : Agent) (job : Job) (events : List Event) (word : Word) (cause : Cause) → is_idle agent.doing ≡ true
+    → all_fit (of_job fixed agent job (events ++ Take word ∷ [])) ≡ true
+    → (take fixed (after_all fixed (begin fixed agent job) events) word).ending ≡ Some (Undecided cause)
+    → CausedBy cause (of_job fixed agent job (events ++ Take word ∷ []))
+ends_by fixed agent job events word cause idle fine ends = all_ends [] fixed (begin fixed agent job) events word cause (begin_caused fixed agent job idle) fine ends

@@ -1,6 +1,9 @@
 -- A transaction is prepared, decided and told in few steps.
-use Rattle.std.proofs.Common.{◌≡◌, ℕ, zero, suc, ◌+◌, ◌≤◌, Bool, true, false, cond, List, [], ◌∷◌, ◌++◌, Option, Some, None, refl, sym, ap, subst, arith}
-use Rattle.std.specs.Prelude.{◌&&◌, ◌*◌, length, filter, nat_lt}
+use Rattle.std.proofs.Common.{◌≡◌, ℕ, zero, suc, ◌+◌, ◌≤◌, ◌<◌, Bool, true, false, cond, List, [], ◌∷◌, ◌++◌, Option, Some, None, refl, sym, ap, subst, arith}
+use Rattle.std.specs.Prelude.{◌&&◌, ◌==◌, ◌*◌, filter, nat_lt}
+use Rattle.std.proofs.lemmas.Bool.{eqb-true}
+use Rattle.std.proofs.lemmas.Bool.Decides.{nat_tests}
+use Rattle.std.proofs.lemmas.Option.{same_Some}
 use Rattle.acl_core.specs.Identity.{Identity}
 use Rattle.file_ops.specs.declared.operation.Op.{Op}
 use Rattle.suite_collect.specs.Collecting.{Poll, Upgrade, Next, Ask, Current, Short, next}
@@ -19,126 +22,183 @@ use Rattle.txn_core.specs.declared.ending.Cause.TheVariants.{Lost}
 use Rattle.txn_core.specs.declared.ending.Ending.TheVariants.{Undecided}
 use Rattle.txn_core.specs.declared.job.Job.TheVariants.{Transaction}
 use Rattle.txn_core.specs.Doing.{Fixed, Task, Outcome, Phase, Gathering, Fetching, Widening, Preparing, Deciding, Finishing, Course, Doing, Running, Rounding, After, GoesOn, Ends}
-use Rattle.txn_core.specs.Transactions.{numbers_from, tell_end, give_up, prepare, locked_at, after_word, asked_by, asked_for, fetched_at, fetched_for, request_in, verdict_in, ending_by, cause_of_abort, lack_cause}
+use Rattle.txn_core.specs.Transactions.{numbers_from, tell_end, give_up, prepare, locked_at, after_word, asked_by, asked_for, fetched_at, fetched_for, request_in, decision_of, verdict_in, ending_by, cause_of_abort, lack_cause}
 use Rattle.txn_core.specs.Agents.{Agent, Event, Take, Forget, next_in, next_of, left, take_in, take, begin, started, forget, is_idle, has_sense, most_jobs}
-use Rattle.txn_core.specs.Laws.{Exchange, exchange_of, exchanges, count_of, is_late, LateStepsAreFew}
+use Rattle.txn_core.specs.Laws.{Exchange, exchange_of, exchanges, of_job, count_of}
 use Rattle.txn_core.proofs.Mild.{asks_same}
 use Rattle.txn_core.proofs.Walk.{IsEarly, goes_word, goes_execute}
 
-abbrev late : List Exchange → ℕ
-late past = count_of (λ one. is_late one.request) past
+-- a request to prepare or to finish
+abbrev pub tells : Request → Bool
+tells (request.Prepare t parts) = true
+tells (request.Finish t v) = true
+tells _ = false
 
--- how many such steps may follow
-abbrev may_in : Phase → ℕ
-may_in (Preparing servers outcome) = length servers + 17
-may_in (Deciding outcome) = 17
-may_in (Finishing servers v ending) = length servers
-may_in _ = 33
+-- how often a server was asked that
+abbrev pub told_to : ℕ → List Exchange → ℕ
+told_to who past = count_of (λ one. (one.server == who) && tells one.request) past
 
-abbrev may : Option Doing → ℕ
-may (Some (Running course)) = may_in course.phase
-may (Some (Rounding round)) = 0
-may None = 0
+-- how often a server stands in a list
+abbrev times_in : ℕ → List ℕ → ℕ
+times_in who [] = 0
+times_in who (server ∷ servers) = cond (server == who) 1 0 + times_in who servers
 
-abbrev IsFew : After Course → Type 0
-IsFew after = may (left Running after) ≤ 33
+-- how often it may still be asked
+abbrev may_in : ℕ → Phase → ℕ
+may_in who (Preparing servers outcome) = times_in who servers + 1
+may_in who (Deciding outcome) = 1
+may_in who (Finishing servers v ending) = times_in who servers
+may_in who _ = 2
 
-few_numbers : (p : ℕ → Bool) (start count : ℕ) → length (filter p (numbers_from start count)) ≤ count
-few_numbers p start zero = omega arith
-few_numbers p start (suc count) =
-    let rest = few_numbers p (start + 1) count in
-    elim (p start) as (λ b. length (cond b (start ∷ filter p (numbers_from (start + 1) count)) (filter p (numbers_from (start + 1) count))) ≤ suc count) [ true ↦ omega (arith, rest) | false ↦ omega (arith, rest) ]
+abbrev may : ℕ → Option Doing → ℕ
+may who (Some (Running course)) = may_in who course.phase
+may who (Some (Rounding round)) = 0
+may who None = 0
 
-few_locked : (suites : Suites) → length (locked_at suites) ≤ 16
-few_locked suites = few_numbers (has_locks suites) 0 16
+abbrev IsFew : ℕ → After Course → Type 0
+IsFew who after = may who (left Running after) ≤ 2
 
-few_end : (task : Task) (cache : Cache) (suites : Suites) (v : Verdict) (ending : Ending) (servers : List ℕ) → may (left Running (tell_end task cache suites v ending servers).after) ≡ length servers
-few_end task cache suites v ending [] = refl
-few_end task cache suites v ending (server ∷ servers) = refl
+-- a list that rises has each server once
+above : (who : ℕ) (p : ℕ → Bool) (start count : ℕ) → who < start → times_in who (filter p (numbers_from start count)) ≡ 0
+above who p start zero less = omega arith
+above who p start (suc count) less =
+    let rest = above who p (start + 1) count (omega (arith, less)) in
+    elim (p start) as (λ b. times_in who (cond b (start ∷ filter p (numbers_from (start + 1) count)) (filter p (numbers_from (start + 1) count))) ≡ 0) [
+      | true ↦ at (start == who) (grind (arith, nat_tests)) rest
+      | false ↦ rest
+    ]
+  where
+    at : (b : Bool) → b ≡ false → times_in who (filter p (numbers_from (start + 1) count)) ≡ 0 → cond b 1 0 + times_in who (filter p (numbers_from (start + 1) count)) ≡ 0
+    at true is rest = cc
+    at false is rest = omega (arith, rest)
 
-few_finish : (task : Task) (cache : Cache) (suites : Suites) (v : Verdict) (ending : Ending) → may (left Running (tell_end task cache suites v ending (locked_at suites)).after) ≤ 16
-few_finish task cache suites v ending = let same = few_end task cache suites v ending (locked_at suites) in let few = few_locked suites in omega (arith, same, few)
+once : (who : ℕ) (p : ℕ → Bool) (start count : ℕ) → times_in who (filter p (numbers_from start count)) ≤ 1
+once who p start zero = omega arith
+once who p start (suc count) =
+    let rest = once who p (start + 1) count in
+    elim (p start) as (λ b. times_in who (cond b (start ∷ filter p (numbers_from (start + 1) count)) (filter p (numbers_from (start + 1) count))) ≤ 1) [
+      | true ↦ at (start == who) refl rest
+      | false ↦ rest
+    ]
+  where
+    at : (b : Bool) → (start == who) ≡ b → times_in who (filter p (numbers_from (start + 1) count)) ≤ 1 → cond b 1 0 + times_in who (filter p (numbers_from (start + 1) count)) ≤ 1
+    at true same rest = let same' = eqb-true start who same in let none = above who p (start + 1) count (omega (arith, same')) in omega (arith, none)
+    at false other rest = omega (arith, rest)
 
-few_prepare : (task : Task) (cache : Cache) (suites : Suites) (outcome : Outcome) (servers : List ℕ) → may (left Running (prepare task cache suites outcome servers).after) ≤ length servers + 17
-few_prepare task cache suites outcome [] = omega arith
-few_prepare task cache suites outcome (server ∷ servers) = omega arith
+few_locked : (who : ℕ) (suites : Suites) → times_in who (locked_at suites) ≤ 1
+few_locked who suites = once who (has_locks suites) 0 16
 
-few_early : (task : Task) (suites : Suites) (phase : Phase) → IsEarly phase → IsFew (GoesOn (record { task = task; suites = suites; phase = phase }))
-few_early task suites (Gathering number) is = omega arith
-few_early task suites (Fetching number) is = omega arith
-few_early task suites (Widening left granted) is = omega arith
-few_early task suites (Preparing servers outcome) is = absurd is
-few_early task suites (Deciding outcome) is = absurd is
-few_early task suites (Finishing servers v ending) is = absurd is
+few_end : (who : ℕ) (task : Task) (cache : Cache) (suites : Suites) (v : Verdict) (ending : Ending) (servers : List ℕ) → may who (left Running (tell_end task cache suites v ending servers).after) ≡ times_in who servers
+few_end who task cache suites v ending [] = refl
+few_end who task cache suites v ending (server ∷ servers) = refl
 
-few_given_up : (task : Task) (cache : Cache) (suites : Suites) (cause : Cause) → IsFew (give_up task cache suites cause).after
-few_given_up task cache suites cause = let few = few_finish task cache suites verdict.Aborted (Undecided cause) in omega (arith, few)
+few_finish : (who : ℕ) (task : Task) (cache : Cache) (suites : Suites) (v : Verdict) (ending : Ending) → may who (left Running (tell_end task cache suites v ending (locked_at suites)).after) ≤ 1
+few_finish who task cache suites v ending = let same = few_end who task cache suites v ending (locked_at suites) in let few = few_locked who suites in omega (arith, same, few)
 
-few_prepares : (task : Task) (cache : Cache) (suites : Suites) (outcome : Outcome) → IsFew (prepare task cache suites outcome (locked_at suites)).after
-few_prepares task cache suites outcome = let few = few_prepare task cache suites outcome (locked_at suites) in let most = few_locked suites in omega (arith, few, most)
+few_prepare : (who : ℕ) (task : Task) (cache : Cache) (suites : Suites) (outcome : Outcome) (servers : List ℕ) → may who (left Running (prepare task cache suites outcome servers).after) ≤ times_in who servers + 1
+few_prepare who task cache suites outcome [] = omega arith
+few_prepare who task cache suites outcome (server ∷ servers) = omega arith
+
+few_early : (who : ℕ) (task : Task) (suites : Suites) (phase : Phase) → IsEarly phase → IsFew who (GoesOn (record { task = task; suites = suites; phase = phase }))
+few_early who task suites (Gathering number) is = omega arith
+few_early who task suites (Fetching number) is = omega arith
+few_early who task suites (Widening left granted) is = omega arith
+few_early who task suites (Preparing servers outcome) is = absurd is
+few_early who task suites (Deciding outcome) is = absurd is
+few_early who task suites (Finishing servers v ending) is = absurd is
+
+few_given_up : (who : ℕ) (task : Task) (cache : Cache) (suites : Suites) (cause : Cause) → IsFew who (give_up task cache suites cause).after
+few_given_up who task cache suites cause = let few = few_finish who task cache suites verdict.Aborted (Undecided cause) in omega (arith, few)
+
+few_prepares : (who : ℕ) (task : Task) (cache : Cache) (suites : Suites) (outcome : Outcome) → IsFew who (prepare task cache suites outcome (locked_at suites)).after
+few_prepares who task cache suites outcome = let few = few_prepare who task cache suites outcome (locked_at suites) in let most = few_locked who suites in omega (arith, few, most)
 
 -- ---- one word
 
-early_next : (task : Task) (number : ℕ) (next : Next) (server : ℕ) (asked : Request) → asked_by task number next ≡ Some (server, asked) → is_late asked ≡ false
-early_next task number (Ask at (Poll mode)) server asked is = ap is_late (sym (asks_same at server (request.Poll task.t number mode) asked is))
-early_next task number (Ask at Upgrade) server asked is = ap is_late (sym (asks_same at server (request.Upgrade task.t number) asked is))
+early_next : (task : Task) (number : ℕ) (next : Next) (server : ℕ) (asked : Request) → asked_by task number next ≡ Some (server, asked) → tells asked ≡ false
+early_next task number (Ask at (Poll mode)) server asked is = ap tells (sym (asks_same at server (request.Poll task.t number mode) asked is))
+early_next task number (Ask at Upgrade) server asked is = ap tells (sym (asks_same at server (request.Upgrade task.t number) asked is))
 early_next task number (Current prefix dver members) server asked is = cc
 early_next task number (Short had wanting busy) server asked is = cc
 
-early_suite : (task : Task) (number : ℕ) (found : Option Suite) (server : ℕ) (asked : Request) → asked_for task number found ≡ Some (server, asked) → is_late asked ≡ false
+early_suite : (task : Task) (number : ℕ) (found : Option Suite) (server : ℕ) (asked : Request) → asked_for task number found ≡ Some (server, asked) → tells asked ≡ false
 early_suite task number (Some suite) server asked is = early_next task number (next suite.collector) server asked is
 early_suite task number None server asked is = cc
 
-early_first : (task : Task) (number : ℕ) (first : Option First) (server : ℕ) (asked : Request) → fetched_at task number first ≡ Some (server, asked) → is_late asked ≡ false
-early_first task number (Some first) server asked is = ap is_late (sym (asks_same first.source server (request.Fetch task.t number) asked is))
+early_first : (task : Task) (number : ℕ) (first : Option First) (server : ℕ) (asked : Request) → fetched_at task number first ≡ Some (server, asked) → tells asked ≡ false
+early_first task number (Some first) server asked is = ap tells (sym (asks_same first.source server (request.Fetch task.t number) asked is))
 early_first task number None server asked is = cc
 
-early_fetch : (task : Task) (number : ℕ) (found : Option Suite) (server : ℕ) (asked : Request) → fetched_for task number found ≡ Some (server, asked) → is_late asked ≡ false
+early_fetch : (task : Task) (number : ℕ) (found : Option Suite) (server : ℕ) (asked : Request) → fetched_for task number found ≡ Some (server, asked) → tells asked ≡ false
 early_fetch task number (Some suite) server asked is = early_first task number suite.first server asked is
 early_fetch task number None server asked is = cc
 
-abbrev then_may : Fixed → Task → Cache → Suites → Phase → ℕ → Request → Word → ℕ
-then_may fixed task cache suites phase server asked word = may (left Running (after_word fixed (record { task = task; suites = suites; phase = phase }) cache server asked word).after)
+abbrev then_may : ℕ → Fixed → Task → Cache → Suites → Phase → ℕ → Request → Word → ℕ
+then_may who fixed task cache suites phase server asked word = may who (left Running (after_word fixed (record { task = task; suites = suites; phase = phase }) cache server asked word).after)
 
-one_most : (b : Bool) → cond b 1 0 ≤ 1
-one_most true = omega arith
-one_most false = omega arith
+abbrev one_if : Bool → ℕ
+one_if b = cond b 1 0
 
-calm : (fixed : Fixed) (task : Task) (cache : Cache) (suites : Suites) (phase : Phase) (server : ℕ) (asked : Request) (word : Word) → IsEarly phase → is_late asked ≡ false → cond (is_late asked) 1 0 + then_may fixed task cache suites phase server asked word ≤ 33
-calm fixed task cache suites phase server asked word is other =
-    subst (λ b. cond b 1 0 + then_may fixed task cache suites phase server asked word ≤ 33) (sym other)
-    (let few = goes_word IsFew few_early few_given_up few_prepares fixed task cache suites phase server asked word is in omega (arith, few))
+abbrev now_told : ℕ → ℕ → Request → ℕ
+now_told who server asked = one_if ((server == who) && tells asked)
 
-few_word : (fixed : Fixed) (task : Task) (cache : Cache) (suites : Suites) (phase : Phase) (server : ℕ) (asked : Request) (word : Word) → request_in fixed task suites phase ≡ Some (server, asked)
-    → cond (is_late asked) 1 0 + then_may fixed task cache suites phase server asked word ≤ may_in phase
-few_word fixed task cache suites (Gathering number) server asked word is = calm fixed task cache suites (Gathering number) server asked word tt (early_suite task number (suite_of suites number) server asked is)
-few_word fixed task cache suites (Fetching number) server asked word is = calm fixed task cache suites (Fetching number) server asked word tt (early_fetch task number (suite_of suites number) server asked is)
-few_word fixed task cache suites (Widening [] granted) server asked word is = cc
-few_word fixed task cache suites (Widening (number ∷ left) granted) server asked word is = calm fixed task cache suites (Widening (number ∷ left) granted) server asked word tt (early_suite task number (suite_of suites number) server asked is)
-few_word fixed task cache suites (Preparing [] outcome) server asked word is = cc
-few_word fixed task cache suites (Preparing (now ∷ servers) outcome) server asked word is = let one = one_most (is_late asked) in let rest = of word in omega (arith, one, rest)
+none_now : (who server : ℕ) (asked : Request) → tells asked ≡ false → now_told who server asked ≡ 0
+none_now who server asked none = of (server == who) (tells asked) none
   where
-    of : (word : Word) → then_may fixed task cache suites (Preparing (now ∷ servers) outcome) server asked word ≤ length servers + 17
-    of (Lacked lacked) = let few = few_finish task cache suites verdict.Aborted (Undecided (lack_cause server lacked)) in omega (arith, few)
-    of (Replied said) = elim (is_prepared said) as (λ b. may (left Running (cond b (prepare task cache suites outcome servers) (give_up task cache suites (Lost server))).after) ≤ length servers + 17) [
-      | true ↦ few_prepare task cache suites outcome servers
-      | false ↦ let few = few_finish task cache suites verdict.Aborted (Undecided (Lost server)) in omega (arith, few)
+    of : (a b : Bool) → b ≡ false → one_if (a && b) ≡ 0
+    of true false is = refl
+    of false b is = refl
+    of true true is = cc
+
+here_now : (who server now : ℕ) (asked : Request) → now ≡ server → now_told who server asked ≤ cond (now == who) 1 0
+here_now who server now asked same = subst (λ at. now_told who server asked ≤ cond (at == who) 1 0) (sym same) (of (server == who) (tells asked))
+  where
+    of : (a b : Bool) → cond (a && b) 1 0 ≤ cond a 1 0
+    of true true = omega arith
+    of true false = omega arith
+    of false b = omega arith
+
+at_server : (now server : ℕ) (question asked : Request) → ◌≡◌ {A = Option (ℕ × Request)} (Some (now, question)) (Some (server, asked)) → now ≡ server
+at_server now server question asked is = ap (λ (pair : ℕ × Request). pair.0) (same_Some (now, question) (server, asked) is)
+
+calm : (who : ℕ) (fixed : Fixed) (task : Task) (cache : Cache) (suites : Suites) (phase : Phase) (server : ℕ) (asked : Request) (word : Word) → IsEarly phase → tells asked ≡ false → now_told who server asked + then_may who fixed task cache suites phase server asked word ≤ 2
+calm who fixed task cache suites phase server asked word is other =
+    let none = none_now who server asked other in
+    let few = goes_word (IsFew who) (few_early who) (few_given_up who) (few_prepares who) fixed task cache suites phase server asked word is in omega (arith, none, few)
+
+few_word : (who : ℕ) (fixed : Fixed) (task : Task) (cache : Cache) (suites : Suites) (phase : Phase) (server : ℕ) (asked : Request) (word : Word) → request_in fixed task suites phase ≡ Some (server, asked)
+    → now_told who server asked + then_may who fixed task cache suites phase server asked word ≤ may_in who phase
+few_word who fixed task cache suites (Gathering number) server asked word is = calm who fixed task cache suites (Gathering number) server asked word tt (early_suite task number (suite_of suites number) server asked is)
+few_word who fixed task cache suites (Fetching number) server asked word is = calm who fixed task cache suites (Fetching number) server asked word tt (early_fetch task number (suite_of suites number) server asked is)
+few_word who fixed task cache suites (Widening [] granted) server asked word is = cc
+few_word who fixed task cache suites (Widening (number ∷ left) granted) server asked word is = calm who fixed task cache suites (Widening (number ∷ left) granted) server asked word tt (early_suite task number (suite_of suites number) server asked is)
+few_word who fixed task cache suites (Preparing [] outcome) server asked word is = cc
+few_word who fixed task cache suites (Preparing (now ∷ servers) outcome) server asked word is =
+    let one = here_now who server now asked (at_server now server _ asked is) in let rest = of word in omega (arith, one, rest)
+  where
+    of : (word : Word) → then_may who fixed task cache suites (Preparing (now ∷ servers) outcome) server asked word ≤ times_in who servers + 1
+    of (Lacked lacked) = let few = few_finish who task cache suites verdict.Aborted (Undecided (lack_cause server lacked)) in omega (arith, few)
+    of (Replied said) = elim (is_prepared said) as (λ b. may who (left Running (cond b (prepare task cache suites outcome servers) (give_up task cache suites (Lost server))).after) ≤ times_in who servers + 1) [
+      | true ↦ few_prepare who task cache suites outcome servers
+      | false ↦ let few = few_finish who task cache suites verdict.Aborted (Undecided (Lost server)) in omega (arith, few)
     ]
-few_word fixed task cache suites (Deciding outcome) server asked word is = let one = one_most (is_late asked) in let rest = of word in omega (arith, one, rest)
+few_word who fixed task cache suites (Deciding outcome) server asked word is =
+    let none = none_now who server asked (ap tells (sym (asks_same _ server (request.Decide task.t (decision_of task outcome)) asked is))) in let rest = of word in omega (arith, none, rest)
   where
-    of : (word : Word) → then_may fixed task cache suites (Deciding outcome) server asked word ≤ 16
-    of (Lacked lacked) = few_finish task cache suites verdict.Aborted (Undecided (lack_cause server lacked))
-    of (Replied said) = few_finish task cache suites (verdict_in said verdict.Aborted) (ending_by (verdict_in said verdict.Aborted) (cause_of_abort said))
-few_word fixed task cache suites (Finishing [] v ending) server asked word is = cc
-few_word fixed task cache suites (Finishing (now ∷ servers) v ending) server asked word is = let one = one_most (is_late asked) in let rest = of word in omega (arith, one, rest)
+    of : (word : Word) → then_may who fixed task cache suites (Deciding outcome) server asked word ≤ 1
+    of (Lacked lacked) = few_finish who task cache suites verdict.Aborted (Undecided (lack_cause server lacked))
+    of (Replied said) = few_finish who task cache suites (verdict_in said verdict.Aborted) (ending_by (verdict_in said verdict.Aborted) (cause_of_abort said))
+few_word who fixed task cache suites (Finishing [] v ending) server asked word is = cc
+few_word who fixed task cache suites (Finishing (now ∷ servers) v ending) server asked word is =
+    let one = here_now who server now asked (at_server now server _ asked is) in let rest = of word in omega (arith, one, rest)
   where
-    of : (word : Word) → then_may fixed task cache suites (Finishing (now ∷ servers) v ending) server asked word ≡ length servers
-    of (Lacked lacked) = few_end task cache suites v ending servers
-    of (Replied said) = few_end task cache suites v ending servers
+    of : (word : Word) → then_may who fixed task cache suites (Finishing (now ∷ servers) v ending) server asked word ≡ times_in who servers
+    of (Lacked lacked) = few_end who task cache suites v ending servers
+    of (Replied said) = few_end who task cache suites v ending servers
 
 -- ---- all words
 
-abbrev IsNoRound : Option Doing → Type 0
+abbrev pub IsNoRound : Option Doing → Type 0
 IsNoRound (Some (Running course)) = Unit {0}
 IsNoRound (Some (Rounding round)) = ⊥
 IsNoRound None = Unit {0}
@@ -147,51 +207,55 @@ no_round : (after : After Course) → IsNoRound (left Running after)
 no_round (GoesOn course) = tt
 no_round (Ends ending) = tt
 
-take_no_round : (fixed : Fixed) (agent : Agent) (word : Word) (doing : Option Doing) (asked : Option (ℕ × Request)) → agent.doing ≡ doing → IsNoRound doing → IsNoRound (take_in fixed agent word doing asked).agent.doing
+pub take_no_round : (fixed : Fixed) (agent : Agent) (word : Word) (doing : Option Doing) (asked : Option (ℕ × Request)) → agent.doing ≡ doing → IsNoRound doing → IsNoRound (take_in fixed agent word doing asked).agent.doing
 take_no_round fixed agent word (Some (Running running)) (Some asked) was none = no_round (after_word fixed running agent.cache asked.0 asked.1 word).after
 take_no_round fixed agent word (Some (Running running)) None was none = subst IsNoRound (sym was) tt
 take_no_round fixed agent word (Some (Rounding round)) asked was none = absurd none
 take_no_round fixed agent word None (Some asked) was none = subst IsNoRound (sym was) tt
 take_no_round fixed agent word None None was none = subst IsNoRound (sym was) tt
 
-take_few : (fixed : Fixed) (agent : Agent) (word : Word) (doing : Option Doing) (asked : Option (ℕ × Request)) → agent.doing ≡ doing → next_in fixed doing ≡ asked → IsNoRound doing
-    → late (exchange_of asked word) + may (take_in fixed agent word doing asked).agent.doing ≤ may doing
-take_few fixed agent word (Some (Running running)) (Some asked) was is none = let one = few_word fixed running.task agent.cache running.suites running.phase asked.0 asked.1 word is in omega (arith, one)
-take_few fixed agent word (Some (Running running)) None was is none = let same = ap may was in omega (arith, same)
-take_few fixed agent word (Some (Rounding round)) asked was is none = absurd none
-take_few fixed agent word None (Some asked) was is none = cc
-take_few fixed agent word None None was is none = let same = ap may was in omega (arith, same)
+take_few : (who : ℕ) (fixed : Fixed) (agent : Agent) (word : Word) (doing : Option Doing) (asked : Option (ℕ × Request)) → agent.doing ≡ doing → next_in fixed doing ≡ asked → IsNoRound doing
+    → told_to who (exchange_of asked word) + may who (take_in fixed agent word doing asked).agent.doing ≤ may who doing
+take_few who fixed agent word (Some (Running running)) (Some asked) was is none = let one = few_word who fixed running.task agent.cache running.suites running.phase asked.0 asked.1 word is in omega (arith, one)
+take_few who fixed agent word (Some (Running running)) None was is none = let same = ap (may who) was in omega (arith, same)
+take_few who fixed agent word (Some (Rounding round)) asked was is none = absurd none
+take_few who fixed agent word None (Some asked) was is none = cc
+take_few who fixed agent word None None was is none = let same = ap (may who) was in omega (arith, same)
 
-late-append : (past later : List Exchange) → late (past ++ later) ≡ late past + late later
-late-append [] later = omega arith
-late-append (one ∷ past) later = let rest = late-append past later in omega (arith, rest)
+told-append : (who : ℕ) (past later : List Exchange) → told_to who (past ++ later) ≡ told_to who past + told_to who later
+told-append who [] later = omega arith
+told-append who (one ∷ past) later = let rest = told-append who past later in omega (arith, rest)
 
-all_few : (fixed : Fixed) (agent : Agent) (events : List Event) → IsNoRound agent.doing → late (exchanges fixed agent events) ≤ may agent.doing
-all_few fixed agent [] none = omega arith
-all_few fixed agent (Forget site ∷ events) none = all_few fixed (forget agent site) events none
-all_few fixed agent (Take word ∷ events) none =
-    let rest = all_few fixed (take fixed agent word).agent events (take_no_round fixed agent word agent.doing (next_of fixed agent) refl none) in
-    let one = take_few fixed agent word agent.doing (next_of fixed agent) refl refl none in
-    let sum = late-append (exchange_of (next_of fixed agent) word) (exchanges fixed (take fixed agent word).agent events) in
+all_few : (who : ℕ) (fixed : Fixed) (agent : Agent) (events : List Event) → IsNoRound agent.doing → told_to who (exchanges fixed agent events) ≤ may who agent.doing
+all_few who fixed agent [] none = omega arith
+all_few who fixed agent (Forget site ∷ events) none = all_few who fixed (forget agent site) events none
+all_few who fixed agent (Take word ∷ events) none =
+    let rest = all_few who fixed (take fixed agent word).agent events (take_no_round fixed agent word agent.doing (next_of fixed agent) refl none) in
+    let one = take_few who fixed agent word agent.doing (next_of fixed agent) refl refl none in
+    let sum = told-append who (exchange_of (next_of fixed agent) word) (exchanges fixed (take fixed agent word).agent events) in
     omega (arith, rest, one, sum)
 
-begin_few : (fixed : Fixed) (agent : Agent) (caller : Identity) (site : ℕ) (ops : List Op) → is_idle agent.doing ≡ true
-    → IsNoRound (begin fixed agent (Transaction caller site ops)).doing × (may (begin fixed agent (Transaction caller site ops)).doing ≤ 33)
-begin_few fixed agent caller site ops idle =
+begin_few : (who : ℕ) (fixed : Fixed) (agent : Agent) (caller : Identity) (site : ℕ) (ops : List Op) → is_idle agent.doing ≡ true
+    → IsNoRound (begin fixed agent (Transaction caller site ops)).doing × (may who (begin fixed agent (Transaction caller site ops)).doing ≤ 2)
+begin_few who fixed agent caller site ops idle =
     elim (is_idle agent.doing && has_sense fixed (Transaction caller site ops) && nat_lt agent.count most_jobs) as (λ b.
     IsNoRound (cond b (record (started fixed agent (Transaction caller site ops)) { count = agent.count + 1 }) agent).doing
-    × (may (cond b (record (started fixed agent (Transaction caller site ops)) { count = agent.count + 1 }) agent).doing ≤ 33)) [
-      | true ↦ (no_round _, goes_execute IsFew few_early few_given_up few_prepares fixed (record { t = 64 * agent.count + agent.index; caller = caller; site = site; ops = ops }) (record { suites = []; cache = agent.cache }))
+    × (may who (cond b (record (started fixed agent (Transaction caller site ops)) { count = agent.count + 1 }) agent).doing ≤ 2)) [
+      | true ↦ (no_round _, goes_execute (IsFew who) (few_early who) (few_given_up who) (few_prepares who) fixed (record { t = 64 * agent.count + agent.index; caller = caller; site = site; ops = ops }) (record { suites = []; cache = agent.cache }))
       | false ↦ at agent.doing idle
     ]
   where
-    at : (doing : Option Doing) → is_idle doing ≡ true → IsNoRound doing × (may doing ≤ 33)
+    at : (doing : Option Doing) → is_idle doing ≡ true → IsNoRound doing × (may who doing ≤ 2)
     at None idle = (tt, omega arith)
     at (Some doing) idle = cc
 
-pub late_steps_are_few : LateStepsAreFew
-late_steps_are_few fixed agent caller site ops events idle =
-    let began = begin_few fixed agent caller site ops idle in
-    let all = all_few fixed (begin fixed agent (Transaction caller site ops)) events began.0 in
+pub began_no_round : (fixed : Fixed) (agent : Agent) (caller : Identity) (site : ℕ) (ops : List Op) → is_idle agent.doing ≡ true → IsNoRound (begin fixed agent (Transaction caller site ops)).doing
+began_no_round fixed agent caller site ops idle = (begin_few 0 fixed agent caller site ops idle).0
+
+-- each server is asked to prepare and to finish once at most
+pub tellings_are_few : (fixed : Fixed) (agent : Agent) (caller : Identity) (site : ℕ) (ops : List Op) (events : List Event) (who : ℕ) → is_idle agent.doing ≡ true → told_to who (of_job fixed agent (Transaction caller site ops) events) ≤ 2
+tellings_are_few fixed agent caller site ops events who idle =
+    let began = begin_few who fixed agent caller site ops idle in
+    let all = all_few who fixed (begin fixed agent (Transaction caller site ops)) events began.0 in
     let most = began.1 in
     omega (arith, all, most)

@@ -1,8 +1,9 @@
 -- What an agent keeps of locks is what it heard.
 use Rattle.std.proofs.Common.{◌≡◌, ℕ, zero, suc, ◌+◌, Bool, true, false, cond, List, [], ◌∷◌, ◌++◌, Option, Some, None, Ok, Err, refl, sym, ap, subst, ◌∙◌, arith}
 use Rattle.std.specs.Prelude.{◌==◌, ◌&&◌, ◌||◌, length, map, filter, nat_lt, ◌*◌}
-use Rattle.std.specs.List.{list_any}
+use Rattle.std.specs.List.{list_any, AllByRecursion}
 use Rattle.std.specs.Ordering.{nat_cmp}
+use Rattle.std.specs.declared.cmp.Ordering.TheVariants.{Less}
 use Rattle.std.specs.BTreeMap.{is_at}
 use Rattle.std.specs.Cmp.{unsigned_tied}
 use Rattle.std.specs.Map.{keys_of}
@@ -17,8 +18,6 @@ use Rattle.std.proofs.lemmas.Map.Keys.{IsDistinct-from_sorted, sorted_tail}
 use Rattle.sorted_map.specs.SortedMap.{IsOrdered}
 use Rattle.sorted_map.specs.Laws.{get-insert, IsOrdered-insert}
 use Rattle.suite_content.specs.declared.content.Content.{Content}
-use Rattle.file_ops.specs.declared.answer.Answer.{Answer}
-use Rattle.file_ops.specs.declared.refusal.Refusal.{Refusal}
 use Rattle.suite_prefix.specs.declared.lock_mode.LockMode.{LockMode}
 use Rattle.suite_prefix.specs.declared.lock_mode.LockMode.TheVariants.{Shared, Exclusive}
 use Rattle.rep_core.specs.declared.request.Request.{Request}
@@ -27,7 +26,7 @@ use Rattle.rep_core.specs.declared.reply.Verdict.{Verdict}
 use Rattle.rep_core.specs.declared.reply.Reply.{Reply}
 use Rattle.rep_core.specs.declared.reply.Reply.TheVariants as reply
 use Rattle.suite_prefix.specs.LockModes.{serves}
-use Rattle.txn_core.specs.Laws.{Exchange, exchange_of, exchanges, of_job, locks, says_held, is_prepare, was_held, PrepareListsTheLocks}
+use Rattle.txn_core.specs.Laws.{Exchange, exchange_of, exchanges, of_job, locks, says_held, is_prepare, was_held, PrepareListsTheLocks, APrepareRises}
 use Rattle.txn_core.specs.Agents as agents
 use Rattle.txn_core.specs.Agents.{Agent, Event, Take, Forget, next_in, next_of, take_in, take, begin, started, forget, is_idle, has_sense, most_jobs, after_all}
 use Rattle.txn_core.specs.Sweeps as sweep
@@ -544,37 +543,45 @@ parts_in _ = []
 no_prepare : {P : Type 0} (a b t : ℕ) (asked : Request) (parts : List Part) → is_prepare asked ≡ false → ◌≡◌ {A = Option (ℕ × Request)} (Some (a, asked)) (Some (b, request.Prepare t parts)) → P
 no_prepare a b t asked parts other is = absurd (false≢true (sym other ∙ ap is_prepare (asks_same a b asked (request.Prepare t parts) is)))
 
-prepare_lists : (held : ℕ → ℕ → Bool) (fixed : Fixed) (doing : Option Doing) (server t number : ℕ) (parts : List Part) → Keeps held doing → next_in fixed doing ≡ Some (server, request.Prepare t parts)
-    → list_any (λ part. part.suite == number) parts ≡ held number server
-prepare_lists held fixed None server t number parts keeps is = cc
-prepare_lists held fixed (Some (Rounding round)) server t number parts keeps is = of round.now is
+-- a Prepare is of the locks that were heard to be held
+record IsPrepare (held : ℕ → ℕ → Bool) (server : ℕ) (list : List Part) : Type 0 where
+  suites : Suites
+  changes : Changes
+  ordered : IsOrdered nat_cmp suites
+  told : (number who : ℕ) → holds Shared (told_at suites number) who ≡ held number who
+  parts : parts_at suites changes server ≡ list
+
+prepare_is : (held : ℕ → ℕ → Bool) (fixed : Fixed) (doing : Option Doing) (server t : ℕ) (parts : List Part) → Keeps held doing → next_in fixed doing ≡ Some (server, request.Prepare t parts)
+    → IsPrepare held server parts
+prepare_is held fixed None server t parts keeps is = cc
+prepare_is held fixed (Some (Rounding round)) server t parts keeps is = of round.now is
   where
-    of : (now : Sweeping) → ◌≡◌ {A = Option (ℕ × Request)} (Some (sweep.asked_now fixed.service round now)) (Some (server, request.Prepare t parts)) → list_any (λ part. part.suite == number) parts ≡ held number server
+    of : (now : Sweeping) → ◌≡◌ {A = Option (ℕ × Request)} (Some (sweep.asked_now fixed.service round now)) (Some (server, request.Prepare t parts)) → IsPrepare held server parts
     of Listing is = no_prepare _ server t request.Locks parts refl is
     of (Resolving other left) is = no_prepare _ server t (request.Resolve other) parts refl is
     of (Telling other v left) is = no_prepare _ server t (request.Finish other v) parts refl is
     of (Breaking lock left) is = no_prepare _ server t (request.Break lock.t lock.suite) parts refl is
-prepare_lists held fixed (Some (Running course)) server t number parts keeps is = of course.phase is
+prepare_is held fixed (Some (Running course)) server t parts keeps is = of course.phase is
   where
-    by_next : (who : ℕ) (after : Next) → asked_by course.task who after ≡ Some (server, request.Prepare t parts) → list_any (λ part. part.suite == number) parts ≡ held number server
+    by_next : (who : ℕ) (after : Next) → asked_by course.task who after ≡ Some (server, request.Prepare t parts) → IsPrepare held server parts
     by_next who (Ask at (Poll mode)) is = no_prepare at server t (request.Poll course.task.t who mode) parts refl is
     by_next who (Ask at Upgrade) is = no_prepare at server t (request.Upgrade course.task.t who) parts refl is
     by_next who (Current prefix dver members) is = cc
     by_next who (Short had wanting busy) is = cc
 
-    by_suite : (who : ℕ) (found : Option Suite) → asked_for course.task who found ≡ Some (server, request.Prepare t parts) → list_any (λ part. part.suite == number) parts ≡ held number server
+    by_suite : (who : ℕ) (found : Option Suite) → asked_for course.task who found ≡ Some (server, request.Prepare t parts) → IsPrepare held server parts
     by_suite who (Some suite) is = by_next who (next suite.collector) is
     by_suite who None is = cc
 
-    by_first : (who : ℕ) (first : Option First) → fetched_at course.task who first ≡ Some (server, request.Prepare t parts) → list_any (λ part. part.suite == number) parts ≡ held number server
+    by_first : (who : ℕ) (first : Option First) → fetched_at course.task who first ≡ Some (server, request.Prepare t parts) → IsPrepare held server parts
     by_first who (Some first) is = no_prepare first.source server t (request.Fetch course.task.t who) parts refl is
     by_first who None is = cc
 
-    by_fetch : (who : ℕ) (found : Option Suite) → fetched_for course.task who found ≡ Some (server, request.Prepare t parts) → list_any (λ part. part.suite == number) parts ≡ held number server
+    by_fetch : (who : ℕ) (found : Option Suite) → fetched_for course.task who found ≡ Some (server, request.Prepare t parts) → IsPrepare held server parts
     by_fetch who (Some suite) is = by_first who suite.first is
     by_fetch who None is = cc
 
-    of : (phase : Phase) → request_in fixed course.task course.suites phase ≡ Some (server, request.Prepare t parts) → list_any (λ part. part.suite == number) parts ≡ held number server
+    of : (phase : Phase) → request_in fixed course.task course.suites phase ≡ Some (server, request.Prepare t parts) → IsPrepare held server parts
     of (Gathering who) is = by_suite who (suite_of course.suites who) is
     of (Fetching who) is = by_fetch who (suite_of course.suites who) is
     of (Widening [] granted) is = cc
@@ -583,12 +590,44 @@ prepare_lists held fixed (Some (Running course)) server t number parts keeps is 
     of (Preparing (now ∷ left) outcome) is =
         let at : now ≡ server = ap (λ (pair : ℕ × Request). pair.0) (same_Some (now, request.Prepare course.task.t (parts_at course.suites (changes_of outcome) now)) (server, request.Prepare t parts) is) in
         let same : parts_at course.suites (changes_of outcome) now ≡ parts = ap parts_in (asks_same now server (request.Prepare course.task.t (parts_at course.suites (changes_of outcome) now)) (request.Prepare t parts) is) in
-        ap (list_any (λ part. part.suite == number)) (sym same) ∙ listed (changes_of outcome) now number course.suites keeps.0 ∙ keeps.1 number now ∙ ap (held number) at
+        record { suites = course.suites; changes = changes_of outcome; ordered = keeps.0; told = keeps.1; parts = ap (parts_at course.suites (changes_of outcome)) (sym at) ∙ same }
     of (Deciding outcome) is = no_prepare (home_of fixed.service course.task.t) server t (request.Decide course.task.t (decision_of course.task outcome)) parts refl is
     of (Finishing [] v ending) is = cc
     of (Finishing (now ∷ left) v ending) is = no_prepare now server t (request.Finish course.task.t v) parts refl is
 
+prepare_there : (fixed : Fixed) (agent : Agent) (job : Job) (events : List Event) (server t : ℕ) (parts : List Part) → is_idle agent.doing ≡ true
+    → next_of fixed (after_all fixed (begin fixed agent job) events) ≡ Some (server, request.Prepare t parts) → IsPrepare (plus_all nothing_held (of_job fixed agent job events)) server parts
+prepare_there fixed agent job events server t parts idle is =
+    prepare_is (plus_all nothing_held (of_job fixed agent job events)) fixed (after_all fixed (begin fixed agent job) events).doing server t parts
+    (all_keep nothing_held fixed (begin fixed agent job) events (begin_keeps fixed agent job idle)) is
+
 pub prepare_lists_the_locks : PrepareListsTheLocks
 prepare_lists_the_locks fixed agent job events server t suite parts idle is =
-    prepare_lists (plus_all nothing_held (of_job fixed agent job events)) fixed (after_all fixed (begin fixed agent job) events).doing server t suite parts
-    (all_keep nothing_held fixed (begin fixed agent job) events (begin_keeps fixed agent job idle)) is
+    let prepare = prepare_there fixed agent job events server t parts idle is in
+    ap (list_any (λ part. part.suite == suite)) (sym prepare.parts) ∙ listed prepare.changes server suite prepare.suites prepare.ordered ∙ prepare.told suite server
+
+-- ---- the suites of a Prepare rise
+
+all_above : (k : ℕ) (changes : Changes) (server : ℕ) (suites : Suites) → AllByRecursion (λ y. nat_cmp k y ≡ Less) (keys_of suites) → AllByRecursion (λ y. nat_cmp k y ≡ Less) (map (λ part. part.suite) (parts_at suites changes server))
+all_above k changes server [] above = tt
+all_above k changes server (e ∷ es) above =
+    let rest = all_above k changes server es above.1 in
+    elim (holds_lock e.1 server) as (λ b. AllByRecursion (λ y. nat_cmp k y ≡ Less) (map (λ part. part.suite) (map (part_of changes server) (cond b (e ∷ filter (λ one. holds_lock one.1 server) es) (filter (λ one. holds_lock one.1 server) es))))) [
+      | true ↦ (above.0, rest)
+      | false ↦ rest
+    ]
+
+parts_rise : (changes : Changes) (server : ℕ) (suites : Suites) → IsOrdered nat_cmp suites → IsStrictlySortedBy nat_cmp (map (λ part. part.suite) (parts_at suites changes server))
+unfolding IsStrictlySortedBy
+parts_rise changes server [] ordered = tt
+parts_rise changes server (e ∷ es) ordered =
+    let rest = parts_rise changes server es ordered.1 in
+    elim (holds_lock e.1 server) as (λ b. IsStrictlySortedBy nat_cmp (map (λ part. part.suite) (map (part_of changes server) (cond b (e ∷ filter (λ one. holds_lock one.1 server) es) (filter (λ one. holds_lock one.1 server) es))))) [
+      | true ↦ (all_above e.0 changes server es ordered.0, rest)
+      | false ↦ rest
+    ]
+
+pub a_prepare_rises : APrepareRises
+a_prepare_rises fixed agent job events server t parts idle is =
+    let prepare = prepare_there fixed agent job events server t parts idle is in
+    subst (λ parts. IsStrictlySortedBy nat_cmp (map (λ part. part.suite) parts)) prepare.parts (parts_rise prepare.changes server prepare.suites prepare.ordered)

@@ -9,8 +9,6 @@ use Rattle.txn_core.specs.Sweeps as sweep
 use Rattle.txn_core.specs.Writing.{parts_at}
 use Rattle.rep_core.specs.declared.stamped.Lack.{Lack}
 use Rattle.suite_content.specs.declared.content.Content.{Content}
-use Rattle.file_ops.specs.declared.answer.Answer.{Answer}
-use Rattle.file_ops.specs.declared.refusal.Refusal.{Refusal}
 use Rattle.rep_core.specs.declared.request.Request.{Request}
 use Rattle.rep_core.specs.declared.reply.Verdict.{Verdict}
 use Rattle.rep_core.specs.declared.reply.Verdict.TheVariants as verdict

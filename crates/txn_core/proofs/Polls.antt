@@ -1,5 +1,5 @@
 -- Whom a transaction polled it does not poll again.
-use Rattle.std.proofs.Common.{◌≡◌, ℕ, ◌+◌, Bool, true, false, cond, ◌⊎◌, inl, inr, List, [], ◌∷◌, ◌++◌, Option, Some, None, refl, sym, ap, subst, ◌∙◌}
+use Rattle.std.proofs.Common.{◌≡◌, ℕ, ◌+◌, ◌≤◌, Bool, true, false, cond, ◌⊎◌, inl, inr, List, [], ◌∷◌, ◌++◌, Option, Some, None, refl, sym, ap, subst, ◌∙◌, arith}
 use Rattle.std.specs.Prelude.{◌==◌, ◌&&◌, ◌||◌, nat_lt, ◌*◌}
 use Rattle.std.specs.Ordering.{nat_cmp}
 use Rattle.std.proofs.lemmas.Bool.{eqb-true, false≢true}
@@ -9,14 +9,14 @@ use Rattle.suite_prefix.specs.declared.lock_mode.LockMode.{LockMode}
 use Rattle.rep_core.specs.declared.request.Request.{Request}
 use Rattle.rep_core.specs.declared.request.Request.TheVariants as request
 use Rattle.rep_core.specs.declared.reply.Reply.{Reply}
-use Rattle.txn_core.specs.Laws.{Exchange, exchange_of, exchanges, of_job, locks, was_asked, NobodyIsPolledTwice}
+use Rattle.txn_core.specs.Laws.{Exchange, exchange_of, exchanges, of_job, locks, was_asked, count_of, NobodyIsPolledTwice}
 use Rattle.txn_core.specs.Agents as agents
 use Rattle.txn_core.specs.Agents.{Agent, Event, Take, Forget, next_in, next_of, take_in, take, begin, started, forget, is_idle, has_sense, most_jobs, after_all}
 use Rattle.txn_core.specs.Sweeps as sweep
 use Rattle.suite_collect.specs.declared.told.Told.{Told}
 use Rattle.suite_collect.specs.declared.told.Said.{Said}
 use Rattle.suite_collect.specs.Telling.{has_told}
-use Rattle.suite_collect.specs.Collecting.{all_told, tell, mode_of, Poll, Upgrade, Next, Ask, Current, Short, next}
+use Rattle.suite_collect.specs.Collecting.{Collector, all_told, tell, mode_of, request_for, mode_asked, Asked, Poll, Upgrade, Next, Ask, Current, Short, next}
 use Rattle.weak_cache.specs.Entries.{Cache}
 use Rattle.txn_core.specs.Suites.{First, Suite, Suites, suite_of, with_suite}
 use Rattle.txn_core.specs.declared.word.Word.{Word}
@@ -29,178 +29,292 @@ use Rattle.txn_core.specs.Transactions.{Step, locked_at, heard_of, is_poll, said
 use Rattle.txn_core.specs.Writing.{parts_at}
 use Rattle.txn_core.proofs.Mild.{asks_same}
 use Rattle.suite_collect.proofs.Collected.{nobody_is_asked_twice}
+use Rattle.suite_collect.proofs.Fewness.{times, Few, few_more, never}
+use Rattle.suite_collect.specs.declared.told.Said.TheVariants.{Down}
 use Rattle.txn_core.proofs.Over.{IsOver, LeftOver, over_end, over_give_up, over_lack, stays_over}
-use Rattle.txn_core.proofs.Locks.{told_at, told_in, Are, Leaves, told_with, leaves_collected, leaves_execute, leaves_widen, leaves_fetched, leaves_prepared, asks_lock, are_nil, all_told-tell, or_false, or_or}
+use Rattle.txn_core.proofs.Locks.{told_at, told_in, Are, Leaves, told_with, leaves_collected, leaves_execute, leaves_widen, leaves_fetched, leaves_prepared, asks_lock, are_nil, all_told-tell}
 use Rattle.rep_core.specs.declared.reply.Verdict.TheVariants as verdict
 
--- ---- who was asked
+-- ---- who was asked, and how often
 
-abbrev any : Told → Bool
-any one = true
+-- of these suites these servers were asked so often
+abbrev Asked' : (ℕ → ℕ → ℕ) → (ℕ → List Told) → Type 0
+Asked' asked told = (number who : ℕ) → times who (told number) ≡ asked number who
 
--- of these suites these servers were asked
-abbrev Asked' : (ℕ → ℕ → Bool) → (ℕ → List Told) → Type 0
-Asked' asked told = (number who : ℕ) → has_told any (told number) who ≡ asked number who
+abbrev AllFew : (ℕ → List Told) → Type 0
+AllFew told = (number : ℕ) → Few (told number)
 
-abbrev adds : ℕ → Request → ℕ → ℕ → Bool
-adds server asked number who = (server == who) && locks number asked
+-- none more than twice
+abbrev pub Bounded : (ℕ → ℕ → ℕ) → Type 0
+Bounded asked = (number who : ℕ) → asked number who ≤ 2
 
-abbrev plus : (ℕ → ℕ → Bool) → ℕ → Request → ℕ → ℕ → Bool
-plus before server asked number who = before number who || adds server asked number who
+abbrev adds : ℕ → Request → ℕ → ℕ → ℕ
+adds server asked number who = cond ((server == who) && locks number asked) 1 0
 
-record Knows (before : ℕ → ℕ → Bool) (after : After Course) : Type 0 where
+abbrev plus : (ℕ → ℕ → ℕ) → ℕ → Request → ℕ → ℕ → ℕ
+plus before server asked number who = before number who + adds server asked number who
+
+record Knows (before : ℕ → ℕ → ℕ) (after : After Course) : Type 0 where
   told : ℕ → List Told
   leaves : Leaves told after
   agree : Asked' before told
+  few : AllFew told
 
 -- it is over, or it knows whom it asked
-abbrev LeftWith : (ℕ → ℕ → Bool) → After Course → Type 0
-LeftWith before after = LeftOver after ⊎ Knows before after
+abbrev LeftWith : (ℕ → ℕ → ℕ) → After Course → Type 0
+LeftWith before after = (LeftOver after × Bounded before) ⊎ Knows before after
 
-and_false : (a : Bool) → (a && false) ≡ false
-and_false true = refl
-and_false false = refl
+bounded_by : (before : ℕ → ℕ → ℕ) (told : ℕ → List Told) → Asked' before told → AllFew told → Bounded before
+bounded_by before told agree few number who = let same = agree number who in let bound = (few number who).0 in omega (arith, same, bound)
 
-quiet : (before : ℕ → ℕ → Bool) (told : ℕ → List Told) (server : ℕ) (asked : Request) (after : After Course) → Asked' before told → ((number : ℕ) → locks number asked ≡ false) → Leaves told after → LeftWith (plus before server asked) after
-quiet before told server asked after agree none leaves = inr (record {
+no_more : (before : ℕ → ℕ → ℕ) (server : ℕ) (asked : Request) (number who : ℕ) → locks number asked ≡ false → before number who ≡ plus before server asked number who
+no_more before server asked number who none = of (server == who) (locks number asked) none
+  where
+    of : (a b : Bool) → b ≡ false → before number who ≡ before number who + cond (a && b) 1 0
+    of true false is = omega arith
+    of false b is = omega arith
+    of true true is = cc
+
+quiet_bounded : (before : ℕ → ℕ → ℕ) (server : ℕ) (asked : Request) → Bounded before → ((number : ℕ) → locks number asked ≡ false) → Bounded (plus before server asked)
+quiet_bounded before server asked bounded none number who = let same = no_more before server asked number who (none number) in let bound = bounded number who in omega (arith, same, bound)
+
+quiet : (before : ℕ → ℕ → ℕ) (told : ℕ → List Told) (server : ℕ) (asked : Request) (after : After Course) → Asked' before told → AllFew told → ((number : ℕ) → locks number asked ≡ false) → Leaves told after → LeftWith (plus before server asked) after
+quiet before told server asked after agree few none leaves = inr (record {
   told = told;
   leaves = leaves;
-  agree = λ number who. agree number who ∙ sym (ap (λ b. before number who || ((server == who) && b)) (none number) ∙ ap (λ b. before number who || b) (and_false (server == who)) ∙ or_false (before number who));
+  agree = λ number who. agree number who ∙ no_more before server asked number who (none number);
+  few = few;
 })
 
-asked_more : (before : ℕ → ℕ → Bool) (told : ℕ → List Told) (number server : ℕ) (one : Told) (list : List Told) (asked : Request) → Asked' before told → list ≡ told number → one.server ≡ server
+asked_more : (before : ℕ → ℕ → ℕ) (told : ℕ → List Told) (number server : ℕ) (one : Told) (list : List Told) (asked : Request) → Asked' before told → list ≡ told number → one.server ≡ server
     → ((other : ℕ) → locks other asked ≡ (number == other)) → Asked' (plus before server asked) (told_with number (one ∷ list) told)
 asked_more before told number server one list asked agree was by lock other who =
-    of (number == other) refl ∙ sym (ap (λ b. before other who || ((server == who) && b)) (lock other))
+    of (number == other) refl ∙ sym (ap (λ b. before other who + cond ((server == who) && b) 1 0) (lock other))
   where
-    swap : (a c : Bool) → ((a && true) || c) ≡ (c || (a && true))
-    swap true true = refl
-    swap true false = refl
-    swap false true = refl
-    swap false false = refl
+    swap : (a : Bool) (n : ℕ) → cond a 1 0 + n ≡ n + cond (a && true) 1 0
+    swap true n = omega arith
+    swap false n = omega arith
 
-    out : (a c : Bool) → c ≡ (c || (a && false))
-    out true true = refl
-    out true false = refl
-    out false true = refl
-    out false false = refl
+    out : (a : Bool) (n : ℕ) → n ≡ n + cond (a && false) 1 0
+    out true n = omega arith
+    out false n = omega arith
 
-    of : (b : Bool) → (number == other) ≡ b → has_told any (cond b (one ∷ list) (told other)) who ≡ (before other who || ((server == who) && b))
+    of : (b : Bool) → (number == other) ≡ b → times who (cond b (one ∷ list) (told other)) ≡ before other who + cond ((server == who) && b) 1 0
     of true is =
-        ap (λ (told : List Told). ((one.server == who) && true) || has_told any told who) (was ∙ ap told (eqb-true number other is))
-        ∙ ap (λ b. ((one.server == who) && true) || b) (agree other who)
-        ∙ ap (λ server. ((server == who) && true) || before other who) by
+        ap (λ (told : List Told). cond (one.server == who) 1 0 + times who told) (was ∙ ap told (eqb-true number other is))
+        ∙ ap (λ n. cond (one.server == who) 1 0 + n) (agree other who)
+        ∙ ap (λ server. cond (server == who) 1 0 + before other who) by
         ∙ swap (server == who) (before other who)
     of false is = agree other who ∙ out (server == who) (before other who)
 
-left_heard : (before : ℕ → ℕ → Bool) (told : ℕ → List Told) (task : Task) (cache : Cache) (suites : Suites) (phase : Phase) (number : ℕ) (found : Option Suite) (server : ℕ) (asked : Request) (said : Reply) (go_on : Suites → Step)
-    → Are told suites → Asked' before told → suite_of suites number ≡ found → asked_for task number found ≡ Some (server, asked)
+few_with : (told : ℕ → List Told) (number : ℕ) (list : List Told) → AllFew told → Few list → AllFew (told_with number list told)
+few_with told number list few here other = of (number == other)
+  where
+    of : (b : Bool) → Few (cond b list (told other))
+    of true = here
+    of false = few other
+
+-- what a collector asks it asks of few
+few_asked : (task : Task) (number : ℕ) (collector : Collector) (server : ℕ) (asked : Request) (said : Said) → asked_by task number (next collector) ≡ Some (server, asked) → Few (all_told collector)
+    → Few (record { server = server; mode = mode_of asked; said = said } ∷ all_told collector)
+few_asked task number collector server asked said is few = of (next collector) refl is
+  where
+    mode_for : (question : Asked) → mode_of (request_for task.t number question) ≡ mode_asked question
+    mode_for (Poll mode) = refl
+    mode_for Upgrade = refl
+
+    of : (after : Next) → next collector ≡ after → asked_by task number after ≡ Some (server, asked) → Few (record { server = server; mode = mode_of asked; said = said } ∷ all_told collector)
+    of (Ask at question) was is =
+        few_more collector question (record { server = server; mode = mode_of asked; said = said })
+        (was ∙ ap (λ at. Ask at question) (ap (λ (pair : ℕ × Request). pair.0) (same_Some (at, request_for task.t number question) (server, asked) is)))
+        (ap mode_of (sym (asks_same at server (request_for task.t number question) asked is)) ∙ mode_for question) few
+    of (Current prefix dver members) was is = cc
+    of (Short had wanting busy) was is = cc
+
+-- one more that was told to a collector
+record Told' (before : ℕ → ℕ → ℕ) (told : ℕ → List Told) (number server : ℕ) (asked : Request) (list : List Told) (said : Said) : Type 0 where
+  agree : Asked' (plus before server asked) (told_with number (record { server = server; mode = mode_of asked; said = said } ∷ list) told)
+  few : AllFew (told_with number (record { server = server; mode = mode_of asked; said = said } ∷ list) told)
+
+told_more : (before : ℕ → ℕ → ℕ) (told : ℕ → List Told) (task : Task) (suites : Suites) (number : ℕ) (suite : Suite) (server : ℕ) (asked : Request) (said : Said)
+    → Are told suites → Asked' before told → AllFew told → suite_of suites number ≡ Some suite → asked_for task number (Some suite) ≡ Some (server, asked) → Told' before told number server asked (all_told suite.collector) said
+told_more before told task suites number suite server asked said are agree few there is =
+    let same : all_told suite.collector ≡ told number = ap told_in (sym there) ∙ are.1 number in
+    record {
+      agree = asked_more before told number server (record { server = server; mode = mode_of asked; said = said }) (all_told suite.collector) asked agree same refl (asks_lock task number (Some suite) server asked is);
+      few = few_with told number _ few (few_asked task number suite.collector server asked said is (subst Few (sym same) (few number)));
+    }
+
+asked_bounded : (before : ℕ → ℕ → ℕ) (told : ℕ → List Told) (task : Task) (suites : Suites) (number : ℕ) (found : Option Suite) (server : ℕ) (asked : Request)
+    → Are told suites → Asked' before told → AllFew told → suite_of suites number ≡ found → asked_for task number found ≡ Some (server, asked) → Bounded (plus before server asked)
+asked_bounded before told task suites number None server asked are agree few there is = cc
+asked_bounded before told task suites number (Some suite) server asked are agree few there is =
+    let more = told_more before told task suites number suite server asked Down are agree few there is in bounded_by _ _ more.agree more.few
+
+left_heard : (before : ℕ → ℕ → ℕ) (told : ℕ → List Told) (task : Task) (cache : Cache) (suites : Suites) (phase : Phase) (number : ℕ) (found : Option Suite) (server : ℕ) (asked : Request) (said : Reply) (go_on : Suites → Step)
+    → Are told suites → Asked' before told → AllFew told → suite_of suites number ≡ found → asked_for task number found ≡ Some (server, asked)
     → ((told : ℕ → List Told) (suites : Suites) → Are told suites → Leaves told (go_on suites).after)
     → LeftWith (plus before server asked) (heard_of task cache suites phase number found server asked said go_on).after
-left_heard before told task cache suites phase number None server asked said go_on are agree there is more = cc
-left_heard before told task cache suites phase number (Some suite) server asked said go_on are agree there is more = of (said_to asked said)
+left_heard before told task cache suites phase number None server asked said go_on are agree few there is more = cc
+left_heard before told task cache suites phase number (Some suite) server asked said go_on are agree few there is more = of (said_to asked said)
   where
     of : (heard : Option Said) → LeftWith (plus before server asked) (hear task cache suites phase number suite server asked heard (λ suite. go_on (with_suite number suite suites))).after
-    of None = inl (over_give_up task cache suites (Lost server))
+    of None = inl (over_give_up task cache suites (Lost server), asked_bounded before told task suites number (Some suite) server asked are agree few there is)
     of (Some heard) =
         let one : Told = record { server = server; mode = mode_of asked; said = heard } in
         let now : Suite = record suite { collector = tell one suite.collector } in
         let told' = told_with number (all_told now.collector) told in
+        let new = told_more before told task suites number suite server asked heard are agree few there is in
+        let same : all_told now.collector ≡ one ∷ all_told suite.collector = all_told-tell one suite.collector in
         inr (record {
           told = told';
           leaves = leaves_collected told task cache suites phase number now (next now.collector) go_on are (λ suites are. more told' suites are);
-          agree = λ other who. ap (λ list. has_told any (told_with number list told other) who) (all_told-tell one suite.collector)
-              ∙ asked_more before told number server one (all_told suite.collector) asked agree (ap told_in (sym there) ∙ are.1 number) refl (asks_lock task number (Some suite) server asked is) other who;
+          agree = λ other who. ap (λ list. times who (told_with number list told other)) same ∙ new.agree other who;
+          few = subst (λ list. AllFew (told_with number list told)) (sym same) new.few;
         })
 
-left_word : (before : ℕ → ℕ → Bool) (told : ℕ → List Told) (fixed : Fixed) (task : Task) (cache : Cache) (suites : Suites) (phase : Phase) (server : ℕ) (asked : Request) (word : Word) → Are told suites → Asked' before told
-    → request_in fixed task suites phase ≡ Some (server, asked) → LeftWith (plus before server asked) (after_word fixed (record { task = task; suites = suites; phase = phase }) cache server asked word).after
-left_word before told fixed task cache suites phase server asked (Lacked lacked) are agree is = inl (over_lack task cache suites phase server lacked)
-left_word before told fixed task cache suites (Gathering number) server asked (Replied said) are agree is =
-    left_heard before told task cache suites (Gathering number) number (suite_of suites number) server asked said _ are agree refl is (λ told suites are. leaves_execute told fixed task (record { suites = suites; cache = cache }) are)
-left_word before told fixed task cache suites (Fetching number) server asked (Replied said) are agree is =
-    quiet before told server asked _ agree (fetch_locks (suite_of suites number) is) (leaves_fetched told fixed task cache suites number (suite_of suites number) server (given_in said) refl are)
+fetch_locks : (task : Task) (number : ℕ) (found : Option Suite) (server : ℕ) (asked : Request) → fetched_for task number found ≡ Some (server, asked) → (other : ℕ) → locks other asked ≡ false
+fetch_locks task number (Some suite) server asked is other = of suite.first is
   where
-    fetch_first : (first : Option First) → fetched_at task number first ≡ Some (server, asked) → (other : ℕ) → locks other asked ≡ false
-    fetch_first (Some first) is other = ap (locks other) (sym (asks_same first.source server (request.Fetch task.t number) asked is))
-    fetch_first None is other = cc
+    of : (first : Option First) → fetched_at task number first ≡ Some (server, asked) → locks other asked ≡ false
+    of (Some first) is = ap (locks other) (sym (asks_same first.source server (request.Fetch task.t number) asked is))
+    of None is = cc
+fetch_locks task number None server asked is other = cc
 
-    fetch_locks : (found : Option Suite) → fetched_for task number found ≡ Some (server, asked) → (other : ℕ) → locks other asked ≡ false
-    fetch_locks (Some suite) is other = fetch_first suite.first is other
-    fetch_locks None is other = cc
-left_word before told fixed task cache suites (Widening [] granted) server asked (Replied said) are agree is = cc
-left_word before told fixed task cache suites (Widening (number ∷ left) granted) server asked (Replied said) are agree is =
-    left_heard before told task cache suites (Widening (number ∷ left) granted) number (suite_of suites number) server asked said _ are agree refl is (λ told suites are. leaves_widen told task cache suites granted left are)
-left_word before told fixed task cache suites (Preparing [] outcome) server asked (Replied said) are agree is = cc
-left_word before told fixed task cache suites (Preparing (now ∷ left) outcome) server asked (Replied said) are agree is =
-    quiet before told server asked _ agree (λ other. ap (locks other) (sym (asks_same now server (request.Prepare task.t (parts_at suites (changes_of outcome) now)) asked is))) (leaves_prepared told task cache suites outcome server left said are)
-left_word before told fixed task cache suites (Deciding outcome) server asked (Replied said) are agree is =
-    inl (over_end task cache suites (verdict_in said verdict.Aborted) (ending_by (verdict_in said verdict.Aborted) (cause_of_abort said)) (locked_at suites))
-left_word before told fixed task cache suites (Finishing [] v ending) server asked (Replied said) are agree is = cc
-left_word before told fixed task cache suites (Finishing (now ∷ left) v ending) server asked (Replied said) are agree is = inl (over_end task cache suites v ending left)
+-- whatever is asked, few were asked
+word_bounded : (before : ℕ → ℕ → ℕ) (told : ℕ → List Told) (fixed : Fixed) (task : Task) (suites : Suites) (phase : Phase) (server : ℕ) (asked : Request) → Are told suites → Asked' before told → AllFew told
+    → request_in fixed task suites phase ≡ Some (server, asked) → Bounded (plus before server asked)
+word_bounded before told fixed task suites (Gathering number) server asked are agree few is = asked_bounded before told task suites number (suite_of suites number) server asked are agree few refl is
+word_bounded before told fixed task suites (Fetching number) server asked are agree few is = quiet_bounded before server asked (bounded_by before told agree few) (fetch_locks task number (suite_of suites number) server asked is)
+word_bounded before told fixed task suites (Widening [] granted) server asked are agree few is = cc
+word_bounded before told fixed task suites (Widening (number ∷ left) granted) server asked are agree few is = asked_bounded before told task suites number (suite_of suites number) server asked are agree few refl is
+word_bounded before told fixed task suites (Preparing [] outcome) server asked are agree few is = cc
+word_bounded before told fixed task suites (Preparing (now ∷ left) outcome) server asked are agree few is =
+    quiet_bounded before server asked (bounded_by before told agree few) (λ other. ap (locks other) (sym (asks_same now server (request.Prepare task.t (parts_at suites (changes_of outcome) now)) asked is)))
+word_bounded before told fixed task suites (Deciding outcome) server asked are agree few is =
+    quiet_bounded before server asked (bounded_by before told agree few) (λ other. ap (locks other) (sym (asks_same (home_of fixed.service task.t) server (request.Decide task.t (decision_of task outcome)) asked is)))
+word_bounded before told fixed task suites (Finishing [] v ending) server asked are agree few is = cc
+word_bounded before told fixed task suites (Finishing (now ∷ left) v ending) server asked are agree few is =
+    quiet_bounded before server asked (bounded_by before told agree few) (λ other. ap (locks other) (sym (asks_same now server (request.Finish task.t v) asked is)))
+
+left_word : (before : ℕ → ℕ → ℕ) (told : ℕ → List Told) (fixed : Fixed) (task : Task) (cache : Cache) (suites : Suites) (phase : Phase) (server : ℕ) (asked : Request) (word : Word) → Are told suites → Asked' before told → AllFew told
+    → request_in fixed task suites phase ≡ Some (server, asked) → LeftWith (plus before server asked) (after_word fixed (record { task = task; suites = suites; phase = phase }) cache server asked word).after
+left_word before told fixed task cache suites phase server asked (Lacked lacked) are agree few is = inl (over_lack task cache suites phase server lacked, word_bounded before told fixed task suites phase server asked are agree few is)
+left_word before told fixed task cache suites (Gathering number) server asked (Replied said) are agree few is =
+    left_heard before told task cache suites (Gathering number) number (suite_of suites number) server asked said _ are agree few refl is (λ told suites are. leaves_execute told fixed task (record { suites = suites; cache = cache }) are)
+left_word before told fixed task cache suites (Fetching number) server asked (Replied said) are agree few is =
+    quiet before told server asked _ agree few (fetch_locks task number (suite_of suites number) server asked is) (leaves_fetched told fixed task cache suites number (suite_of suites number) server (given_in said) refl are)
+left_word before told fixed task cache suites (Widening [] granted) server asked (Replied said) are agree few is = cc
+left_word before told fixed task cache suites (Widening (number ∷ left) granted) server asked (Replied said) are agree few is =
+    left_heard before told task cache suites (Widening (number ∷ left) granted) number (suite_of suites number) server asked said _ are agree few refl is (λ told suites are. leaves_widen told task cache suites granted left are)
+left_word before told fixed task cache suites (Preparing [] outcome) server asked (Replied said) are agree few is = cc
+left_word before told fixed task cache suites (Preparing (now ∷ left) outcome) server asked (Replied said) are agree few is =
+    quiet before told server asked _ agree few (λ other. ap (locks other) (sym (asks_same now server (request.Prepare task.t (parts_at suites (changes_of outcome) now)) asked is))) (leaves_prepared told task cache suites outcome server left said are)
+left_word before told fixed task cache suites (Deciding outcome) server asked (Replied said) are agree few is =
+    inl (over_end task cache suites (verdict_in said verdict.Aborted) (ending_by (verdict_in said verdict.Aborted) (cause_of_abort said)) (locked_at suites), word_bounded before told fixed task suites (Deciding outcome) server asked are agree few is)
+left_word before told fixed task cache suites (Finishing [] v ending) server asked (Replied said) are agree few is = cc
+left_word before told fixed task cache suites (Finishing (now ∷ left) v ending) server asked (Replied said) are agree few is = inl (over_end task cache suites v ending left, word_bounded before told fixed task suites (Finishing (now ∷ left) v ending) server asked are agree few is)
 
 -- ---- all words
 
 -- what a transaction that is not over keeps
-abbrev pub Keeps : (ℕ → ℕ → Bool) → Option Doing → Type 0
-Keeps before (Some (Running course)) = IsOver course.phase ⊎ (IsOrdered nat_cmp course.suites × Asked' before (told_at course.suites))
-Keeps before (Some (Rounding round)) = Unit {0}
-Keeps before None = Unit {0}
+abbrev pub Keeps : (ℕ → ℕ → ℕ) → Option Doing → Type 0
+Keeps before (Some (Running course)) = (IsOver course.phase × Bounded before) ⊎ (IsOrdered nat_cmp course.suites × Asked' before (told_at course.suites) × AllFew (told_at course.suites))
+Keeps before (Some (Rounding round)) = Bounded before
+Keeps before None = Bounded before
 
-left_keeps : (before : ℕ → ℕ → Bool) (after : After Course) → LeftWith before after → Keeps before (agents.left Running after)
+left_keeps : (before : ℕ → ℕ → ℕ) (after : After Course) → LeftWith before after → Keeps before (agents.left Running after)
 left_keeps before (GoesOn course) (inl over) = inl over
-left_keeps before (GoesOn course) (inr with') = inr (with'.leaves.0, λ number who. ap (λ told. has_told any told who) (with'.leaves.1 number) ∙ with'.agree number who)
-left_keeps before (Ends ending) with' = tt
+left_keeps before (GoesOn course) (inr with') = inr (
+  with'.leaves.0,
+  λ number who. ap (times who) (with'.leaves.1 number) ∙ with'.agree number who,
+  λ number. subst Few (sym (with'.leaves.1 number)) (with'.few number),
+)
+left_keeps before (Ends ending) (inl over) = over.1
+left_keeps before (Ends ending) (inr with') = bounded_by before with'.told with'.agree with'.few
 
-round_keeps : (before : ℕ → ℕ → Bool) (after : After Round) → Keeps before (agents.left Rounding after)
-round_keeps before (GoesOn round) = tt
-round_keeps before (Ends ending) = tt
+round_keeps : (before : ℕ → ℕ → ℕ) (after : After Round) → Bounded before → Keeps before (agents.left Rounding after)
+round_keeps before (GoesOn round) bounded = bounded
+round_keeps before (Ends ending) bounded = bounded
 
-over_keeps : (before : ℕ → ℕ → Bool) (after : After Course) → LeftOver after → Keeps before (agents.left Running after)
-over_keeps before (GoesOn course) over = inl over
-over_keeps before (Ends ending) over = tt
+over_keeps : (before : ℕ → ℕ → ℕ) (after : After Course) → LeftOver after → Bounded before → Keeps before (agents.left Running after)
+over_keeps before (GoesOn course) over bounded = inl (over, bounded)
+over_keeps before (Ends ending) over bounded = bounded
 
-abbrev plus_all : (ℕ → ℕ → Bool) → List Exchange → ℕ → ℕ → Bool
-plus_all before past number who = before number who || was_asked past number who
+pub keeps_bounded : (before : ℕ → ℕ → ℕ) (doing : Option Doing) → Keeps before doing → Bounded before
+keeps_bounded before (Some (Running course)) (inl over) = over.1
+keeps_bounded before (Some (Running course)) (inr keeps) = bounded_by before (told_at course.suites) keeps.1 keeps.2
+keeps_bounded before (Some (Rounding round)) bounded = bounded
+keeps_bounded before None bounded = bounded
 
-same_keeps : (before other : ℕ → ℕ → Bool) (doing : Option Doing) → ((number who : ℕ) → before number who ≡ other number who) → Keeps before doing → Keeps other doing
-same_keeps before other (Some (Running course)) same (inl over) = inl over
-same_keeps before other (Some (Running course)) same (inr keeps) = inr (keeps.0, λ number who. keeps.1 number who ∙ same number who)
-same_keeps before other (Some (Rounding round)) same keeps = tt
-same_keeps before other None same keeps = tt
+-- how often a server was asked for a lock on a suite
+abbrev pub asked_for_locks : List Exchange → ℕ → ℕ → ℕ
+asked_for_locks past number who = count_of (λ one. (one.server == who) && locks number one.request) past
 
-take_keeps : (before : ℕ → ℕ → Bool) (fixed : Fixed) (agent : Agent) (word : Word) (doing : Option Doing) (asked : Option (ℕ × Request)) → agent.doing ≡ doing → next_in fixed doing ≡ asked → Keeps before doing
+abbrev plus_all : (ℕ → ℕ → ℕ) → List Exchange → ℕ → ℕ → ℕ
+plus_all before past number who = before number who + asked_for_locks past number who
+
+same_keeps : (before other : ℕ → ℕ → ℕ) (doing : Option Doing) → ((number who : ℕ) → before number who ≡ other number who) → Keeps before doing → Keeps other doing
+same_keeps before other (Some (Running course)) same (inl over) = inl (over.0, λ number who. let at = same number who in let bound = over.1 number who in omega (arith, at, bound))
+same_keeps before other (Some (Running course)) same (inr keeps) = inr (keeps.0, λ number who. keeps.1 number who ∙ same number who, keeps.2)
+same_keeps before other (Some (Rounding round)) same bounded = λ number who. let at = same number who in let bound = bounded number who in omega (arith, at, bound)
+same_keeps before other None same bounded = λ number who. let at = same number who in let bound = bounded number who in omega (arith, at, bound)
+
+none_more : (before : ℕ → ℕ → ℕ) (number who : ℕ) → before number who ≡ before number who + 0
+none_more before number who = omega arith
+
+once_more : (before : ℕ → ℕ → ℕ) (server : ℕ) (asked : Request) (word : Word) (number who : ℕ) → plus before server asked number who ≡ plus_all before (exchange_of (Some (server, asked)) word) number who
+once_more before server asked word number who = omega arith
+
+-- a sweep asks for no lock
+round_locks : (fixed : Fixed) (round : Round) (now : Sweeping) (server : ℕ) (asked : Request) → ◌≡◌ {A = Option (ℕ × Request)} (Some (sweep.asked_now fixed.service round now)) (Some (server, asked)) → (number : ℕ) → locks number asked ≡ false
+round_locks fixed round Listing server asked is number = ap (locks number) (sym (asks_same _ server request.Locks asked is))
+round_locks fixed round (Resolving other left) server asked is number = ap (locks number) (sym (asks_same _ server (request.Resolve other) asked is))
+round_locks fixed round (Telling other v left) server asked is number = ap (locks number) (sym (asks_same _ server (request.Finish other v) asked is))
+round_locks fixed round (Breaking lock left) server asked is number = ap (locks number) (sym (asks_same _ server (request.Break lock.t lock.suite) asked is))
+
+over_locks : (fixed : Fixed) (task : Task) (suites : Suites) (phase : Phase) (server : ℕ) (asked : Request) → IsOver phase → request_in fixed task suites phase ≡ Some (server, asked) → (number : ℕ) → locks number asked ≡ false
+over_locks fixed task suites (Gathering who) server asked over is number = absurd over
+over_locks fixed task suites (Fetching who) server asked over is number = absurd over
+over_locks fixed task suites (Widening left granted) server asked over is number = absurd over
+over_locks fixed task suites (Preparing left outcome) server asked over is number = absurd over
+over_locks fixed task suites (Deciding outcome) server asked over is number = absurd over
+over_locks fixed task suites (Finishing [] v ending) server asked over is number = cc
+over_locks fixed task suites (Finishing (now ∷ left) v ending) server asked over is number = ap (locks number) (sym (asks_same now server (request.Finish task.t v) asked is))
+
+take_keeps : (before : ℕ → ℕ → ℕ) (fixed : Fixed) (agent : Agent) (word : Word) (doing : Option Doing) (asked : Option (ℕ × Request)) → agent.doing ≡ doing → next_in fixed doing ≡ asked → Keeps before doing
     → Keeps (plus_all before (exchange_of asked word)) (take_in fixed agent word doing asked).agent.doing
-take_keeps before fixed agent word (Some (Running running)) (Some asked) was is (inl over) = over_keeps _ _ (stays_over fixed running.task agent.cache running.suites running.phase asked.0 asked.1 word over)
+take_keeps before fixed agent word (Some (Running running)) (Some asked) was is (inl over) =
+    same_keeps (plus before asked.0 asked.1) (plus_all before (exchange_of (Some asked) word)) _ (once_more before asked.0 asked.1 word)
+    (over_keeps _ _ (stays_over fixed running.task agent.cache running.suites running.phase asked.0 asked.1 word over.0)
+    (quiet_bounded before asked.0 asked.1 over.1 (over_locks fixed running.task running.suites running.phase asked.0 asked.1 over.0 is)))
 take_keeps before fixed agent word (Some (Running running)) (Some asked) was is (inr keeps) =
-    same_keeps (plus before asked.0 asked.1) (plus_all before (exchange_of (Some asked) word)) _ (λ number who. ap (λ b. before number who || b) (sym (or_false (adds asked.0 asked.1 number who))))
-    (left_keeps (plus before asked.0 asked.1) _ (left_word before (told_at running.suites) fixed running.task agent.cache running.suites running.phase asked.0 asked.1 word (keeps.0, λ number. refl) keeps.1 is))
-take_keeps before fixed agent word (Some (Running running)) None was is keeps = subst (Keeps (plus_all before [])) (sym was) (same_keeps before (plus_all before []) (Some (Running running)) (λ number who. sym (or_false (before number who))) keeps)
-take_keeps before fixed agent word (Some (Rounding round)) (Some asked) was is keeps = round_keeps _ (sweep.after_word fixed.service round asked.0 word)
+    same_keeps (plus before asked.0 asked.1) (plus_all before (exchange_of (Some asked) word)) _ (once_more before asked.0 asked.1 word)
+    (left_keeps (plus before asked.0 asked.1) _ (left_word before (told_at running.suites) fixed running.task agent.cache running.suites running.phase asked.0 asked.1 word (keeps.0, λ number. refl) keeps.1 keeps.2 is))
+take_keeps before fixed agent word (Some (Running running)) None was is keeps = subst (Keeps (plus_all before [])) (sym was) (same_keeps before (plus_all before []) (Some (Running running)) (none_more before) keeps)
+take_keeps before fixed agent word (Some (Rounding round)) (Some asked) was is bounded =
+    round_keeps _ (sweep.after_word fixed.service round asked.0 word)
+    (same_keeps (plus before asked.0 asked.1) (plus_all before (exchange_of (Some asked) word)) None (once_more before asked.0 asked.1 word) (quiet_bounded before asked.0 asked.1 bounded (round_locks fixed round round.now asked.0 asked.1 is)))
 take_keeps before fixed agent word (Some (Rounding round)) None was is keeps = cc
 take_keeps before fixed agent word None (Some asked) was is keeps = cc
-take_keeps before fixed agent word None None was is keeps = subst (Keeps (plus_all before [])) (sym was) tt
+take_keeps before fixed agent word None None was is keeps = subst (Keeps (plus_all before [])) (sym was) (same_keeps before (plus_all before []) None (none_more before) keeps)
 
-asked-append : (past later : List Exchange) (number who : ℕ) → was_asked (past ++ later) number who ≡ (was_asked past number who || was_asked later number who)
-asked-append [] later number who = refl
-asked-append (one ∷ past) later number who = of ((one.server == who) && locks number one.request) _ _ _ (asked-append past later number who)
-  where
-    of : (a b c d : Bool) → b ≡ (c || d) → (a || b) ≡ ((a || c) || d)
-    of true b c d is = refl
-    of false b c d is = is
+asked-append : (past later : List Exchange) (number who : ℕ) → asked_for_locks (past ++ later) number who ≡ asked_for_locks past number who + asked_for_locks later number who
+asked-append [] later number who = omega arith
+asked-append (one ∷ past) later number who = let rest = asked-append past later number who in omega (arith, rest)
 
-all_keep : (before : ℕ → ℕ → Bool) (fixed : Fixed) (agent : Agent) (events : List Event) → Keeps before agent.doing → Keeps (plus_all before (exchanges fixed agent events)) (after_all fixed agent events).doing
-all_keep before fixed agent [] keeps = same_keeps before (plus_all before []) agent.doing (λ number who. sym (or_false (before number who))) keeps
+all_keep : (before : ℕ → ℕ → ℕ) (fixed : Fixed) (agent : Agent) (events : List Event) → Keeps before agent.doing → Keeps (plus_all before (exchanges fixed agent events)) (after_all fixed agent events).doing
+all_keep before fixed agent [] keeps = same_keeps before (plus_all before []) agent.doing (none_more before) keeps
 all_keep before fixed agent (Forget site ∷ events) keeps = all_keep before fixed (forget agent site) events keeps
 all_keep before fixed agent (Take word ∷ events) keeps =
     let one = exchange_of (next_of fixed agent) word in
     let rest = exchanges fixed (take fixed agent word).agent events in
     same_keeps (plus_all (plus_all before one) rest) (plus_all before (one ++ rest)) (after_all fixed agent (Take word ∷ events)).doing
-    (λ number who. or_or (before number who) (was_asked one number who) (was_asked rest number who) ∙ ap (λ b. before number who || b) (sym (asked-append one rest number who)))
+    (λ number who. let sum = asked-append one rest number who in omega (arith, sum))
     (all_keep (plus_all before one) fixed (take fixed agent word).agent events (take_keeps before fixed agent word agent.doing (next_of fixed agent) refl refl keeps))
 
-abbrev nobody : ℕ → ℕ → Bool
-nobody number who = false
+abbrev nobody : ℕ → ℕ → ℕ
+nobody number who = 0
 
 begin_keeps : (fixed : Fixed) (agent : Agent) (job : Job) → is_idle agent.doing ≡ true → Keeps nobody (begin fixed agent job).doing
 begin_keeps fixed agent job idle =
@@ -210,14 +324,14 @@ begin_keeps fixed agent job idle =
     ]
   where
     at : (doing : Option Doing) → is_idle doing ≡ true → Keeps nobody doing
-    at None idle = tt
+    at None idle = λ number who. omega arith
     at (Some doing) idle = cc
 
     of : (job : Job) → Keeps nobody (started fixed agent job).doing
     of (Transaction caller site ops) =
         let task : Task = record { t = 64 * agent.count + agent.index; caller = caller; site = site; ops = ops } in
-        left_keeps nobody _ (inr (record { told = λ number. []; leaves = leaves_execute (λ number. []) fixed task (record { suites = []; cache = agent.cache }) are_nil; agree = λ number who. refl }))
-    of (Sweep server) = tt
+        left_keeps nobody _ (inr (record { told = λ number. []; leaves = leaves_execute (λ number. []) fixed task (record { suites = []; cache = agent.cache }) are_nil; agree = λ number who. refl; few = λ number who. (omega arith, λ _. omega arith) }))
+    of (Sweep server) = λ number who. omega arith
 
 -- ---- a Poll
 
@@ -229,16 +343,16 @@ number_same : {t u n m : ℕ} {a b : LockMode} → request.Poll t n a ≡ reques
 number_same is = cc
 
 -- a Poll of a suite is its collector's, to a server that was told nothing of
-poll_fresh : (task : Task) (who : ℕ) (suite : Suite) (server t number : ℕ) (mode : LockMode) → asked_by task who (next suite.collector) ≡ Some (server, request.Poll t number mode) → (who ≡ number) × (has_told any (all_told suite.collector) server ≡ false)
+poll_fresh : (task : Task) (who : ℕ) (suite : Suite) (server t number : ℕ) (mode : LockMode) → asked_by task who (next suite.collector) ≡ Some (server, request.Poll t number mode) → (who ≡ number) × (has_told (λ _. true) (all_told suite.collector) server ≡ false)
 poll_fresh task who suite server t number mode is = of (next suite.collector) refl is
   where
     pair_of : (at : ℕ) (asked : Request) → ◌≡◌ {A = Option (ℕ × Request)} (Some (at, asked)) (Some (server, request.Poll t number mode)) → at ≡ server
     pair_of at asked is = ap (λ (pair : ℕ × Request). pair.0) (same_Some (at, asked) (server, request.Poll t number mode) is)
 
-    of : (after : Next) → next suite.collector ≡ after → asked_by task who after ≡ Some (server, request.Poll t number mode) → (who ≡ number) × (has_told any (all_told suite.collector) server ≡ false)
+    of : (after : Next) → next suite.collector ≡ after → asked_by task who after ≡ Some (server, request.Poll t number mode) → (who ≡ number) × (has_told (λ _. true) (all_told suite.collector) server ≡ false)
     of (Ask at (Poll asked_mode)) was is = (
       number_same (asks_same at server (request.Poll task.t who asked_mode) (request.Poll t number mode) is),
-      ap (has_told any (all_told suite.collector)) (sym (pair_of at (request.Poll task.t who asked_mode) is)) ∙ (nobody_is_asked_twice suite.collector at).0 asked_mode was,
+      ap (has_told (λ _. true) (all_told suite.collector)) (sym (pair_of at (request.Poll task.t who asked_mode) is)) ∙ (nobody_is_asked_twice suite.collector at).0 asked_mode was,
     )
     of (Ask at Upgrade) was is = let same = asks_same at server (request.Upgrade task.t who) (request.Poll t number mode) is in cc
     of (Current prefix dver members) was is = cc
@@ -247,37 +361,37 @@ poll_fresh task who suite server t number mode is = of (next suite.collector) re
 other_poll : {P : Type 0} (a b t number : ℕ) (mode : LockMode) (asked : Request) → is_poll asked ≡ false → ◌≡◌ {A = Option (ℕ × Request)} (Some (a, asked)) (Some (b, request.Poll t number mode)) → P
 other_poll a b t number mode asked other is = absurd (false≢true (sym other ∙ ap is_poll (asks_same a b asked (request.Poll t number mode) is)))
 
-fresh : (before : ℕ → ℕ → Bool) (fixed : Fixed) (doing : Option Doing) (server t number : ℕ) (mode : LockMode) → Keeps before doing → next_in fixed doing ≡ Some (server, request.Poll t number mode) → before number server ≡ false
+fresh : (before : ℕ → ℕ → ℕ) (fixed : Fixed) (doing : Option Doing) (server t number : ℕ) (mode : LockMode) → Keeps before doing → next_in fixed doing ≡ Some (server, request.Poll t number mode) → before number server ≡ 0
 fresh before fixed None server t number mode keeps is = cc
 fresh before fixed (Some (Rounding round)) server t number mode keeps is = of round.now is
   where
-    of : (now : Sweeping) → ◌≡◌ {A = Option (ℕ × Request)} (Some (sweep.asked_now fixed.service round now)) (Some (server, request.Poll t number mode)) → before number server ≡ false
+    of : (now : Sweeping) → ◌≡◌ {A = Option (ℕ × Request)} (Some (sweep.asked_now fixed.service round now)) (Some (server, request.Poll t number mode)) → before number server ≡ 0
     of Listing is = other_poll _ server t number mode request.Locks refl is
     of (Resolving other left) is = other_poll _ server t number mode (request.Resolve other) refl is
     of (Telling other v left) is = other_poll _ server t number mode (request.Finish other v) refl is
     of (Breaking lock left) is = other_poll _ server t number mode (request.Break lock.t lock.suite) refl is
 fresh before fixed (Some (Running course)) server t number mode keeps is = of course.phase keeps is
   where
-    by_suite : (who : ℕ) (found : Option Suite) → suite_of course.suites who ≡ found → Asked' before (told_at course.suites) → asked_for course.task who found ≡ Some (server, request.Poll t number mode) → before number server ≡ false
+    by_suite : (who : ℕ) (found : Option Suite) → suite_of course.suites who ≡ found → Asked' before (told_at course.suites) → asked_for course.task who found ≡ Some (server, request.Poll t number mode) → before number server ≡ 0
     by_suite who None there agree is = cc
     by_suite who (Some suite) there agree is =
         let fresh' = poll_fresh course.task who suite server t number mode is in
-        ap (λ number. before number server) (sym fresh'.0) ∙ sym (agree who server) ∙ ap (λ found. has_told any (told_in found) server) there ∙ fresh'.1
+        ap (λ number. before number server) (sym fresh'.0) ∙ sym (agree who server) ∙ ap (λ found. times server (told_in found)) there ∙ never (all_told suite.collector) server fresh'.1
 
-    by_first : (who : ℕ) (first : Option First) → fetched_at course.task who first ≡ Some (server, request.Poll t number mode) → before number server ≡ false
+    by_first : (who : ℕ) (first : Option First) → fetched_at course.task who first ≡ Some (server, request.Poll t number mode) → before number server ≡ 0
     by_first who (Some first) is = other_poll first.source server t number mode (request.Fetch course.task.t who) refl is
     by_first who None is = cc
 
-    by_fetch : (who : ℕ) (found : Option Suite) → fetched_for course.task who found ≡ Some (server, request.Poll t number mode) → before number server ≡ false
+    by_fetch : (who : ℕ) (found : Option Suite) → fetched_for course.task who found ≡ Some (server, request.Poll t number mode) → before number server ≡ 0
     by_fetch who (Some suite) is = by_first who suite.first is
     by_fetch who None is = cc
 
-    of : (phase : Phase) → IsOver phase ⊎ (IsOrdered nat_cmp course.suites × Asked' before (told_at course.suites)) → request_in fixed course.task course.suites phase ≡ Some (server, request.Poll t number mode) → before number server ≡ false
-    of (Gathering who) (inl over) is = absurd over
+    of : (phase : Phase) → (IsOver phase × Bounded before) ⊎ (IsOrdered nat_cmp course.suites × Asked' before (told_at course.suites) × AllFew (told_at course.suites)) → request_in fixed course.task course.suites phase ≡ Some (server, request.Poll t number mode) → before number server ≡ 0
+    of (Gathering who) (inl over) is = absurd over.0
     of (Gathering who) (inr keeps) is = by_suite who (suite_of course.suites who) refl keeps.1 is
     of (Fetching who) keeps is = by_fetch who (suite_of course.suites who) is
     of (Widening [] granted) keeps is = cc
-    of (Widening (who ∷ left) granted) (inl over) is = absurd over
+    of (Widening (who ∷ left) granted) (inl over) is = absurd over.0
     of (Widening (who ∷ left) granted) (inr keeps) is = by_suite who (suite_of course.suites who) refl keeps.1 is
     of (Preparing [] outcome) keeps is = cc
     of (Preparing (now ∷ left) outcome) keeps is = other_poll now server t number mode (request.Prepare course.task.t (parts_at course.suites (changes_of outcome) now)) refl is
@@ -285,7 +399,23 @@ fresh before fixed (Some (Running course)) server t number mode keeps is = of co
     of (Finishing [] v ending) keeps is = cc
     of (Finishing (now ∷ left) v ending) keeps is = other_poll now server t number mode (request.Finish course.task.t v) refl is
 
+none_asked : (past : List Exchange) (number who : ℕ) → asked_for_locks past number who ≡ 0 → was_asked past number who ≡ false
+none_asked [] number who is = refl
+none_asked (one ∷ past) number who is = of ((one.server == who) && locks number one.request) is (none_asked past number who)
+  where
+    of : (b : Bool) → cond b 1 0 + asked_for_locks past number who ≡ 0 → (asked_for_locks past number who ≡ 0 → was_asked past number who ≡ false) → (b || was_asked past number who) ≡ false
+    of true is rest = absurd (omega (arith, is))
+    of false is rest = rest (omega (arith, is))
+
 pub nobody_is_polled_twice : NobodyIsPolledTwice
 nobody_is_polled_twice fixed agent job events server t suite mode idle is =
-    fresh (plus_all nobody (of_job fixed agent job events)) fixed (after_all fixed (begin fixed agent job) events).doing server t suite mode
-    (all_keep nobody fixed (begin fixed agent job) events (begin_keeps fixed agent job idle)) is
+    let none = fresh (plus_all nobody (of_job fixed agent job events)) fixed (after_all fixed (begin fixed agent job) events).doing server t suite mode
+    (all_keep nobody fixed (begin fixed agent job) events (begin_keeps fixed agent job idle)) is in
+    none_asked (of_job fixed agent job events) suite server (omega (arith, none))
+
+-- no server is asked more than twice for a lock on a suite
+pub locks_are_few : (fixed : Fixed) (agent : Agent) (job : Job) (events : List Event) (number who : ℕ) → is_idle agent.doing ≡ true → asked_for_locks (of_job fixed agent job events) number who ≤ 2
+locks_are_few fixed agent job events number who idle =
+    let bound = keeps_bounded (plus_all nobody (of_job fixed agent job events)) (after_all fixed (begin fixed agent job) events).doing
+    (all_keep nobody fixed (begin fixed agent job) events (begin_keeps fixed agent job idle)) number who in
+    omega (arith, bound)

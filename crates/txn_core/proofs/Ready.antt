@@ -8,8 +8,6 @@ use Rattle.std.proofs.lemmas.Bool.{eqb-true, false≢true}
 use Rattle.std.proofs.lemmas.Option.{same_Some}
 use Rattle.std.proofs.lemmas.Bool.Decides.{nat_tests}
 use Rattle.suite_content.specs.declared.content.Content.{Content}
-use Rattle.file_ops.specs.declared.answer.Answer.{Answer}
-use Rattle.file_ops.specs.declared.refusal.Refusal.{Refusal}
 use Rattle.suite_prefix.specs.declared.lock_mode.LockMode.TheVariants.{Shared}
 use Rattle.rep_core.specs.declared.request.Request.{Request}
 use Rattle.rep_core.specs.declared.request.Request.TheVariants as request

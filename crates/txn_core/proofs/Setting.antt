@@ -1,10 +1,8 @@
 -- What the executor sets of the suites that were gathered.
-use Rattle.std.proofs.Common.{◌≡◌, ℕ, Bool, true, false, cond, List, [], ◌∷◌, Option, Some, None, Ok, Err, refl, sym, ap, subst, ◌∙◌}
+use Rattle.std.proofs.Common.{◌≡◌, ℕ, Bool, true, false, cond, List, [], ◌∷◌, Option, Some, None, refl, sym, ap, ◌∙◌}
 use Rattle.std.specs.Prelude.{option_map}
-use Rattle.std.specs.List.{list_all}
 use Rattle.std.specs.Ordering.{nat_cmp}
 use Rattle.std.specs.BTreeMap.{is_at}
-use Rattle.std.proofs.lemmas.Bool.{eqb-true}
 use Rattle.std.proofs.lemmas.Option.{same_Some}
 use Rattle.vote_core.specs.Quorums.{Configuration}
 use Rattle.suite_content.specs.declared.content.Content.{Content}
@@ -15,7 +13,6 @@ use Rattle.suite_prefix.specs.declared.lock_mode.LockMode.{LockMode}
 use Rattle.suite_prefix.specs.declared.lock_mode.LockMode.TheVariants.{Shared, Exclusive}
 use Rattle.suite_prefix.specs.LockModes.{serves}
 use Rattle.file_ops.specs.declared.answer.Answer.{Answer}
-use Rattle.file_ops.specs.declared.refusal.Refusal.{Refusal}
 use Rattle.file_ops.specs.Rows.{Row}
 use Rattle.file_exec.specs.declared.changes.Change.{Change}
 use Rattle.file_exec.specs.declared.executor.Outcome.TheVariants as exec
@@ -28,10 +25,10 @@ use Rattle.txn_core.specs.Transactions.{heard_on}
 
 -- ---- what is known of a suite
 
-abbrev KnownAt : Suites → ℕ → Suite → First → Type 0
+abbrev pub KnownAt : Suites → ℕ → Suite → First → Type 0
 KnownAt suites number suite first = known.known_of (known_of suites) number ≡ Some (known_row suite first)
 
-known_at : (suites : Suites) (number : ℕ) (suite : Suite) (first : First) → suite_of suites number ≡ Some suite → suite.first ≡ Some first → KnownAt suites number suite first
+pub known_at : (suites : Suites) (number : ℕ) (suite : Suite) (first : First) → suite_of suites number ≡ Some suite → suite.first ≡ Some first → KnownAt suites number suite first
 known_at [] number suite first is was = cc
 known_at (e ∷ es) number suite first is was = of (λ is. known_at es number suite first is was) (is_at (nat_cmp number) e.0) refl is
   where

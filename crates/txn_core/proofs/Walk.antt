@@ -2,8 +2,6 @@
 use Rattle.std.proofs.Common.{ℕ, List, [], ◌∷◌, Option, Some, None, Ok, Err}
 use Rattle.std.specs.Prelude.{length}
 use Rattle.suite_content.specs.declared.content.Content.{Content}
-use Rattle.file_ops.specs.declared.answer.Answer.{Answer}
-use Rattle.file_ops.specs.declared.refusal.Refusal.{Refusal}
 use Rattle.rep_core.specs.declared.request.Request.{Request}
 use Rattle.rep_core.specs.declared.reply.Reply.{Reply}
 use Rattle.file_exec.specs.declared.need.Need.TheVariants.{Hold, Know}

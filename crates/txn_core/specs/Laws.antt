@@ -1,9 +1,11 @@
 -- What holds of every agent that began a job, whatever it is told. An exchange is a request with what was told of it.
-use Rattle.std.specs.Prelude.{◌≡◌, ℕ, ◌+◌, ◌*◌, length, ◌≤◌, ◌==◌, nat_lt, Bool, true, false, ◌&&◌, ◌||◌, if◌then◌else◌, List, [], ◌∷◌, ◌++◌, Contains, Option, Some, None}
+use Rattle.std.specs.Prelude.{◌≡◌, ℕ, ◌+◌, ◌*◌, length, ◌≤◌, ◌<◌, ◌==◌, ◌⊎◌, nat_lt, not, Bool, true, false, ◌&&◌, ◌||◌, if◌then◌else◌, List, [], ◌∷◌, ◌++◌, map, Contains, Option, Some, None}
 use Rattle.std.specs.List.{list_any, list_all}
+use Rattle.std.specs.List.Sorted.{IsStrictlySortedBy}
+use Rattle.std.specs.Ordering.{nat_cmp}
 use Rattle.acl_core.specs.Identity.{Identity}
 use Rattle.file_ops.specs.declared.operation.Op.{Op}
-use Rattle.vote_core.specs.Quorums.{votes_in, is_write_quorum}
+use Rattle.vote_core.specs.Quorums.{Representative, Configuration, votes_in, is_write_quorum}
 use Rattle.suite_prefix.specs.declared.copies.Prefix.{Prefix}
 use Rattle.rep_core.specs.declared.request.Request.{Request}
 use Rattle.rep_core.specs.declared.request.Request.TheVariants as request
@@ -16,8 +18,12 @@ use Rattle.rep_core.specs.Fits.{is_prepared, fits}
 use Rattle.rep_core.specs.declared.request.Decision.{Decision}
 use Rattle.suite_collect.specs.declared.told.Said.{Said}
 use Rattle.suite_collect.specs.declared.told.Told.{Told}
-use Rattle.suite_collect.specs.Telling.{newest, holds}
-use Rattle.suite_collect.specs.Collecting.{needed_of, all_told, Collector, mode_of, Short, next}
+use Rattle.suite_collect.specs.Telling.{newest, holds, is_held}
+use Rattle.suite_collect.specs.Telling as telling
+use Rattle.suite_collect.specs.declared.told.Said.TheVariants as told
+use Rattle.suite_prefix.specs.LockModes.{serves}
+use Rattle.suite_prefix.specs.declared.lock_mode.LockMode.TheVariants.{Exclusive}
+use Rattle.suite_collect.specs.Collecting.{needed_of, all_told, mode_of}
 use Rattle.txn_core.specs.Suites.{Suite, Suites, First, suite_of, holds_exclusively}
 use Rattle.txn_core.specs.Writing.{parts_at, is_changed, sets_votes}
 use Rattle.txn_core.specs.declared.word.Word.{Word}
@@ -27,7 +33,7 @@ use Rattle.txn_core.specs.declared.job.Job.{Job}
 use Rattle.txn_core.specs.declared.word.Word.TheVariants.{Replied, Lacked}
 use Rattle.txn_core.specs.declared.ending.Cause.TheVariants.{Unavailable, Busy, Lost, Overruled, HomeDown, Full, Memory}
 use Rattle.txn_core.specs.declared.ending.Ending.TheVariants.{Undecided}
-use Rattle.txn_core.specs.declared.job.Job.TheVariants.{Transaction}
+use Rattle.txn_core.specs.declared.job.Job.TheVariants.{Transaction, Sweep}
 use Rattle.txn_core.specs.Doing.{Changes, Fixed, Outcome, Deciding, Finishing, Course, Running}
 use Rattle.txn_core.specs.Transactions.{changes_of, votes_after, verdict_in, said_to}
 use Rattle.rep_core.specs.declared.stamped.Lack.{Lack}
@@ -145,6 +151,13 @@ PrepareListsTheLocks =
     → next_of fixed (after_all fixed (begin fixed agent job) events) ≡ Some (server, request.Prepare t parts)
     → list_any (λ part. part.suite == suite) parts ≡ was_held (of_job fixed agent job events) suite server
 
+-- and the suites rise
+abbrev pub APrepareRises : Type 0
+APrepareRises =
+    (fixed : Fixed) (agent : Agent) (job : Job) (events : List Event) (server t : ℕ) (parts : List Part) → is_idle agent.doing ≡ true
+    → next_of fixed (after_all fixed (begin fixed agent job) events) ≡ Some (server, request.Prepare t parts)
+    → IsStrictlySortedBy nat_cmp (map (λ part. part.suite) parts)
+
 -- ---- 3
 
 -- a decision is asked for once each server that was heard to hold a lock has prepared; servers are numbered below 16
@@ -213,11 +226,58 @@ abbrev pub told_of : ℕ → List Told → List Exchange → List Told
 told_of suite before [] = before
 told_of suite before (one ∷ later) = told_of suite (if locks suite one.request then told_by before one one.word else before) later
 
--- a collector that was told just this falls short
+-- what a word says of a lock that was asked for
+abbrev pub heard_in : Request → Word → Option Said
+heard_in asked (Replied said) = said_to asked said
+heard_in asked (Lacked lack) = None
+
+abbrev pub is_said : (LockMode → Said → Bool) → Request → Option Said → Bool
+is_said kind asked (Some said) = kind (mode_of asked) said
+is_said kind asked None = false
+
+-- whether a server that was asked for a lock on a suite said something of a kind
+abbrev pub has_said : List Exchange → ℕ → (LockMode → Said → Bool) → ℕ → Bool
+has_said past suite kind server =
+    list_any (λ one. (one.server == server) && locks suite one.request && is_said kind one.request (heard_in one.request one.word)) past
+
+-- that it holds the lock in a mode or a stronger one; that it does not; that it is down
+abbrev pub holding : LockMode → LockMode → Said → Bool
+holding mode asked said = is_held said && serves asked mode
+
+abbrev pub refusing : LockMode → Said → Bool
+refusing asked said = not (is_held said)
+
+abbrev pub down : LockMode → Said → Bool
+down asked said = telling.is_down said
+
+-- the first server that was busy with a suite, and the transaction in its way
+abbrev pub busy_at : ℕ → Option Said → Option (ℕ × ℕ)
+busy_at server (Some (told.Busy holder)) = Some (server, holder)
+busy_at server _ = None
+
+abbrev pub first_of : Option (ℕ × ℕ) → Option (ℕ × ℕ) → Option (ℕ × ℕ)
+first_of (Some busy) later = Some busy
+first_of None later = later
+
+abbrev pub first_busy_in : ℕ → List Exchange → Option (ℕ × ℕ)
+first_busy_in suite [] = None
+first_busy_in suite (one ∷ later) =
+    first_of (if locks suite one.request then busy_at one.server (heard_in one.request one.word) else None) (first_busy_in suite later)
+
+-- Too few votes were to be had of a suite. The votes that count are those of the newest prefix that was seen, the one from which it was
+-- gathered among them, or those that it is to get. The servers that were heard to hold the lock that is wanted have `got` of them, fewer than
+-- are needed; each other one that has a vote was busy or down, all of them down where none was busy; and this one was busy first.
 pub record IsShort (past : List Exchange) (suite got needed : ℕ) (busy : Option (ℕ × ℕ)) : Type 0 where
-  pub collector : Collector
-  pub told : all_told collector ≡ told_of suite [] past
-  pub short : next collector ≡ Short got needed busy
+  pub start : Prefix
+  pub votes : Configuration
+  pub mode : LockMode
+  pub count : (votes ≡ (newest start (told_of suite [] past)).votes) ⊎ (mode ≡ Exclusive)
+  pub had : got ≡ votes_in votes.reps (has_said past suite (holding mode))
+  pub wanting : needed ≡ needed_of mode votes
+  pub too_few : got < needed
+  pub none_left : (rep : Representative) → Contains votes.reps rep → 0 < rep.1 → (has_said past suite (holding mode) rep.0 ≡ true) ⊎ (has_said past suite refusing rep.0 ≡ true)
+  pub first_busy : busy ≡ first_busy_in suite past
+  pub all_down : busy ≡ None → (server : ℕ) → has_said past suite refusing server ≡ true → has_said past suite down server ≡ true
 
 -- an exchange of a kind
 pub record Was (past : List Exchange) (server : ℕ) (kind : Request → Word → Bool) : Type 0 where
@@ -272,6 +332,14 @@ EndsAreCaused =
 
 -- ---- 7
 
+-- a list of numbers as a test
+abbrev pub among : List ℕ → ℕ → Bool
+among numbers number = list_any (λ one. one == number) numbers
+
+-- these are all servers that are asked
+abbrev pub asks_only : List ℕ → List Exchange → Bool
+asks_only servers past = list_all (λ one. among servers one.server) past
+
 -- a request of the steps in which a transaction is prepared, decided and told
 abbrev pub is_late : Request → Bool
 is_late (request.Prepare t parts) = true
@@ -279,14 +347,12 @@ is_late (request.Decide t decision) = true
 is_late (request.Finish t v) = true
 is_late _ = false
 
--- at servers below 16 these are 2*16 + 1 at most
+-- there are at most two of them a server, and the decision
 abbrev pub LateStepsAreFew : Type 0
 LateStepsAreFew =
-    (fixed : Fixed) (agent : Agent) (caller : Identity) (site : ℕ) (ops : List Op) (events : List Event) → is_idle agent.doing ≡ true
-    → count_of (λ one. is_late one.request) (of_job fixed agent (Transaction caller site ops) events) ≤ 33
-
-abbrev pub among : List ℕ → ℕ → Bool
-among numbers number = list_any (λ one. one == number) numbers
+    (fixed : Fixed) (agent : Agent) (caller : Identity) (site : ℕ) (ops : List Op) (events : List Event) (servers : List ℕ) → is_idle agent.doing ≡ true
+    → asks_only servers (of_job fixed agent (Transaction caller site ops) events) ≡ true
+    → count_of (λ one. is_late one.request) (of_job fixed agent (Transaction caller site ops) events) ≤ 2 * length servers + 1
 
 -- a request names no suite but these
 abbrev pub names_of : List ℕ → Request → Bool
@@ -295,9 +361,30 @@ names_of suites (request.Upgrade t number) = among suites number
 names_of suites (request.Fetch t number) = among suites number
 names_of suites _ = true
 
--- stated only: what bounds all steps of a transaction, by the servers that it asks and the suites that it names
+-- these are all suites that are named
+abbrev pub names_only : List ℕ → List Exchange → Bool
+names_only suites past = list_all (λ one. names_of suites one.request) past
+
+-- A transaction that asks these servers and names these suites is at an end within so many own steps: two locks a suite and server and a
+-- content a suite, and the late steps.
 abbrev pub EndsInTime : Type 0
 EndsInTime =
     (fixed : Fixed) (agent : Agent) (caller : Identity) (site : ℕ) (ops : List Op) (events : List Event) (servers suites : List ℕ) → is_idle agent.doing ≡ true
-    → list_all (λ one. among servers one.server && names_of suites one.request) (of_job fixed agent (Transaction caller site ops) events) ≡ true
+    → asks_only servers (of_job fixed agent (Transaction caller site ops) events) ≡ true
+    → names_only suites (of_job fixed agent (Transaction caller site ops) events) ≡ true
     → length (of_job fixed agent (Transaction caller site ops) events) ≤ length suites * (2 * length servers + 1) + 2 * length servers + 1
+
+-- how many locks were listed
+abbrev pub listed_in : Request → Word → ℕ
+listed_in request.Locks (Replied (reply.Locked locks)) = length locks
+listed_in _ _ = 0
+
+abbrev pub listed : List Exchange → ℕ
+listed [] = 0
+listed (one ∷ past) = listed_in one.request one.word + listed past
+
+-- a sweep lists the locks, and takes at most two steps for each that it was told
+abbrev pub SweepEndsInTime : Type 0
+SweepEndsInTime =
+    (fixed : Fixed) (agent : Agent) (server : ℕ) (events : List Event) → is_idle agent.doing ≡ true
+    → length (of_job fixed agent (Sweep server) events) ≤ 1 + 2 * listed (of_job fixed agent (Sweep server) events)

@@ -1,6 +1,6 @@
 //! What holds of every agent that began a job, whatever it is told.
 
-ghost use Rattle.txn_core.specs.Laws.{NobodyIsPolledTwice, DecideIsSentOnce, NothingFollowsAnEnd, PrepareListsTheLocks, AllPrepareFirst, FinishCarriesTheVerdict, WhatIsWrittenIsFixed, DecidesOnQuorums, EndsAreCaused, LateStepsAreFew};
+ghost use Rattle.txn_core.specs.Laws.{NobodyIsPolledTwice, DecideIsSentOnce, NothingFollowsAnEnd, PrepareListsTheLocks, APrepareRises, AllPrepareFirst, FinishCarriesTheVerdict, WhatIsWrittenIsFixed, DecidesOnQuorums, EndsAreCaused, LateStepsAreFew, EndsInTime, SweepEndsInTime};
 
 /// A law: Decide is sent once at most. It does nothing.
 pub fn decide_is_sent_once()
@@ -16,6 +16,11 @@ pub fn finish_carries_the_verdict()
 /// does nothing.
 pub fn prepare_lists_the_locks()
     ensures { PrepareListsTheLocks }
+{}
+
+/// A law: the suites of a Prepare rise. It does nothing.
+pub fn a_prepare_rises()
+    ensures { APrepareRises }
 {}
 
 /// A law: after a cause was met, or the home has said how it ended, nothing is prepared or decided any
@@ -46,12 +51,24 @@ pub fn decides_on_quorums()
     ensures { DecidesOnQuorums }
 {}
 
-/// A law: a transaction or a sweep that ends undecided met the cause that it names. It does nothing.
+/// A law: a transaction or a sweep that ends undecided was told the cause that it names. It does nothing.
 pub fn ends_are_caused()
     ensures { EndsAreCaused }
 {}
 
-/// A law: a transaction is prepared, decided and told in 33 steps at most. It does nothing.
+/// A law: a transaction is prepared, decided and told in two steps a server and one more at most. It does
+/// nothing.
 pub fn late_steps_are_few()
     ensures { LateStepsAreFew }
+{}
+
+/// A law: with `n` servers asked and `k` suites named a transaction takes `k*(2n + 1) + 2n + 1` steps at
+/// most. It does nothing.
+pub fn ends_in_time()
+    ensures { EndsInTime }
+{}
+
+/// A law: a sweep takes one step, and two more at most for each lock that it was told. It does nothing.
+pub fn sweep_ends_in_time()
+    ensures { SweepEndsInTime }
 {}

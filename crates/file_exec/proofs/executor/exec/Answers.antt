@@ -1,4 +1,4 @@
-use Rattle.std.proofs.Common.{◌≡◌, ℕ, ◌+◌, ◌<◌, List, ◌∷◌, length, get_or, drop, sym, ap, subst, ◌∙◌, arith}
+use Rattle.std.proofs.Common.{◌≡◌, ℕ, ◌+◌, ◌<◌, List, ◌∷◌, length, get_or, drop, sym, ap, subst, ◌∙◌}
 use Rattle.std.specs.Prelude.{IfOk}
 use Rattle.std.proofs.lemmas.List.{drop_more, at_drop_all}
 use Rattle.acl_core.specs.Identity.{Identity}
@@ -44,7 +44,7 @@ returns-clause-answer c =
     let known = c.args.known.now in
     let all = exec_plays known.suites known.service c.args.t c.args.caller.now c.args.ops.now (well_counted c.args.ops.now c.if-is_empty.ensures c.if-ops-gt-MOST_OPERATIONS.false) in
     let gone = all ∙ sym c.loop-op.invariant.done
-        ∙ at_drop_all (λ left. run known.suites c.loop-op.log (play known.service c.loop-op.answers.items c.args.t c.loop-op.at c.args.caller.now left)) c.args.ops.now c.loop-op.op-index c.loop-op-test.false in
+    ∙ at_drop_all (λ left. run known.suites c.loop-op.log (play known.service c.loop-op.answers.items c.args.t c.loop-op.at c.args.caller.now left)) c.args.ops.now c.loop-op.op-index c.loop-op-test.false in
     ap (λ answers. outcome.Done answers c.in_ok-changes.changes) c.in_ok-answers.ensures
     ∙ ap (λ changes. outcome.Done c.loop-op.answers.items changes) c.in_ok-changes.ensures
     ∙ ap (answered known.suites) (sym gone)

@@ -1,0 +1,167 @@
+-- What a collector that falls short was told, in the words of the exchanges.
+use Rattle.std.proofs.Common.{◌≡◌, ℕ, ◌+◌, Bool, true, false, cond, ◌⊎◌, inl, inr, List, [], ◌∷◌, ◌++◌, Option, Some, None, refl, sym, ap, ◌∙◌}
+use Rattle.std.specs.Prelude.{◌==◌, ◌&&◌, ◌||◌, nat_le, find}
+use Rattle.vote_core.specs.Quorums.{Representative, votes_in}
+use Rattle.suite_prefix.specs.declared.lock_mode.LockMode.{LockMode}
+use Rattle.suite_prefix.specs.declared.lock_mode.LockMode.TheVariants.{Exclusive}
+use Rattle.suite_collect.specs.declared.told.Said.{Said}
+use Rattle.suite_collect.specs.declared.told.Said.TheVariants as said
+use Rattle.suite_collect.specs.declared.told.Told.{Told}
+use Rattle.suite_collect.specs.Telling.{newest, has_told, has_refused, first_busy, busy_in}
+use Rattle.suite_collect.specs.Collecting.{Collector, told_since, votes_or, mode_or, all_told, counted, wanted, is_member, is_left, needed, got, ask_or_short, mode_of, Next, Current, Ask, Short, next}
+use Rattle.suite_collect.specs.Collecting as collecting
+use Rattle.suite_collect.specs.Laws as collector
+use Rattle.suite_collect.proofs.Shortness.{short_has_none_left}
+use Rattle.txn_core.specs.declared.word.Word.{Word}
+use Rattle.txn_core.specs.declared.word.Word.TheVariants.{Replied, Lacked}
+use Rattle.txn_core.specs.declared.ending.Cause.{Cause}
+use Rattle.txn_core.specs.declared.ending.Cause.TheVariants.{Unavailable, Busy, Lost, Overruled, HomeDown, Full, Memory}
+use Rattle.txn_core.specs.Transactions.{said_to}
+use Rattle.txn_core.specs.Laws.{Exchange, locks, told_of, told_by, more_told, heard_in, is_said, has_said, holding, refusing, down, busy_at, first_of, first_busy_in, IsShort, IsCaused, EndsAreCaused}
+use Rattle.txn_core.proofs.Causes.{ShortBy, CausedBy, ends_by}
+
+abbrev kind_of : (LockMode → Said → Bool) → Told → Bool
+kind_of kind one = kind one.mode one.said
+
+-- what was told is what was said
+told_now : (kind : LockMode → Said → Bool) (before : List Told) (one : Exchange) (suite server : ℕ)
+    → has_told (kind_of kind) (cond (locks suite one.request) (told_by before one one.word) before) server
+    ≡ (((one.server == server) && locks suite one.request && is_said kind one.request (heard_in one.request one.word)) || has_told (kind_of kind) before server)
+told_now kind before one suite server = of (locks suite one.request) one.word
+  where
+    out : (a b : Bool) → b ≡ ((a && false) || b)
+    out true b = refl
+    out false b = refl
+
+    by : (heard : Option Said) → has_told (kind_of kind) (more_told before one.server one.request heard) server ≡ (((one.server == server) && is_said kind one.request heard) || has_told (kind_of kind) before server)
+    by (Some heard) = refl
+    by None = out (one.server == server) (has_told (kind_of kind) before server)
+
+    off : (a x b : Bool) → b ≡ (((a && false) && x) || b)
+    off true x b = refl
+    off false x b = refl
+
+    on : (a x b : Bool) → ((a && x) || b) ≡ (((a && true) && x) || b)
+    on true x b = refl
+    on false x b = refl
+
+    of : (b : Bool) (word : Word) → has_told (kind_of kind) (cond b (told_by before one word) before) server ≡ ((((one.server == server) && b) && is_said kind one.request (heard_in one.request word)) || has_told (kind_of kind) before server)
+    of true (Replied said) = by (said_to one.request said) ∙ on (one.server == server) (is_said kind one.request (said_to one.request said)) (has_told (kind_of kind) before server)
+    of true (Lacked lacked) = out (one.server == server) (has_told (kind_of kind) before server) ∙ on (one.server == server) false (has_told (kind_of kind) before server)
+    of false word = off (one.server == server) (is_said kind one.request (heard_in one.request word)) (has_told (kind_of kind) before server)
+
+told_said : (kind : LockMode → Said → Bool) (suite server : ℕ) (before : List Told) (past : List Exchange) → has_told (kind_of kind) (told_of suite before past) server ≡ (has_told (kind_of kind) before server || has_said past suite kind server)
+told_said kind suite server before [] = of (has_told (kind_of kind) before server)
+  where
+    of : (b : Bool) → b ≡ (b || false)
+    of true = refl
+    of false = refl
+told_said kind suite server before (one ∷ past) =
+    told_said kind suite server (cond (locks suite one.request) (told_by before one one.word) before) past
+    ∙ ap (λ b. b || has_said past suite kind server) (told_now kind before one suite server)
+    ∙ swap ((one.server == server) && locks suite one.request && is_said kind one.request (heard_in one.request one.word)) (has_told (kind_of kind) before server) (has_said past suite kind server)
+  where
+    swap : (a b c : Bool) → ((a || b) || c) ≡ (b || (a || c))
+    swap true true c = refl
+    swap true false c = refl
+    swap false b c = refl
+
+-- and who was busy first
+busy_now : (before : List Told) (one : Exchange) (suite : ℕ)
+    → first_busy (cond (locks suite one.request) (told_by before one one.word) before) ≡ first_of (first_busy before) (cond (locks suite one.request) (busy_at one.server (heard_in one.request one.word)) None)
+busy_now before one suite = of (locks suite one.request) one.word
+  where
+    out : (first : Option (ℕ × ℕ)) → first ≡ first_of first None
+    out (Some first) = refl
+    out None = refl
+
+    later : (heard : Said) (first : Option (ℕ × ℕ)) → busy_in one.server heard first ≡ first_of first (busy_at one.server (Some heard))
+    later heard (Some first) = refl
+    later (said.Held prefix dver) None = refl
+    later (said.Busy holder) None = refl
+    later said.Down None = refl
+
+    by : (heard : Option Said) → first_busy (more_told before one.server one.request heard) ≡ first_of (first_busy before) (busy_at one.server heard)
+    by (Some heard) = later heard (first_busy before)
+    by None = out (first_busy before)
+
+    of : (b : Bool) (word : Word) → first_busy (cond b (told_by before one word) before) ≡ first_of (first_busy before) (cond b (busy_at one.server (heard_in one.request word)) None)
+    of true (Replied said) = by (said_to one.request said)
+    of true (Lacked lacked) = out (first_busy before)
+    of false word = out (first_busy before)
+
+busy_said : (suite : ℕ) (before : List Told) (past : List Exchange) → first_busy (told_of suite before past) ≡ first_of (first_busy before) (first_busy_in suite past)
+busy_said suite before [] = of (first_busy before)
+  where
+    of : (first : Option (ℕ × ℕ)) → first ≡ first_of first None
+    of (Some first) = refl
+    of None = refl
+busy_said suite before (one ∷ past) =
+    busy_said suite (cond (locks suite one.request) (told_by before one one.word) before) past
+    ∙ ap (λ first. first_of first (first_busy_in suite past)) (busy_now before one suite)
+    ∙ of (first_busy before) (cond (locks suite one.request) (busy_at one.server (heard_in one.request one.word)) None)
+  where
+    of : (a b : Option (ℕ × ℕ)) → first_of (first_of a b) (first_busy_in suite past) ≡ first_of a (first_of b (first_busy_in suite past))
+    of (Some a) b = refl
+    of None b = refl
+
+votes_same : (reps : List Representative) (f g : ℕ → Bool) → ((server : ℕ) → f server ≡ g server) → votes_in reps f ≡ votes_in reps g
+votes_same [] f g same = refl
+votes_same (rep ∷ reps) f g same = ap (λ b. cond b rep.1 0 + votes_in reps f) (same rep.0) ∙ ap (λ n. cond (g rep.0) rep.1 0 + n) (votes_same reps f g same)
+
+-- the first busy one is told
+abbrev busy_of : Next → Option (ℕ × ℕ)
+busy_of (Short had wanting busy) = busy
+busy_of (Current prefix dver members) = None
+busy_of (Ask server asked) = None
+
+tells_busy : (c : Collector) (had wanting : ℕ) (busy : Option (ℕ × ℕ)) → next c ≡ Short had wanting busy → busy ≡ first_busy (all_told c)
+tells_busy c had wanting busy is = of (nat_le (needed c) (got c)) (find (is_left c) (counted c).reps) is
+  where
+    of : (b : Bool) (found : Option Representative) → cond b (Current (newest c.start c.told) (collecting.version c) (collecting.members_of (counted c) (is_member c))) (ask_or_short c found) ≡ Short had wanting busy → busy ≡ first_busy (all_told c)
+    of true found is = cc
+    of false (Some rep) is = cc
+    of false None is = sym (ap busy_of is)
+
+shown : (past : List Exchange) (suite had wanting : ℕ) (busy : Option (ℕ × ℕ)) → ShortBy past suite had wanting busy → IsShort past suite had wanting busy
+shown past suite had wanting busy by = record {
+  start = by.collector.start;
+  votes = counted by.collector;
+  mode = wanted by.collector;
+  count = which by.collector.widening refl;
+  had = short.votes ∙ votes_same (counted by.collector).reps (is_member by.collector) (has_said past suite (holding (wanted by.collector))) (said_of (holding (wanted by.collector)));
+  wanting = short.threshold;
+  too_few = short.too_few;
+  none_left = λ rep there some. either rep.0 (short.none_left rep there some);
+  first_busy = tells_busy by.collector had wanting busy by.short ∙ ap first_busy by.told ∙ busy_said suite [] past;
+  all_down = λ none server refused. sym (said_of down server) ∙ short.all_down none server (said_of refusing server ∙ refused);
+}
+  where
+    short : collector.IsShort by.collector had wanting busy
+    short = short_has_none_left by.collector had wanting busy by.short
+
+    said_of : (kind : LockMode → Said → Bool) (server : ℕ) → has_told (kind_of kind) (all_told by.collector) server ≡ has_said past suite kind server
+    said_of kind server = ap (λ told. has_told (kind_of kind) told server) by.told ∙ told_said kind suite server [] past
+
+    either : (server : ℕ) → (is_member by.collector server ≡ true) ⊎ (has_refused (all_told by.collector) server ≡ true) → (has_said past suite (holding (wanted by.collector)) server ≡ true) ⊎ (has_said past suite refusing server ≡ true)
+    either server (inl held) = inl (sym (said_of (holding (wanted by.collector)) server) ∙ held)
+    either server (inr refused) = inr (sym (said_of refusing server) ∙ refused)
+
+    which : (widening : Option collecting.Widening) → by.collector.widening ≡ widening → (counted by.collector ≡ (newest by.collector.start (told_of suite [] past)).votes) ⊎ (wanted by.collector ≡ Exclusive)
+    which None is = inl (
+        ap (λ w. votes_or w (newest by.collector.start by.collector.told)) is
+        ∙ ap (λ told. (newest by.collector.start told).votes) (sym (ap (λ w. told_since w ++ by.collector.told) is) ∙ by.told)
+        )
+    which (Some w) is = inr (ap (λ w. mode_or w by.collector.mode) is)
+
+caused : (cause : Cause) (past : List Exchange) → CausedBy cause past → IsCaused cause past
+caused (Unavailable suite had wanting) past by = shown past suite had wanting None by
+caused (Busy server holder) past by = (by.0, by.1, by.2, shown past by.0 by.1 by.2 (Some (server, holder)) by.3)
+caused (Lost server) past by = by
+caused Overruled past by = by
+caused HomeDown past by = by
+caused (Full server) past by = by
+caused Memory past by = by
+
+pub ends_are_caused : EndsAreCaused
+ends_are_caused fixed agent job events word cause idle fine ends = caused cause _ (ends_by fixed agent job events word cause idle fine ends)
