@@ -1,6 +1,10 @@
 //! How a job ends.
 
+ghost use Rattle.std.specs.Prelude.{◌≡◌};
+ghost use Rattle.txn_core.specs.Transactions.{lack_cause};
+
 use file_ops::{Answers, Refusal};
+use rep_core::Lack;
 
 /// Why a transaction or a sweep was not decided. An undecided transaction changed nothing, and never will.
 #[derive(Clone, Copy, Debug)]
@@ -39,4 +43,16 @@ pub enum Ending {
     },
     /// Without a decision.
     Undecided(Cause),
+}
+
+impl Cause {
+    /// Why a server did not serve a request.
+    pub(crate) fn of_lack(server: u8, lack: Lack) -> Cause
+        ensures { result ≡ lack_cause server lack }
+    {
+        match lack {
+            Lack::Full => Cause::Full { server },
+            Lack::Memory => Cause::Memory,
+        }
+    }
 }

@@ -2,9 +2,17 @@
 #![tactic(auto)]
 
 mod ending;
+mod first;
+mod home;
 mod job;
+mod knowing;
 mod laws;
+mod servers;
+mod sorting;
+mod suites;
+mod sweep;
 mod word;
+mod writing;
 
 pub use ending::{Cause, Ending};
 pub use job::{Job, Ops};

@@ -1,0 +1,24 @@
+//! What the first quorum of a suite gave.
+
+use std::marker::Model;
+use suite_prefix::Prefix;
+
+/// What the first quorum of a suite gave: its prefix, the version of its content, and the first server
+/// that showed that version. No version is used up.
+#[derive(Drop)]
+pub(crate) struct First {
+    pub(crate) prefix: Prefix,
+    pub(crate) dver: u64,
+    pub(crate) source: u8,
+}
+
+impl Model for First {
+    ghost use Rattle.txn_core.specs.Suites as gathering;
+    ghost use Rattle.txn_core.specs.FirstFields.{first_of, IsUnused};
+
+    ghost Value = { gathering.First };
+
+    ghost view = { first_of };
+
+    ghost invariant = { IsUnused };
+}

@@ -1,0 +1,76 @@
+//! Servers that are asked one after the other.
+
+ghost use Rattle.std.specs.Prelude.{◌≡◌, drop, slice_get};
+ghost use Rattle.txn_core.specs.Suites as gathering;
+ghost use Rattle.txn_core.specs.Transactions as course;
+
+use crate::suites::Suite;
+use sorted_map::SortedMap;
+use std::marker::Model;
+use vote_core::MAX_SERVERS;
+
+/// The servers that are left to be asked, in their order.
+#[derive(Debug, Drop)]
+pub(crate) struct Servers {
+    servers: [u8; MAX_SERVERS],
+    asked: usize,
+    count: usize,
+}
+
+impl Model for Servers {
+    ghost use Rattle.std.specs.Prelude.{◌≤◌, ℕ, List, drop, take};
+    ghost use Rattle.vote_core.specs.declared.TheConstants.{MAX_SERVERS};
+
+    ghost Value = { List ℕ };
+
+    ghost view = { λ left. drop left.asked (take left.count left.servers) };
+
+    ghost invariant = { λ left. (left.asked ≤ left.count) × (left.count ≤ MAX_SERVERS) };
+}
+
+impl Servers {
+    /// The server to be asked now.
+    pub(crate) fn first(&self) -> Option<u8>
+        ensures { result ≡ slice_get self.now 0 }
+    {
+        self.servers[self.asked..self.count].first().copied()
+    }
+
+    /// That one was asked.
+    pub(crate) fn pass(&mut self)
+        ensures { self.new ≡ drop 1 self.old }
+    {
+        if self.asked < self.count {
+            self.asked += 1;
+        }
+    }
+}
+
+/// The servers that answered that they hold a lock, which rise.
+pub(crate) fn locked_at(suites: &SortedMap<u64, Suite>) -> Servers
+    ensures { result ≡ course.locked_at suites.now }
+{
+    let mut servers = [0; MAX_SERVERS];
+    let mut count = 0;
+    for server in 0..MAX_SERVERS as u8 {
+        if has_locks(suites, server) {
+            servers[count] = server;
+            count += 1;
+        }
+    }
+    Servers {
+        servers,
+        asked: 0,
+        count,
+    }
+}
+
+/// Whether a server holds a lock on any suite.
+fn has_locks(suites: &SortedMap<u64, Suite>, server: u8) -> bool
+    ensures { result ≡ gathering.has_locks suites.now server }
+{
+    suites
+        .as_slice()
+        .iter()
+        .any(|(_, suite)| suite.holds_lock(server))
+}

@@ -1,0 +1,251 @@
+//! A sweep's round: for each transaction that has a lock at a server, what its home says is told there,
+//! or, where it has prepared nothing, its locks are broken.
+
+ghost use Rattle.std.specs.Prelude.{◌≡◌, ◌==◌, ◌<◌, ◌≤◌, ◌^◌, ◌%◌, ◌+◌, ◌/◌, length, IfOk, OnErr, OnSome, option_map, None, Some, IfSome, IfNone, [], ◌∷◌};
+ghost use Rattle.rep_core.specs.Locks as locking;
+ghost use Rattle.txn_core.specs.Doing as doing;
+ghost use Rattle.txn_core.specs.Sweeps as sweeping;
+ghost use Rattle.txn_core.specs.Transactions as course;
+ghost use Rattle.txn_core.specs.RoundFields.{sweeping_of, with_counts, total, left_in, first_of, Comes};
+
+use crate::ending::{Cause, Ending};
+use crate::home::home_of;
+use crate::sorting::rising;
+use crate::word::Word;
+use file_ops::Service;
+use rep_core::{Lack, Lock, Reply, Request, Verdict};
+use std::alloc::{AllocError, Global};
+use std::collections::VecDeque;
+use std::marker::Model;
+use vote_core::MAX_SERVERS;
+
+/// What a sweep asks.
+#[derive(Debug, Drop)]
+enum Asking {
+    /// To list the locks.
+    Locks,
+    /// How a transaction ended.
+    Resolve(u64),
+    /// To let a transaction go, as it ended.
+    Finish(u64, Verdict),
+    /// To let a lock go.
+    Break(Lock),
+}
+
+/// What a sweep counts.
+#[derive(Clone, Copy, Debug)]
+struct Counts {
+    broken: u64,
+    finished: u64,
+    left: u64,
+}
+
+/// How far a sweep of a server has come.
+#[derive(Debug, Drop)]
+pub(crate) struct Round {
+    server: u8,
+    counts: Counts,
+    asking: Asking,
+    /// The locks that are left.
+    locks: VecDeque<Lock>,
+}
+
+impl Model for Round {
+    ghost use Rattle.txn_core.specs.Doing as doing;
+    ghost use Rattle.txn_core.specs.RoundFields.{round_of, IsCounted};
+
+    ghost Value = { doing.Round };
+
+    ghost view = { round_of };
+
+    ghost invariant = { IsCounted };
+}
+
+impl Round {
+    /// A sweep that asked nothing yet.
+    pub(crate) fn new(alloc: Global, server: u8) -> Round
+        ensures { result ≡ record { server = server; broken = 0; finished = 0; left = 0; now = doing.Listing } }
+    {
+        Round {
+            server,
+            counts: Counts {
+                broken: 0,
+                finished: 0,
+                left: 0,
+            },
+            asking: Asking::Locks,
+            locks: VecDeque::new(alloc),
+        }
+    }
+
+    /// What is asked next, and of which server. Only to copy a verdict it may want memory.
+    pub(crate) fn next(&self, service: &Service) -> Result<(u8, Request), AllocError>
+        requires { (0 < service.now.servers) × (service.now.servers ≤ MAX_SERVERS) }
+        ensures { IfOk result (λ asked. asked ≡ sweeping.asked_now service.now self.now self.now.now) }
+    {
+        let server = self.asked(service);
+        let request = match &self.asking {
+            Asking::Locks => Request::Locks,
+            Asking::Resolve(t) => Request::Resolve { t: *t },
+            Asking::Finish(t, verdict) => {
+                let verdict = verdict.clone()?;
+                Request::Finish { t: *t, verdict }
+            }
+            Asking::Break(lock) => Request::Break {
+                t: lock.t,
+                suite: lock.suite,
+            },
+        };
+        Ok((server, request))
+    }
+
+    /// The server that is asked next.
+    pub(crate) fn asked(&self, service: &Service) -> u8
+        requires { (0 < service.now.servers) × (service.now.servers ≤ MAX_SERVERS) }
+        ensures { result ≡ (sweeping.asked_now service.now self.now self.now.now).0 }
+    {
+        match &self.asking {
+            Asking::Resolve(t) => home_of(service, *t),
+            _ => self.server,
+        }
+    }
+
+    /// Takes what was said to what was asked next, and gives the ending, where the round is at its end.
+    /// A list of locks wants memory. Where it is refused, the round is as it was.
+    pub(crate) fn take(
+        &mut self,
+        alloc: Global,
+        service: &Service,
+        word: &Word,
+    ) -> Result<Option<Ending>, AllocError>
+        requires { (0 < service.now.servers) × (service.now.servers ≤ MAX_SERVERS) }
+        ensures ok { IfOk result (λ ending. Comes (sweeping.after_word service.now self.old (sweeping.asked_now service.now self.old self.old.now).0 word.now) ending self.new) }
+        ensures err { OnErr result (self.new ≡ self.old) }
+    {
+        match word {
+            Word::Replied(said) => self.answer(alloc, service, said),
+            Word::Lacked(lack) => {
+                let cause = Cause::of_lack(self.asked(service), *lack);
+                Ok(Some(Ending::Undecided(cause)))
+            }
+        }
+    }
+
+    fn answer(
+        &mut self,
+        alloc: Global,
+        service: &Service,
+        said: &Reply,
+    ) -> Result<Option<Ending>, AllocError>
+        requires { (0 < service.now.servers) × (service.now.servers ≤ MAX_SERVERS) }
+        ensures ok { IfOk result (λ ending. Comes (sweeping.after_answer service.now self.old self.old.now said.now) ending self.new) }
+        ensures err { OnErr result (self.new ≡ self.old) }
+    {
+        match (&self.asking, said) {
+            (Asking::Locks, Reply::Locked(locks)) => self.list(alloc, locks.as_slice()),
+            (Asking::Resolve(t), Reply::Verdict(verdict)) => {
+                let (t, verdict) = (*t, verdict.clone()?);
+                self.asking = Asking::Finish(t, verdict);
+                Ok(None)
+            }
+            (Asking::Resolve(t), _) if home_of(service, *t) != self.server => {
+                Ok(self.go_on(Counts {
+                    left: self.counts.left + 1,
+                    ..self.counts
+                }))
+            }
+            (Asking::Finish(..), Reply::Done) => Ok(self.go_on(Counts {
+                finished: self.counts.finished + 1,
+                ..self.counts
+            })),
+            (Asking::Break(_), Reply::Done) => Ok(self.go_on(Counts {
+                broken: self.counts.broken + 1,
+                ..self.counts
+            })),
+            _ => Ok(Some(Ending::Undecided(Cause::Lost {
+                server: self.server,
+            }))),
+        }
+    }
+
+    /// The locks were told.
+    fn list(&mut self, alloc: Global, told: &[Lock]) -> Result<Option<Ending>, AllocError>
+        requires { self.old.now ≡ doing.Listing }
+        ensures ok { IfOk result (λ ending. Comes (sweeping.sweep_on self.old (sweeping.rising told.now)) ending self.new) }
+        ensures err { OnErr result (self.new ≡ self.old) }
+    {
+        let mut locks = rising(alloc, told)?;
+        let Some(asking) = first_of(&mut locks) else {
+            return Ok(Some(self.counts.swept()));
+        };
+        self.asking = asking;
+        self.locks = locks;
+        Ok(None)
+    }
+
+    /// Goes on to the locks that are left.
+    fn go_on(&mut self, counts: Counts) -> Option<Ending>
+        requires { total counts + length (left_in self.old.now) < 2 ^ 64 }
+        ensures { Comes (sweeping.sweep_on (with_counts counts self.old) (left_in self.old.now)) result self.new }
+    {
+        let Some(asking) = first_of(&mut self.locks) else {
+            return Some(counts.swept());
+        };
+        self.asking = asking;
+        self.counts = counts;
+        None
+    }
+}
+
+impl Counts {
+    /// The ending of a round that is through.
+    fn swept(&self) -> Ending
+        ensures { result ≡ Ending.Swept self.now.broken self.now.finished self.now.left }
+    {
+        let Counts {
+            broken,
+            finished,
+            left,
+        } = *self;
+        Ending::Swept {
+            broken,
+            finished,
+            left,
+        }
+    }
+}
+
+/// What is asked of the first of some locks. With it go the other locks of its transaction, where one is
+/// prepared.
+fn first_of(locks: &mut VecDeque<Lock>) -> Option<Asking>
+    ensures value { option_map (λ asking. sweeping_of asking locks.new.items) result ≡ first_of locks.old.items }
+    ensures fewer { OnSome result (length locks.new.items + 1 ≤ length locks.old.items) }
+    ensures none { IfNone result (locks.new.items ≡ []) }
+{
+    let lock = locks.pop_front()?;
+    if !is_prepared(&lock, locks) {
+        return Some(Asking::Break(lock));
+    }
+    let_go(locks, lock.t);
+    Some(Asking::Resolve(lock.t))
+}
+
+/// Lets a transaction's locks go.
+fn let_go(locks: &mut VecDeque<Lock>, t: u64)
+    ensures { locks.new.items ≡ sweeping.others t locks.old.items }
+{
+    locks.retain(|lock| lock.t != t);
+}
+
+/// Whether the transaction of a lock has a prepared one: it, or one of the others.
+fn is_prepared(lock: &Lock, others: &VecDeque<Lock>) -> bool
+    ensures { result ≡ locking.has_prepared lock.now.t (lock.now ∷ others.now.items) }
+{
+    lock.prepared || has_prepared(others, lock.t)
+}
+
+fn has_prepared(locks: &VecDeque<Lock>, t: u64) -> bool
+    ensures { result ≡ locking.has_prepared t locks.now.items }
+{
+    locks.iter().any(|lock| lock.t == t && lock.prepared)
+}
