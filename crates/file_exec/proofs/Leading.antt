@@ -216,7 +216,6 @@ changes_lead_on service known rows t caller ops ended suite agrees is =
         of_told : (is_set ended.edits suite ≡ true) ⊎ (some sets_votes ended.edits suite ≡ true) → Some row ≡ seen ended.edits suite (row_of rows suite)
         of_told (inl set) = of_set set
         of_told (inr voted) = of_known (is_set ended.edits suite) refl (knows_whose_votes service known t caller ops ended is suite voted)
-
     of_row heads None was =
         none_alike (seen ended.edits suite (row_of rows suite)) (ap head (sym was) ∙ head_seen ended.edits suite (known_rows known suite) (row_of rows suite) heads)
         ∙ sym (none_alike (row_of rows suite) (ap head (sym (none_before ended.edits suite (known_rows known suite) was)) ∙ heads))
