@@ -130,7 +130,8 @@ impl WeakCache {
 
     /// Keeps a prefix and a content for a site, as the newest, in place of what it kept of the suite; if
     /// they are too large for that, nothing of the suite is kept. What has no room beside them is let go,
-    /// the oldest first. An error leaves the cache as it was.
+    /// the oldest first. Memory is taken only where the entry can add to their number. An error leaves the cache
+    /// as it was.
     pub fn put(
         &mut self,
         site: u8,
