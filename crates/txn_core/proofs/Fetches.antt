@@ -45,7 +45,7 @@ use Rattle.txn_core.specs.Transactions.{Step, Gathered, tell_end, give_up, prepa
 use Rattle.txn_core.specs.Agents as agents
 use Rattle.txn_core.specs.Agents.{Agent, Event, Take, Forget, next_in, next_of, take_in, take, begin, started, forget, is_idle, has_sense, most_jobs}
 use Rattle.txn_core.specs.Laws.{Exchange, exchange_of, exchanges, of_job, count_of}
-use Rattle.txn_core.proofs.Mild.{asks_same}
+use Rattle.txn_core.proofs.Asks.{asks_same, asked_as, fetched_as}
 use Rattle.txn_core.proofs.Setting.{known_at}
 
 -- a request for the content of a suite
@@ -245,14 +245,7 @@ bounded_quiet : (before : ℕ → ℕ) (asked : Request) → ((number : ℕ) →
 bounded_quiet before asked none bounded number = let same = none_more before asked number (none number) in let bound = bounded number in omega (arith, same, bound)
 
 asks_no_content : (task : Task) (number : ℕ) (found : Option Suite) (server : ℕ) (asked : Request) → asked_for task number found ≡ Some (server, asked) → (other : ℕ) → fetches other asked ≡ false
-asks_no_content task number None server asked is other = cc
-asks_no_content task number (Some suite) server asked is other = of (next suite.collector) is
-  where
-    of : (after : Next) → asked_by task number after ≡ Some (server, asked) → fetches other asked ≡ false
-    of (Ask at (Poll mode)) is = ap (fetches other) (sym (asks_same at server (request.Poll task.t number mode) asked is))
-    of (Ask at Upgrade) is = ap (fetches other) (sym (asks_same at server (request.Upgrade task.t number) asked is))
-    of (Current prefix dver members) is = cc
-    of (Short had wanting busy) is = cc
+asks_no_content task number found server asked is other = asked_as (fetches other) false task number found server asked (λ mode. refl) refl is
 
 -- a content that is fetched was not there
 record IsFetch (task : Task) (suites : Suites) (number : ℕ) (asked : Request) : Type 0 where

@@ -38,7 +38,7 @@ use Rattle.txn_core.specs.Doing.{Granted, Fixed, Task, Outcome, Phase, Gathering
 use Rattle.txn_core.specs.Transactions.{Step, Gathered, tell_end, give_up, prepare, locked_at, short_cause, gather_by, widen_by, widen_one, widened, widen_all, opened, heard_on, raised_or_new, keep_content, heard_of, said_to, proceed, execute, collected, hear, fetched, after_lack, after_word, request_in, changes_of, given_in, verdict_in, ending_by, cause_of_abort, lack_cause}
 use Rattle.txn_core.specs.Writing.{parts_at}
 use Rattle.txn_core.proofs.Walk.{IsEarly, goes_word, goes_execute}
-use Rattle.txn_core.proofs.Mild.{asks_same, suite_asks, fetch_asks}
+use Rattle.txn_core.proofs.Asks.{asks_same, asked_as, fetched_as}
 use Rattle.rep_core.specs.declared.request.Decision.{Decision}
 use Rattle.txn_core.specs.Laws.{is_decide}
 use Rattle.txn_core.proofs.Locks.{told_at, told_in, or_false, or_or}
@@ -271,10 +271,10 @@ decide_ready held done fixed (Some (Running course)) home t number server decisi
     by_false asked other at is = no_decide at home t asked decision other is
 
     of : (phase : Phase) → PhaseReady done course.suites phase → request_in fixed course.task course.suites phase ≡ Some (home, request.Decide t decision) → done server ≡ true
-    of (Gathering who) ready is = absurd (false≢true (sym (suite_asks course.task who (suite_of course.suites who) home (request.Decide t decision) is)))
-    of (Fetching who) ready is = absurd (false≢true (sym (fetch_asks course.task who (suite_of course.suites who) home (request.Decide t decision) is)))
+    of (Gathering who) ready is = absurd (false≢true (sym (asked_as is_decide false course.task who (suite_of course.suites who) home (request.Decide t decision) (λ mode. refl) refl is)))
+    of (Fetching who) ready is = absurd (false≢true (sym (fetched_as is_decide false course.task who (suite_of course.suites who) home (request.Decide t decision) refl is)))
     of (Widening [] granted) ready is = cc
-    of (Widening (who ∷ left) granted) ready is = absurd (false≢true (sym (suite_asks course.task who (suite_of course.suites who) home (request.Decide t decision) is)))
+    of (Widening (who ∷ left) granted) ready is = absurd (false≢true (sym (asked_as is_decide false course.task who (suite_of course.suites who) home (request.Decide t decision) (λ mode. refl) refl is)))
     of (Preparing [] outcome) ready is = cc
     of (Preparing (now ∷ left) outcome) ready is = by_false (request.Prepare course.task.t (parts_at course.suites (changes_of outcome) now)) refl now is
     of (Deciding outcome) ready is = ready server few (has_one course.suites number server (keeps.1 number server ∙ has))
