@@ -9,13 +9,12 @@ use Rattle.acl_core.specs.Identity.{Identity}
 use Rattle.file_ops.specs.declared.operation.Op.{Op}
 use Rattle.rep_core.specs.declared.request.Request.{Request}
 use Rattle.rep_core.specs.declared.request.Request.TheVariants as request
-use Rattle.suite_collect.specs.Collecting.{Poll, Upgrade, Next, Ask, Current, Short, next}
-use Rattle.txn_core.specs.Suites.{First, Suite, Suites, suite_of}
+use Rattle.txn_core.specs.Suites.{Suites, suite_of}
 use Rattle.txn_core.specs.Writing.{parts_at}
 use Rattle.txn_core.specs.declared.word.Word.{Word}
 use Rattle.txn_core.specs.declared.job.Job.TheVariants.{Transaction}
 use Rattle.txn_core.specs.Doing.{Fixed, Task, home_of, Phase, Gathering, Fetching, Widening, Preparing, Deciding, Finishing, Doing, Running, Rounding}
-use Rattle.txn_core.specs.Transactions.{asked_by, asked_for, fetched_at, fetched_for, request_in, changes_of, decision_of}
+use Rattle.txn_core.specs.Transactions.{request_in, changes_of, decision_of}
 use Rattle.txn_core.specs.Agents.{Agent, Event, Take, Forget, next_in, next_of, take, begin, forget, is_idle}
 use Rattle.txn_core.specs.Laws.{Exchange, exchange_of, exchanges, of_job, locks, is_decide, count_of, among, asks_only, is_late, LateStepsAreFew, names_of, names_only, EndsInTime}
 use Rattle.txn_core.proofs.Asks.{asks_same, asked_as, fetched_as}

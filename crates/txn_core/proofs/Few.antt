@@ -6,14 +6,13 @@ use Rattle.std.proofs.lemmas.Bool.Decides.{nat_tests}
 use Rattle.std.proofs.lemmas.Option.{same_Some}
 use Rattle.acl_core.specs.Identity.{Identity}
 use Rattle.file_ops.specs.declared.operation.Op.{Op}
-use Rattle.suite_collect.specs.Collecting.{Poll, Upgrade, Next, Ask, Current, Short, next}
 use Rattle.rep_core.specs.Fits.{is_prepared}
 use Rattle.rep_core.specs.declared.request.Request.{Request}
 use Rattle.rep_core.specs.declared.request.Request.TheVariants as request
 use Rattle.rep_core.specs.declared.reply.Verdict.{Verdict}
 use Rattle.rep_core.specs.declared.reply.Verdict.TheVariants as verdict
 use Rattle.weak_cache.specs.Entries.{Cache}
-use Rattle.txn_core.specs.Suites.{First, Suite, Suites, suite_of, has_locks}
+use Rattle.txn_core.specs.Suites.{Suites, suite_of, has_locks}
 use Rattle.txn_core.specs.declared.word.Word.{Word}
 use Rattle.txn_core.specs.declared.ending.Cause.{Cause}
 use Rattle.txn_core.specs.declared.ending.Ending.{Ending}
@@ -22,7 +21,7 @@ use Rattle.txn_core.specs.declared.ending.Cause.TheVariants.{Lost}
 use Rattle.txn_core.specs.declared.ending.Ending.TheVariants.{Undecided}
 use Rattle.txn_core.specs.declared.job.Job.TheVariants.{Transaction}
 use Rattle.txn_core.specs.Doing.{Fixed, Task, Outcome, Phase, Gathering, Fetching, Widening, Preparing, Deciding, Finishing, Course, Doing, Running, Rounding, After, GoesOn, Ends}
-use Rattle.txn_core.specs.Transactions.{numbers_from, tell_end, give_up, prepare, locked_at, after_word, asked_by, asked_for, fetched_at, fetched_for, request_in, decision_of, verdict_in, ending_by, cause_of_abort, lack_cause}
+use Rattle.txn_core.specs.Transactions.{numbers_from, tell_end, give_up, prepare, locked_at, after_word, request_in, decision_of, verdict_in, ending_by, cause_of_abort, lack_cause}
 use Rattle.txn_core.specs.Agents.{Agent, Event, Take, Forget, next_in, next_of, left, take_in, take, begin, started, forget, is_idle, has_sense, most_jobs}
 use Rattle.txn_core.specs.Laws.{Exchange, exchange_of, exchanges, of_job, count_of}
 use Rattle.txn_core.proofs.Asks.{asks_same, asked_as, fetched_as}

@@ -27,7 +27,7 @@ use Rattle.txn_core.specs.declared.job.Job.TheVariants.{Transaction, Sweep}
 use Rattle.txn_core.specs.Doing.{home_of, Fixed, Task, Phase, Gathering, Fetching, Widening, Preparing, Deciding, Finishing, Course, Sweeping, Listing, Resolving, Telling, Breaking, Round, Doing, Running, Rounding, After, GoesOn, Ends}
 use Rattle.txn_core.specs.Transactions.{Step, locked_at, heard_of, is_poll, said_to, hear, after_word, asked_by, asked_for, fetched_at, fetched_for, request_in, changes_of, decision_of, given_in, verdict_in, ending_by, cause_of_abort}
 use Rattle.txn_core.specs.Writing.{parts_at}
-use Rattle.txn_core.proofs.Asks.{asks_same, asked_as, fetched_as}
+use Rattle.txn_core.proofs.Asks.{asks_same, fetched_as}
 use Rattle.suite_collect.proofs.Collected.{nobody_is_asked_twice}
 use Rattle.suite_collect.proofs.Fewness.{times, Few, few_more, never}
 use Rattle.suite_collect.specs.declared.told.Said.TheVariants.{Down}
