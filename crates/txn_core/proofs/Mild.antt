@@ -1,25 +1,17 @@
 -- Until its home has answered a transaction ends with Aborted alone.
-use Rattle.std.proofs.Common.{◌≡◌, ℕ, ◌+◌, true, false, cond, List, [], ◌∷◌, ◌++◌, Option, Some, None, Ok, Err, refl, sym, ap, subst, ◌∙◌}
-use Rattle.std.specs.Prelude.{length, nat_lt, ◌&&◌, ◌*◌}
-use Rattle.std.proofs.lemmas.Option.{same_Some}
+use Rattle.std.proofs.Common.{◌≡◌, ℕ, ◌+◌, true, false, cond, List, [], ◌∷◌, ◌++◌, Option, Some, None, refl, sym, ap, subst}
+use Rattle.std.specs.Prelude.{nat_lt, ◌&&◌, ◌*◌}
 use Rattle.rep_core.specs.declared.request.Request.TheVariants as request
 use Rattle.txn_core.specs.Laws.{Exchange, exchange_of, exchanges, of_job, is_decide, said_by, told_verdict, FinishCarriesTheVerdict}
 use Rattle.txn_core.specs.Agents.{Agent, Event, Take, Forget, next_in, next_of, left, take_in, take, begin, started, forget, is_idle, has_sense, most_jobs, after_all}
 use Rattle.txn_core.specs.Sweeps as sweep
 use Rattle.txn_core.specs.Writing.{parts_at}
-use Rattle.rep_core.specs.declared.stamped.Lack.{Lack}
-use Rattle.suite_content.specs.declared.content.Content.{Content}
 use Rattle.rep_core.specs.declared.request.Request.{Request}
 use Rattle.rep_core.specs.declared.reply.Verdict.{Verdict}
 use Rattle.rep_core.specs.declared.reply.Verdict.TheVariants as verdict
 use Rattle.rep_core.specs.declared.reply.Reply.{Reply}
-use Rattle.file_exec.specs.declared.need.Need.TheVariants.{Hold, Know}
-use Rattle.file_exec.specs.declared.executor.Outcome.{Outcome as Executed}
-use Rattle.file_exec.specs.declared.executor.Outcome.TheVariants as exec
-use Rattle.suite_collect.specs.declared.told.Said.{Said}
-use Rattle.suite_collect.specs.Collecting.{Asked, Poll, Upgrade, request_for, Next, Ask, Current, Short, next}
 use Rattle.weak_cache.specs.Entries.{Cache}
-use Rattle.txn_core.specs.Suites.{First, Suite, Suites, suite_of, with_suite}
+use Rattle.txn_core.specs.Suites.{Suites, suite_of}
 use Rattle.txn_core.specs.declared.word.Word.{Word}
 use Rattle.txn_core.specs.declared.ending.Cause.{Cause}
 use Rattle.txn_core.specs.declared.ending.Ending.{Ending}
@@ -27,8 +19,9 @@ use Rattle.txn_core.specs.declared.job.Job.{Job}
 use Rattle.txn_core.specs.declared.word.Word.TheVariants.{Replied, Lacked}
 use Rattle.txn_core.specs.declared.ending.Cause.TheVariants.{Lost}
 use Rattle.txn_core.specs.declared.job.Job.TheVariants.{Transaction, Sweep}
-use Rattle.txn_core.specs.Doing.{Granted, Fixed, Task, home_of, Outcome, Phase, Gathering, Fetching, Widening, Preparing, Deciding, Finishing, Course, Round, Doing, Running, Rounding, After, GoesOn, Ends}
-use Rattle.txn_core.specs.Transactions.{lack_cause, Step, Gathered, tell_end, give_up, prepare, locked_at, short_cause, gather_by, widen_by, widen_one, widened, widen_all, opened, heard_on, raised_or_new, keep_content, heard_of, said_to, proceed, execute, collected, hear, fetched, prepared, decided, after_lack, after_word, asked_by, asked_for, fetched_for, fetched_at, request_in, changes_of, decision_of, given_in, verdict_in}
+use Rattle.txn_core.specs.Doing.{Fixed, Task, home_of, Outcome, Phase, Gathering, Fetching, Widening, Preparing, Deciding, Finishing, Course, Round, Doing, Running, Rounding, After, GoesOn, Ends}
+use Rattle.txn_core.specs.Transactions.{lack_cause, Step, tell_end, give_up, prepare, locked_at, prepared, decided, after_word, request_in, changes_of, decision_of, verdict_in}
+use Rattle.txn_core.proofs.Asks.{asks_same, asked_as, fetched_as}
 use Rattle.txn_core.proofs.Walk.{IsEarly, goes_word, goes_execute}
 use Rattle.rep_core.specs.Fits.{is_prepared}
 
@@ -83,23 +76,6 @@ tells_decided task cache suites said = tells_end task cache suites (verdict_in s
 
 -- ---- what was told so far, and what is told of it
 
-pub asks_same : (a b : ℕ) (x y : Request) → ◌≡◌ {A = Option (ℕ × Request)} (Some (a, x)) (Some (b, y)) → x ≡ y
-asks_same a b x y is = ap (λ (pair : ℕ × Request). pair.1) (same_Some (a, x) (b, y) is)
-
--- a collector asks to decide nothing
-lock_asks : (t number : ℕ) (asked : Asked) → is_decide (request_for t number asked) ≡ false
-lock_asks t number (Poll mode) = refl
-lock_asks t number Upgrade = refl
-
-pub suite_asks : (task : Task) (number : ℕ) (found : Option Suite) (server : ℕ) (asked : Request) → asked_for task number found ≡ Some (server, asked) → is_decide asked ≡ false
-suite_asks task number None server asked is = cc
-suite_asks task number (Some suite) server asked is = of (next suite.collector) is
-  where
-    of : (after : Next) → asked_by task number after ≡ Some (server, asked) → is_decide asked ≡ false
-    of (Ask other question) is = ap is_decide (sym (asks_same other server (request_for task.t number question) asked is)) ∙ lock_asks task.t number question
-    of (Current prefix dver members) is = cc
-    of (Short had wanting busy) is = cc
-
 -- ---- one word
 
 -- a word on anything but a Decide changes no verdict
@@ -107,24 +83,16 @@ calm : (asked : Request) (word : Word) (v : Verdict) (after : After Course) → 
 calm asked word v after other aborted tells =
     subst (λ b. LeftTells (cond b (said_by word v) v) after) (sym other) (subst (λ v. LeftTells v after) (sym aborted) tells)
 
-pub fetch_asks : (task : Task) (number : ℕ) (found : Option Suite) (server : ℕ) (asked : Request) → fetched_for task number found ≡ Some (server, asked) → is_decide asked ≡ false
-fetch_asks task number None server asked is = cc
-fetch_asks task number (Some suite) server asked is = of suite.first is
-  where
-    of : (first : Option First) → fetched_at task number first ≡ Some (server, asked) → is_decide asked ≡ false
-    of (Some first) is = ap is_decide (sym (asks_same first.source server (request.Fetch task.t number) asked is))
-    of None is = cc
-
 word_tells : (fixed : Fixed) (task : Task) (cache : Cache) (suites : Suites) (phase : Phase) (server : ℕ) (asked : Request) (word : Word) (v : Verdict)
     → request_in fixed task suites phase ≡ Some (server, asked) → TellsOnly v phase
     → LeftTells (cond (is_decide asked) (said_by word v) v) (after_word fixed (record { task = task; suites = suites; phase = phase }) cache server asked word).after
 word_tells fixed task cache suites (Gathering number) server asked word v is tells =
-    calm asked word v _ (suite_asks task number (suite_of suites number) server asked is) tells (mild_word fixed task cache suites (Gathering number) server asked word tt)
+    calm asked word v _ (asked_as is_decide false task number (suite_of suites number) server asked (λ mode. refl) refl is) tells (mild_word fixed task cache suites (Gathering number) server asked word tt)
 word_tells fixed task cache suites (Fetching number) server asked word v is tells =
-    calm asked word v _ (fetch_asks task number (suite_of suites number) server asked is) tells (mild_word fixed task cache suites (Fetching number) server asked word tt)
+    calm asked word v _ (fetched_as is_decide false task number (suite_of suites number) server asked refl is) tells (mild_word fixed task cache suites (Fetching number) server asked word tt)
 word_tells fixed task cache suites (Widening [] granted) server asked word v is tells = cc
 word_tells fixed task cache suites (Widening (number ∷ left) granted) server asked word v is tells =
-    calm asked word v _ (suite_asks task number (suite_of suites number) server asked is) tells (mild_word fixed task cache suites (Widening (number ∷ left) granted) server asked word tt)
+    calm asked word v _ (asked_as is_decide false task number (suite_of suites number) server asked (λ mode. refl) refl is) tells (mild_word fixed task cache suites (Widening (number ∷ left) granted) server asked word tt)
 word_tells fixed task cache suites (Preparing [] outcome) server asked word v is tells = cc
 word_tells fixed task cache suites (Preparing (now ∷ left) outcome) server asked word v is tells =
     let same = asks_same now server (request.Prepare task.t (parts_at suites (changes_of outcome) now)) asked is in

@@ -1,31 +1,24 @@
 -- Each server that holds a lock prepares before a decision is asked for.
-use Rattle.std.proofs.Common.{◌≡◌, ℕ, zero, suc, ◌+◌, Bool, true, false, cond, List, [], ◌∷◌, ◌++◌, Option, Some, None, Ok, Err, refl, sym, ap, subst, ◌∙◌, arith}
-use Rattle.std.specs.Prelude.{◌==◌, ◌&&◌, ◌||◌, length, filter, nat_lt, ◌*◌}
+use Rattle.std.proofs.Common.{◌≡◌, ℕ, zero, suc, ◌+◌, Bool, true, false, cond, List, [], ◌∷◌, ◌++◌, Option, Some, None, refl, sym, ap, subst, ◌∙◌, arith}
+use Rattle.std.specs.Prelude.{◌==◌, ◌&&◌, ◌||◌, filter, nat_lt, ◌*◌}
 use Rattle.std.specs.List.{list_any}
 use Rattle.std.specs.Ordering.{nat_cmp}
 use Rattle.std.specs.BTreeMap.{is_at}
 use Rattle.std.proofs.lemmas.Bool.{eqb-true, false≢true}
 use Rattle.std.proofs.lemmas.Option.{same_Some}
 use Rattle.std.proofs.lemmas.Bool.Decides.{nat_tests}
-use Rattle.suite_content.specs.declared.content.Content.{Content}
 use Rattle.suite_prefix.specs.declared.lock_mode.LockMode.TheVariants.{Shared}
 use Rattle.rep_core.specs.declared.request.Request.{Request}
 use Rattle.rep_core.specs.declared.request.Request.TheVariants as request
 use Rattle.rep_core.specs.declared.reply.Verdict.{Verdict}
-use Rattle.rep_core.specs.declared.reply.Reply.{Reply}
 use Rattle.txn_core.specs.Laws.{Exchange, exchange_of, exchanges, of_job, is_prepare, says_prepared, was_prepared, AllPrepareFirst}
 use Rattle.txn_core.specs.Agents as agents
 use Rattle.txn_core.specs.Agents.{Agent, Event, Take, Forget, next_in, next_of, take_in, take, begin, started, forget, is_idle, has_sense, most_jobs, after_all}
 use Rattle.txn_core.specs.Sweeps as sweep
 use Rattle.rep_core.specs.Fits.{is_prepared}
-use Rattle.file_exec.specs.declared.need.Need.TheVariants.{Hold, Know}
-use Rattle.file_exec.specs.declared.executor.Outcome.{Outcome as Executed}
-use Rattle.file_exec.specs.declared.executor.Outcome.TheVariants as exec
-use Rattle.suite_collect.specs.declared.told.Said.{Said}
 use Rattle.suite_collect.specs.Telling.{holds}
-use Rattle.suite_collect.specs.Collecting.{tell, mode_of, Next, Ask, Current, Short, next}
 use Rattle.weak_cache.specs.Entries.{Cache}
-use Rattle.txn_core.specs.Suites.{First, Suite, Suites, suite_of, with_suite, settled, holds_lock}
+use Rattle.txn_core.specs.Suites.{Suites, suite_of, holds_lock}
 use Rattle.txn_core.specs.declared.word.Word.{Word}
 use Rattle.txn_core.specs.declared.ending.Cause.{Cause}
 use Rattle.txn_core.specs.declared.ending.Ending.{Ending}
@@ -34,11 +27,11 @@ use Rattle.txn_core.specs.declared.word.Word.TheVariants.{Replied, Lacked}
 use Rattle.txn_core.specs.declared.ending.Cause.TheVariants.{Lost}
 use Rattle.txn_core.specs.declared.ending.Ending.TheVariants.{Undecided}
 use Rattle.txn_core.specs.declared.job.Job.TheVariants.{Transaction, Sweep}
-use Rattle.txn_core.specs.Doing.{Granted, Fixed, Task, Outcome, Phase, Gathering, Fetching, Widening, Preparing, Deciding, Finishing, Course, Sweeping, Listing, Resolving, Telling, Breaking, Round, Doing, Running, Rounding, After, GoesOn, Ends}
-use Rattle.txn_core.specs.Transactions.{Step, Gathered, tell_end, give_up, prepare, locked_at, short_cause, gather_by, widen_by, widen_one, widened, widen_all, opened, heard_on, raised_or_new, keep_content, heard_of, said_to, proceed, execute, collected, hear, fetched, after_lack, after_word, request_in, changes_of, given_in, verdict_in, ending_by, cause_of_abort, lack_cause}
+use Rattle.txn_core.specs.Doing.{Fixed, Task, Outcome, Phase, Gathering, Fetching, Widening, Preparing, Deciding, Finishing, Course, Sweeping, Listing, Resolving, Telling, Breaking, Round, Doing, Running, Rounding, After, GoesOn, Ends}
+use Rattle.txn_core.specs.Transactions.{tell_end, give_up, prepare, locked_at, after_word, request_in, changes_of, verdict_in, ending_by, cause_of_abort, lack_cause}
 use Rattle.txn_core.specs.Writing.{parts_at}
 use Rattle.txn_core.proofs.Walk.{IsEarly, goes_word, goes_execute}
-use Rattle.txn_core.proofs.Mild.{asks_same, suite_asks, fetch_asks}
+use Rattle.txn_core.proofs.Asks.{asks_same, asked_as, fetched_as}
 use Rattle.rep_core.specs.declared.request.Decision.{Decision}
 use Rattle.txn_core.specs.Laws.{is_decide}
 use Rattle.txn_core.proofs.Locks.{told_at, told_in, or_false, or_or}
@@ -46,7 +39,6 @@ use Rattle.txn_core.proofs.Locks as locks
 use Rattle.txn_core.specs.Transactions.{numbers_from}
 use Rattle.txn_core.specs.Suites.{has_locks}
 use Rattle.std.proofs.Common.{◌≤◌, ◌<◌}
-use Rattle.rep_core.specs.declared.stamped.Lack.{Lack}
 use Rattle.rep_core.specs.declared.reply.Verdict.TheVariants as verdict
 
 -- ---- the servers that hold locks
@@ -271,10 +263,10 @@ decide_ready held done fixed (Some (Running course)) home t number server decisi
     by_false asked other at is = no_decide at home t asked decision other is
 
     of : (phase : Phase) → PhaseReady done course.suites phase → request_in fixed course.task course.suites phase ≡ Some (home, request.Decide t decision) → done server ≡ true
-    of (Gathering who) ready is = absurd (false≢true (sym (suite_asks course.task who (suite_of course.suites who) home (request.Decide t decision) is)))
-    of (Fetching who) ready is = absurd (false≢true (sym (fetch_asks course.task who (suite_of course.suites who) home (request.Decide t decision) is)))
+    of (Gathering who) ready is = absurd (false≢true (sym (asked_as is_decide false course.task who (suite_of course.suites who) home (request.Decide t decision) (λ mode. refl) refl is)))
+    of (Fetching who) ready is = absurd (false≢true (sym (fetched_as is_decide false course.task who (suite_of course.suites who) home (request.Decide t decision) refl is)))
     of (Widening [] granted) ready is = cc
-    of (Widening (who ∷ left) granted) ready is = absurd (false≢true (sym (suite_asks course.task who (suite_of course.suites who) home (request.Decide t decision) is)))
+    of (Widening (who ∷ left) granted) ready is = absurd (false≢true (sym (asked_as is_decide false course.task who (suite_of course.suites who) home (request.Decide t decision) (λ mode. refl) refl is)))
     of (Preparing [] outcome) ready is = cc
     of (Preparing (now ∷ left) outcome) ready is = by_false (request.Prepare course.task.t (parts_at course.suites (changes_of outcome) now)) refl now is
     of (Deciding outcome) ready is = ready server few (has_one course.suites number server (keeps.1 number server ∙ has))
