@@ -22,3 +22,6 @@ pub use laws::{
     nothing_follows_an_end, prepare_lists_the_locks, sweep_ends_in_time, what_is_written_is_fixed,
 };
 pub use word::Word;
+
+#[cfg(test)]
+mod tests;
