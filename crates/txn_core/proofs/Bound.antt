@@ -9,16 +9,15 @@ use Rattle.acl_core.specs.Identity.{Identity}
 use Rattle.file_ops.specs.declared.operation.Op.{Op}
 use Rattle.rep_core.specs.declared.request.Request.{Request}
 use Rattle.rep_core.specs.declared.request.Request.TheVariants as request
-use Rattle.suite_collect.specs.Collecting.{Poll, Upgrade, Next, Ask, Current, Short, next}
-use Rattle.txn_core.specs.Suites.{First, Suite, Suites, suite_of}
+use Rattle.txn_core.specs.Suites.{Suites, suite_of}
 use Rattle.txn_core.specs.Writing.{parts_at}
 use Rattle.txn_core.specs.declared.word.Word.{Word}
 use Rattle.txn_core.specs.declared.job.Job.TheVariants.{Transaction}
 use Rattle.txn_core.specs.Doing.{Fixed, Task, home_of, Phase, Gathering, Fetching, Widening, Preparing, Deciding, Finishing, Doing, Running, Rounding}
-use Rattle.txn_core.specs.Transactions.{asked_by, asked_for, fetched_at, fetched_for, request_in, changes_of, decision_of}
+use Rattle.txn_core.specs.Transactions.{request_in, changes_of, decision_of}
 use Rattle.txn_core.specs.Agents.{Agent, Event, Take, Forget, next_in, next_of, take, begin, forget, is_idle}
 use Rattle.txn_core.specs.Laws.{Exchange, exchange_of, exchanges, of_job, locks, is_decide, count_of, among, asks_only, is_late, LateStepsAreFew, names_of, names_only, EndsInTime}
-use Rattle.txn_core.proofs.Mild.{asks_same}
+use Rattle.txn_core.proofs.Asks.{asks_same, asked_as, fetched_as}
 use Rattle.txn_core.proofs.Once.{decide_is_sent_once}
 use Rattle.txn_core.proofs.Polls.{asked_for_locks, locks_are_few}
 use Rattle.txn_core.proofs.Few.{tells, told_to, tellings_are_few, IsNoRound, take_no_round, began_no_round}
@@ -220,29 +219,11 @@ late_most servers (one ∷ past) asked =
 
 -- ---- all that a transaction asks is of these kinds
 
-ours_by : (task : Task) (number : ℕ) (next : Next) (server : ℕ) (asked : Request) → asked_by task number next ≡ Some (server, asked) → is_ours asked ≡ true
-ours_by task number (Ask at (Poll mode)) server asked is = ap is_ours (sym (asks_same at server (request.Poll task.t number mode) asked is))
-ours_by task number (Ask at Upgrade) server asked is = ap is_ours (sym (asks_same at server (request.Upgrade task.t number) asked is))
-ours_by task number (Current prefix dver members) server asked is = cc
-ours_by task number (Short had wanting busy) server asked is = cc
-
-ours_for : (task : Task) (number : ℕ) (found : Option Suite) (server : ℕ) (asked : Request) → asked_for task number found ≡ Some (server, asked) → is_ours asked ≡ true
-ours_for task number (Some suite) server asked is = ours_by task number (next suite.collector) server asked is
-ours_for task number None server asked is = cc
-
-ours_at : (task : Task) (number : ℕ) (first : Option First) (server : ℕ) (asked : Request) → fetched_at task number first ≡ Some (server, asked) → is_ours asked ≡ true
-ours_at task number (Some first) server asked is = ap is_ours (sym (asks_same first.source server (request.Fetch task.t number) asked is))
-ours_at task number None server asked is = cc
-
-ours_fetch : (task : Task) (number : ℕ) (found : Option Suite) (server : ℕ) (asked : Request) → fetched_for task number found ≡ Some (server, asked) → is_ours asked ≡ true
-ours_fetch task number (Some suite) server asked is = ours_at task number suite.first server asked is
-ours_fetch task number None server asked is = cc
-
 ours_in : (fixed : Fixed) (task : Task) (suites : Suites) (phase : Phase) (server : ℕ) (asked : Request) → request_in fixed task suites phase ≡ Some (server, asked) → is_ours asked ≡ true
-ours_in fixed task suites (Gathering number) server asked is = ours_for task number (suite_of suites number) server asked is
-ours_in fixed task suites (Fetching number) server asked is = ours_fetch task number (suite_of suites number) server asked is
+ours_in fixed task suites (Gathering number) server asked is = asked_as is_ours true task number (suite_of suites number) server asked (λ mode. refl) refl is
+ours_in fixed task suites (Fetching number) server asked is = fetched_as is_ours true task number (suite_of suites number) server asked refl is
 ours_in fixed task suites (Widening [] granted) server asked is = cc
-ours_in fixed task suites (Widening (number ∷ left) granted) server asked is = ours_for task number (suite_of suites number) server asked is
+ours_in fixed task suites (Widening (number ∷ left) granted) server asked is = asked_as is_ours true task number (suite_of suites number) server asked (λ mode. refl) refl is
 ours_in fixed task suites (Preparing [] outcome) server asked is = cc
 ours_in fixed task suites (Preparing (now ∷ left) outcome) server asked is = ap is_ours (sym (asks_same now server (request.Prepare task.t (parts_at suites (changes_of outcome) now)) asked is))
 ours_in fixed task suites (Deciding outcome) server asked is = ap is_ours (sym (asks_same (home_of fixed.service task.t) server (request.Decide task.t (decision_of task outcome)) asked is))

@@ -44,7 +44,7 @@ use Rattle.txn_core.specs.Sweeps as sweep
 use Rattle.txn_core.specs.Agents as agents
 use Rattle.txn_core.specs.Agents.{Agent, Event, Take, Forget, next_in, next_of, end_of, take_in, take, begin, started, forget, is_idle, has_sense, most_jobs, after_all}
 use Rattle.txn_core.specs.Laws.{Exchange, of_job, exchange_of, exchanges, locks, is_decide, is_down, told_of, told_by, more_told, Was, loses, says_aborted, says_down, is_lack, fits_word, all_fit}
-use Rattle.txn_core.proofs.Mild.{asks_same}
+use Rattle.txn_core.proofs.Asks.{asks_same}
 use Rattle.txn_core.proofs.Locks.{told_in, Are, are_with, are_same, are_nil, are_opened, told_raised, all_told-tell, asks_lock}
 
 -- ---- replies that lose a lock

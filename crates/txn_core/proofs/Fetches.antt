@@ -29,7 +29,7 @@ use Rattle.file_exec.specs.Changes.{answered}
 use Rattle.file_exec.proofs.Unmet.{needs_what_is_unmet}
 use Rattle.suite_collect.specs.declared.told.Told.{Told}
 use Rattle.suite_collect.specs.declared.told.Said.{Said}
-use Rattle.suite_collect.specs.Collecting.{Poll, Upgrade, Next, Ask, Current, Short, next, tell, mode_of}
+use Rattle.suite_collect.specs.Collecting.{Next, Ask, Current, Short, next, tell, mode_of}
 use Rattle.weak_cache.specs.Entries.{Cache}
 use Rattle.txn_core.specs.Suites.{First, Suite, Suites, suite_of, with_suite, known_of, settled}
 use Rattle.txn_core.specs.declared.word.Word.{Word}
@@ -41,11 +41,11 @@ use Rattle.txn_core.specs.declared.ending.Ending.TheVariants.{Undecided}
 use Rattle.txn_core.specs.declared.job.Job.TheVariants.{Transaction}
 use Rattle.txn_core.specs.Doing.{Granted, home_of, Fixed, Task, Outcome, Phase, Gathering, Fetching, Widening, Preparing, Deciding, Finishing, Course, Doing, Running, Rounding, After, GoesOn, Ends}
 use Rattle.txn_core.specs.Writing.{parts_at}
-use Rattle.txn_core.specs.Transactions.{Step, Gathered, tell_end, give_up, prepare, locked_at, short_cause, gather_by, widen_by, widen_one, widened, widen_all, opened, or_all, open_needed, open_suite, open_first, opened_with, free_content, heard_on, raised_or_new, keep_content, heard_of, said_to, proceed, execute, collected, hear, fetched, prepared, after_lack, after_word, asked_by, asked_for, fetched_at, fetched_for, request_in, changes_of, decision_of, given_in, verdict_in, ending_by, cause_of_abort, lack_cause}
+use Rattle.txn_core.specs.Transactions.{Step, Gathered, tell_end, give_up, prepare, locked_at, short_cause, gather_by, widen_by, widen_one, widened, widen_all, opened, or_all, open_needed, open_suite, open_first, opened_with, free_content, heard_on, raised_or_new, keep_content, heard_of, said_to, proceed, execute, collected, hear, fetched, prepared, after_lack, after_word, asked_for, fetched_at, fetched_for, request_in, changes_of, decision_of, given_in, verdict_in, ending_by, cause_of_abort, lack_cause}
 use Rattle.txn_core.specs.Agents as agents
 use Rattle.txn_core.specs.Agents.{Agent, Event, Take, Forget, next_in, next_of, take_in, take, begin, started, forget, is_idle, has_sense, most_jobs}
 use Rattle.txn_core.specs.Laws.{Exchange, exchange_of, exchanges, of_job, count_of}
-use Rattle.txn_core.proofs.Mild.{asks_same}
+use Rattle.txn_core.proofs.Asks.{asks_same, asked_as}
 use Rattle.txn_core.proofs.Setting.{known_at}
 
 -- a request for the content of a suite
@@ -245,14 +245,7 @@ bounded_quiet : (before : ℕ → ℕ) (asked : Request) → ((number : ℕ) →
 bounded_quiet before asked none bounded number = let same = none_more before asked number (none number) in let bound = bounded number in omega (arith, same, bound)
 
 asks_no_content : (task : Task) (number : ℕ) (found : Option Suite) (server : ℕ) (asked : Request) → asked_for task number found ≡ Some (server, asked) → (other : ℕ) → fetches other asked ≡ false
-asks_no_content task number None server asked is other = cc
-asks_no_content task number (Some suite) server asked is other = of (next suite.collector) is
-  where
-    of : (after : Next) → asked_by task number after ≡ Some (server, asked) → fetches other asked ≡ false
-    of (Ask at (Poll mode)) is = ap (fetches other) (sym (asks_same at server (request.Poll task.t number mode) asked is))
-    of (Ask at Upgrade) is = ap (fetches other) (sym (asks_same at server (request.Upgrade task.t number) asked is))
-    of (Current prefix dver members) is = cc
-    of (Short had wanting busy) is = cc
+asks_no_content task number found server asked is other = asked_as (fetches other) false task number found server asked (λ mode. refl) refl is
 
 -- a content that is fetched was not there
 record IsFetch (task : Task) (suites : Suites) (number : ℕ) (asked : Request) : Type 0 where

@@ -6,14 +6,13 @@ use Rattle.std.proofs.lemmas.Bool.Decides.{nat_tests}
 use Rattle.std.proofs.lemmas.Option.{same_Some}
 use Rattle.acl_core.specs.Identity.{Identity}
 use Rattle.file_ops.specs.declared.operation.Op.{Op}
-use Rattle.suite_collect.specs.Collecting.{Poll, Upgrade, Next, Ask, Current, Short, next}
 use Rattle.rep_core.specs.Fits.{is_prepared}
 use Rattle.rep_core.specs.declared.request.Request.{Request}
 use Rattle.rep_core.specs.declared.request.Request.TheVariants as request
 use Rattle.rep_core.specs.declared.reply.Verdict.{Verdict}
 use Rattle.rep_core.specs.declared.reply.Verdict.TheVariants as verdict
 use Rattle.weak_cache.specs.Entries.{Cache}
-use Rattle.txn_core.specs.Suites.{First, Suite, Suites, suite_of, has_locks}
+use Rattle.txn_core.specs.Suites.{Suites, suite_of, has_locks}
 use Rattle.txn_core.specs.declared.word.Word.{Word}
 use Rattle.txn_core.specs.declared.ending.Cause.{Cause}
 use Rattle.txn_core.specs.declared.ending.Ending.{Ending}
@@ -22,10 +21,10 @@ use Rattle.txn_core.specs.declared.ending.Cause.TheVariants.{Lost}
 use Rattle.txn_core.specs.declared.ending.Ending.TheVariants.{Undecided}
 use Rattle.txn_core.specs.declared.job.Job.TheVariants.{Transaction}
 use Rattle.txn_core.specs.Doing.{Fixed, Task, Outcome, Phase, Gathering, Fetching, Widening, Preparing, Deciding, Finishing, Course, Doing, Running, Rounding, After, GoesOn, Ends}
-use Rattle.txn_core.specs.Transactions.{numbers_from, tell_end, give_up, prepare, locked_at, after_word, asked_by, asked_for, fetched_at, fetched_for, request_in, decision_of, verdict_in, ending_by, cause_of_abort, lack_cause}
+use Rattle.txn_core.specs.Transactions.{numbers_from, tell_end, give_up, prepare, locked_at, after_word, request_in, decision_of, verdict_in, ending_by, cause_of_abort, lack_cause}
 use Rattle.txn_core.specs.Agents.{Agent, Event, Take, Forget, next_in, next_of, left, take_in, take, begin, started, forget, is_idle, has_sense, most_jobs}
 use Rattle.txn_core.specs.Laws.{Exchange, exchange_of, exchanges, of_job, count_of}
-use Rattle.txn_core.proofs.Mild.{asks_same}
+use Rattle.txn_core.proofs.Asks.{asks_same, asked_as, fetched_as}
 use Rattle.txn_core.proofs.Walk.{IsEarly, goes_word, goes_execute}
 
 -- a request to prepare or to finish
@@ -115,24 +114,6 @@ few_prepares who task cache suites outcome = let few = few_prepare who task cach
 
 -- ---- one word
 
-early_next : (task : Task) (number : ℕ) (next : Next) (server : ℕ) (asked : Request) → asked_by task number next ≡ Some (server, asked) → tells asked ≡ false
-early_next task number (Ask at (Poll mode)) server asked is = ap tells (sym (asks_same at server (request.Poll task.t number mode) asked is))
-early_next task number (Ask at Upgrade) server asked is = ap tells (sym (asks_same at server (request.Upgrade task.t number) asked is))
-early_next task number (Current prefix dver members) server asked is = cc
-early_next task number (Short had wanting busy) server asked is = cc
-
-early_suite : (task : Task) (number : ℕ) (found : Option Suite) (server : ℕ) (asked : Request) → asked_for task number found ≡ Some (server, asked) → tells asked ≡ false
-early_suite task number (Some suite) server asked is = early_next task number (next suite.collector) server asked is
-early_suite task number None server asked is = cc
-
-early_first : (task : Task) (number : ℕ) (first : Option First) (server : ℕ) (asked : Request) → fetched_at task number first ≡ Some (server, asked) → tells asked ≡ false
-early_first task number (Some first) server asked is = ap tells (sym (asks_same first.source server (request.Fetch task.t number) asked is))
-early_first task number None server asked is = cc
-
-early_fetch : (task : Task) (number : ℕ) (found : Option Suite) (server : ℕ) (asked : Request) → fetched_for task number found ≡ Some (server, asked) → tells asked ≡ false
-early_fetch task number (Some suite) server asked is = early_first task number suite.first server asked is
-early_fetch task number None server asked is = cc
-
 abbrev then_may : ℕ → Fixed → Task → Cache → Suites → Phase → ℕ → Request → Word → ℕ
 then_may who fixed task cache suites phase server asked word = may who (left Running (after_word fixed (record { task = task; suites = suites; phase = phase }) cache server asked word).after)
 
@@ -168,10 +149,10 @@ calm who fixed task cache suites phase server asked word is other =
 
 few_word : (who : ℕ) (fixed : Fixed) (task : Task) (cache : Cache) (suites : Suites) (phase : Phase) (server : ℕ) (asked : Request) (word : Word) → request_in fixed task suites phase ≡ Some (server, asked)
     → now_told who server asked + then_may who fixed task cache suites phase server asked word ≤ may_in who phase
-few_word who fixed task cache suites (Gathering number) server asked word is = calm who fixed task cache suites (Gathering number) server asked word tt (early_suite task number (suite_of suites number) server asked is)
-few_word who fixed task cache suites (Fetching number) server asked word is = calm who fixed task cache suites (Fetching number) server asked word tt (early_fetch task number (suite_of suites number) server asked is)
+few_word who fixed task cache suites (Gathering number) server asked word is = calm who fixed task cache suites (Gathering number) server asked word tt (asked_as tells false task number (suite_of suites number) server asked (λ mode. refl) refl is)
+few_word who fixed task cache suites (Fetching number) server asked word is = calm who fixed task cache suites (Fetching number) server asked word tt (fetched_as tells false task number (suite_of suites number) server asked refl is)
 few_word who fixed task cache suites (Widening [] granted) server asked word is = cc
-few_word who fixed task cache suites (Widening (number ∷ left) granted) server asked word is = calm who fixed task cache suites (Widening (number ∷ left) granted) server asked word tt (early_suite task number (suite_of suites number) server asked is)
+few_word who fixed task cache suites (Widening (number ∷ left) granted) server asked word is = calm who fixed task cache suites (Widening (number ∷ left) granted) server asked word tt (asked_as tells false task number (suite_of suites number) server asked (λ mode. refl) refl is)
 few_word who fixed task cache suites (Preparing [] outcome) server asked word is = cc
 few_word who fixed task cache suites (Preparing (now ∷ servers) outcome) server asked word is =
     let one = here_now who server now asked (at_server now server _ asked is) in let rest = of word in omega (arith, one, rest)

@@ -17,7 +17,7 @@ use Rattle.txn_core.specs.Sweeps as sweep
 use Rattle.txn_core.specs.Agents as agents
 use Rattle.txn_core.specs.Agents.{Agent, Event, Take, Forget, next_in, next_of, left, take_in, take, begin, started, forget, is_idle, has_sense, most_jobs}
 use Rattle.txn_core.specs.Laws.{Exchange, exchange_of, exchanges, count_of, is_decide, DecideIsSentOnce}
-use Rattle.txn_core.proofs.Mild.{asks_same, suite_asks, fetch_asks}
+use Rattle.txn_core.proofs.Asks.{asks_same, asked_as, fetched_as}
 
 abbrev decides : List Exchange → ℕ
 decides past = count_of (λ one. is_decide one.request) past
@@ -54,10 +54,10 @@ calm asked after other = subst (λ b. cond b 1 0 + may (left Running after) ≤ 
 
 word_once : (fixed : Fixed) (task : Task) (cache : Cache) (suites : Suites) (phase : Phase) (server : ℕ) (asked : Request) (word : Word) → request_in fixed task suites phase ≡ Some (server, asked)
     → cond (is_decide asked) 1 0 + may (left Running (after_word fixed (record { task = task; suites = suites; phase = phase }) cache server asked word).after) ≤ may_in phase
-word_once fixed task cache suites (Gathering number) server asked word is = calm asked _ (suite_asks task number (suite_of suites number) server asked is)
-word_once fixed task cache suites (Fetching number) server asked word is = calm asked _ (fetch_asks task number (suite_of suites number) server asked is)
+word_once fixed task cache suites (Gathering number) server asked word is = calm asked _ (asked_as is_decide false task number (suite_of suites number) server asked (λ mode. refl) refl is)
+word_once fixed task cache suites (Fetching number) server asked word is = calm asked _ (fetched_as is_decide false task number (suite_of suites number) server asked refl is)
 word_once fixed task cache suites (Widening [] granted) server asked word is = cc
-word_once fixed task cache suites (Widening (number ∷ left) granted) server asked word is = calm asked _ (suite_asks task number (suite_of suites number) server asked is)
+word_once fixed task cache suites (Widening (number ∷ left) granted) server asked word is = calm asked _ (asked_as is_decide false task number (suite_of suites number) server asked (λ mode. refl) refl is)
 word_once fixed task cache suites (Preparing [] outcome) server asked word is = cc
 word_once fixed task cache suites (Preparing (now ∷ left) outcome) server asked word is =
     calm asked _ (ap is_decide (sym (asks_same now server (request.Prepare task.t (parts_at suites (changes_of outcome) now)) asked is)))

@@ -25,7 +25,7 @@ use Rattle.txn_core.specs.Sweeps as sweep
 use Rattle.txn_core.specs.Agents as agents
 use Rattle.txn_core.specs.Agents.{Agent, Event, Take, Forget, next_in, next_of, take_in, take, begin, started, forget, is_idle, has_sense, most_jobs, after_all}
 use Rattle.txn_core.specs.Laws.{Exchange, exchange_of, exchanges, is_decide, is_prepare, is_down, ends_it, NothingFollowsAnEnd}
-use Rattle.txn_core.proofs.Mild.{asks_same}
+use Rattle.txn_core.proofs.Asks.{asks_same}
 
 -- nothing but the end is told any more
 abbrev pub IsOver : Phase → Type 0

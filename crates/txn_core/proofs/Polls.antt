@@ -27,7 +27,7 @@ use Rattle.txn_core.specs.declared.job.Job.TheVariants.{Transaction, Sweep}
 use Rattle.txn_core.specs.Doing.{home_of, Fixed, Task, Phase, Gathering, Fetching, Widening, Preparing, Deciding, Finishing, Course, Sweeping, Listing, Resolving, Telling, Breaking, Round, Doing, Running, Rounding, After, GoesOn, Ends}
 use Rattle.txn_core.specs.Transactions.{Step, locked_at, heard_of, is_poll, said_to, hear, after_word, asked_by, asked_for, fetched_at, fetched_for, request_in, changes_of, decision_of, given_in, verdict_in, ending_by, cause_of_abort}
 use Rattle.txn_core.specs.Writing.{parts_at}
-use Rattle.txn_core.proofs.Mild.{asks_same}
+use Rattle.txn_core.proofs.Asks.{asks_same, fetched_as}
 use Rattle.suite_collect.proofs.Collected.{nobody_is_asked_twice}
 use Rattle.suite_collect.proofs.Fewness.{times, Few, few_more, never}
 use Rattle.suite_collect.specs.declared.told.Said.TheVariants.{Down}
@@ -174,12 +174,7 @@ left_heard before told task cache suites phase number (Some suite) server asked 
         })
 
 fetch_locks : (task : Task) (number : ℕ) (found : Option Suite) (server : ℕ) (asked : Request) → fetched_for task number found ≡ Some (server, asked) → (other : ℕ) → locks other asked ≡ false
-fetch_locks task number (Some suite) server asked is other = of suite.first is
-  where
-    of : (first : Option First) → fetched_at task number first ≡ Some (server, asked) → locks other asked ≡ false
-    of (Some first) is = ap (locks other) (sym (asks_same first.source server (request.Fetch task.t number) asked is))
-    of None is = cc
-fetch_locks task number None server asked is other = cc
+fetch_locks task number found server asked is other = fetched_as (locks other) false task number found server asked refl is
 
 -- whatever is asked, few were asked
 word_bounded : (before : ℕ → ℕ → ℕ) (told : ℕ → List Told) (fixed : Fixed) (task : Task) (suites : Suites) (phase : Phase) (server : ℕ) (asked : Request) → Are told suites → Asked' before told → AllFew told

@@ -1,31 +1,24 @@
 -- Each server that holds a lock prepares before a decision is asked for.
-use Rattle.std.proofs.Common.{◌≡◌, ℕ, zero, suc, ◌+◌, Bool, true, false, cond, List, [], ◌∷◌, ◌++◌, Option, Some, None, Ok, Err, refl, sym, ap, subst, ◌∙◌, arith}
-use Rattle.std.specs.Prelude.{◌==◌, ◌&&◌, ◌||◌, length, filter, nat_lt, ◌*◌}
+use Rattle.std.proofs.Common.{◌≡◌, ℕ, zero, suc, ◌+◌, Bool, true, false, cond, List, [], ◌∷◌, ◌++◌, Option, Some, None, refl, sym, ap, subst, ◌∙◌, arith}
+use Rattle.std.specs.Prelude.{◌==◌, ◌&&◌, ◌||◌, filter, nat_lt, ◌*◌}
 use Rattle.std.specs.List.{list_any}
 use Rattle.std.specs.Ordering.{nat_cmp}
 use Rattle.std.specs.BTreeMap.{is_at}
 use Rattle.std.proofs.lemmas.Bool.{eqb-true, false≢true}
 use Rattle.std.proofs.lemmas.Option.{same_Some}
 use Rattle.std.proofs.lemmas.Bool.Decides.{nat_tests}
-use Rattle.suite_content.specs.declared.content.Content.{Content}
 use Rattle.suite_prefix.specs.declared.lock_mode.LockMode.TheVariants.{Shared}
 use Rattle.rep_core.specs.declared.request.Request.{Request}
 use Rattle.rep_core.specs.declared.request.Request.TheVariants as request
 use Rattle.rep_core.specs.declared.reply.Verdict.{Verdict}
-use Rattle.rep_core.specs.declared.reply.Reply.{Reply}
 use Rattle.txn_core.specs.Laws.{Exchange, exchange_of, exchanges, of_job, is_prepare, says_prepared, was_prepared, AllPrepareFirst}
 use Rattle.txn_core.specs.Agents as agents
 use Rattle.txn_core.specs.Agents.{Agent, Event, Take, Forget, next_in, next_of, take_in, take, begin, started, forget, is_idle, has_sense, most_jobs, after_all}
 use Rattle.txn_core.specs.Sweeps as sweep
 use Rattle.rep_core.specs.Fits.{is_prepared}
-use Rattle.file_exec.specs.declared.need.Need.TheVariants.{Hold, Know}
-use Rattle.file_exec.specs.declared.executor.Outcome.{Outcome as Executed}
-use Rattle.file_exec.specs.declared.executor.Outcome.TheVariants as exec
-use Rattle.suite_collect.specs.declared.told.Said.{Said}
 use Rattle.suite_collect.specs.Telling.{holds}
-use Rattle.suite_collect.specs.Collecting.{tell, mode_of, Next, Ask, Current, Short, next}
 use Rattle.weak_cache.specs.Entries.{Cache}
-use Rattle.txn_core.specs.Suites.{First, Suite, Suites, suite_of, with_suite, settled, holds_lock}
+use Rattle.txn_core.specs.Suites.{Suites, suite_of, holds_lock}
 use Rattle.txn_core.specs.declared.word.Word.{Word}
 use Rattle.txn_core.specs.declared.ending.Cause.{Cause}
 use Rattle.txn_core.specs.declared.ending.Ending.{Ending}
@@ -34,10 +27,11 @@ use Rattle.txn_core.specs.declared.word.Word.TheVariants.{Replied, Lacked}
 use Rattle.txn_core.specs.declared.ending.Cause.TheVariants.{Lost}
 use Rattle.txn_core.specs.declared.ending.Ending.TheVariants.{Undecided}
 use Rattle.txn_core.specs.declared.job.Job.TheVariants.{Transaction, Sweep}
-use Rattle.txn_core.specs.Doing.{Granted, Fixed, Task, Outcome, Phase, Gathering, Fetching, Widening, Preparing, Deciding, Finishing, Course, Sweeping, Listing, Resolving, Telling, Breaking, Round, Doing, Running, Rounding, After, GoesOn, Ends}
-use Rattle.txn_core.specs.Transactions.{Step, Gathered, tell_end, give_up, prepare, locked_at, short_cause, gather_by, widen_by, widen_one, widened, widen_all, opened, heard_on, raised_or_new, keep_content, heard_of, said_to, proceed, execute, collected, hear, fetched, after_lack, after_word, request_in, changes_of, given_in, verdict_in, ending_by, cause_of_abort, lack_cause}
+use Rattle.txn_core.specs.Doing.{Fixed, Task, Outcome, Phase, Gathering, Fetching, Widening, Preparing, Deciding, Finishing, Course, Sweeping, Listing, Resolving, Telling, Breaking, Round, Doing, Running, Rounding, After, GoesOn, Ends}
+use Rattle.txn_core.specs.Transactions.{tell_end, give_up, prepare, locked_at, after_word, request_in, changes_of, verdict_in, ending_by, cause_of_abort, lack_cause}
 use Rattle.txn_core.specs.Writing.{parts_at}
-use Rattle.txn_core.proofs.Mild.{asks_same, suite_asks, fetch_asks}
+use Rattle.txn_core.proofs.Walk.{IsEarly, goes_word, goes_execute}
+use Rattle.txn_core.proofs.Asks.{asks_same, asked_as, fetched_as}
 use Rattle.rep_core.specs.declared.request.Decision.{Decision}
 use Rattle.txn_core.specs.Laws.{is_decide}
 use Rattle.txn_core.proofs.Locks.{told_at, told_in, or_false, or_or}
@@ -45,7 +39,6 @@ use Rattle.txn_core.proofs.Locks as locks
 use Rattle.txn_core.specs.Transactions.{numbers_from}
 use Rattle.txn_core.specs.Suites.{has_locks}
 use Rattle.std.proofs.Common.{◌≤◌, ◌<◌}
-use Rattle.rep_core.specs.declared.stamped.Lack.{Lack}
 use Rattle.rep_core.specs.declared.reply.Verdict.TheVariants as verdict
 
 -- ---- the servers that hold locks
@@ -106,86 +99,13 @@ ready_prepare done task cache suites outcome (server ∷ servers) ready = ready
 ready_all : (done : ℕ → Bool) (task : Task) (cache : Cache) (suites : Suites) (outcome : Outcome) → LeftReady done (prepare task cache suites outcome (locked_at suites)).after
 ready_all done task cache suites outcome = ready_prepare done task cache suites outcome (locked_at suites) (λ server few has. ap (λ b. b || done server) (among_locked suites server few has))
 
-ready_gather : (done : ℕ → Bool) (task : Task) (cache : Cache) (suites : Suites) (number : ℕ) (next : Next) → LeftReady done (gather_by task cache suites number next).after
-ready_gather done task cache suites number (Short got needed busy) = ready_give_up done task cache suites (short_cause number got needed busy)
-ready_gather done task cache suites number (Ask server asked) = tt
-ready_gather done task cache suites number (Current prefix dver members) = tt
-
-ready_widen_by : (done : ℕ → Bool) (task : Task) (cache : Cache) (suites : Suites) (left : List ℕ) (granted : Granted) (number : ℕ) (next : Next) (go_on : Suites → Step) → ((suites : Suites) → LeftReady done (go_on suites).after)
-    → LeftReady done (widen_by task cache suites (Widening left granted) number next go_on).after
-ready_widen_by done task cache suites left granted number (Current prefix dver members) go_on more = more suites
-ready_widen_by done task cache suites left granted number (Ask server asked) go_on more = tt
-ready_widen_by done task cache suites left granted number (Short got needed busy) go_on more = ready_give_up done task cache suites (short_cause number got needed busy)
-
-ready_widen_one : (done : ℕ → Bool) (task : Task) (cache : Cache) (suites : Suites) (left : List ℕ) (granted : Granted) (number : ℕ) (found : Option Suite) (go_on : Suites → Step) → ((suites : Suites) → LeftReady done (go_on suites).after)
-    → LeftReady done (widen_one task cache suites (Widening left granted) granted.changes number found go_on).after
-ready_widen_one done task cache suites left granted number (Some suite) go_on more =
-    ready_widen_by done task cache (with_suite number (widened granted.changes number suite) suites) left granted number (next (widened granted.changes number suite).collector) go_on more
-ready_widen_one done task cache suites left granted number None go_on more = more suites
-
-ready_widen : (done : ℕ → Bool) (task : Task) (cache : Cache) (suites : Suites) (granted : Granted) (left : List ℕ) → LeftReady done (widen_all task cache suites granted left).after
-ready_widen done task cache suites granted [] = ready_all done task cache suites (Ok granted)
-ready_widen done task cache suites granted (number ∷ left) = ready_widen_one done task cache suites (number ∷ left) granted number (suite_of suites number) _ (λ suites. ready_widen done task cache suites granted left)
-
-ready_proceed : (done : ℕ → Bool) (fixed : Fixed) (task : Task) (cache : Cache) (suites : Suites) (heard : Executed) → LeftReady done (proceed fixed task cache suites heard).after
-ready_proceed done fixed task cache suites (exec.Need (Hold number mode)) =
-    let suite = raised_or_new fixed task cache number mode (suite_of suites number) in ready_gather done task cache (with_suite number suite suites) number (next suite.collector)
-ready_proceed done fixed task cache suites (exec.Need (Know number)) = tt
-ready_proceed done fixed task cache suites (exec.Done answers changes) = ready_widen done task cache suites (record { answers = answers; changes = changes }) _
-ready_proceed done fixed task cache suites (exec.Refused refusal) = ready_all done task cache suites (Err refusal)
-
-ready_execute : (done : ℕ → Bool) (fixed : Fixed) (task : Task) (all : Gathered) → LeftReady done (execute fixed task all).after
-ready_execute done fixed task all = let open' = opened (length all.suites) fixed task all in ready_proceed done fixed task open'.cache open'.suites (heard_on fixed task open'.suites)
-
--- a phase that needs nothing prepared
-abbrev IsEarly : Phase → Type 0
-IsEarly (Gathering number) = Unit {0}
-IsEarly (Widening left granted) = Unit {0}
-IsEarly _ = ⊥
-
-early : (done : ℕ → Bool) (suites : Suites) (phase : Phase) → IsEarly phase → PhaseReady done suites phase
-early done suites (Gathering number) is = tt
-early done suites (Widening left granted) is = tt
-early done suites (Fetching number) is = tt
-early done suites (Preparing left outcome) is = absurd is
-early done suites (Deciding outcome) is = absurd is
-early done suites (Finishing servers v ending) is = tt
-
-ready_collected : (done : ℕ → Bool) (task : Task) (cache : Cache) (suites : Suites) (phase : Phase) (number : ℕ) (suite : Suite) (next : Next) (go_on : Suite → Step) → IsEarly phase → ((suite : Suite) → LeftReady done (go_on suite).after)
-    → LeftReady done (collected task cache suites phase number suite next go_on).after
-ready_collected done task cache suites phase number suite (Ask server asked) go_on is more = early done (with_suite number suite suites) phase is
-ready_collected done task cache suites phase number suite (Short got needed busy) go_on is more = ready_give_up done task cache (with_suite number suite suites) (short_cause number got needed busy)
-ready_collected done task cache suites phase number suite (Current prefix dver members) go_on is more = more (settled prefix dver members suite)
-
-ready_hear : (done : ℕ → Bool) (task : Task) (cache : Cache) (suites : Suites) (phase : Phase) (number : ℕ) (suite : Suite) (server : ℕ) (asked : Request) (heard : Option Said) (go_on : Suite → Step) → IsEarly phase → ((suite : Suite) → LeftReady done (go_on suite).after)
-    → LeftReady done (hear task cache suites phase number suite server asked heard go_on).after
-ready_hear done task cache suites phase number suite server asked (Some heard) go_on is more =
-    let now : Suite = record suite { collector = tell (record { server = server; mode = mode_of asked; said = heard }) suite.collector } in ready_collected done task cache suites phase number now (next now.collector) go_on is more
-ready_hear done task cache suites phase number suite server asked None go_on is more = ready_give_up done task cache suites (Lost server)
-
-ready_heard : (done : ℕ → Bool) (task : Task) (cache : Cache) (suites : Suites) (phase : Phase) (number : ℕ) (found : Option Suite) (server : ℕ) (asked : Request) (said : Reply) (go_on : Suites → Step) → IsEarly phase → ((suites : Suites) → LeftReady done (go_on suites).after)
-    → LeftReady done (heard_of task cache suites phase number found server asked said go_on).after
-ready_heard done task cache suites phase number (Some suite) server asked said go_on is more = ready_hear done task cache suites phase number suite server asked (said_to asked said) _ is (λ suite. more (with_suite number suite suites))
-ready_heard done task cache suites phase number None server asked said go_on is more = ready_give_up done task cache suites (Lost server)
-
-ready_fetched : (done : ℕ → Bool) (fixed : Fixed) (task : Task) (cache : Cache) (suites : Suites) (number : ℕ) (found : Option Suite) (server : ℕ) (given : Option Content) → LeftReady done (fetched fixed task cache suites number found server given).after
-ready_fetched done fixed task cache suites number None server (Some content) = ready_give_up done task cache suites (Lost server)
-ready_fetched done fixed task cache suites number None server None = ready_give_up done task cache suites (Lost server)
-ready_fetched done fixed task cache suites number (Some suite) server None = ready_give_up done task cache suites (Lost server)
-ready_fetched done fixed task cache suites number (Some suite) server (Some content) = of suite.first
-  where
-    of : (first : Option First) → LeftReady done (keep_content fixed task cache suites number suite content first server).after
-    of None = ready_give_up done task cache suites (Lost server)
-    of (Some first) = ready_execute done fixed task _
-
-ready_lack : (done : ℕ → Bool) (task : Task) (cache : Cache) (suites : Suites) (phase : Phase) (server : ℕ) (lacked : Lack) → LeftReady done (after_lack task cache suites phase server lacked).after
-ready_lack done task cache suites (Gathering number) server lacked = ready_give_up done task cache suites (lack_cause server lacked)
-ready_lack done task cache suites (Fetching number) server lacked = ready_give_up done task cache suites (lack_cause server lacked)
-ready_lack done task cache suites (Widening left granted) server lacked = ready_give_up done task cache suites (lack_cause server lacked)
-ready_lack done task cache suites (Preparing left outcome) server lacked = ready_give_up done task cache suites (lack_cause server lacked)
-ready_lack done task cache suites (Deciding outcome) server lacked = ready_give_up done task cache suites (lack_cause server lacked)
-ready_lack done task cache suites (Finishing [] v ending) server lacked = tt
-ready_lack done task cache suites (Finishing (now ∷ left) v ending) server lacked = ready_end done task cache suites v ending left
+ready_early : (done : ℕ → Bool) (task : Task) (suites : Suites) (phase : Phase) → IsEarly phase → LeftReady done (GoesOn (record { task = task; suites = suites; phase = phase }))
+ready_early done task suites (Gathering number) is = tt
+ready_early done task suites (Fetching number) is = tt
+ready_early done task suites (Widening left granted) is = tt
+ready_early done task suites (Preparing left outcome) is = absurd is
+ready_early done task suites (Deciding outcome) is = absurd is
+ready_early done task suites (Finishing servers v ending) is = absurd is
 
 -- ---- one word
 
@@ -195,15 +115,19 @@ adds server asked word who = (server == who) && is_prepare asked && says_prepare
 abbrev plus : (ℕ → Bool) → ℕ → Request → Word → ℕ → Bool
 plus done server asked word who = done who || adds server asked word who
 
+early_ready : (done : ℕ → Bool) (fixed : Fixed) (task : Task) (cache : Cache) (suites : Suites) (phase : Phase) (server : ℕ) (asked : Request) (word : Word) → IsEarly phase
+    → LeftReady done (after_word fixed (record { task = task; suites = suites; phase = phase }) cache server asked word).after
+early_ready done fixed task cache suites phase server asked word is = goes_word (LeftReady done) (ready_early done) (ready_give_up done) (ready_all done) fixed task cache suites phase server asked word is
+
 ready_word : (done : ℕ → Bool) (fixed : Fixed) (task : Task) (cache : Cache) (suites : Suites) (phase : Phase) (server : ℕ) (asked : Request) (word : Word) → PhaseReady done suites phase
     → request_in fixed task suites phase ≡ Some (server, asked) → LeftReady (plus done server asked word) (after_word fixed (record { task = task; suites = suites; phase = phase }) cache server asked word).after
-ready_word done fixed task cache suites phase server asked (Lacked lacked) ready is = ready_lack _ task cache suites phase server lacked
-ready_word done fixed task cache suites (Gathering number) server asked (Replied said) ready is =
-    ready_heard _ task cache suites (Gathering number) number (suite_of suites number) server asked said _ tt (λ suites. ready_execute _ fixed task (record { suites = suites; cache = cache }))
-ready_word done fixed task cache suites (Fetching number) server asked (Replied said) ready is = ready_fetched _ fixed task cache suites number (suite_of suites number) server (given_in said)
-ready_word done fixed task cache suites (Widening [] granted) server asked (Replied said) ready is = cc
-ready_word done fixed task cache suites (Widening (number ∷ left) granted) server asked (Replied said) ready is =
-    ready_heard _ task cache suites (Widening (number ∷ left) granted) number (suite_of suites number) server asked said _ tt (λ suites. ready_widen _ task cache suites granted left)
+ready_word done fixed task cache suites (Gathering number) server asked word ready is = early_ready _ fixed task cache suites (Gathering number) server asked word tt
+ready_word done fixed task cache suites (Fetching number) server asked word ready is = early_ready _ fixed task cache suites (Fetching number) server asked word tt
+ready_word done fixed task cache suites (Widening left granted) server asked word ready is = early_ready _ fixed task cache suites (Widening left granted) server asked word tt
+ready_word done fixed task cache suites (Preparing left outcome) server asked (Lacked lacked) ready is = ready_give_up _ task cache suites (lack_cause server lacked)
+ready_word done fixed task cache suites (Deciding outcome) server asked (Lacked lacked) ready is = ready_give_up _ task cache suites (lack_cause server lacked)
+ready_word done fixed task cache suites (Finishing [] v ending) server asked (Lacked lacked) ready is = tt
+ready_word done fixed task cache suites (Finishing (now ∷ left) v ending) server asked (Lacked lacked) ready is = ready_end _ task cache suites v ending left
 ready_word done fixed task cache suites (Preparing [] outcome) server asked (Replied said) ready is = cc
 ready_word done fixed task cache suites (Preparing (now ∷ left) outcome) server asked (Replied said) ready is =
     elim (is_prepared said) as (λ b. is_prepared said ≡ b → LeftReady (plus done server asked (Replied said)) (cond b (prepare task cache suites outcome left) (give_up task cache suites (Lost server))).after) [
@@ -306,7 +230,7 @@ begin_ready fixed agent job idle =
     at (Some doing) idle = cc
 
     of : (job : Job) → DoingReady nobody (started fixed agent job).doing
-    of (Transaction caller site ops) = left_ready nobody _ (ready_execute nobody fixed (record { t = 64 * agent.count + agent.index; caller = caller; site = site; ops = ops }) (record { suites = []; cache = agent.cache }))
+    of (Transaction caller site ops) = left_ready nobody _ (goes_execute (LeftReady nobody) (ready_early nobody) (ready_give_up nobody) (ready_all nobody) fixed (record { t = 64 * agent.count + agent.index; caller = caller; site = site; ops = ops }) (record { suites = []; cache = agent.cache }))
     of (Sweep server) = tt
 
 -- ---- a Decide
@@ -339,10 +263,10 @@ decide_ready held done fixed (Some (Running course)) home t number server decisi
     by_false asked other at is = no_decide at home t asked decision other is
 
     of : (phase : Phase) → PhaseReady done course.suites phase → request_in fixed course.task course.suites phase ≡ Some (home, request.Decide t decision) → done server ≡ true
-    of (Gathering who) ready is = absurd (false≢true (sym (suite_asks course.task who (suite_of course.suites who) home (request.Decide t decision) is)))
-    of (Fetching who) ready is = absurd (false≢true (sym (fetch_asks course.task who (suite_of course.suites who) home (request.Decide t decision) is)))
+    of (Gathering who) ready is = absurd (false≢true (sym (asked_as is_decide false course.task who (suite_of course.suites who) home (request.Decide t decision) (λ mode. refl) refl is)))
+    of (Fetching who) ready is = absurd (false≢true (sym (fetched_as is_decide false course.task who (suite_of course.suites who) home (request.Decide t decision) refl is)))
     of (Widening [] granted) ready is = cc
-    of (Widening (who ∷ left) granted) ready is = absurd (false≢true (sym (suite_asks course.task who (suite_of course.suites who) home (request.Decide t decision) is)))
+    of (Widening (who ∷ left) granted) ready is = absurd (false≢true (sym (asked_as is_decide false course.task who (suite_of course.suites who) home (request.Decide t decision) (λ mode. refl) refl is)))
     of (Preparing [] outcome) ready is = cc
     of (Preparing (now ∷ left) outcome) ready is = by_false (request.Prepare course.task.t (parts_at course.suites (changes_of outcome) now)) refl now is
     of (Deciding outcome) ready is = ready server few (has_one course.suites number server (keeps.1 number server ∙ has))

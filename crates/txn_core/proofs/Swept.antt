@@ -16,7 +16,7 @@ use Rattle.txn_core.specs.Sweeps.{rising, others, sweep_on, lost, after_answer, 
 use Rattle.txn_core.specs.Agents as agents
 use Rattle.txn_core.specs.Agents.{Agent, Event, Take, Forget, next_in, next_of, take_in, take, begin, started, forget, is_idle, has_sense, most_jobs}
 use Rattle.txn_core.specs.Laws.{Exchange, exchange_of, exchanges, listed_in, listed, SweepEndsInTime}
-use Rattle.txn_core.proofs.Mild.{asks_same}
+use Rattle.txn_core.proofs.Asks.{asks_same}
 
 -- how many steps may follow
 abbrev may_in : Sweeping → ℕ

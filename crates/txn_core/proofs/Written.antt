@@ -3,7 +3,6 @@ use Rattle.std.proofs.Common.{◌≡◌, ℕ, true, false, cond, inl, inr, List,
 use Rattle.std.proofs.lemmas.Bool.{false≢true}
 use Rattle.std.proofs.lemmas.Option.{same_Some}
 use Rattle.suite_collect.proofs.Finding.{Has, has_from}
-use Rattle.suite_collect.specs.Collecting.{Poll, Upgrade, Next, Ask, Current, Short, next}
 use Rattle.rep_core.specs.Fits.{is_prepared}
 use Rattle.rep_core.specs.declared.request.Part.{Part}
 use Rattle.rep_core.specs.declared.request.Request.{Request}
@@ -11,7 +10,7 @@ use Rattle.rep_core.specs.declared.request.Request.TheVariants as request
 use Rattle.rep_core.specs.declared.reply.Verdict.{Verdict}
 use Rattle.rep_core.specs.declared.reply.Verdict.TheVariants as verdict
 use Rattle.weak_cache.specs.Entries.{Cache}
-use Rattle.txn_core.specs.Suites.{First, Suite, Suites, suite_of}
+use Rattle.txn_core.specs.Suites.{Suites, suite_of}
 use Rattle.txn_core.specs.Writing.{parts_at}
 use Rattle.txn_core.specs.declared.word.Word.{Word}
 use Rattle.txn_core.specs.declared.ending.Ending.{Ending}
@@ -19,12 +18,12 @@ use Rattle.txn_core.specs.declared.word.Word.TheVariants.{Replied, Lacked}
 use Rattle.txn_core.specs.declared.ending.Cause.TheVariants.{Lost}
 use Rattle.txn_core.specs.declared.ending.Ending.TheVariants.{Undecided}
 use Rattle.txn_core.specs.Doing.{Changes, home_of, Fixed, Task, Outcome, Phase, Gathering, Fetching, Widening, Preparing, Deciding, Finishing, Sweeping, Listing, Resolving, Telling, Breaking, Round, Doing, Running, Rounding, After, GoesOn, Ends}
-use Rattle.txn_core.specs.Transactions.{tell_end, give_up, prepare, locked_at, after_word, asked_by, asked_for, fetched_at, fetched_for, request_in, changes_of, decision_of, verdict_in, ending_by, cause_of_abort, lack_cause}
+use Rattle.txn_core.specs.Transactions.{tell_end, give_up, prepare, locked_at, after_word, request_in, changes_of, decision_of, verdict_in, ending_by, cause_of_abort, lack_cause}
 use Rattle.txn_core.specs.Sweeps as sweep
 use Rattle.txn_core.specs.Agents as agents
 use Rattle.txn_core.specs.Agents.{Agent, Event, Take, Forget, next_in, next_of, take_in, take, begin, forget}
 use Rattle.txn_core.specs.Laws.{Exchange, exchange_of, exchanges, is_prepare, WhatIsWrittenIsFixed}
-use Rattle.txn_core.proofs.Mild.{asks_same}
+use Rattle.txn_core.proofs.Asks.{asks_same, asked_as, fetched_as}
 
 -- ---- what later Prepares are of
 
@@ -85,24 +84,6 @@ writes_prepare task cache suites outcome (server ∷ servers) later in' = in'
 no_from : (suites : Suites) (changes : Changes) (server : ℕ) (asked : Request) → is_prepare asked ≡ false → IsFrom suites changes server asked
 no_from suites changes server asked other = λ t parts is. absurd (false≢true (sym other ∙ ap is_prepare is))
 
-no_prepare_next : (task : Task) (number : ℕ) (next : Next) (server : ℕ) (asked : Request) → asked_by task number next ≡ Some (server, asked) → is_prepare asked ≡ false
-no_prepare_next task number (Ask at (Poll mode)) server asked is = ap is_prepare (sym (asks_same at server (request.Poll task.t number mode) asked is))
-no_prepare_next task number (Ask at Upgrade) server asked is = ap is_prepare (sym (asks_same at server (request.Upgrade task.t number) asked is))
-no_prepare_next task number (Current prefix dver members) server asked is = cc
-no_prepare_next task number (Short had wanting busy) server asked is = cc
-
-no_prepare_suite : (task : Task) (number : ℕ) (found : Option Suite) (server : ℕ) (asked : Request) → asked_for task number found ≡ Some (server, asked) → is_prepare asked ≡ false
-no_prepare_suite task number (Some suite) server asked is = no_prepare_next task number (next suite.collector) server asked is
-no_prepare_suite task number None server asked is = cc
-
-no_prepare_first : (task : Task) (number : ℕ) (first : Option First) (server : ℕ) (asked : Request) → fetched_at task number first ≡ Some (server, asked) → is_prepare asked ≡ false
-no_prepare_first task number (Some first) server asked is = ap is_prepare (sym (asks_same first.source server (request.Fetch task.t number) asked is))
-no_prepare_first task number None server asked is = cc
-
-no_prepare_fetch : (task : Task) (number : ℕ) (found : Option Suite) (server : ℕ) (asked : Request) → fetched_for task number found ≡ Some (server, asked) → is_prepare asked ≡ false
-no_prepare_fetch task number (Some suite) server asked is = no_prepare_first task number suite.first server asked is
-no_prepare_fetch task number None server asked is = cc
-
 no_prepare_round : (fixed : Fixed) (round : Round) (now : Sweeping) (server : ℕ) (asked : Request) → ◌≡◌ {A = Option (ℕ × Request)} (Some (sweep.asked_now fixed.service round now)) (Some (server, asked)) → is_prepare asked ≡ false
 no_prepare_round fixed round Listing server asked is = ap is_prepare (sym (asks_same _ server request.Locks asked is))
 no_prepare_round fixed round (Resolving t others) server asked is = ap is_prepare (sym (asks_same _ server (request.Resolve t) asked is))
@@ -120,12 +101,12 @@ one_more server asked word later other some = record { suites = some.suites; cha
 word_writes : (fixed : Fixed) (task : Task) (cache : Cache) (suites : Suites) (phase : Phase) (server : ℕ) (asked : Request) (word : Word) (later : List Exchange) → request_in fixed task suites phase ≡ Some (server, asked)
     → InDoing (after' fixed task cache suites phase server asked word) later → InPhase suites phase (record { server = server; request = asked; word = word } ∷ later)
 word_writes fixed task cache suites (Gathering number) server asked word later is in' =
-    one_more server asked word later (no_prepare_suite task number (suite_of suites number) server asked is) (some_doing (after' fixed task cache suites (Gathering number) server asked word) later in')
+    one_more server asked word later (asked_as is_prepare false task number (suite_of suites number) server asked (λ mode. refl) refl is) (some_doing (after' fixed task cache suites (Gathering number) server asked word) later in')
 word_writes fixed task cache suites (Fetching number) server asked word later is in' =
-    one_more server asked word later (no_prepare_fetch task number (suite_of suites number) server asked is) (some_doing (after' fixed task cache suites (Fetching number) server asked word) later in')
+    one_more server asked word later (fetched_as is_prepare false task number (suite_of suites number) server asked refl is) (some_doing (after' fixed task cache suites (Fetching number) server asked word) later in')
 word_writes fixed task cache suites (Widening [] granted) server asked word later is in' = cc
 word_writes fixed task cache suites (Widening (number ∷ left) granted) server asked word later is in' =
-    one_more server asked word later (no_prepare_suite task number (suite_of suites number) server asked is) (some_doing (after' fixed task cache suites (Widening (number ∷ left) granted) server asked word) later in')
+    one_more server asked word later (asked_as is_prepare false task number (suite_of suites number) server asked (λ mode. refl) refl is) (some_doing (after' fixed task cache suites (Widening (number ∷ left) granted) server asked word) later in')
 word_writes fixed task cache suites (Preparing [] outcome) server asked word later is in' = cc
 word_writes fixed task cache suites (Preparing (now ∷ left) outcome) server asked word later is in' = (from, rest word in')
   where

@@ -95,7 +95,7 @@ abbrev pub count_of : (Exchange → Bool) → List Exchange → ℕ
 count_of kind [] = 0
 count_of kind (one ∷ past) = (if kind one then 1 else 0) + count_of kind past
 
--- ---- 1
+-- ---- who is asked, and how often
 
 -- Decide is sent once at most
 abbrev pub DecideIsSentOnce : Type 0
@@ -133,7 +133,7 @@ NothingFollowsAnEnd =
     → next_of fixed (after_all fixed (begin fixed agent job) events) ≡ Some (server, asked)
     → (is_decide asked || is_prepare asked) ≡ false
 
--- ---- 2
+-- ---- what is prepared
 
 -- what is to be written is fixed before the first Prepare: all Prepares are of the same suites and changes
 pub record WrittenFrom (past : List Exchange) : Type 0 where
@@ -158,7 +158,7 @@ APrepareRises =
     → next_of fixed (after_all fixed (begin fixed agent job) events) ≡ Some (server, request.Prepare t parts)
     → IsStrictlySortedBy nat_cmp (map (λ part. part.suite) parts)
 
--- ---- 3
+-- ---- when a decision is asked for
 
 -- a decision is asked for once each server that was heard to hold a lock has prepared; servers are numbered below 16
 abbrev pub AllPrepareFirst : Type 0
@@ -168,7 +168,7 @@ AllPrepareFirst =
     → nat_lt server 16 ≡ true → was_held (of_job fixed agent job events) suite server ≡ true
     → was_prepared (of_job fixed agent job events) server ≡ true
 
--- ---- 4
+-- ---- on which quorums
 
 -- the newest prefix that a suite's servers showed
 abbrev pub newest_of : Suite → Prefix
@@ -193,7 +193,7 @@ DecidesOnQuorums =
     → (after_all fixed (begin fixed agent job) events).doing ≡ Some (Running course) → course.phase ≡ Deciding outcome
     → suite_of course.suites number ≡ Some suite → IsReady suite number (changes_of outcome)
 
--- ---- 5
+-- ---- how the end is told
 
 -- how a transaction ended, as its home said; Aborted, where it said nothing
 abbrev pub said_by : Word → Verdict → Verdict
@@ -211,7 +211,7 @@ FinishCarriesTheVerdict =
     → (after_all fixed (begin fixed agent job) events).doing ≡ Some (Running course) → course.phase ≡ Finishing servers v ending
     → v ≡ told_verdict verdict.Aborted (of_job fixed agent job events)
 
--- ---- 6
+-- ---- why a job ends undecided
 
 -- what was told of a suite, the newest first, after what was told before
 abbrev pub more_told : List Told → ℕ → Request → Option Said → List Told
@@ -330,7 +330,7 @@ EndsAreCaused =
     → (take fixed (after_all fixed (begin fixed agent job) events) word).ending ≡ Some (Undecided cause)
     → IsCaused cause (of_job fixed agent job (events ++ Take word ∷ []))
 
--- ---- 7
+-- ---- how many steps it takes
 
 -- a list of numbers as a test
 abbrev pub among : List ℕ → ℕ → Bool

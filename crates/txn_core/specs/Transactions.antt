@@ -49,7 +49,7 @@ pub record Step : Type 0 where
 abbrev pub on_with : Task → Cache → Suites → Phase → Step
 on_with task cache suites phase = record { cache = cache; after = GoesOn (record { task = task; suites = suites; phase = phase }) }
 
--- ---- 6: the end is told to each server that holds a lock
+-- ---- last: the end is told to each server that holds a lock
 
 abbrev pub numbers_from : ℕ → ℕ → List ℕ
 numbers_from start zero = []
@@ -70,7 +70,7 @@ finish task cache suites verdict ending = tell_end task cache suites verdict end
 abbrev pub give_up : Task → Cache → Suites → Cause → Step
 give_up task cache suites cause = finish task cache suites verdict.Aborted (Undecided cause)
 
--- ---- 4: each of these servers prepares, and then 5: the home decides
+-- ---- before: each of these servers prepares, and then the home decides
 
 abbrev pub prepare : Task → Cache → Suites → Outcome → List ℕ → Step
 prepare task cache suites outcome [] = on_with task cache suites (Deciding outcome)
@@ -100,7 +100,7 @@ raised_or_new fixed task cache number mode (Some suite) = record suite { collect
 raised_or_new fixed task cache number mode None =
     record { collector = collect mode (start_from fixed task cache number); first = None; mode = Shared; content = None }
 
--- ---- 3: the suites that get votes are widened to them
+-- ---- before: the suites that get votes are widened to them
 
 -- the votes of a suite after what is set of it
 abbrev pub votes_then : Option Change → Option First → Configuration → Configuration
@@ -135,7 +135,7 @@ widen_all task cache suites granted [] = prepare task cache suites (Ok granted) 
 widen_all task cache suites granted (number ∷ left) =
     widen_one task cache suites (Widening (number ∷ left) granted) granted.changes number (suite_of suites number) (λ suites. widen_all task cache suites granted left)
 
--- ---- 1 and 2: the executor says what is needed
+-- ---- first: the executor says what is needed
 
 abbrev pub heard_on : Fixed → Task → Suites → Executed
 heard_on fixed task suites = answered (known_of suites) (exec_of fixed.service (known_of suites) task.t task.caller task.ops)

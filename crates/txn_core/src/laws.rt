@@ -1,5 +1,6 @@
 //! What holds of every agent that began a job, whatever it is told.
 
+ghost use Rattle.txn_core.specs.Runs.{WorkedRuns};
 ghost use Rattle.txn_core.specs.Laws.{NobodyIsPolledTwice, DecideIsSentOnce, NothingFollowsAnEnd, PrepareListsTheLocks, APrepareRises, AllPrepareFirst, FinishCarriesTheVerdict, WhatIsWrittenIsFixed, DecidesOnQuorums, EndsAreCaused, LateStepsAreFew, EndsInTime, SweepEndsInTime};
 
 /// A law: Decide is sent once at most. It does nothing.
@@ -71,4 +72,9 @@ pub fn ends_in_time()
 /// A law: a sweep takes one step, and two more at most for each lock that it was told. It does nothing.
 pub fn sweep_ends_in_time()
     ensures { SweepEndsInTime }
+{}
+
+/// A law: how eight runs of an agent and servers end, and in how many steps. It does nothing.
+pub fn worked_runs()
+    ensures { WorkedRuns }
 {}
