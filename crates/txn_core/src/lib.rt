@@ -23,3 +23,6 @@ pub use laws::{
     worked_runs,
 };
 pub use word::Word;
+
+#[cfg(test)]
+mod tests;
