@@ -36,7 +36,7 @@ pub at_most_one : (b : Bool) → cond b 0 1 ≤ 1
 at_most_one true = omega arith
 at_most_one false = omega arith
 
-swapped : (key other : ℕ) → nat_cmp key other ≡ Less → nat_cmp other key ≡ Greater
+pub swapped : (key other : ℕ) → nat_cmp key other ≡ Less → nat_cmp other key ≡ Greater
 swapped key other less = grind (arith, nat_tests)
 
 module _ {V : Type 0} where
@@ -67,7 +67,7 @@ module _ {V : Type 0} where
       (cases_Bool (test e))
 
   -- the next pair of an ordered list goes to the end of those before it
-  at_index : (P : ℕ → Type 0) (es : List (ℕ × V)) (i : ℕ) (pair : ℕ × V) → i < length es → pair ≡ get_or es i pair → AllByRecursion P (keys_of es) → P pair.0
+  pub at_index : (P : ℕ → Type 0) (es : List (ℕ × V)) (i : ℕ) (pair : ℕ × V) → i < length es → pair ≡ get_or es i pair → AllByRecursion P (keys_of es) → P pair.0
   at_index P [] i pair in_range is all = absurd (omega arith)
   at_index P (e ∷ es) zero pair in_range is all = subst (λ (p : ℕ × V). P p.0) (sym is) all.0
   at_index P (e ∷ es) (suc i) pair in_range is all = at_index P es i pair (omega arith) is all.1
