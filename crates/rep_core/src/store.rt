@@ -373,7 +373,10 @@ fn install_at(
     ensures intentions { intentions.new.pairs ≡ insert nat_cmp intentions.old.pairs suite (record { t = t; take = take.Keep }) }
     ensures room { copies.old.room ≤ copies.new.room + 1 }
 {
-    let spent = Intention { t, take: Take::Keep };
+    let spent = Intention {
+        t,
+        take: Take::Keep,
+    };
     if let Some(intention) = intentions.insert_in_room(suite, spent) {
         put(alloc, copies, suite, intention.take);
     }

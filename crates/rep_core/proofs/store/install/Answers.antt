@@ -1,7 +1,6 @@
-use Rattle.std.proofs.Common.{rules, ◌≡◌, ◌<◌, ◌+◌, ◌==◌, ℕ, true, false, IsSome, get_or, drop, length, is_some, refl, ap, sym, ◌∙◌, subst, arith}
+use Rattle.std.proofs.Common.{rules, ◌≡◌, ◌<◌, ◌+◌, true, false, get_or, drop, length, is_some, refl, ap, sym, ◌∙◌, arith}
 use Rattle.std.specs.Ordering.{nat_cmp}
-use Rattle.sorted_map.specs.SortedMap.{get, insert}
-use Rattle.rep_core.specs.declared.intention.Intention.{Intention}
+use Rattle.sorted_map.specs.SortedMap.{insert}
 use Rattle.rep_core.specs.declared.request.Take.TheVariants as take
 use Rattle.rep_core.specs.Store.{with_copies, without_intentions}
 use Rattle.rep_core.proofs.Intentions.{is_of}
