@@ -1,21 +1,21 @@
 -- What the intentions of a transaction become, one after the other.
-use Rattle.std.proofs.Common.{◌≡◌, ℕ, ◌==◌, ◌+◌, ◌≤◌, ◌<◌, zero, suc, add-one, take as first_items, get_or, Less, Greater, subst, Bool, true, false, cond, not, List, [], ◌∷◌, length, Option, Some, None, IsSome, refl, sym, ap, ◌∙◌, ⊎_elim, arith}
-use Rattle.std.specs.Prelude.{find, option_map, unwrap_or, is_some, IfSome}
+use Rattle.std.proofs.Common.{◌≡◌, ℕ, ◌==◌, ◌+◌, ◌≤◌, ◌<◌, zero, suc, add-one, take as first_items, get_or, Less, Greater, subst, Bool, true, false, cond, not, List, [], ◌∷◌, length, Some, None, IsSome, refl, sym, ap, ◌∙◌, ⊎_elim, arith}
+use Rattle.std.specs.Prelude.{unwrap_or, is_some}
 use Rattle.std.specs.Ordering.{nat_cmp, is_eq}
 use Rattle.std.specs.Cmp.{eq_by_cmp_equiv}
 use Rattle.std.specs.BTreeMap.{is_at}
 use Rattle.std.specs.List.{AllByRecursion}
 use Rattle.std.specs.Map.{keys_of}
-use Rattle.std.proofs.lemmas.Bool.{cases_Bool, cond-true, cond-false, false≢true}
+use Rattle.std.proofs.lemmas.Bool.{cases_Bool, false≢true}
 use Rattle.std.proofs.lemmas.Bool.Decides.{nat_tests}
 use Rattle.std.proofs.lemmas.Cmp.{nat_cmp_total}
 use Rattle.std.proofs.lemmas.Option.{none-some, same_Some}
 use Rattle.std.proofs.lemmas.Map.{lookup-none}
 use Rattle.std.proofs.lemmas.Map.Entries.{none_past_head, lookup_head, lookup_tail}
 use Rattle.std.proofs.lemmas.Map.Keys.{sorted_head, sorted_tail, IsDistinct-from_sorted}
-use Rattle.sorted_map.specs.SortedMap.{IsOrdered, get, insert, replace, remove}
+use Rattle.sorted_map.specs.SortedMap.{IsOrdered, get, insert, replace}
 use Rattle.sorted_map.specs.Laws.{insert_step}
-use Rattle.sorted_map.specs.Edits.{length-insert, length-remove, insert_present}
+use Rattle.sorted_map.specs.Edits.{length-insert, insert_present}
 use Rattle.sorted_map.specs.Numbers.{get_insert_here, get_insert_apart}
 use Rattle.vote_core.specs.Quorums.{Configuration}
 use Rattle.suite_prefix.specs.declared.copies.Prefix.{Prefix}
@@ -36,7 +36,7 @@ pub at_most_one : (b : Bool) → cond b 0 1 ≤ 1
 at_most_one true = omega arith
 at_most_one false = omega arith
 
-swapped : (key other : ℕ) → nat_cmp key other ≡ Less → nat_cmp other key ≡ Greater
+pub swapped : (key other : ℕ) → nat_cmp key other ≡ Less → nat_cmp other key ≡ Greater
 swapped key other less = grind (arith, nat_tests)
 
 module _ {V : Type 0} where
@@ -51,23 +51,8 @@ module _ {V : Type 0} where
       (λ apart. apart)
       (cases_Bool (is_at (nat_cmp key) e.0))
 
-  -- the key of a pair that is found is there
-  pub found_is_there : (test : ℕ × V → Bool) (pairs : List (ℕ × V)) (key : ℕ) → option_map (λ pair. pair.0) (find test pairs) ≡ Some key → IsSome (get nat_cmp pairs key)
-  found_is_there test [] key first = absurd (none-some key first)
-  found_is_there test (e ∷ es) key first = ⊎_elim
-      (λ hit.
-      let same : e.0 ≡ key = same_Some e.0 key (ap (λ b. option_map (λ pair. pair.0) (cond b (Some e) (find test es))) (sym hit) ∙ first) in
-      ap (λ o. is_some o) (lookup_head (is_at (nat_cmp key)) e es (ap (λ k. is_eq (nat_cmp key k)) same ∙ at_itself key)))
-      (λ miss.
-      let rest = found_is_there test es key (ap (λ b. option_map (λ pair. pair.0) (cond b (Some e) (find test es))) (sym miss) ∙ first) in
-      ⊎_elim
-      (λ here. ap (λ o. is_some o) (lookup_head (is_at (nat_cmp key)) e es here))
-      (λ there. ap (λ o. is_some o) (lookup_tail (is_at (nat_cmp key)) e es there) ∙ rest)
-      (cases_Bool (is_at (nat_cmp key) e.0)))
-      (cases_Bool (test e))
-
-  -- the next pair of an ordered list goes to the end of those before it
-  at_index : (P : ℕ → Type 0) (es : List (ℕ × V)) (i : ℕ) (pair : ℕ × V) → i < length es → pair ≡ get_or es i pair → AllByRecursion P (keys_of es) → P pair.0
+  -- what holds of each key holds of the key at a place
+  pub at_index : (P : ℕ → Type 0) (es : List (ℕ × V)) (i : ℕ) (pair : ℕ × V) → i < length es → pair ≡ get_or es i pair → AllByRecursion P (keys_of es) → P pair.0
   at_index P [] i pair in_range is all = absurd (omega arith)
   at_index P (e ∷ es) zero pair in_range is all = subst (λ (p : ℕ × V). P p.0) (sym is) all.0
   at_index P (e ∷ es) (suc i) pair in_range is all = at_index P es i pair (omega arith) is all.1
@@ -80,14 +65,11 @@ module _ {V : Type 0} where
       insert_step nat_cmp e (first_items i es) pair.0 pair.1 Greater (swapped e.0 pair.0 above)
       ∙ ap (λ l. e ∷ l) (insert_after es i pair (sorted_tail nat_cmp e.0 (keys_of es) rising) (omega arith) is)
 
+  -- the next pair of an ordered list goes to the end of those before it
   pub insert_next : (pairs : List (ℕ × V)) (i : ℕ) (pair : ℕ × V) → IsOrdered nat_cmp pairs → i < length pairs → pair ≡ get_or pairs i pair → insert nat_cmp (first_items i pairs) pair.0 pair.1 ≡ first_items (i + 1) pairs
   insert_next pairs i pair rising in_range is = insert_after pairs i pair rising in_range is ∙ ap (λ n. first_items n pairs) (sym (add-one i))
 
-  -- a removal of what is there makes a list shorter by one
-  pub length-taken_out : (pairs : List (ℕ × V)) (key : ℕ) → IsSome (get nat_cmp pairs key) → length (remove nat_cmp pairs key) + 1 ≡ length pairs
-  length-taken_out pairs key there = ap (λ b. length (remove nat_cmp pairs key) + cond b 1 0) (sym there) ∙ length-remove nat_cmp_total pairs key
-
-  -- an insert makes it longer by one at most
+  -- an insert makes a list longer by one at most
   pub length-inserted : (pairs : List (ℕ × V)) (key : ℕ) (value : V) → IsOrdered nat_cmp pairs → length (insert nat_cmp pairs key value) ≤ length pairs + 1
   length-inserted pairs key value rising =
       let exact = length-insert nat_cmp_total pairs key value rising in
@@ -99,80 +81,7 @@ module _ {V : Type 0} where
 abbrev pub is_of : ℕ → ℕ × Intention → Bool
 is_of t pair = pair.1.t == t
 
-abbrev pub first_of : ℕ → List (ℕ × Intention) → Option ℕ
-first_of t intentions = option_map (λ pair. pair.0) (find (is_of t) intentions)
-
-module _ (c0 : Configuration) (t : ℕ) where
-  -- the first intention of the transaction becomes a copy, and then the others do
-  pub with_copies-step : (intentions : List (ℕ × Intention)) (copies : List (ℕ × Replica)) (suite : ℕ) (intention : Intention) → IsOrdered nat_cmp intentions → first_of t intentions ≡ Some suite → get nat_cmp intentions suite ≡ Some intention → with_copies c0 t intentions copies ≡ with_copies c0 t (remove nat_cmp intentions suite) (with_taken c0 suite intention.take copies)
-  with_copies-step [] copies suite intention rising first has = absurd (none-some suite first)
-  with_copies-step (e ∷ es) copies suite intention rising first has = ⊎_elim
-      (λ mine.
-      let same : e.0 ≡ suite = same_Some e.0 suite (ap (λ b. option_map (λ pair. pair.0) (cond b (Some e) (find (is_of t) es))) (sym mine) ∙ first) in
-      let here : is_at (nat_cmp suite) e.0 ≡ true = ap (λ k. is_eq (nat_cmp suite k)) same ∙ at_itself suite in
-      let is : e.1 ≡ intention = same_Some e.1 intention (sym (lookup_head (is_at (nat_cmp suite)) e es here) ∙ has) in
-      ap (λ b. with_copies c0 t es (cond b (with_taken c0 e.0 e.1.take copies) copies)) mine
-      ∙ (λ i. with_copies c0 t es (with_taken c0 (same i) (is i).take copies))
-      ∙ ap (λ l. with_copies c0 t l (with_taken c0 suite intention.take copies)) (sym (cond-true (is_at (nat_cmp suite) e.0) es (e ∷ remove nat_cmp es suite) here)))
-      (λ other.
-      let rest : first_of t es ≡ Some suite = ap (λ b. option_map (λ pair. pair.0) (cond b (Some e) (find (is_of t) es))) (sym other) ∙ first in
-      let apart = apart_behind e es suite rising (found_is_there (is_of t) es suite rest) in
-      let has' : get nat_cmp es suite ≡ Some intention = sym (lookup_tail (is_at (nat_cmp suite)) e es apart) ∙ has in
-      let after : List (ℕ × Replica) = with_taken c0 suite intention.take copies in
-      ap (λ b. with_copies c0 t es (cond b (with_taken c0 e.0 e.1.take copies) copies)) other
-      ∙ with_copies-step es copies suite intention (sorted_tail nat_cmp e.0 (keys_of es) rising) rest has'
-      ∙ ap (λ b. with_copies c0 t (remove nat_cmp es suite) (cond b (with_taken c0 e.0 e.1.take after) after)) (sym other)
-      ∙ ap (λ l. with_copies c0 t l after) (sym (cond-false (is_at (nat_cmp suite) e.0) es (e ∷ remove nat_cmp es suite) apart)))
-      (cases_Bool (is_of t e))
-
-  next_by : (intentions : List (ℕ × Intention)) (copies after : List (ℕ × Replica)) (suite : ℕ) → IsOrdered nat_cmp intentions → first_of t intentions ≡ Some suite → (o : Option Intention) → get nat_cmp intentions suite ≡ o → IsSome (get nat_cmp intentions suite) → IfSome o (λ intention. (c : Configuration) → after ≡ with_taken c suite intention.take copies) → with_copies c0 t intentions copies ≡ with_copies c0 t (remove nat_cmp intentions suite) after
-  next_by intentions copies after suite rising first None is there said = absurd (false≢true (ap is_some (sym is) ∙ there))
-  next_by intentions copies after suite rising first (Some intention) is there said =
-      with_copies-step intentions copies suite intention rising first is ∙ ap (with_copies c0 t (remove nat_cmp intentions suite)) (sym (said c0))
-
-  -- the same, of the copies that are said to be so
-  pub with_copies-next : (intentions : List (ℕ × Intention)) (copies after : List (ℕ × Replica)) (suite : ℕ) → IsOrdered nat_cmp intentions → first_of t intentions ≡ Some suite → IfSome (get nat_cmp intentions suite) (λ intention. (c : Configuration) → after ≡ with_taken c suite intention.take copies) → with_copies c0 t intentions copies ≡ with_copies c0 t (remove nat_cmp intentions suite) after
-  with_copies-next intentions copies after suite rising first said =
-      next_by intentions copies after suite rising first (get nat_cmp intentions suite) refl (found_is_there (is_of t) intentions suite first) said
-
-  -- without intentions of the transaction the copies stay
-  pub with_copies-none : (intentions : List (ℕ × Intention)) (copies : List (ℕ × Replica)) → first_of t intentions ≡ None → with_copies c0 t intentions copies ≡ copies
-  with_copies-none [] copies none = refl
-  with_copies-none (e ∷ es) copies none = ⊎_elim
-      (λ mine. absurd (none-some e.0 (sym none ∙ ap (λ b. option_map (λ pair. pair.0) (cond b (Some e) (find (is_of t) es))) mine)))
-      (λ other.
-      ap (λ b. with_copies c0 t es (cond b (with_taken c0 e.0 e.1.take copies) copies)) other
-      ∙ with_copies-none es copies (ap (λ b. option_map (λ pair. pair.0) (cond b (Some e) (find (is_of t) es))) (sym other) ∙ none))
-      (cases_Bool (is_of t e))
-
 module _ (t : ℕ) where
-  pub without-step : (intentions : List (ℕ × Intention)) (suite : ℕ) → IsOrdered nat_cmp intentions → first_of t intentions ≡ Some suite → without_intentions t intentions ≡ without_intentions t (remove nat_cmp intentions suite)
-  without-step [] suite rising first = absurd (none-some suite first)
-  without-step (e ∷ es) suite rising first = ⊎_elim
-      (λ mine.
-      let same : e.0 ≡ suite = same_Some e.0 suite (ap (λ b. option_map (λ pair. pair.0) (cond b (Some e) (find (is_of t) es))) (sym mine) ∙ first) in
-      let here : is_at (nat_cmp suite) e.0 ≡ true = ap (λ k. is_eq (nat_cmp suite k)) same ∙ at_itself suite in
-      ap (λ b. cond (not b) (e ∷ without_intentions t es) (without_intentions t es)) mine
-      ∙ ap (without_intentions t) (sym (cond-true (is_at (nat_cmp suite) e.0) es (e ∷ remove nat_cmp es suite) here)))
-      (λ other.
-      let rest : first_of t es ≡ Some suite = ap (λ b. option_map (λ pair. pair.0) (cond b (Some e) (find (is_of t) es))) (sym other) ∙ first in
-      let apart = apart_behind e es suite rising (found_is_there (is_of t) es suite rest) in
-      let after : List (ℕ × Intention) = remove nat_cmp es suite in
-      ap (λ b. cond (not b) (e ∷ without_intentions t es) (without_intentions t es)) other
-      ∙ ap (λ l. e ∷ l) (without-step es suite (sorted_tail nat_cmp e.0 (keys_of es) rising) rest)
-      ∙ ap (λ b. cond (not b) (e ∷ without_intentions t after) (without_intentions t after)) (sym other)
-      ∙ ap (without_intentions t) (sym (cond-false (is_at (nat_cmp suite) e.0) es (e ∷ after) apart)))
-      (cases_Bool (is_of t e))
-
-  pub without-none : (intentions : List (ℕ × Intention)) → first_of t intentions ≡ None → without_intentions t intentions ≡ intentions
-  without-none [] none = refl
-  without-none (e ∷ es) none = ⊎_elim
-      (λ mine. absurd (none-some e.0 (sym none ∙ ap (λ b. option_map (λ pair. pair.0) (cond b (Some e) (find (is_of t) es))) mine)))
-      (λ other.
-      ap (λ b. cond (not b) (e ∷ without_intentions t es) (without_intentions t es)) other
-      ∙ ap (λ l. e ∷ l) (without-none es (ap (λ b. option_map (λ pair. pair.0) (cond b (Some e) (find (is_of t) es))) (sym other) ∙ none)))
-      (cases_Bool (is_of t e))
-
   -- an intention that is left was there, and is another transaction's
   pub get-without : (intentions : List (ℕ × Intention)) (suite : ℕ) (intention : Intention) → IsOrdered nat_cmp intentions → get nat_cmp (without_intentions t intentions) suite ≡ Some intention → (get nat_cmp intentions suite ≡ Some intention) × ((intention.t == t) ≡ false)
   get-without [] suite intention rising has = absurd (none-some intention has)

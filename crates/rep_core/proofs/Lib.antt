@@ -10,6 +10,7 @@ pub mod PreparedLocks
 pub mod Quiet
 pub mod Told
 pub mod Intentions
+pub mod Installing
 pub mod IntentionLookups
 pub mod Effects
 pub mod Soundness

@@ -1,15 +1,16 @@
 //! Stored copies and intentions. Nothing else touches them.
 
-ghost use Rattle.std.specs.Prelude.{◌≡◌, ℕ, ◌≤◌, ◌<◌, ◌+◌, ◌==◌, ◌&&◌, not, length, [], is_some, IfOk, OnOk, OnErr, IsTrue, IsSome, IfSome, true, false, unwrap_or, None, Some, nat_le, min, count_by, find, option_map};
+ghost use Rattle.std.specs.Prelude.{◌≡◌, ℕ, ◌≤◌, ◌<◌, ◌+◌, ◌==◌, ◌&&◌, not, length, [], is_some, IfOk, OnOk, OnErr, IsTrue, IsSome, IfSome, true, false, unwrap_or, None, Some, nat_le, min, count_by};
 ghost use Rattle.std.specs.List.{list_any, list_all};
 ghost use Rattle.std.specs.Option.{option_copied};
 ghost use Rattle.std.specs.Ordering.{nat_cmp};
-ghost use Rattle.sorted_map.specs.SortedMap.{IsOrdered, get, remove};
+ghost use Rattle.sorted_map.specs.SortedMap.{IsOrdered, get, insert};
 ghost use Rattle.vote_core.specs.Quorums.{Configuration};
 ghost use Rattle.suite_prefix.specs.declared.copies.Replica.{Replica};
 ghost use Rattle.suite_prefix.specs.Absent.{absent_copy};
 ghost use Rattle.rep_core.specs.declared.intention.Intention.{Intention};
 ghost use Rattle.rep_core.specs.Service.{held, given};
+ghost use Rattle.rep_core.specs.declared.request.Take.TheVariants as take;
 ghost use Rattle.rep_core.specs.Store as store;
 
 use crate::copying::copied;
@@ -335,16 +336,6 @@ fn keep(intentions: &mut RoomyMap<u64, Intention>, t: u64, part: Part)
     intentions.insert_in_room(suite, Intention { t, take });
 }
 
-/// The first suite with an intention of a transaction.
-fn next_of(intentions: &[(u64, Intention)], t: u64) -> Option<u64>
-    ensures { result ≡ option_map (λ pair. pair.0) (find (λ pair. pair.1.t == t) intentions.now) }
-{
-    intentions
-        .iter()
-        .find(|pair| pair.1.t == t)
-        .map(|pair| pair.0)
-}
-
 /// Makes the intentions of a transaction copies, in the room that there is.
 fn install(
     alloc: Global,
@@ -358,25 +349,35 @@ fn install(
     ensures room { length intentions.new.pairs ≤ copies.new.room }
     ensures rising { IsOrdered nat_cmp intentions.new.pairs }
 {
-    while let Some(suite) = next_of(intentions.as_slice(), t) {
-        install_at(alloc, copies, intentions, suite);
+    for place in 0..intentions.len() {
+        let pair = &intentions.as_slice()[place];
+        if pair.1.t == t {
+            let suite = pair.0;
+            install_at(alloc, copies, intentions, suite, t);
+        }
     }
+    forget(intentions, t);
 }
 
-/// Makes the intention on a suite a copy.
+/// Makes the transaction's intention on a suite a copy, and leaves one there that takes nothing.
 fn install_at(
     alloc: Global,
     copies: &mut RoomyMap<u64, Replica>,
     intentions: &mut RoomyMap<u64, Intention>,
     suite: u64,
+    t: u64,
 )
     requires there { IsSome (get nat_cmp intentions.old.pairs suite) }
     requires room { 0 < copies.old.room }
     ensures copies { IfSome (get nat_cmp intentions.old.pairs suite) (λ intention. (c0 : Configuration) → copies.new.pairs ≡ store.with_taken c0 suite intention.take copies.old.pairs) }
-    ensures intentions { intentions.new.pairs ≡ remove nat_cmp intentions.old.pairs suite }
+    ensures intentions { intentions.new.pairs ≡ insert nat_cmp intentions.old.pairs suite (record { t = t; take = take.Keep }) }
     ensures room { copies.old.room ≤ copies.new.room + 1 }
 {
-    if let Some(intention) = intentions.remove(&suite) {
+    let spent = Intention {
+        t,
+        take: Take::Keep,
+    };
+    if let Some(intention) = intentions.insert_in_room(suite, spent) {
         put(alloc, copies, suite, intention.take);
     }
 }
