@@ -1,7 +1,11 @@
 //! Transactions on what is known, from nothing: what each asks for on its way, one need after the
 //! other, and how it ends. Each line has the caller, the operations, the needs and the end.
 
-use crate::{Change, Known, Need, Outcome, exec};
+use crate::{
+    Change, Known, Need, Outcome, a_met_need_is_progress, changes_by_suite, changes_lead_on,
+    done_is_the_tables, exec, exec_runs, goes_as_on_the_table, holding_meets, is_the_transaction,
+    more_known_changes_nothing, needs_what_is_unmet, opening_meets, sets_what_is_held,
+};
 use acl_core::{Acl, Caller, Mode};
 use file_ops::{Action, Answer, Answers, Init, Op, PathText, Refusal, Service, Why};
 use std::alloc::{AllocError, Global};
@@ -378,4 +382,74 @@ const IN_TURN: &str = "\
 #[test]
 fn what_operations_see_of_one_another(rt: HostRuntime) {
     play(&rt, IN_TURN);
+}
+
+// ---- what was set, and the laws
+
+/// The outcome of a line's operations where all that they need is met.
+fn met(rt: &(impl Abort + AllocGlobal), text: &str) -> Outcome {
+    let caller = caller(rt, "1000 100");
+    let ops = ops(rt, text);
+    let service = Service {
+        servers: 1,
+        c0: c0(rt),
+    };
+    let mut known = Known::new(rt.alloc(), service);
+    let mut outcome = executed(rt, &known, &caller, &ops);
+    for _ in 0..20 {
+        if let Outcome::Need(need) = outcome {
+            meet(rt, &mut known, need);
+            outcome = executed(rt, &known, &caller, &ops);
+        }
+    }
+    outcome
+}
+
+/// The row of a suite after what was set, as text: owner, group, votes, content, and how many entries
+/// its list has.
+fn row_text(rt: &(impl Abort + AllocGlobal), outcome: &Outcome, suite: u64) -> String {
+    let alloc = rt.alloc();
+    let Outcome::Done(_, changes) = outcome else {
+        return String::new(alloc);
+    };
+    let Some(change) = changes.get(suite) else {
+        return String::new(alloc);
+    };
+    let row = &change.row;
+    let (owner, group, entries) = (row.owner(), row.group(), row.acl().entries().len());
+    let (r, w) = (row.votes().r(), row.votes().w());
+    let held = match row.content() {
+        Content::Bytes(bytes) => bytes.as_slice().len(),
+        Content::Names(_) => 0,
+    };
+    format!(in alloc; "{owner} {group} {entries} {r}/{w} {held}").expect(rt, "memory")
+}
+
+#[test]
+fn rows_after(rt: HostRuntime) {
+    let voted = met(&rt, "setvotes '/a'");
+    same(&rt, row_text(&rt, &voted, 1).as_str(), "1000 100 3 1/1 2");
+    same(&rt, row_text(&rt, &voted, 2).as_str(), "");
+    let written = met(&rt, "file '/b' 600; write '/b' yoyo");
+    same(
+        &rt,
+        row_text(&rt, &written, 17).as_str(),
+        "1000 100 3 1/1 4",
+    );
+}
+
+#[test]
+fn the_laws_are_called(_rt: HostRuntime) {
+    goes_as_on_the_table();
+    is_the_transaction();
+    sets_what_is_held();
+    needs_what_is_unmet();
+    exec_runs();
+    done_is_the_tables();
+    changes_by_suite();
+    changes_lead_on();
+    more_known_changes_nothing();
+    a_met_need_is_progress();
+    holding_meets();
+    opening_meets();
 }
