@@ -1,14 +1,35 @@
 //! Transactions on what is known, from nothing: what each asks for on its way, one need after the
 //! other, and how it ends. Each line has the caller, the operations, the needs and the end.
+//!
+//! What memory was refused to is done again, so that each allocation can be refused in turn.
 
-use crate::{Change, Known, Need, Outcome, exec};
-use acl_core::{Acl, Caller, Mode};
-use file_ops::{Action, Answer, Answers, Init, Op, PathText, Refusal, Service, Why};
-use std::alloc::{AllocError, Global};
+use crate::{
+    Known, Need, Outcome, a_met_need_is_progress, changes_by_suite, changes_lead_on,
+    done_is_the_tables, exec, exec_runs, goes_as_on_the_table, holding_meets, is_the_transaction,
+    more_known_changes_nothing, needs_what_is_unmet, opening_meets, sets_what_is_held,
+};
+use acl_core::{Acl, Caller};
+use file_ops::{Op, Service};
+use read::{bytes, caller, mode, number, ops, votes};
+use show::{end_text, need_text};
 use std::process::Abort;
-use suite_content::{Content, FileBytes, FolderNames, Kind, Name};
-use suite_prefix::{LockMode, Prefix, PrefixKind};
+use suite_content::{Content, FolderNames, Name};
+use suite_prefix::{Prefix, PrefixKind};
 use vote_core::{MAX_SERVERS, Votes};
+
+/// What a growth gives, which is tried once more where memory was refused.
+macro_rules! grown {
+    ($rt:expr, $growth:expr) => {
+        match $growth {
+            Ok(value) => value,
+            Err(_) => $growth.ok().expect($rt, "memory"),
+        }
+    };
+}
+
+mod read;
+mod show;
+mod stages;
 
 // ---- a small service
 
@@ -22,19 +43,15 @@ const SUITES: &str = "\
 4 folder 700 y=1
 5 folder 755";
 
-fn mode(rt: &impl Abort, digits: &str) -> Mode {
-    let bits = u16::from_str_radix(digits, 8).ok().expect(rt, "digits");
-    Mode::new(bits).expect(rt, "a mode")
+fn c0(rt: &(impl Abort + AllocGlobal)) -> Votes {
+    votes(rt, "1/1/1")
 }
 
-fn number(rt: &impl Abort, digits: &str) -> u32 {
-    digits.parse::<u32>().ok().expect(rt, "a number")
-}
-
-fn c0(rt: &impl Abort) -> Votes {
-    Votes::new(MAX_SERVERS, &[(0, 1)], 1, 1)
-        .ok()
-        .expect(rt, "votes")
+fn service(rt: &(impl Abort + AllocGlobal)) -> Service {
+    Service {
+        servers: MAX_SERVERS,
+        c0: c0(rt),
+    }
 }
 
 /// What stands of a suite after its number, where it is there.
@@ -52,7 +69,7 @@ fn suite_text(rt: &impl Abort, suite: u64) -> Option<&'static str> {
 fn prefix(rt: &(impl Abort + AllocGlobal), suite: u64) -> Prefix {
     let alloc = rt.alloc();
     let Some(text) = suite_text(rt, suite) else {
-        return Prefix::absent(alloc, c0(rt)).expect(rt, "memory");
+        return grown!(rt, Prefix::absent(alloc, c0(rt)));
     };
     let mut words = text.split(' ');
     let kind = match words.next().unwrap_or_default() {
@@ -65,7 +82,7 @@ fn prefix(rt: &(impl Abort + AllocGlobal), suite: u64) -> Prefix {
         kind,
         owner: 1000,
         group: 100,
-        acl: Acl::from_mode(alloc, mode).expect(rt, "memory"),
+        acl: grown!(rt, Acl::from_mode(alloc, mode)),
         votes: c0(rt),
     }
 }
@@ -82,169 +99,9 @@ fn content(rt: &(impl Abort + AllocGlobal), suite: u64) -> Content {
         let (name, suite) = word.split_once('=').unwrap_or_default();
         let name = Name::new(name.as_bytes()).expect(rt, "a name");
         let suite = u64::from(number(rt, suite));
-        names.insert(name, suite).ok().expect(rt, "memory");
+        grown!(rt, names.insert(name, suite));
     }
     Content::Names(names)
-}
-
-// ---- operations as text
-
-fn bytes(rt: &(impl Abort + AllocGlobal), text: &str) -> FileBytes {
-    FileBytes::from_slice(rt.alloc(), text.as_bytes()).expect(rt, "memory")
-}
-
-fn made(rt: &impl Abort, kind: Kind, digits: &str) -> Action {
-    Action::Make(kind, Init::Mode(mode(rt, digits)), None)
-}
-
-/// What an operation does, by its word and what stands after the path.
-fn action(rt: &(impl Abort + AllocGlobal), word: &str, rest: &str) -> Action {
-    match word {
-        "read" => Action::Read,
-        "list" => Action::List,
-        "drop" => Action::Drop,
-        "getacl" => Action::GetAcl,
-        "getvotes" => Action::GetVotes,
-        "write" => Action::Write(bytes(rt, rest)),
-        "setacl" => {
-            let acl = Acl::from_mode(rt.alloc(), mode(rt, rest));
-            Action::SetAcl(acl.expect(rt, "memory"))
-        }
-        "setvotes" => Action::SetVotes(c0(rt)),
-        "folder" => made(rt, Kind::Folder, rest),
-        "file" => made(rt, Kind::File, rest),
-        _ => {
-            assert!(rt; false, "no operation: {word}");
-            Action::Read
-        }
-    }
-}
-
-/// An operation: a word, a path in quotes, and the rest.
-fn op(rt: &(impl Abort + AllocGlobal), text: &str) -> Op {
-    let mut parts = text.split('\'');
-    let word = parts.next().unwrap_or_default().trim();
-    let path = parts.next().unwrap_or_default();
-    let rest = parts.next().unwrap_or_default().trim();
-    let path = PathText::new(rt.alloc(), path.as_bytes()).expect(rt, "memory");
-    Op {
-        path,
-        action: action(rt, word, rest),
-    }
-}
-
-fn ops(rt: &(impl Abort + AllocGlobal), text: &str) -> Vec<Op> {
-    let mut ops = Vec::new(rt.alloc());
-    for part in text.split(';') {
-        ops.push(op(rt, part)).ok().expect(rt, "memory");
-    }
-    ops
-}
-
-fn caller(rt: &impl Abort, text: &str) -> Caller {
-    let mut parts = text.split(' ');
-    let uid = number(rt, parts.next().unwrap_or_default());
-    let gid = number(rt, parts.next().unwrap_or_default());
-    Caller::new(uid, gid, &[]).ok().expect(rt, "a caller")
-}
-
-// ---- ends as text
-
-fn push_answer(alloc: Global, text: &mut String, answer: &Answer) -> Result<(), AllocError> {
-    match answer {
-        Answer::Read(bytes) => {
-            let bytes = bytes.as_slice();
-            text.push_str(format!(in alloc; "read {bytes:?}")?.as_str())?;
-        }
-        Answer::Wrote => text.push_str("wrote")?,
-        Answer::List(names) => {
-            text.push_str("list")?;
-            for name in names.iter() {
-                text.push_str(format!(in alloc; " {name:?}")?.as_str())?;
-            }
-        }
-        Answer::Made(number) => text.push_str(format!(in alloc; "made {number}")?.as_str())?,
-        Answer::Dropped => text.push_str("dropped")?,
-        Answer::Set => text.push_str("set")?,
-        Answer::Votes(votes) => {
-            let (reps, r, w) = (votes.reps(), votes.r(), votes.w());
-            text.push_str(format!(in alloc; "votes {reps:?}/{r}/{w}")?.as_str())?;
-        }
-        Answer::Acl(acl) => {
-            text.push_str("acl")?;
-            for entry in acl.entries() {
-                let (tag, perms) = (entry.tag, entry.perms);
-                text.push_str(format!(in alloc; " {tag:?} {perms:?}")?.as_str())?;
-            }
-        }
-    }
-    Ok(())
-}
-
-fn answers_text(alloc: Global, answers: &Answers) -> Result<String, AllocError> {
-    let mut text = String::new(alloc);
-    for answer in answers.as_slice() {
-        if !text.is_empty() {
-            text.push_str("; ")?;
-        }
-        push_answer(alloc, &mut text, answer)?;
-    }
-    Ok(text)
-}
-
-fn push_change(
-    alloc: Global,
-    text: &mut String,
-    suite: u64,
-    change: &Change,
-) -> Result<(), AllocError> {
-    text.push_str(format!(in alloc; " + {suite}")?.as_str())?;
-    if change.made {
-        text.push_str(" made")?;
-    }
-    if change.acl {
-        text.push_str(" acl")?;
-    }
-    if change.votes {
-        text.push_str(" votes")?;
-    }
-    if change.content {
-        text.push_str(" content")?;
-    }
-    Ok(())
-}
-
-fn refusal_text(alloc: Global, refusal: Refusal) -> Result<String, AllocError> {
-    let op = refusal.op;
-    match refusal.why {
-        Why::Denied(denial) => {
-            let (suite, wanted, decider) = (denial.suite, denial.wanted, denial.decider);
-            Ok(format!(in alloc; "denied op {op} suite {suite} wants {wanted:?} by {decider:?}")?)
-        }
-        why => Ok(format!(in alloc; "refused {why:?} op {op}")?),
-    }
-}
-
-fn need_text(alloc: Global, need: Need) -> Result<String, AllocError> {
-    match need {
-        Need::Hold(suite, LockMode::Shared) => Ok(format!(in alloc; "S{suite} ")?),
-        Need::Hold(suite, LockMode::Exclusive) => Ok(format!(in alloc; "X{suite} ")?),
-        Need::Know(suite) => Ok(format!(in alloc; "C{suite} ")?),
-    }
-}
-
-fn end_text(alloc: Global, outcome: &Outcome) -> Result<String, AllocError> {
-    match outcome {
-        Outcome::Need(need) => need_text(alloc, *need),
-        Outcome::Refused(refusal) => refusal_text(alloc, *refusal),
-        Outcome::Done(answers, changes) => {
-            let mut text = answers_text(alloc, answers)?;
-            for (suite, change) in changes.as_slice() {
-                push_change(alloc, &mut text, *suite, change)?;
-            }
-            Ok(text)
-        }
-    }
 }
 
 // ---- needs, met one after the other
@@ -254,7 +111,7 @@ fn meet(rt: &(impl Abort + AllocGlobal), known: &mut Known, need: Need) {
     match need {
         Need::Hold(suite, mode) => {
             let prefix = prefix(rt, suite);
-            known.hold(suite, mode, &prefix).ok().expect(rt, "memory");
+            grown!(rt, known.hold(suite, mode, &prefix));
         }
         Need::Know(suite) => known.open(suite, content(rt, suite)),
     }
@@ -264,13 +121,11 @@ fn meet(rt: &(impl Abort + AllocGlobal), known: &mut Known, need: Need) {
 fn executed(
     rt: &(impl Abort + AllocGlobal),
     known: &Known,
+    t: u16,
     caller: &Caller,
     ops: &[Op],
 ) -> Outcome {
-    match exec(rt.alloc(), known, 2, caller, ops) {
-        Ok(outcome) => outcome,
-        Err(_) => exec(rt.alloc(), known, 2, caller, ops).expect(rt, "memory"),
-    }
+    grown!(rt, exec(rt.alloc(), known, u64::from(t), caller, ops))
 }
 
 fn same(rt: &impl Abort, got: &str, want: &str) {
@@ -284,19 +139,15 @@ fn line(rt: &(impl Abort + AllocGlobal), text: &str) {
     let mut parts = text.split('|');
     let caller = caller(rt, parts.next().unwrap_or_default().trim());
     let ops = ops(rt, parts.next().unwrap_or_default());
-    let service = Service {
-        servers: 1,
-        c0: c0(rt),
-    };
-    let mut known = Known::new(alloc, service);
+    let mut known = Known::new(alloc, service(rt));
     let mut needs = String::new(alloc);
-    let mut outcome = executed(rt, &known, &caller, &ops);
+    let mut outcome = executed(rt, &known, 2, &caller, &ops);
     for _ in 0..20 {
         if let Outcome::Need(need) = outcome {
-            let text = need_text(alloc, need).expect(rt, "memory");
-            needs.push_str(text.as_str()).ok().expect(rt, "memory");
+            let text = grown!(rt, need_text(alloc, need));
+            grown!(rt, needs.push_str(text.as_str()));
             meet(rt, &mut known, need);
-            outcome = executed(rt, &known, &caller, &ops);
+            outcome = executed(rt, &known, 2, &caller, &ops);
         }
     }
     same(
@@ -304,7 +155,7 @@ fn line(rt: &(impl Abort + AllocGlobal), text: &str) {
         needs.as_str().trim(),
         parts.next().unwrap_or_default().trim(),
     );
-    let end = end_text(alloc, &outcome).expect(rt, "memory");
+    let end = grown!(rt, end_text(alloc, &outcome));
     same(rt, end.as_str(), parts.next().unwrap_or_default().trim());
 }
 
@@ -325,7 +176,7 @@ const ONE_BY_ONE: &str = "\
 1000 100 | getacl '/a' | S0 C0 S1 | acl UserObj Perms(6) GroupObj Perms(4) Other Perms(4)
 1000 100 | getvotes '/d' | S0 C0 S2 | votes [(0, 1)]/1/1
 1000 100 | setacl '/a' 644 | S0 C0 X1 | set + 1 acl
-1000 100 | setvotes '/a' | S0 C0 X1 C1 | set + 1 votes
+1000 100 | setvotes '/a' 1/1/1 | S0 C0 X1 C1 | set + 1 votes
 1000 100 | file '/b' 600 | X0 C0 X17 | made 17 + 0 content + 17 made acl votes content
 1000 100 | folder '/d/b' 700 | S0 C0 X2 C2 X17 | made 17 + 2 content + 17 made acl votes content
 1000 100 | drop '/a' | X0 C0 S1 | dropped + 0 content
@@ -356,7 +207,7 @@ const REFUSED: &str = "\
 2000 300 | getacl '/s' | S0 C0 S4 | denied op 1 suite 4 wants Perms(4) by Other
 2000 300 | write '/a' yo | S0 C0 X1 | denied op 1 suite 1 wants Perms(2) by Other
 2000 300 | setacl '/a' 600 | S0 C0 X1 | denied op 1 suite 1 wants Perms(0) by OwnerRule
-2000 300 | setvotes '/a' | S0 C0 X1 | denied op 1 suite 1 wants Perms(0) by OwnerRule
+2000 300 | setvotes '/a' 1/1/1 | S0 C0 X1 | denied op 1 suite 1 wants Perms(0) by OwnerRule
 2000 300 | file '/b' 600 | X0 | denied op 1 suite 0 wants Perms(3) by Other
 2000 300 | drop '/a' | X0 | denied op 1 suite 0 wants Perms(3) by Other";
 
@@ -368,7 +219,7 @@ fn what_is_asked_for_before_a_refusal(rt: HostRuntime) {
 const IN_TURN: &str = "\
 1000 100 | read '/a'; write '/a' yo; read '/a' | S0 C0 S1 C1 X1 | read [104, 105]; wrote; read [121, 111] + 1 content
 1000 100 | write '/a' yo; read '/a' | S0 C0 X1 | wrote; read [121, 111] + 1 content
-1000 100 | write '/a' yo; setacl '/a' 000; setvotes '/a' | S0 C0 X1 | wrote; set; set + 1 acl votes content
+1000 100 | write '/a' yo; setacl '/a' 000; setvotes '/a' 1/1/1 | S0 C0 X1 | wrote; set; set + 1 acl votes content
 1000 100 | file '/b' 600; write '/b' yo; read '/b'; drop '/b' | X0 C0 X17 | made 17; wrote; read [121, 111]; dropped + 0 content + 17 made acl votes content
 1000 100 | folder '/b' 700; file '/b/c' 600; list '/b'; list '/' | X0 C0 X17 X18 | made 17; made 18; list c; list a b d e gone s + 0 content + 17 made acl votes content + 18 made acl votes content
 1000 100 | setacl '/a' 044; read '/a' | S0 C0 X1 | denied op 2 suite 1 wants Perms(4) by UserObj
@@ -378,4 +229,73 @@ const IN_TURN: &str = "\
 #[test]
 fn what_operations_see_of_one_another(rt: HostRuntime) {
     play(&rt, IN_TURN);
+}
+
+// ---- what was set, and the laws
+
+/// The outcome of a line's operations where all that they need is met.
+fn met(rt: &(impl Abort + AllocGlobal), text: &str) -> Outcome {
+    let caller = caller(rt, "1000 100");
+    let ops = ops(rt, text);
+    let mut known = Known::new(rt.alloc(), service(rt));
+    let mut outcome = executed(rt, &known, 2, &caller, &ops);
+    for _ in 0..20 {
+        if let Outcome::Need(need) = outcome {
+            meet(rt, &mut known, need);
+            outcome = executed(rt, &known, 2, &caller, &ops);
+        }
+    }
+    outcome
+}
+
+/// The row of a suite after what was set, as text: owner, group, votes, content, and how many entries
+/// its list has.
+fn row_text(rt: &(impl Abort + AllocGlobal), outcome: &Outcome, suite: u64) -> String {
+    let alloc = rt.alloc();
+    let Outcome::Done(_, changes) = outcome else {
+        return String::new(alloc);
+    };
+    let Some(change) = changes.get(suite) else {
+        return String::new(alloc);
+    };
+    let row = &change.row;
+    let (owner, group, entries) = (row.owner(), row.group(), row.acl().entries().len());
+    let (r, w) = (row.votes().r(), row.votes().w());
+    let held = match row.content() {
+        Content::Bytes(bytes) => bytes.as_slice().len(),
+        Content::Names(_) => 0,
+    };
+    grown!(
+        rt,
+        format!(in alloc; "{owner} {group} {entries} {r}/{w} {held}")
+    )
+}
+
+#[test]
+fn rows_after(rt: HostRuntime) {
+    let voted = met(&rt, "setvotes '/a' 1/1/1");
+    same(&rt, row_text(&rt, &voted, 1).as_str(), "1000 100 3 1/1 2");
+    same(&rt, row_text(&rt, &voted, 2).as_str(), "");
+    let written = met(&rt, "file '/b' 600; write '/b' yoyo");
+    same(
+        &rt,
+        row_text(&rt, &written, 17).as_str(),
+        "1000 100 3 1/1 4",
+    );
+}
+
+#[test]
+fn the_laws_are_called(_rt: HostRuntime) {
+    goes_as_on_the_table();
+    is_the_transaction();
+    sets_what_is_held();
+    needs_what_is_unmet();
+    exec_runs();
+    done_is_the_tables();
+    changes_by_suite();
+    changes_lead_on();
+    more_known_changes_nothing();
+    a_met_need_is_progress();
+    holding_meets();
+    opening_meets();
 }
