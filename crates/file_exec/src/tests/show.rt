@@ -1,39 +1,50 @@
 //! Needs and ends as text.
 
 use crate::{Change, Need, Outcome};
+use acl_core::Acl;
 use file_ops::{Answer, Answers, Refusal, Why};
 use std::alloc::{AllocError, Global};
+use suite_content::NameList;
 use suite_prefix::LockMode;
+use vote_core::Votes;
 
-fn push_answer(alloc: Global, text: &mut String, answer: &Answer) -> Result<(), AllocError> {
-    match answer {
-        Answer::Read(bytes) => {
-            let bytes = bytes.as_slice();
-            text.push_str(format!(in alloc; "read {bytes:?}")?.as_str())?;
-        }
-        Answer::Wrote => text.push_str("wrote")?,
-        Answer::List(names) => {
-            text.push_str("list")?;
-            for name in names.iter() {
-                text.push_str(format!(in alloc; " {name:?}")?.as_str())?;
-            }
-        }
-        Answer::Made(number) => text.push_str(format!(in alloc; "made {number}")?.as_str())?,
-        Answer::Dropped => text.push_str("dropped")?,
-        Answer::Set => text.push_str("set")?,
-        Answer::Votes(votes) => {
-            let (reps, r, w) = (votes.reps(), votes.r(), votes.w());
-            text.push_str(format!(in alloc; "votes {reps:?}/{r}/{w}")?.as_str())?;
-        }
-        Answer::Acl(acl) => {
-            text.push_str("acl")?;
-            for entry in acl.entries() {
-                let (tag, perms) = (entry.tag, entry.perms);
-                text.push_str(format!(in alloc; " {tag:?} {perms:?}")?.as_str())?;
-            }
-        }
+fn names_text(alloc: Global, names: &NameList) -> Result<String, AllocError> {
+    let mut text = String::from_str(alloc, "list")?;
+    for name in names.iter() {
+        text.push_str(format!(in alloc; " {name:?}")?.as_str())?;
     }
-    Ok(())
+    Ok(text)
+}
+
+fn list_text(alloc: Global, acl: &Acl) -> Result<String, AllocError> {
+    let mut text = String::from_str(alloc, "acl")?;
+    for entry in acl.entries() {
+        let (tag, perms) = (entry.tag, entry.perms);
+        text.push_str(format!(in alloc; " {tag:?} {perms:?}")?.as_str())?;
+    }
+    Ok(text)
+}
+
+fn votes_text(alloc: Global, votes: &Votes) -> Result<String, AllocError> {
+    let (reps, r, w) = (votes.reps(), votes.r(), votes.w());
+    Ok(format!(in alloc; "votes {reps:?}/{r}/{w}")?)
+}
+
+fn bytes_text(alloc: Global, bytes: &[u8]) -> Result<String, AllocError> {
+    Ok(format!(in alloc; "read {bytes:?}")?)
+}
+
+fn answer_text(alloc: Global, answer: &Answer) -> Result<String, AllocError> {
+    match answer {
+        Answer::Read(bytes) => bytes_text(alloc, bytes.as_slice()),
+        Answer::Wrote => Ok(String::from_str(alloc, "wrote")?),
+        Answer::List(names) => names_text(alloc, names),
+        Answer::Made(number) => Ok(format!(in alloc; "made {number}")?),
+        Answer::Dropped => Ok(String::from_str(alloc, "dropped")?),
+        Answer::Set => Ok(String::from_str(alloc, "set")?),
+        Answer::Votes(votes) => votes_text(alloc, votes),
+        Answer::Acl(acl) => list_text(alloc, acl),
+    }
 }
 
 /// Each answer, parted by semicolons.
@@ -43,7 +54,7 @@ pub(super) fn answers_text(alloc: Global, answers: &Answers) -> Result<String, A
         if !text.is_empty() {
             text.push_str("; ")?;
         }
-        push_answer(alloc, &mut text, answer)?;
+        text.push_str(answer_text(alloc, answer)?.as_str())?;
     }
     Ok(text)
 }

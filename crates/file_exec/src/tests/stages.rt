@@ -83,19 +83,17 @@ fn told(alloc: Global, outcome: &Outcome) -> Result<String, AllocError> {
     }
 }
 
-/// Plays a line, and gives what is known after it.
-fn stage(rt: &(impl Abort + AllocGlobal), known: Known, t: u16, text: &str) -> Known {
-    let mut known = known;
-    hold_new(rt, &mut known, t);
+/// Plays a line. What is known is from then on what the transaction leaves.
+fn stage(rt: &(impl Abort + AllocGlobal), known: &mut Known, t: u16, text: &str) {
+    hold_new(rt, known, t);
     let mut parts = text.split('|');
     let caller = caller(rt, parts.next().unwrap_or_default().trim());
     let ops = ops(rt, parts.next().unwrap_or_default());
-    let outcome = executed(rt, &known, t, &caller, &ops);
+    let outcome = executed(rt, known, t, &caller, &ops);
     let got = grown!(rt, told(rt.alloc(), &outcome));
     same(rt, got.as_str(), parts.next().unwrap_or_default().trim());
-    match outcome {
-        Outcome::Done(_, changes) => after(rt, &known, &changes),
-        _ => known,
+    if let Outcome::Done(_, changes) = &outcome {
+        *known = after(rt, known, changes);
     }
 }
 
@@ -103,7 +101,7 @@ fn play(rt: &(impl Abort + AllocGlobal), digits: &str, text: &str) {
     let mut known = opening(rt, digits);
     let mut t = 0u16;
     for line in text.lines() {
-        known = stage(rt, known, t, line);
+        stage(rt, &mut known, t, line);
         t = t.wrapping_add(1);
     }
 }
