@@ -1,7 +1,7 @@
 //! How a job ends.
 
 ghost use Rattle.std.specs.Prelude.{◌≡◌};
-ghost use Rattle.txn_core.specs.Transactions.{lack_cause};
+ghost use Rattle.txn_core.specs.Transactions.{lack_cause, short_cause};
 
 use file_ops::{Answers, Refusal};
 use rep_core::Lack;
@@ -53,6 +53,16 @@ impl Cause {
         match lack {
             Lack::Full => Cause::Full { server },
             Lack::Memory => Cause::Memory,
+        }
+    }
+
+    /// Too few votes are to be had.
+    pub(crate) fn of_short(suite: u64, got: u32, needed: u32, busy: Option<(u8, u64)>) -> Cause
+        ensures { result ≡ short_cause suite got needed busy }
+    {
+        match busy {
+            Some((server, holder)) => Cause::Busy { server, holder },
+            None => Cause::Unavailable { suite, got, needed },
         }
     }
 }

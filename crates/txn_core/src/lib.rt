@@ -1,19 +1,32 @@
 //! One agent of a replicated file service.
 #![tactic(auto)]
 
+mod agent;
+mod asking;
+mod coming;
+mod course;
 mod ending;
+mod execution;
+mod finishing;
 mod first;
+mod granted;
+mod hearing;
 mod home;
 mod job;
 mod knowing;
+mod phase;
 mod laws;
+mod sequel;
 mod servers;
 mod sorting;
 mod suites;
 mod sweep;
+mod task;
+mod widening;
 mod word;
 mod writing;
 
+pub use agent::Agent;
 pub use ending::{Cause, Ending};
 pub use job::{Job, Ops};
 pub use laws::{

@@ -5,7 +5,6 @@ ghost use Rattle.txn_core.specs.Suites as gathering;
 ghost use Rattle.txn_core.specs.Transactions as course;
 
 use crate::suites::Suite;
-use sorted_map::SortedMap;
 use std::marker::Model;
 use vote_core::MAX_SERVERS;
 
@@ -47,7 +46,7 @@ impl Servers {
 }
 
 /// The servers that answered that they hold a lock, which rise.
-pub(crate) fn locked_at(suites: &SortedMap<u64, Suite>) -> Servers
+pub(crate) fn locked_at(suites: &[(u64, Suite)]) -> Servers
     ensures { result ≡ course.locked_at suites.now }
 {
     let mut servers = [0; MAX_SERVERS];
@@ -66,11 +65,10 @@ pub(crate) fn locked_at(suites: &SortedMap<u64, Suite>) -> Servers
 }
 
 /// Whether a server holds a lock on any suite.
-fn has_locks(suites: &SortedMap<u64, Suite>, server: u8) -> bool
+fn has_locks(suites: &[(u64, Suite)], server: u8) -> bool
     ensures { result ≡ gathering.has_locks suites.now server }
 {
     suites
-        .as_slice()
         .iter()
         .any(|(_, suite)| suite.holds_lock(server))
 }

@@ -3,8 +3,10 @@
 ghost use Rattle.std.specs.Prelude.{◌≡◌, None, Some};
 ghost use Rattle.std.specs.Option.{option_copied};
 ghost use Rattle.suite_collect.specs.Collecting as spec;
+ghost use Rattle.txn_core.specs.Coming.{Comes};
 ghost use Rattle.txn_core.specs.Suites as gathering;
 
+use crate::coming::Coming;
 use crate::first::First;
 use std::marker::Model;
 use suite_collect::Collect;
@@ -109,5 +111,11 @@ impl Suite {
         } else {
             LockMode::Shared
         }
+    }
+
+    pub(crate) fn next(&self) -> Coming
+        ensures { Comes result (spec.next self.now.collector) }
+    {
+        Coming::Current
     }
 }

@@ -9,7 +9,6 @@ use crate::first::First;
 use crate::suites::Suite;
 use file_exec::{Change, Changes};
 use rep_core::{Part, Parts, Take};
-use sorted_map::SortedMap;
 use std::alloc::{AllocError, Global};
 use suite_content::Kind;
 use suite_prefix::{Prefix, PrefixKind, Replica};
@@ -19,14 +18,14 @@ use vote_core::Votes;
 /// of them. Lists and contents are shared.
 pub(crate) fn parts_at(
     alloc: Global,
-    suites: &SortedMap<u64, Suite>,
+    suites: &[(u64, Suite)],
     changes: Option<&Changes>,
     server: u8,
 ) -> Result<Parts, AllocError>
     ensures { IfOk result (λ parts. parts ≡ spec.parts_at suites.now (unwrap_or (option_copied changes.entry) []) server) }
 {
     let mut parts = Vec::new(alloc);
-    for (number, suite) in suites.as_slice() {
+    for (number, suite) in suites {
         if suite.holds_lock(server) {
             let part = part_of(*number, suite, changes, server)?;
             parts.push(part)?;

@@ -1,0 +1,17 @@
+-- An agent as its contracts see it: what never changes, and its state.
+use Rattle.std.specs.Prelude.{◌≡◌, ◌<◌, ◌≤◌, ℕ, true, option_map, Option, Some, None}
+use Rattle.rep_core.specs.declared.request.Request.{Request}
+use Rattle.weak_cache.specs.Cache.{Limited}
+use Rattle.txn_core.specs.declared.word.Word.{Word}
+use Rattle.txn_core.specs.Doing.{Fixed}
+use Rattle.txn_core.specs.Agents.{Agent}
+use Rattle.txn_core.specs.Laws.{fits_word}
+
+pub record Standing : Type 0 where
+  pub fixed : Fixed
+  pub state : Agent
+
+-- a word answers what was asked; where nothing was asked, any does
+abbrev pub FitsAsked : Option (ℕ × Request) → Word → Type 0
+FitsAsked (Some asked) word = fits_word asked.1 word ≡ true
+FitsAsked None word = Unit {0}

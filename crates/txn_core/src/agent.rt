@@ -1,0 +1,181 @@
+//! An agent.
+
+ghost use Rattle.std.specs.Prelude.{◌≡◌, ◌<◌, [], IfOk, OnOk, OnErr};
+ghost use Rattle.txn_core.specs.Agents as agents;
+ghost use Rattle.txn_core.specs.Standing.{FitsAsked};
+ghost use Rattle.txn_core.specs.Transactions as course;
+
+use crate::course::Course;
+use crate::ending::Ending;
+use crate::job::Job;
+use crate::sweep::Round;
+use crate::task::Task;
+use crate::word::Word;
+use file_ops::Service;
+use rep_core::Request;
+use std::alloc::{AllocError, Global};
+use std::marker::Model;
+use suite_prefix::Settings;
+use weak_cache::{MAX_SITES, WeakCache};
+
+/// After this many jobs none is begun.
+const MOST_JOBS: u64 = u32::MAX as u64;
+
+/// What an agent is doing.
+#[derive(Drop)]
+enum Doing {
+    /// It carries out a transaction.
+    Running(Course),
+    /// It sweeps a server.
+    Rounding(Round),
+}
+
+/// An agent: it carries out one job at a time, a transaction or a sweep. It says what is to be asked of
+/// which server, and is told what comes of it.
+#[derive(Drop)]
+pub struct Agent {
+    alloc: Global,
+    index: u8,
+    count: u64,
+    service: Service,
+    cache: WeakCache,
+    doing: Option<Doing>,
+}
+
+impl Model for Agent {
+    ghost use Rattle.txn_core.specs.Standing.{Standing};
+
+    ghost Value = { Standing };
+
+    ghost use Rattle.txn_core.specs.AgentFields.{standing_of, IsStanding};
+
+    ghost view = { standing_of };
+
+    ghost invariant = { IsStanding };
+}
+
+impl Agent {
+    /// An agent that began no job yet, in a service that opens with these settings.
+    pub fn new(alloc: Global, index: u8, settings: &Settings) -> Result<Agent, AllocError>
+        requires { index < 64 }
+        ensures { IfOk result (λ agent. agent ≡ record { fixed = agents.fixed_of settings.now; state = agents.opening index }) }
+    {
+        let service = Service {
+            servers: settings.servers(),
+            c0: *settings.c0(),
+        };
+        let cache = WeakCache::new(alloc, settings.budget(), settings.quota(), settings.slots())?;
+        Ok(Agent {
+            alloc,
+            index,
+            count: 0,
+            service,
+            cache,
+            doing: None,
+        })
+    }
+
+    /// Begins a job. Where it does a job already, where the job has no sense (there is no such site, or no
+    /// such server), or where it began too many, nothing changes. An error leaves the agent as it was.
+    pub fn begin(&mut self, job: &Job) -> Result<(), AllocError>
+        ensures ok { OnOk result (self.new ≡ record self.old { state = agents.begin self.old.fixed self.old.state job.now }) }
+        ensures err { OnErr result (self.new ≡ self.old) }
+    {
+        if !self.is_idle() || self.count >= MOST_JOBS || !self.has_sense(job) {
+            return Ok(());
+        }
+        match job {
+            Job::Transaction { caller, site, ops } => {
+                let task = Task {
+                    t: 64 * self.count + u64::from(self.index),
+                    caller: *caller,
+                    site: *site,
+                    ops: ops.clone()?,
+                };
+                self.start(task)?;
+            }
+            Job::Sweep { server } => {
+                let round = Round::new(self.alloc, *server);
+                self.doing = Some(Doing::Rounding(round));
+            }
+        }
+        self.count += 1;
+        Ok(())
+    }
+
+    /// Whether there is such a site, or such a server.
+    fn has_sense(&self, job: &Job) -> bool
+        ensures { result ≡ agents.has_sense self.now.fixed job.now }
+    {
+        match job {
+            Job::Transaction { site, .. } => *site < MAX_SITES,
+            Job::Sweep { server } => usize::from(*server) < self.service.servers,
+        }
+    }
+
+    /// A transaction starts.
+    fn start(&mut self, task: Task) -> Result<(), AllocError>
+        ensures ok { OnOk result (self.new ≡ record self.old { state = (agents.with_step self.old.state (course.execute self.old.fixed task (record { suites = []; cache = self.old.state.cache }))).agent }) }
+        ensures err { OnErr result (self.new ≡ self.old) }
+    {
+        let course = Course::begin(self.alloc, &self.service, &mut self.cache, task)?;
+        self.doing = course.map(Doing::Running);
+        Ok(())
+    }
+
+    /// What it asks next, and of which server: nothing, where it is idle. A list of what is to be prepared
+    /// wants memory, and so may a copy of answers.
+    pub fn next(&self) -> Result<Option<(u8, Request)>, AllocError>
+        ensures { IfOk result (λ asked. asked ≡ agents.next_of self.now.fixed self.now.state) }
+    {
+        match &self.doing {
+            Some(Doing::Running(course)) => course.next(self.alloc, &self.service),
+            Some(Doing::Rounding(round)) => round.next(&self.service).map(Some),
+            None => Ok(None),
+        }
+    }
+
+    /// Takes what came of what it asks next, and gives the ending of its job, where that is at its end.
+    /// An error leaves the agent as it was, and the same may be taken again.
+    pub fn take(&mut self, word: &Word) -> Result<Option<Ending>, AllocError>
+        requires { FitsAsked (agents.next_of self.old.fixed self.old.state) word.now }
+        ensures ok { IfOk result (λ ending. ending ≡ (agents.take self.old.fixed self.old.state word.now).ending) }
+        ensures new { OnOk result (self.new ≡ record self.old { state = (agents.take self.old.fixed self.old.state word.now).agent }) }
+        ensures err { OnErr result (self.new ≡ self.old) }
+    {
+        let ending = match &mut self.doing {
+            Some(Doing::Running(course)) => {
+                course.take(self.alloc, &self.service, &mut self.cache, word)?
+            }
+            Some(Doing::Rounding(round)) => round.take(self.alloc, &self.service, word)?,
+            None => None,
+        };
+        if ending.is_some() {
+            self.doing = None;
+        }
+        Ok(ending)
+    }
+
+    /// Lets go what it keeps for a site.
+    pub fn forget(&mut self, site: u8)
+        ensures { self.new ≡ record self.old { state = agents.forget self.old.state site } }
+    {
+        if site < MAX_SITES {
+            self.cache.forget(site);
+        }
+    }
+
+    /// Whether it does no job.
+    pub fn is_idle(&self) -> bool
+        ensures { result ≡ agents.is_idle self.now.state.doing }
+    {
+        self.doing.is_none()
+    }
+
+    /// How many jobs it began.
+    pub fn count(&self) -> u64
+        ensures { result ≡ self.now.state.count }
+    {
+        self.count
+    }
+}

@@ -1,0 +1,304 @@
+//! The course of a transaction.
+
+ghost use Rattle.std.specs.Prelude.{◌≡◌, ◌<◌, ◌≤◌, ℕ, List, true, IfOk, OnErr, IsSome, Some, [], ◌∷◌, option_map};
+ghost use Rattle.weak_cache.specs.Entries.{Cache};
+ghost use Rattle.txn_core.specs.Agents.{left};
+ghost use Rattle.txn_core.specs.Doing as doing;
+ghost use Rattle.txn_core.specs.Hearing.{heard, on_hearing};
+ghost use Rattle.txn_core.specs.Hears.{Hears};
+ghost use Rattle.txn_core.specs.Sequels.{follow, gather_again};
+ghost use Rattle.txn_core.specs.Standing.{FitsAsked};
+ghost use Rattle.txn_core.specs.Steps.{Steps, taken};
+ghost use Rattle.txn_core.specs.Suites as gathering;
+ghost use Rattle.txn_core.specs.Transactions as course;
+ghost use Rattle.txn_core.specs.Unused.{HasUnused, shows_unused};
+ghost use Rattle.txn_core.specs.declared.word.Word.TheVariants.{Replied};
+
+use crate::coming::Coming;
+use crate::ending::{Cause, Ending};
+use crate::execution::Execution;
+use crate::hearing::Hearing;
+use crate::phase::Phase;
+use crate::sequel::Sequel;
+use crate::servers::locked_at;
+use crate::suites::Suite;
+use crate::task::Task;
+use crate::word::Word;
+use file_ops::Service;
+use rep_core::Reply;
+use sorted_map::RoomyMap;
+use std::alloc::{AllocError, Global};
+use std::marker::Model;
+use vote_core::MAX_SERVERS;
+use weak_cache::WeakCache;
+
+/// A transaction that an agent carries out: what it gathered of the suites that it locks, and where it
+/// stands.
+#[derive(Drop)]
+pub(crate) struct Course {
+    pub(crate) task: Task,
+    pub(crate) suites: RoomyMap<u64, Suite>,
+    pub(crate) phase: Phase,
+}
+
+impl Model for Course {
+    ghost use Rattle.txn_core.specs.Doing as doing;
+
+    ghost Value = { doing.Course };
+
+    ghost use Rattle.txn_core.specs.CourseFields.{course_of};
+
+    ghost view = { course_of };
+}
+
+/// A suite that was told something: it is settled, or this comes of it.
+#[derive(Drop)]
+enum Heard {
+    Settled(Suite),
+    Through(Option<Ending>),
+}
+
+impl Course {
+    /// A transaction begins: its course, unless it is at its end at once. An error leaves the cache as it
+    /// was.
+    pub(crate) fn begin(
+        alloc: Global,
+        service: &Service,
+        cache: &mut WeakCache,
+        task: Task,
+    ) -> Result<Option<Course>, AllocError>
+        requires unused { HasUnused cache.old.entries }
+        ensures ok { IfOk result (λ begun. let step = course.execute (record { service = service.now; limits = cache.old.limits }) task (record { suites = []; cache = cache.old.entries }) in (cache.new.entries ≡ step.cache) × (option_map doing.Running begun ≡ left doing.Running step.after)) }
+        ensures err { OnErr result (cache.new ≡ cache.old) }
+        ensures limits { cache.new.limits ≡ cache.old.limits }
+        ensures unused { HasUnused cache.new.entries }
+    {
+        let mut suites = RoomyMap::new(alloc);
+        let execution = Execution {
+            alloc,
+            service,
+            task: &task,
+        };
+        let sequel = execution.execute(&mut suites, cache)?;
+        let mut course = Course {
+            task,
+            suites,
+            phase: Phase::Gathering(0),
+        };
+        Ok(match course.follow(sequel) {
+            Some(_) => None,
+            None => Some(course),
+        })
+    }
+
+    /// Takes what came of what is asked next, and gives the ending, where the transaction is at its end. An
+    /// error leaves all as it was.
+    pub(crate) fn take(
+        &mut self,
+        alloc: Global,
+        service: &Service,
+        cache: &mut WeakCache,
+        word: &Word,
+    ) -> Result<Option<Ending>, AllocError>
+        requires servers { (0 < service.now.servers) × (service.now.servers ≤ MAX_SERVERS) }
+        requires unused { HasUnused cache.old.entries }
+        requires fits { FitsAsked (course.request_of (record { service = service.now; limits = cache.old.limits }) self.old) word.now }
+        ensures ok { IfOk result (λ ending. let fixed : doing.Fixed = record { service = service.now; limits = cache.old.limits } in Steps (taken fixed self.old cache.old.entries (course.request_of fixed self.old) word.now) ending self.new cache.new.entries) }
+        ensures err { OnErr result ((self.new ≡ self.old) × (cache.new ≡ cache.old)) }
+        ensures limits { cache.new.limits ≡ cache.old.limits }
+        ensures unused { HasUnused cache.new.entries }
+    {
+        let Some(server) = self.asked(service) else {
+            return Ok(None);
+        };
+        match word {
+            Word::Replied(said) => self.answer(alloc, service, cache, server, said),
+            Word::Lacked(lack) => Ok(self.lacked(server, *lack)),
+        }
+    }
+
+    /// Takes a reply of the server that is asked.
+    fn answer(
+        &mut self,
+        alloc: Global,
+        service: &Service,
+        cache: &mut WeakCache,
+        server: u8,
+        said: &Reply,
+    ) -> Result<Option<Ending>, AllocError>
+        requires servers { (0 < service.now.servers) × (service.now.servers ≤ MAX_SERVERS) }
+        requires unused { HasUnused cache.old.entries }
+        requires asked { option_map (λ asked. asked.0) (course.request_of (record { service = service.now; limits = cache.old.limits }) self.old) ≡ Some server }
+        requires fits { FitsAsked (course.request_of (record { service = service.now; limits = cache.old.limits }) self.old) (Replied said.now) }
+        ensures ok { IfOk result (λ ending. let fixed : doing.Fixed = record { service = service.now; limits = cache.old.limits } in Steps (taken fixed self.old cache.old.entries (course.request_of fixed self.old) (Replied said.now)) ending self.new cache.new.entries) }
+        ensures err { OnErr result ((self.new ≡ self.old) × (cache.new ≡ cache.old)) }
+        ensures limits { cache.new.limits ≡ cache.old.limits }
+        ensures unused { HasUnused cache.new.entries }
+    {
+        match &self.phase {
+            Phase::Gathering(number) => {
+                let number = *number;
+                self.gathered(alloc, service, cache, number, server, said)
+            }
+            Phase::Fetching(number) => {
+                let number = *number;
+                self.fetched(alloc, service, cache, number, server, said)
+            }
+            Phase::Widening { number, .. } => {
+                let number = *number;
+                self.widened(number, server, said)
+            }
+            Phase::Preparing(..) => Ok(self.prepared(server, said)),
+            Phase::Deciding(_) => self.decided(said),
+            Phase::Finishing(..) => Ok(self.told()),
+        }
+    }
+
+    /// A suite that is gathered is told what a server said.
+    fn gathered(
+        &mut self,
+        alloc: Global,
+        service: &Service,
+        cache: &mut WeakCache,
+        number: u64,
+        server: u8,
+        said: &Reply,
+    ) -> Result<Option<Ending>, AllocError>
+        requires unused { HasUnused cache.old.entries }
+        requires shown { shows_unused said.now ≡ true }
+        requires there { IsSome (gathering.suite_of self.old.suites number) }
+        ensures ok { (suite : gathering.Suite) → gathering.suite_of self.old.suites number ≡ Some suite → IfOk result (λ ending. Steps (on_hearing self.old.task cache.old.entries self.old.suites self.old.phase number server (heard suite said.now) (λ suite. course.execute (record { service = service.now; limits = cache.old.limits }) self.old.task (record { suites = gathering.with_suite number suite self.old.suites; cache = cache.old.entries }))) ending self.new cache.new.entries) }
+        ensures err { OnErr result ((self.new ≡ self.old) × (cache.new ≡ cache.old)) }
+        ensures limits { cache.new.limits ≡ cache.old.limits }
+        ensures unused { HasUnused cache.new.entries }
+    {
+        let suite = match self.hear(number, server, said)? {
+            Heard::Settled(suite) => suite,
+            Heard::Through(ending) => return Ok(ending),
+        };
+        let execution = Execution {
+            alloc,
+            service,
+            task: &self.task,
+        };
+        let sequel = execution.execute_with(&mut self.suites, cache, number, suite)?;
+        Ok(self.follow(sequel))
+    }
+
+    /// A suite that is widened is told what a server said.
+    fn widened(
+        &mut self,
+        number: u64,
+        server: u8,
+        said: &Reply,
+    ) -> Result<Option<Ending>, AllocError>
+        requires shown { shows_unused said.now ≡ true }
+        requires there { IsSome (gathering.suite_of self.old.suites number) }
+        ensures ok { (suite : gathering.Suite) (left : List ℕ) (granted : doing.Granted) (cache : Cache) → gathering.suite_of self.old.suites number ≡ Some suite → self.old.phase ≡ doing.Widening (number ∷ left) granted → IfOk result (λ ending. Steps (on_hearing self.old.task cache self.old.suites self.old.phase number server (heard suite said.now) (λ suite. course.widen_all self.old.task cache (gathering.with_suite number suite self.old.suites) granted left)) ending self.new cache) }
+        ensures err { OnErr result (self.new ≡ self.old) }
+    {
+        let suite = match self.hear(number, server, said)? {
+            Heard::Settled(suite) => suite,
+            Heard::Through(ending) => return Ok(ending),
+        };
+        self.suites.insert_in_room(number, suite);
+        match self.leave() {
+            Phase::Widening { after, granted, .. } => Ok(self.widen_all(after, granted)),
+            other => {
+                self.phase = other;
+                Ok(None)
+            }
+        }
+    }
+
+    /// A suite is told what a server said. Once it is settled it is handed back, for its place.
+    fn hear(&mut self, number: u64, server: u8, said: &Reply) -> Result<Heard, AllocError>
+        requires shown { shows_unused said.now ≡ true }
+        requires there { IsSome (gathering.suite_of self.old.suites number) }
+        ensures ok { (suite : gathering.Suite) → gathering.suite_of self.old.suites number ≡ Some suite → IfOk result (λ what. Hears self.old number server (heard suite said.now) what self.new) }
+        ensures err { OnErr result (self.new ≡ self.old) }
+    {
+        let Some(suite) = self.suites.get(&number) else {
+            return Ok(Heard::Through(None));
+        };
+        Ok(Heard::Through(match suite.hear(said)? {
+            Hearing::Settled(suite) => return Ok(Heard::Settled(suite)),
+            Hearing::Lost => self.give_up(Cause::Lost { server }),
+            Hearing::Asks(suite) => {
+                self.suites.insert_in_room(number, suite);
+                None
+            }
+            Hearing::Short {
+                suite,
+                got,
+                needed,
+                busy,
+            } => {
+                self.suites.insert_in_room(number, suite);
+                self.give_up(Cause::of_short(number, got, needed, busy))
+            }
+        }))
+    }
+
+    /// A server gave the content of a suite, or it did not.
+    fn fetched(
+        &mut self,
+        alloc: Global,
+        service: &Service,
+        cache: &mut WeakCache,
+        number: u64,
+        server: u8,
+        said: &Reply,
+    ) -> Result<Option<Ending>, AllocError>
+        requires unused { HasUnused cache.old.entries }
+        ensures ok { IfOk result (λ ending. Steps (course.fetched (record { service = service.now; limits = cache.old.limits }) self.old.task cache.old.entries self.old.suites number (gathering.suite_of self.old.suites number) server (course.given_in said.now)) ending self.new cache.new.entries) }
+        ensures err { OnErr result ((self.new ≡ self.old) × (cache.new ≡ cache.old)) }
+        ensures limits { cache.new.limits ≡ cache.old.limits }
+        ensures unused { HasUnused cache.new.entries }
+    {
+        let Reply::Given { content, .. } = said else {
+            return Ok(self.give_up(Cause::Lost { server }));
+        };
+        let execution = Execution {
+            alloc,
+            service,
+            task: &self.task,
+        };
+        let sequel = execution.execute_given(&mut self.suites, cache, number, content)?;
+        Ok(match sequel {
+            Some(sequel) => self.follow(sequel),
+            None => self.give_up(Cause::Lost { server }),
+        })
+    }
+
+    /// Goes on to what follows an execution.
+    fn follow(&mut self, sequel: Sequel) -> Option<Ending>
+        ensures { (cache : Cache) → Steps (follow self.old.task cache self.old.suites sequel) result self.new cache }
+    {
+        match sequel {
+            Sequel::Gather(number) => self.gather(number),
+            Sequel::Fetch(number) => {
+                self.phase = Phase::Fetching(number);
+                None
+            }
+            Sequel::Grant(granted) => self.widen_all(0, granted),
+            Sequel::Refuse(refusal) => {
+                let servers = locked_at(self.suites.as_slice());
+                self.prepare(servers, Err(refusal));
+                None
+            }
+        }
+    }
+
+    /// A suite is gathered, unless too few votes are to be had.
+    fn gather(&mut self, number: u64) -> Option<Ending>
+        ensures { (cache : Cache) → Steps (gather_again self.old.task cache self.old.suites number (gathering.suite_of self.old.suites number)) result self.new cache }
+    {
+        let coming = self.suites.get(&number).map(Suite::next);
+        if let Some(Coming::Short { got, needed, busy }) = coming {
+            return self.give_up(Cause::of_short(number, got, needed, busy));
+        }
+        self.phase = Phase::Gathering(number);
+        None
+    }
+}

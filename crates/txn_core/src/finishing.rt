@@ -1,0 +1,155 @@
+//! The end of a transaction: servers prepare, its home decides, and the end is told.
+
+ghost use Rattle.std.specs.Prelude.{◌≡◌, ℕ, List, IfOk, OnErr, None, ◌∷◌, drop};
+ghost use Rattle.rep_core.specs.declared.reply.Verdict.{Verdict as Ended};
+ghost use Rattle.weak_cache.specs.Entries.{Cache};
+ghost use Rattle.txn_core.specs.CourseFields.{phase_of};
+ghost use Rattle.txn_core.specs.Doing as doing;
+ghost use Rattle.txn_core.specs.Steps.{Steps};
+ghost use Rattle.txn_core.specs.Transactions as course;
+ghost use Rattle.txn_core.specs.declared.ending.Ending.{Ending as Ends};
+
+use crate::course::Course;
+use crate::ending::{Cause, Ending};
+use crate::granted::Outcome;
+use crate::phase::Phase;
+use crate::servers::{Servers, locked_at};
+use rep_core::{Lack, Reply, Verdict};
+use std::alloc::AllocError;
+use std::mem;
+
+impl Course {
+    /// These servers prepare, one after the other; then the home decides.
+    pub(crate) fn prepare(&mut self, servers: Servers, outcome: Outcome)
+        ensures { (cache : Cache) → Steps (course.prepare self.old.task cache self.old.suites outcome servers) None self.new cache }
+    {
+        self.phase = match servers.first() {
+            Some(_) => Phase::Preparing(servers, outcome),
+            None => Phase::Deciding(outcome),
+        };
+    }
+
+    /// The first server has prepared, or it has not.
+    pub(crate) fn prepared(&mut self, server: u8, said: &Reply) -> Option<Ending>
+        ensures { (now : ℕ) (left : List ℕ) (outcome : doing.Outcome) (cache : Cache) → self.old.phase ≡ doing.Preparing (now ∷ left) outcome → Steps (course.prepared self.old.task cache self.old.suites outcome server left said.now) result self.new cache }
+    {
+        if !matches!(said, Reply::Prepared) {
+            return self.give_up(Cause::Lost { server });
+        }
+        match self.leave() {
+            Phase::Preparing(mut servers, outcome) => {
+                servers.pass();
+                self.prepare(servers, outcome);
+            }
+            other => self.phase = other,
+        }
+        None
+    }
+
+    /// What the home said. Only to copy a verdict it may want memory.
+    pub(crate) fn decided(&mut self, said: &Reply) -> Result<Option<Ending>, AllocError>
+        ensures ok { IfOk result (λ ending. (cache : Cache) → Steps (course.decided self.old.task cache self.old.suites said.now) ending self.new cache) }
+        ensures err { OnErr result (self.new ≡ self.old) }
+    {
+        let verdict = verdict_in(said)?;
+        let ending = ending_by(&verdict, cause_of_abort(said))?;
+        Ok(self.finish(verdict, ending))
+    }
+
+    /// The end is told to each server that holds a lock.
+    fn finish(&mut self, verdict: Verdict, ending: Ending) -> Option<Ending>
+        ensures { (cache : Cache) → Steps (course.finish self.old.task cache self.old.suites verdict ending) result self.new cache }
+    {
+        let servers = locked_at(self.suites.as_slice());
+        self.tell_end(servers, verdict, ending)
+    }
+
+    /// A cause was met: nothing is decided any more.
+    pub(crate) fn give_up(&mut self, cause: Cause) -> Option<Ending>
+        ensures { (cache : Cache) → Steps (course.give_up self.old.task cache self.old.suites cause) result self.new cache }
+    {
+        self.finish(Verdict::Aborted, Ending::Undecided(cause))
+    }
+
+    /// The end is told to these servers, one after the other.
+    fn tell_end(
+        &mut self,
+        servers: Servers,
+        verdict: Verdict,
+        ending: Ending,
+    ) -> Option<Ending>
+        ensures { (cache : Cache) → Steps (course.tell_end self.old.task cache self.old.suites verdict ending servers) result self.new cache }
+    {
+        if servers.first().is_none() {
+            return Some(ending);
+        }
+        self.phase = Phase::Finishing(servers, verdict, ending);
+        None
+    }
+
+    /// The end was told to the first server. Whatever comes of it changes nothing.
+    pub(crate) fn told(&mut self) -> Option<Ending>
+        ensures { (servers : List ℕ) (verdict : Ended) (ending : Ends) (cache : Cache) → self.old.phase ≡ doing.Finishing servers verdict ending → Steps (course.tell_end self.old.task cache self.old.suites verdict ending (drop 1 servers)) result self.new cache }
+    {
+        match self.leave() {
+            Phase::Finishing(mut servers, verdict, ending) => {
+                servers.pass();
+                self.tell_end(servers, verdict, ending)
+            }
+            other => {
+                self.phase = other;
+                None
+            }
+        }
+    }
+
+    /// A server did not serve what it was asked.
+    pub(crate) fn lacked(&mut self, server: u8, lack: Lack) -> Option<Ending>
+        ensures { (cache : Cache) → Steps (course.after_lack self.old.task cache self.old.suites self.old.phase server lack) result self.new cache }
+    {
+        match &self.phase {
+            Phase::Finishing(..) => self.told(),
+            _ => self.give_up(Cause::of_lack(server, lack)),
+        }
+    }
+
+    /// Takes the phase out, for another to be put in its place.
+    pub(crate) fn leave(&mut self) -> Phase
+        ensures task { self.new.task ≡ self.old.task }
+        ensures suites { self.new.suites ≡ self.old.suites }
+        ensures phase { phase_of result ≡ self.old.phase }
+    {
+        mem::replace(&mut self.phase, Phase::Gathering(0))
+    }
+}
+
+/// The verdict that a home said; where it said none, Aborted.
+fn verdict_in(said: &Reply) -> Result<Verdict, AllocError>
+    ensures { IfOk result (λ verdict. verdict ≡ course.verdict_in said.now Verdict.Aborted) }
+{
+    match said {
+        Reply::Verdict(verdict) => verdict.clone(),
+        _ => Ok(Verdict::Aborted),
+    }
+}
+
+/// The ending that a verdict is, with a cause, should it be none.
+fn ending_by(verdict: &Verdict, cause: Cause) -> Result<Ending, AllocError>
+    ensures { IfOk result (λ ending. ending ≡ course.ending_by verdict.now cause) }
+{
+    Ok(match verdict {
+        Verdict::Answered(answers) => Ending::Answered(answers.clone()?),
+        Verdict::Refused(refusal) => Ending::Refused(*refusal),
+        Verdict::Aborted => Ending::Undecided(cause),
+    })
+}
+
+/// Why a Decide did not decide: the home was down, or somebody else had it aborted.
+fn cause_of_abort(said: &Reply) -> Cause
+    ensures { result ≡ course.cause_of_abort said.now }
+{
+    match said {
+        Reply::Down => Cause::HomeDown,
+        _ => Cause::Overruled,
+    }
+}

@@ -1,0 +1,65 @@
+//! The suites that get votes are widened to them.
+
+ghost use Rattle.std.specs.Prelude.{◌≡◌, ℕ, drop};
+ghost use Rattle.std.specs.Option.{option_map};
+ghost use Rattle.file_exec.specs.declared.changes.Change.{Change as Changed};
+ghost use Rattle.weak_cache.specs.Entries.{Cache};
+ghost use Rattle.txn_core.specs.Doing as doing;
+ghost use Rattle.txn_core.specs.Steps.{Steps, Widens};
+ghost use Rattle.txn_core.specs.Suites.{suite_of, with_suite};
+ghost use Rattle.txn_core.specs.Transactions as course;
+
+use crate::coming::Coming;
+use crate::course::Course;
+use crate::ending::{Cause, Ending};
+use crate::granted::Granted;
+use crate::phase::Phase;
+use crate::servers::locked_at;
+use vote_core::Votes;
+
+impl Course {
+    /// The suites that get votes are widened to them, those of the changes from a place on; then the
+    /// servers prepare.
+    pub(crate) fn widen_all(&mut self, from: usize, granted: Granted) -> Option<Ending>
+        ensures { (cache : Cache) → Steps (course.widen_all self.old.task cache self.old.suites granted (course.to_widen (drop from granted.changes))) result self.new cache }
+    {
+        let mut after = from;
+        while let Some((number, change)) = granted.changes.as_slice().get(after) {
+            let number = *number;
+            after += 1;
+            if !change.votes {
+                continue;
+            }
+            match self.widen(number, change.row.votes()) {
+                Coming::Current => {}
+                Coming::Ask { .. } => {
+                    self.phase = Phase::Widening {
+                        number,
+                        after,
+                        granted,
+                    };
+                    return None;
+                }
+                Coming::Short { got, needed, busy } => {
+                    return self.give_up(Cause::of_short(number, got, needed, busy));
+                }
+            }
+        }
+        let servers = locked_at(self.suites.as_slice());
+        self.prepare(servers, Ok(granted));
+        None
+    }
+
+    /// A suite is widened to these votes. Where there is no such suite, nothing has to be asked.
+    fn widen(&mut self, number: u64, votes: &Votes) -> Coming
+        ensures { Widens number votes.now self.old result self.new }
+    {
+        match self.suites.get_mut(&number) {
+            Some(suite) => {
+                suite.widen(votes);
+                suite.next()
+            }
+            None => Coming::Current,
+        }
+    }
+}
