@@ -1,8 +1,10 @@
 //! One agent of a replicated file service.
 #![tactic(auto)]
 
+mod coming;
 mod ending;
 mod first;
+mod hearing;
 mod home;
 mod job;
 mod knowing;
