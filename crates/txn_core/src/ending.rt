@@ -46,6 +46,16 @@ pub enum Ending {
 }
 
 impl Cause {
+    /// Why too few votes were to be had of a suite: the first server that was busy, or none was.
+    pub(crate) fn of_short(suite: u64, got: u32, needed: u32, busy: Option<(u8, u64)>) -> Cause
+        ensures { result ≡ short_cause suite got needed busy }
+    {
+        match busy {
+            Some((server, holder)) => Cause::Busy { server, holder },
+            None => Cause::Unavailable { suite, got, needed },
+        }
+    }
+
     /// Why a server did not serve a request.
     pub(crate) fn of_lack(server: u8, lack: Lack) -> Cause
         ensures { result ≡ lack_cause server lack }
@@ -53,16 +63,6 @@ impl Cause {
         match lack {
             Lack::Full => Cause::Full { server },
             Lack::Memory => Cause::Memory,
-        }
-    }
-
-    /// Too few votes are to be had.
-    pub(crate) fn of_short(suite: u64, got: u32, needed: u32, busy: Option<(u8, u64)>) -> Cause
-        ensures { result ≡ short_cause suite got needed busy }
-    {
-        match busy {
-            Some((server, holder)) => Cause::Busy { server, holder },
-            None => Cause::Unavailable { suite, got, needed },
         }
     }
 }
