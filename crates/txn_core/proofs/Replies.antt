@@ -1,18 +1,25 @@
 -- What comes of a reply, phase by phase.
-use Rattle.std.proofs.Common.{◌≡◌, ℕ, List, [], ◌∷◌, Option, Some, None, refl, sym, ap, ◌∙◌, subst}
-use Rattle.std.specs.Prelude.{option_map}
+use Rattle.std.proofs.Common.{◌≡◌, ℕ, true, List, [], ◌∷◌, drop, Option, Some, None, Result, refl, sym, ap, ◌∙◌, subst}
+use Rattle.std.specs.Prelude.{option_map, IfOk, AllocError}
 use Rattle.std.proofs.lemmas.Option.{same_Some}
 use Rattle.rep_core.specs.declared.request.Request.{Request}
+use Rattle.rep_core.specs.declared.request.Request.TheVariants as request
 use Rattle.rep_core.specs.declared.reply.Reply.{Reply}
+use Rattle.rep_core.specs.declared.reply.Verdict.{Verdict}
 use Rattle.suite_collect.specs.Collecting.{Asked, Next, Current, Ask, Short, next, request_for}
 use Rattle.weak_cache.specs.Entries.{Cache}
 use Rattle.txn_core.specs.declared.word.Word.TheVariants.{Replied}
-use Rattle.txn_core.specs.Doing.{Fixed, Task, Granted, Phase, Gathering, Widening, Course}
+use Rattle.txn_core.specs.Doing.{Fixed, Task, Granted, Outcome, Phase, Gathering, Widening, Preparing, Finishing, Course}
 use Rattle.txn_core.specs.Hearing.{heard, on_hearing}
-use Rattle.txn_core.specs.Steps.{taken}
+use Rattle.txn_core.specs.Standing.{FitsAsked}
+use Rattle.txn_core.specs.Steps.{Steps, taken}
 use Rattle.txn_core.specs.Suites.{Suite, Suites, suite_of, with_suite}
-use Rattle.txn_core.specs.Transactions.{Step, execute, widen_all, asked_by, asked_for, request_in, request_of, hear, heard_of, after_reply, said_to}
+use Rattle.txn_core.specs.Transactions.{Step, execute, widen_all, asked_by, asked_for, request_in, request_of, hear, heard_of, after_reply, said_to, changes_of, prepared, tell_end}
+use Rattle.txn_core.specs.Unused.{shows_unused}
+use Rattle.txn_core.specs.Writing.{parts_at}
+use Rattle.txn_core.specs.declared.ending.Ending.{Ending}
 use Rattle.txn_core.proofs.Heard.{hears}
+use Rattle.txn_core.proofs.Unused.{fits_shows_unused}
 
 abbrev pub server_of : Option (ℕ × Request) → Option ℕ
 server_of asked = option_map (λ (asked : ℕ × Request). asked.0) asked
@@ -79,3 +86,73 @@ module _ (fixed : Fixed) (course : Course) (cache : Cache) (number server : ℕ)
       taken_so (Widening (number ∷ left) granted) a is refl
       ∙ heard_so (Widening (number ∷ left) granted) (λ suites. widen_all course.task cache suites granted left) a
       ∙ ap (λ phase. on_hearing course.task cache course.suites phase number server (heard a.suite said) (λ suite. widen_all course.task cache (with_suite number suite course.suites) granted left)) (sym is)
+
+-- ---- as the code goes about them
+
+module _ (fixed : Fixed) (course : Course) (cache : Cache) (server : ℕ) (said : Reply) (asked : server_of (request_of fixed course) ≡ Some server) where
+  asked_in_phase : (phase : Phase) → course.phase ≡ phase → server_of (request_in fixed course.task course.suites phase) ≡ Some server
+  asked_in_phase phase is = ap (λ phase. server_of (request_in fixed course.task course.suites phase)) (sym is) ∙ asked
+
+  -- the suite that is gathered, and the one that is widened
+  pub gathering : (number : ℕ) → course.phase ≡ Gathering number → Asks course.task course.suites number server
+  gathering number is = asks_of course.task course.suites number server (asked_in_phase (Gathering number) is)
+
+  pub widening : (number : ℕ) (left : List ℕ) (granted : Granted) → course.phase ≡ Widening (number ∷ left) granted → Asks course.task course.suites number server
+  widening number left granted is = asks_of course.task course.suites number server (asked_in_phase (Widening (number ∷ left) granted) is)
+
+  pub gathering_ok : (number : ℕ) (result : Result (Option Ending) AllocError) (after : Course) (kept : Cache) → course.phase ≡ Gathering number
+      → ((suite : Suite) → suite_of course.suites number ≡ Some suite → IfOk result (λ ending. Steps (on_hearing course.task cache course.suites course.phase number server (heard suite said) (λ suite. execute fixed course.task (record { suites = with_suite number suite course.suites; cache = cache }))) ending after kept))
+      → IfOk result (λ ending. Steps (taken fixed course cache (request_of fixed course) (Replied said)) ending after kept)
+  gathering_ok number result after kept is went =
+      let a : Asks course.task course.suites number server = gathering number is in
+      let Went : Step → Type 0 = λ step. IfOk result (λ ending. Steps step ending after kept) in
+      subst Went (sym (gathered fixed course cache number server said a is)) (went a.suite a.there)
+
+  pub widening_ok : (number : ℕ) (left : List ℕ) (granted : Granted) (result : Result (Option Ending) AllocError) (after : Course) (kept : Cache) → course.phase ≡ Widening (number ∷ left) granted
+      → ((suite : Suite) (left : List ℕ) (granted : Granted) (cache : Cache) → suite_of course.suites number ≡ Some suite → course.phase ≡ Widening (number ∷ left) granted
+      → IfOk result (λ ending. Steps (on_hearing course.task cache course.suites course.phase number server (heard suite said) (λ suite. widen_all course.task cache (with_suite number suite course.suites) granted left)) ending after cache))
+      → kept ≡ cache
+      → IfOk result (λ ending. Steps (taken fixed course cache (request_of fixed course) (Replied said)) ending after kept)
+  widening_ok number left granted result after kept is went same =
+      let a : Asks course.task course.suites number server = widening number left granted is in
+      let Went : Step → Type 0 = λ step. IfOk result (λ ending. Steps step ending after cache) in
+      let Kept : Cache → Type 0 = λ kept. IfOk result (λ ending. Steps (taken fixed course cache (request_of fixed course) (Replied said)) ending after kept) in
+      subst Kept (sym same) (subst Went (sym (widened fixed course cache number server said a left granted is)) (went a.suite left granted cache a.there is))
+
+  -- a reply to a Prepare, and to a Finish
+  pub preparing_ok : (servers : List ℕ) (outcome : Outcome) (result : Option Ending) (after : Course) → course.phase ≡ Preparing servers outcome
+      → ((now : ℕ) (left : List ℕ) (outcome : Outcome) (cache : Cache) → course.phase ≡ Preparing (now ∷ left) outcome → Steps (prepared course.task cache course.suites outcome server left said) result after cache)
+      → Steps (taken fixed course cache (request_of fixed course) (Replied said)) result after cache
+  preparing_ok [] outcome result after is went = let none = asked_in_phase (Preparing [] outcome) is in cc
+  preparing_ok (now ∷ left) outcome result after is went =
+      let at : now ≡ server = same_Some now server (asked_in_phase (Preparing (now ∷ left) outcome) is) in
+      let Went : Step → Type 0 = λ step. Steps step result after cache in
+      subst Went
+      (sym (ap (λ asked. taken fixed course cache asked (Replied said)) (ap (request_in fixed course.task course.suites) is)
+      ∙ ap (λ phase. after_reply fixed course.task cache course.suites phase now (request.Prepare course.task.t (parts_at course.suites (changes_of outcome) now)) said) is
+      ∙ ap (λ at. prepared course.task cache course.suites outcome at left said) at))
+      (went now left outcome cache is)
+
+  pub finishing_ok : (servers : List ℕ) (verdict : Verdict) (ending : Ending) (result : Option Ending) (after : Course) → course.phase ≡ Finishing servers verdict ending
+      → ((servers : List ℕ) (verdict : Verdict) (ending : Ending) (cache : Cache) → course.phase ≡ Finishing servers verdict ending → Steps (tell_end course.task cache course.suites verdict ending (drop 1 servers)) result after cache)
+      → Steps (taken fixed course cache (request_of fixed course) (Replied said)) result after cache
+  finishing_ok [] verdict ending result after is went = let none = asked_in_phase (Finishing [] verdict ending) is in cc
+  finishing_ok (now ∷ left) verdict ending result after is went =
+      let Went : Step → Type 0 = λ step. Steps step result after cache in
+      subst Went
+      (sym (ap (λ asked. taken fixed course cache asked (Replied said)) (ap (request_in fixed course.task course.suites) is)
+      ∙ ap (λ phase. after_reply fixed course.task cache course.suites phase now (request.Finish course.task.t verdict) said) is))
+      (went (now ∷ left) verdict ending cache is)
+
+  -- what such a reply shows is not used up
+  shown_by : (number : ℕ) (a : Asks course.task course.suites number server) (phase : Phase) → course.phase ≡ phase → request_in fixed course.task course.suites phase ≡ asked_for course.task number (suite_of course.suites number)
+      → FitsAsked (request_of fixed course) (Replied said) → shows_unused said ≡ true
+  shown_by number a phase is same fits =
+      let Fits : Option (ℕ × Request) → Type 0 = λ asked. FitsAsked asked (Replied said) in
+      fits_shows_unused course.task.t number a.asked said (subst Fits (ap (request_in fixed course.task course.suites) is ∙ same ∙ asked_so fixed course cache number server said a) fits)
+
+  pub gathering_shown : (number : ℕ) → course.phase ≡ Gathering number → FitsAsked (request_of fixed course) (Replied said) → shows_unused said ≡ true
+  gathering_shown number is fits = shown_by number (gathering number is) (Gathering number) is refl fits
+
+  pub widening_shown : (number : ℕ) (left : List ℕ) (granted : Granted) → course.phase ≡ Widening (number ∷ left) granted → FitsAsked (request_of fixed course) (Replied said) → shows_unused said ≡ true
+  widening_shown number left granted is fits = shown_by number (widening number left granted is) (Widening (number ∷ left) granted) is refl fits

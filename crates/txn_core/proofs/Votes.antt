@@ -1,13 +1,16 @@
 -- The suites that get votes are widened one after the other.
-use Rattle.std.proofs.Common.{◌≡◌, ℕ, ◌+◌, suc, Bool, true, false, cond, List, [], ◌∷◌, drop, map, refl, sym, ap, ◌∙◌, arith}
-use Rattle.std.specs.Prelude.{filter, slice_get, Option, Some, None}
+use Rattle.std.proofs.Common.{◌≡◌, ℕ, ◌+◌, suc, Bool, true, false, cond, List, [], ◌∷◌, drop, map, length, get_or, ◌≤◌, ◌<◌, ◌⊎◌, inl, inr, refl, sym, ap, ◌∙◌, subst, arith}
+use Rattle.std.specs.Prelude.{filter, slice_get, Option, Some, None, Ok, IsSome}
 use Rattle.std.specs.Ordering.{nat_cmp}
 use Rattle.std.proofs.Math.Seq.{drop-cons}
+use Rattle.std.proofs.Math.ListN.{drop_of_length-le}
 use Rattle.std.proofs.lemmas.Cmp.{nat_cmp_total, eq_by_cmp_equiv}
 use Rattle.std.proofs.lemmas.Map.Entries.{lookup_from_place}
 use Rattle.std.proofs.lemmas.Map.Keys.{IsDistinct-from_sorted}
-use Rattle.std.proofs.lemmas.Option.{slice_get_within, get_or_from_slice_get}
-use Rattle.sorted_map.specs.SortedMap.{IsOrdered}
+use Rattle.std.proofs.lemmas.Option.{slice_get_within, get_or_from_slice_get, slice_get_cases, none-some}
+use Rattle.sorted_map.specs.SortedMap.{IsOrdered, replace}
+use Rattle.sorted_map.specs.Edits.{insert_present}
+use Rattle.vote_core.specs.Quorums.{Configuration}
 use Rattle.file_exec.specs.declared.changes.Change.{Change}
 use Rattle.suite_collect.specs.Collecting.{Next, widen, next}
 use Rattle.suite_collect.specs.Collecting as collecting
@@ -17,9 +20,10 @@ use Rattle.txn_core.specs.declared.coming.Coming.TheVariants as coming
 use Rattle.txn_core.specs.declared.coming.Asked.{Asked}
 use Rattle.txn_core.specs.Coming.{Comes}
 use Rattle.txn_core.specs.Doing.{Changes, Granted, Task, Phase, Widening, Course}
-use Rattle.txn_core.specs.Steps.{WidensTo, Widens}
+use Rattle.txn_core.specs.Steps.{Steps, WidensTo, Widens}
+use Rattle.txn_core.specs.declared.ending.Ending.{Ending}
 use Rattle.txn_core.specs.Suites.{Suite, Suites, suite_of, with_suite}
-use Rattle.txn_core.specs.Transactions.{Step, on_with, give_up, short_cause, to_widen, votes_then, widened, widen_by, widen_one, widen_all}
+use Rattle.txn_core.specs.Transactions.{Step, on_with, give_up, short_cause, to_widen, votes_then, widened, widen_by, widen_one, widen_all, prepare, locked_at}
 use Rattle.txn_core.specs.Writing.{change_of}
 
 -- ---- the changes from a place on
@@ -32,14 +36,14 @@ split changes at one is =
     ∙ ap (λ n. one ∷ drop n changes) more
 
 pub passed : (changes : Changes) (at : ℕ) (one : ℕ × Change) → slice_get changes at ≡ Some one → one.1.votes ≡ false → to_widen (drop at changes) ≡ to_widen (drop (at + 1) changes)
-passed changes at one is no =
+passed changes at one is unset =
     let rest = drop (at + 1) changes in
-    ap to_widen (split changes at one is) ∙ ap (λ b. map (λ (one : ℕ × Change). one.0) (cond b (one ∷ filter (λ (one : ℕ × Change). one.1.votes) rest) (filter (λ (one : ℕ × Change). one.1.votes) rest))) no
+    ap to_widen (split changes at one is) ∙ ap (λ b. map (λ (one : ℕ × Change). one.0) (cond b (one ∷ filter (λ (one : ℕ × Change). one.1.votes) rest) (filter (λ (one : ℕ × Change). one.1.votes) rest))) unset
 
 pub met : (changes : Changes) (at : ℕ) (one : ℕ × Change) → slice_get changes at ≡ Some one → one.1.votes ≡ true → to_widen (drop at changes) ≡ one.0 ∷ to_widen (drop (at + 1) changes)
-met changes at one is yes =
+met changes at one is sets =
     let rest = drop (at + 1) changes in
-    ap to_widen (split changes at one is) ∙ ap (λ b. map (λ (one : ℕ × Change). one.0) (cond b (one ∷ filter (λ (one : ℕ × Change). one.1.votes) rest) (filter (λ (one : ℕ × Change). one.1.votes) rest))) yes
+    ap to_widen (split changes at one is) ∙ ap (λ b. map (λ (one : ℕ × Change). one.0) (cond b (one ∷ filter (λ (one : ℕ × Change). one.1.votes) rest) (filter (λ (one : ℕ × Change). one.1.votes) rest))) sets
 
 pub change_at : (changes : Changes) (at : ℕ) (one : ℕ × Change) → IsOrdered nat_cmp changes → slice_get changes at ≡ Some one → change_of changes one.0 ≡ Some one.1
 change_at changes at one ordered is = lookup_from_place (eq_by_cmp_equiv nat_cmp_total) changes at one.0 one.1 (IsDistinct-from_sorted nat_cmp _ ordered) is
@@ -98,3 +102,92 @@ module _ (task : Task) (cache : Cache) (granted : Granted) (number : ℕ) (chang
   pub short : (before after : Course) (got needed : ℕ) (busy : Option (ℕ × ℕ)) → Widens number change.row.votes before (coming.Short got needed busy) after
       → widen_all task cache before.suites granted (number ∷ left) ≡ give_up task cache after.suites (short_cause number got needed busy)
   short before after got needed busy w = short_at before after got needed busy (suite_of before.suites number) refl w
+
+-- ---- so far
+
+task_at : (before after : Course) (number : ℕ) (votes : Configuration) (what : Coming) (f : Option Suite) → WidensTo f number votes before what after → after.task ≡ before.task
+task_at before after number votes what (Some suite) w = ap (λ (c : Course). c.task) w.0
+task_at before after number votes what None w = ap (λ (c : Course). c.task) w.0
+
+-- what was to be widened at first goes on as what is left
+pub record Left (start : Course) (from : ℕ) (granted : Granted) (now : Course) (at : ℕ) : Type 0 where
+  pub task : now.task ≡ start.task
+  pub same : (cache : Cache) → widen_all start.task cache start.suites granted (to_widen (drop from granted.changes)) ≡ widen_all now.task cache now.suites granted (to_widen (drop at granted.changes))
+
+module _ (start : Course) (from : ℕ) (granted : Granted) (now : Course) (at : ℕ) (left : Left start from granted now at) where
+  pub left_passed : (number : ℕ) (change : Change) → slice_get granted.changes at ≡ Some (number, change) → change.votes ≡ false → Left start from granted now (at + 1)
+  left_passed number change is unset = record {
+    task = left.task;
+    same = λ cache. left.same cache ∙ ap (λ l. widen_all now.task cache now.suites granted l) (passed granted.changes at (number, change) is unset);
+  }
+
+  -- once all are widened the servers prepare
+  ended : (given : Changes) → drop at given ≡ [] → to_widen (drop at given) ≡ []
+  ended given none = ap to_widen none
+
+  pub left_none : (cache : Cache) (after : Course) → slice_get granted.changes at ≡ None → Steps (prepare now.task cache now.suites (Ok granted) (locked_at now.suites)) None after cache
+      → Steps (widen_all start.task cache start.suites granted (to_widen (drop from granted.changes))) None after cache
+  left_none cache after none steps =
+      let Stepped : Step → Type 0 = λ step. Steps step None after cache in
+      subst Stepped (sym (left.same cache ∙ ap (λ l. widen_all now.task cache now.suites granted l) (ended granted.changes (past granted.changes at none)))) steps
+    where
+      past : (l : Changes) (n : ℕ) → slice_get l n ≡ None → drop n l ≡ []
+      past l n none = of (slice_get_cases l n).1
+        where
+          of : ((x : ℕ × Change) × (n < length l) × (slice_get l n ≡ Some x) × (get_or l n x ≡ x)) ⊎ ((length l ≤ n) × (slice_get l n ≡ None)) → drop n l ≡ []
+          of (inl found) = absurd (none-some found.0 (sym none ∙ found.2))
+          of (inr over) = drop_of_length-le l over.0
+
+  module _ (number : ℕ) (change : Change) (votes : Configuration) (after : Course) (is : slice_get granted.changes at ≡ Some (number, change)) (up : IsOrdered nat_cmp granted.changes) (sets : change.votes ≡ true) (own : votes ≡ change.row.votes) where
+    there : change_of granted.changes number ≡ Some change
+    there = change_at granted.changes at (number, change) up is
+
+    step : (cache : Cache) → widen_all start.task cache start.suites granted (to_widen (drop from granted.changes)) ≡ widen_all now.task cache now.suites granted (number ∷ to_widen (drop (at + 1) granted.changes))
+    step cache = left.same cache ∙ ap (λ l. widen_all now.task cache now.suites granted l) (met granted.changes at (number, change) is sets)
+
+    owned : (what : Coming) → Widens number votes now what after → Widens number change.row.votes now what after
+    owned what w = let By : Configuration → Type 0 = λ votes. Widens number votes now what after in subst By own w
+
+    same_task : (what : Coming) → Widens number votes now what after → after.task ≡ now.task
+    same_task what w = task_at now after number votes what (suite_of now.suites number) w
+
+    pub left_met : Widens number votes now coming.Current after → Left start from granted after (at + 1)
+    left_met w = record {
+      task = same_task coming.Current w ∙ left.task;
+      same = λ cache.
+          step cache
+          ∙ stays now.task cache granted number change (to_widen (drop (at + 1) granted.changes)) there now after (owned coming.Current w)
+          ∙ ap (λ task. widen_all task cache after.suites granted (to_widen (drop (at + 1) granted.changes))) (sym (same_task coming.Current w));
+    }
+
+    pub left_asks : (server : ℕ) (asked : Asked) (cache : Cache) → Widens number votes now (coming.Ask server asked) after
+        → Steps (widen_all start.task cache start.suites granted (to_widen (drop from granted.changes))) None (record after { phase = Widening (number ∷ to_widen (drop (at + 1) granted.changes)) granted }) cache
+    left_asks server asked cache w =
+        let new : Course = record after { phase = Widening (number ∷ to_widen (drop (at + 1) granted.changes)) granted } in
+        let Stepped : Step → Type 0 = λ step. Steps step None new cache in
+        subst Stepped (sym (step cache
+        ∙ asks now.task cache granted number change (to_widen (drop (at + 1) granted.changes)) there now after server asked (owned (coming.Ask server asked) w)
+        ∙ ap (λ task. on_with task cache after.suites (Widening (number ∷ to_widen (drop (at + 1) granted.changes)) granted)) (sym (same_task (coming.Ask server asked) w)))) (refl, (refl, refl))
+
+    pub left_short : (got needed : ℕ) (busy : Option (ℕ × ℕ)) (cache : Cache) (result : Option Ending) (end : Course) → Widens number votes now (coming.Short got needed busy) after
+        → Steps (give_up after.task cache after.suites (short_cause number got needed busy)) result end cache
+        → Steps (widen_all start.task cache start.suites granted (to_widen (drop from granted.changes))) result end cache
+    left_short got needed busy cache result end w steps =
+        let Stepped : Step → Type 0 = λ step. Steps step result end cache in
+        subst Stepped (sym (step cache
+        ∙ short now.task cache granted number change (to_widen (drop (at + 1) granted.changes)) there now after got needed busy (owned (coming.Short got needed busy) w)
+        ∙ ap (λ task. give_up task cache after.suites (short_cause number got needed busy)) (sym (same_task (coming.Short got needed busy) w)))) steps
+
+-- ---- a suite in its place
+
+pub widens_here : (before after : Course) (held : Suites) (number : ℕ) (votes : Configuration) (suite new : Suite) (what : Coming) → held ≡ before.suites → Some suite ≡ suite_of held number → IsOrdered nat_cmp held
+    → new ≡ record suite { collector = widen votes suite.collector } → Comes what (next new.collector) → after ≡ record before { suites = replace nat_cmp held number new } → Widens number votes before what after
+widens_here before after held number votes suite new what same there up is comes put =
+    let own : Suite = record suite { collector = widen votes suite.collector } in
+    let found : suite_of before.suites number ≡ Some suite = ap (λ l. suite_of l number) (sym same) ∙ sym there in
+    let some : IsSome (suite_of held number) = let Some' : Option Suite → Type 0 = λ f. IsSome f in subst Some' there refl in
+    let inserted : replace nat_cmp held number new ≡ with_suite number own before.suites =
+    sym (insert_present nat_cmp_total held number new up some) ∙ ap (λ s. with_suite number s held) is ∙ ap (λ l. with_suite number own l) same in
+    let Comes' : Suite → Type 0 = λ s. Comes what (next s.collector) in
+    let Widens' : Option Suite → Type 0 = λ f. WidensTo f number votes before what after in
+    subst Widens' (sym found) (put ∙ ap (λ l. record before { suites = l }) inserted, subst Comes' is comes)

@@ -85,10 +85,10 @@ impl Course {
             suites,
             phase: Phase::Gathering(0),
         };
-        Ok(match course.follow(sequel) {
-            Some(_) => None,
-            None => Some(course),
-        })
+        match course.follow(sequel) {
+            Some(_) => Ok(None),
+            None => Ok(Some(course)),
+        }
     }
 
     /// Takes what came of what is asked next, and gives the ending, where the transaction is at its end. An
@@ -221,12 +221,15 @@ impl Course {
         let Some(suite) = self.suites.get(&number) else {
             return Ok(Heard::Through(None));
         };
-        Ok(Heard::Through(match suite.hear(said)? {
-            Hearing::Settled(suite) => return Ok(Heard::Settled(suite)),
-            Hearing::Lost => self.give_up(Cause::Lost { server }),
+        match suite.hear(said)? {
+            Hearing::Settled(suite) => Ok(Heard::Settled(suite)),
+            Hearing::Lost => {
+                let ending = self.give_up(Cause::Lost { server });
+                Ok(Heard::Through(ending))
+            }
             Hearing::Asks(suite) => {
                 self.suites.insert_in_room(number, suite);
-                None
+                Ok(Heard::Through(None))
             }
             Hearing::Short {
                 suite,
@@ -235,9 +238,10 @@ impl Course {
                 busy,
             } => {
                 self.suites.insert_in_room(number, suite);
-                self.give_up(Cause::of_short(number, got, needed, busy))
+                let ending = self.give_up(Cause::of_short(number, got, needed, busy));
+                Ok(Heard::Through(ending))
             }
-        }))
+        }
     }
 
     /// A server gave the content of a suite, or it did not.

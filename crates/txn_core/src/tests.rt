@@ -10,6 +10,9 @@ use std::process::Abort;
 use suite_prefix::LockMode;
 use vote_core::Votes;
 
+mod read;
+mod runs;
+
 fn service(rt: &impl Abort) -> Service
     ensures { result.servers ≡ 3 }
 {

@@ -54,12 +54,10 @@ impl Course {
     fn widen(&mut self, number: u64, votes: &Votes) -> Coming
         ensures { Widens number votes.now self.old result self.new }
     {
-        match self.suites.get_mut(&number) {
-            Some(suite) => {
-                suite.widen(votes);
-                suite.next()
-            }
-            None => Coming::Current,
-        }
+        let Some(suite) = self.suites.get_mut(&number) else {
+            return Coming::Current;
+        };
+        suite.widen(votes);
+        suite.next()
     }
 }

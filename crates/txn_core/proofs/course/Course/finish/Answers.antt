@@ -1,4 +1,9 @@
+use Rattle.std.proofs.Common.{ap, ◌∙◌}
+use Rattle.txn_core.specs.Doing.{Course}
+use Rattle.txn_core.proofs.Ended.{finishes}
 use Rattle.txn_core.proofs.course.Course.finish.Goals as goal
 
 pub returns : goal.returns
-returns c = ?
+returns c = λ cache.
+    finishes c.args.self.now.task cache c.args.self.now.suites c.as_slice.result.now c.locked_at-servers.result c.tell_end.new.self c.locked_at-servers.ensures
+    (c.as_slice.ensures.pairs ∙ ap (λ (course : Course). course.suites) c.self.view_is) c.args.verdict c.args.ending c.tell_end.result (c.tell_end.ensures cache)

@@ -1,0 +1,53 @@
+-- The end of a transaction, as its code goes about it.
+use Rattle.std.proofs.Common.{◌≡◌, ℕ, List, [], ◌∷◌, Option, None, drop, refl, sym, ap, ◌∙◌, subst}
+use Rattle.rep_core.specs.declared.reply.Verdict.{Verdict}
+use Rattle.rep_core.specs.declared.reply.Reply.{Reply}
+use Rattle.rep_core.specs.declared.request.Request.{Request}
+use Rattle.rep_core.specs.declared.stamped.Lack.{Lack}
+use Rattle.weak_cache.specs.Entries.{Cache}
+use Rattle.txn_core.specs.declared.ending.Ending.{Ending}
+use Rattle.txn_core.specs.Doing.{Fixed, Task, Outcome, Phase, Preparing, Finishing, Course}
+use Rattle.txn_core.specs.Steps.{Steps}
+use Rattle.txn_core.specs.Hearing.{on_hearing}
+use Rattle.txn_core.specs.Suites.{Suite, Suites, with_suite}
+use Rattle.txn_core.specs.declared.ending.Cause.{Cause}
+use Rattle.txn_core.specs.declared.hearing.Hearing.{Hearing}
+use Rattle.txn_core.specs.declared.hearing.Hearing.TheVariants as hearing
+use Rattle.txn_core.specs.Transactions.{Step, locked_at, tell_end, finish, give_up, short_cause, prepare, after_lack}
+
+-- the servers that hold a lock, as the code finds them
+module _ (task : Task) (cache : Cache) (suites given : Suites) (servers : List ℕ) (after : Course) (found : servers ≡ locked_at given) (same : given ≡ suites) where
+  pub finishes : (verdict : Verdict) (ending : Ending) (result : Option Ending) → Steps (tell_end task cache suites verdict ending servers) result after cache → Steps (finish task cache suites verdict ending) result after cache
+  finishes verdict ending result steps =
+      let Told : List ℕ → Type 0 = λ servers. Steps (tell_end task cache suites verdict ending servers) result after cache in
+      subst Told (found ∙ ap locked_at same) steps
+
+  pub prepares : (outcome : Outcome) → Steps (prepare task cache suites outcome servers) None after cache → Steps (prepare task cache suites outcome (locked_at suites)) None after cache
+  prepares outcome steps =
+      let Prepares : List ℕ → Type 0 = λ servers. Steps (prepare task cache suites outcome servers) None after cache in
+      subst Prepares (found ∙ ap locked_at same) steps
+
+-- what a Finish is answered changes nothing
+lack_at_end : (task : Task) (cache : Cache) (suites : Suites) (server : ℕ) (lacked : Lack) (servers : List ℕ) (verdict : Verdict) (ending : Ending)
+    → tell_end task cache suites verdict ending (drop 1 servers) ≡ after_lack task cache suites (Finishing servers verdict ending) server lacked
+lack_at_end task cache suites server lacked [] verdict ending = refl
+lack_at_end task cache suites server lacked (now ∷ left) verdict ending = refl
+
+pub lacks_at_end : (task : Task) (cache : Cache) (suites : Suites) (phase : Phase) (server : ℕ) (lacked : Lack) (servers : List ℕ) (verdict : Verdict) (ending : Ending) (result : Option Ending) (after : Course) → phase ≡ Finishing servers verdict ending
+    → Steps (tell_end task cache suites verdict ending (drop 1 servers)) result after cache → Steps (after_lack task cache suites phase server lacked) result after cache
+lacks_at_end task cache suites phase server lacked servers verdict ending result after is steps =
+    let Stepped : Step → Type 0 = λ step. Steps step result after cache in
+    subst Stepped (lack_at_end task cache suites server lacked servers verdict ending ∙ ap (λ phase. after_lack task cache suites phase server lacked) (sym is)) steps
+
+-- too few votes were heard
+pub hears_short : (before : Course) (cache : Cache) (number server : ℕ) (what : Hearing) (go_on : Suite → Step) (suite : Suite) (got needed : ℕ) (busy : Option (ℕ × ℕ)) (task : Task) (held : Suites) (cause : Cause) (result : Option Ending) (after : Course)
+    → what ≡ hearing.Short suite got needed busy → task ≡ before.task → held ≡ with_suite number suite before.suites → cause ≡ short_cause number got needed busy
+    → Steps (give_up task cache held cause) result after cache → Steps (on_hearing before.task cache before.suites before.phase number server what go_on) result after cache
+hears_short before cache number server what go_on suite got needed busy task held cause result after is own put why steps =
+    let Stepped : Step → Type 0 = λ step. Steps step result after cache in
+    subst Stepped
+    (ap (λ task. give_up task cache held cause) own
+    ∙ ap (λ held. give_up before.task cache held cause) put
+    ∙ ap (λ cause. give_up before.task cache (with_suite number suite before.suites) cause) why
+    ∙ sym (ap (λ what. on_hearing before.task cache before.suites before.phase number server what go_on) is))
+    steps

@@ -1,0 +1,156 @@
+//! Runs of agents against servers. Each line is a job of an agent, with the steps that it takes and how it
+//! ends, or what befalls a server.
+
+ghost use Rattle.std.specs.Prelude.{◌≡◌, true};
+ghost use Rattle.txn_core.specs.Laws.{fits_word};
+
+use super::read::{caller, ops, small, votes};
+use crate::{Agent, Ending, Job, Ops, Word};
+use acl_core::{Acl, Mode};
+use rep_core::{Request, Server, Stamped};
+use std::process::Abort;
+use suite_prefix::Settings;
+
+/// The servers, and two agents.
+struct World {
+    servers: Vec<Server>,
+    first: Agent,
+    second: Agent,
+}
+
+/// How many servers there are, room for caches, and the opening votes, as `3 4096 1,1,1/2/2`.
+fn settings(rt: &(impl Abort + AllocGlobal), text: &str) -> Settings {
+    let mut parts = text.split(' ');
+    let servers = small(rt, parts.next().unwrap_or_default());
+    let room = parts.next().unwrap_or_default().parse::<usize>();
+    let room = room.ok().expect(rt, "room");
+    let c0 = votes(rt, parts.next().unwrap_or_default());
+    let mode = Mode::new(511).expect(rt, "a mode");
+    let acl = Acl::from_mode(rt.alloc(), mode).expect(rt, "memory");
+    let slots = room.min(64);
+    Settings::new(servers.into(), 2, c0, 1000, 100, acl, room, room, slots)
+        .ok()
+        .expect(rt, "settings")
+}
+
+fn agent(rt: &(impl Abort + AllocGlobal), index: u8, settings: &Settings) -> Agent {
+    Agent::new(rt.alloc(), index % 64, settings).expect(rt, "memory")
+}
+
+fn world(rt: &(impl Abort + AllocGlobal), text: &str) -> World {
+    let settings = settings(rt, text);
+    let mut servers = Vec::new(rt.alloc());
+    for index in 0..settings.servers() as u8 {
+        let server = Server::opening(rt.alloc(), index, &settings).expect(rt, "memory");
+        servers.push(server).expect(rt, "memory");
+    }
+    World {
+        servers,
+        first: agent(rt, 0, &settings),
+        second: agent(rt, 1, &settings),
+    }
+}
+
+/// What comes of a request at a server.
+fn served(rt: &impl Abort, servers: &mut [Server], at: u8, value: Request) -> Word
+    ensures { fits_word value result ≡ true }
+{
+    let server = servers.get_mut(usize::from(at)).expect(rt, "a server");
+    match server.serve(Stamped { stamp: 0, value }) {
+        Ok(reply) => Word::Replied(reply.value),
+        Err(lack) => Word::Lacked(lack),
+    }
+}
+
+/// A step of an agent: what it asks is served, and it takes what comes of it.
+fn step(rt: &impl Abort, servers: &mut [Server], agent: &mut Agent) -> Option<Ending> {
+    let asked = agent.next().expect(rt, "memory");
+    let (at, request) = asked.expect(rt, "a request");
+    let word = served(rt, servers, at, request);
+    agent.take(&word).expect(rt, "memory")
+}
+
+/// A job from its begin on, for so many steps at most: how many it took, and how it ended.
+fn run(rt: &(impl Abort + AllocGlobal), servers: &mut [Server], agent: &mut Agent, most: u8) -> String {
+    for steps in 1..=most {
+        if let Some(ending) = step(rt, servers, agent) {
+            return format!(in rt.alloc(); "{steps} {ending:?}").ok().expect(rt, "memory");
+        }
+    }
+    String::from_str(rt.alloc(), "goes on").ok().expect(rt, "memory")
+}
+
+/// A job as text: `sweep` and a server, or a user, a site and operations.
+fn job(rt: &(impl Abort + AllocGlobal), text: &str) -> Job {
+    let (who, what) = text.split_once(' ').expect(rt, "a job");
+    if who == "sweep" {
+        return Job::Sweep {
+            server: small(rt, what),
+        };
+    }
+    let (site, what) = what.split_once(' ').expect(rt, "a site");
+    let ops = Ops::from_vec(ops(rt, what)).expect(rt, "memory");
+    Job::Transaction {
+        caller: caller(rt, who),
+        site: small(rt, site),
+        ops,
+    }
+}
+
+/// A server falls down, or comes up again.
+fn befalls(rt: &impl Abort, servers: &mut [Server], at: &str, what: Request) {
+    served(rt, servers, small(rt, at), what);
+}
+
+/// Plays a line; its answer is empty where no job was run.
+fn play(rt: &(impl Abort + AllocGlobal), world: &mut World, line: &str) -> String {
+    let (word, rest) = line.split_once(' ').expect(rt, "a line");
+    match word {
+        "crash" => befalls(rt, &mut world.servers, rest, Request::Crash),
+        "return" => befalls(rt, &mut world.servers, rest, Request::Return),
+        "forget" => world.first.forget(small(rt, rest)),
+        "stop" => return run(rt, &mut world.servers, &mut world.first, small(rt, rest)),
+        "second" => {
+            begin(rt, &mut world.second, rest);
+            return run(rt, &mut world.servers, &mut world.second, 30);
+        }
+        "begin" => begin(rt, &mut world.first, rest),
+        _ => {
+            begin(rt, &mut world.first, rest);
+            return run(rt, &mut world.servers, &mut world.first, 30);
+        }
+    }
+    String::new(rt.alloc())
+}
+
+fn begin(rt: &(impl Abort + AllocGlobal), agent: &mut Agent, text: &str) {
+    let job = job(rt, text);
+    agent.begin(&job).expect(rt, "memory");
+}
+
+/// Plays the lines of a text, the settings first. What is to come of a line stands after an arrow.
+fn plays(rt: &(impl Abort + AllocGlobal), settings: &str, text: &str) {
+    let mut world = world(rt, settings);
+    for line in text.lines().skip(1) {
+        let (line, wanted) = line.split_once(" -> ").unwrap_or((line, ""));
+        let came = play(rt, &mut world, line);
+        assert!(rt; came.as_str() == wanted, "{line}: {came}");
+    }
+}
+
+/// With a cache the second read fetches nothing, and what was forgotten is fetched again. A denied write is
+/// decided.
+#[test]
+fn a_cache_spares_the_fetch(rt: HostRuntime) {
+    plays(
+        &rt,
+        "3 4096 1,1,1/2/2",
+        "
+first 1000 0 file '/a' 644; write '/a' hi -> 10
+first 2000 0 read '/a' -> 11
+first 2000 0 read '/a' -> 9
+forget 0
+first 2000 0 read '/a' -> 11
+first 2000 0 write '/a' no -> 9",
+    );
+}
