@@ -13,6 +13,7 @@ use crate::members::{first_left, members_of};
 use crate::next::{Members, Next};
 use crate::told::{Said, Told};
 use rep_core::{Reply, Request};
+use std::alloc::AllocError;
 use std::marker::Model;
 use suite_prefix::{LockMode, Prefix};
 use vote_core::{MAX_SERVERS, Votes};
@@ -25,6 +26,21 @@ struct Widening {
     all: Heard,
     /// What was told since.
     since: Log<Told>,
+}
+
+impl Widening {
+    /// The same votes and history.
+    fn same(&self) -> Widening
+        ensures votes { result.votes ≡ self.now.votes }
+        ensures all { result.all ≡ self.now.all }
+        ensures since { result.since.items ≡ self.now.since.items }
+    {
+        Widening {
+            votes: self.votes,
+            all: self.all.same(),
+            since: self.since.same(),
+        }
+    }
 }
 
 /// What a transaction collects of one suite: locks, until their servers are a quorum under the newest
@@ -52,6 +68,28 @@ impl Model for Collect {
     ghost view = { collecting_of };
 
     ghost invariant = { IsSummed };
+}
+
+impl Clone for Collect {
+    ghost is_clone = { λ collect copy. copy ≡ collect };
+
+    fn clone(&self) -> Result<Collect, AllocError> {
+        let start = self.start.clone()?;
+        let newer = self.newer.clone()?;
+        let widening = match &self.widening {
+            Some(widening) => Some(widening.same()),
+            None => None,
+        };
+        Ok(Collect {
+            t: self.t,
+            suite: self.suite,
+            mode: self.mode,
+            start,
+            newer,
+            told: self.told.same(),
+            widening,
+        })
+    }
 }
 
 impl Collect {
@@ -159,6 +197,13 @@ impl Collect {
         self.tell(Told { server, mode, said });
     }
 
+    /// The mode in which locks are wanted before a widening.
+    pub fn mode(&self) -> LockMode
+        ensures { result ≡ self.now.collector.mode }
+    {
+        self.mode
+    }
+
     /// The newest prefix seen. A widening leaves it as it was.
     pub fn newest(&self) -> &Prefix
         ensures { result.now ≡ newest self.now.collector.start self.now.collector.told }
@@ -184,6 +229,13 @@ impl Collect {
         let (members, version) = (self.first_members(), self.version());
         let shows = |server: &u8| self.told.shown(*server) == version;
         members.as_slice().iter().copied().find(shows)
+    }
+
+    /// The version of the content that a server showed last, before a widening.
+    pub fn shown(&self, server: u8) -> u64
+        ensures { result ≡ telling.shown self.now.collector.told server }
+    {
+        self.told.shown(server)
     }
 
     /// Something told.

@@ -164,7 +164,7 @@ in_front_found site suite other number c (Some x) h =
           find_kept p (λ y. not (q y)) keeps c
     ] refl
 
-searched_found : (site suite other number dver : ℕ) (c : Cache) → entry_of (searched other number dver c) site suite ≡ entry_of c site suite
+pub searched_found : (site suite other number dver : ℕ) (c : Cache) → entry_of (searched other number dver c) site suite ≡ entry_of c site suite
 searched_found site suite other number dver c =
     elim (is_some (content_at c other number dver)) as (λ t. entry_of (cond t (used other number c) c) site suite ≡ entry_of c site suite) [
       | true ↦ in_front_found site suite other number c (entry_of c other number) refl

@@ -7,3 +7,4 @@ pub mod LettingGo
 pub mod SiteLists
 pub mod Beside
 pub mod Room
+pub mod Origins

@@ -103,6 +103,13 @@ impl WeakCache {
         Some(self.entries.newest().content())
     }
 
+    /// The content that a site keeps of a suite, if it is of this version. Nothing moves.
+    pub fn content(&self, site: u8, suite: u64, dver: u64) -> Option<&Content>
+        ensures { option_copied result ≡ content_at self.now.entries site suite dver }
+    {
+        self.entries.find(site, suite)?.content_at(dver)
+    }
+
     /// The content that would be found once an entry was put, of a site and suite at this version. It
     /// changes nothing and takes no memory.
     pub fn content_beside<'a>(

@@ -1,6 +1,6 @@
 //! What holds of every cache, whatever was asked of it.
 
-ghost use Rattle.weak_cache.specs.Laws.{FoundWasPut};
+ghost use Rattle.weak_cache.specs.Laws.{FoundWasPut, EntriesComeFromPuts, SearchKeepsAll};
 ghost use Rattle.weak_cache.specs.LettingGo.{OldestGo};
 ghost use Rattle.weak_cache.specs.SiteLists.{SiteLists};
 
@@ -22,4 +22,15 @@ pub fn oldest_go()
 /// but for what the budget evicts; and that is the oldest of all, no more than must go. It does nothing.
 pub fn site_lists()
     ensures { SiteLists }
+{}
+
+/// A law: whatever was looked for, every look-up finds what it found before. It does nothing.
+pub fn a_search_keeps_all()
+    ensures { SearchKeepsAll }
+{}
+
+/// A law: an entry comes into a cache by a put alone; none of a site is left once it is forgotten; and a
+/// hint is that of an entry that is there. It does nothing.
+pub fn entries_come_from_puts()
+    ensures { EntriesComeFromPuts }
 {}
