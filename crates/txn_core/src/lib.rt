@@ -1,16 +1,23 @@
 //! One agent of a replicated file service.
 #![tactic(auto)]
 
+mod carrying;
 mod ending;
+mod execution;
 mod first;
+mod granted;
 mod home;
 mod job;
 mod knowing;
 mod laws;
+mod plan;
+mod sequel;
 mod servers;
+mod shelf;
 mod sorting;
 mod suites;
 mod sweep;
+mod task;
 mod word;
 mod writing;
 

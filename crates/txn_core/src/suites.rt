@@ -1,15 +1,17 @@
 //! What a transaction gathered of a suite.
 
-ghost use Rattle.std.specs.Prelude.{◌≡◌, None, Some};
+ghost use Rattle.std.specs.Prelude.{◌≡◌, None, Some, false};
+ghost use Rattle.rep_core.specs.Store.{is_used_up};
 ghost use Rattle.std.specs.Option.{option_copied};
 ghost use Rattle.suite_collect.specs.Collecting as spec;
 ghost use Rattle.txn_core.specs.Suites as gathering;
 
 use crate::first::First;
+use std::alloc::AllocError;
 use std::marker::Model;
 use suite_collect::Collect;
 use suite_content::Content;
-use suite_prefix::LockMode;
+use suite_prefix::{LockMode, Prefix};
 use vote_core::Votes;
 
 /// A suite that was asked for: what was collected of it, what its first quorum gave, in which mode it
@@ -31,13 +33,36 @@ impl Model for Suite {
     ghost view = { suite_of };
 }
 
+impl Clone for Suite {
+    ghost is_clone = { λ suite copy. copy ≡ suite };
+
+    fn clone(&self) -> Result<Suite, AllocError> {
+        let collect = self.collect.clone()?;
+        let first = match &self.first {
+            Some(first) => Some(First { prefix: first.prefix.clone()?, dver: first.dver, source: first.source }),
+            None => None,
+        };
+        let content = match &self.content {
+            Some(content) => Some(content.clone()?),
+            None => None,
+        };
+        Ok(Suite {
+            collect,
+            first,
+            mode: self.mode,
+            content,
+        })
+    }
+}
+
 impl Suite {
     /// A suite of which nothing was told.
-    pub(crate) fn new(collect: Collect) -> Suite
-        ensures { result ≡ record { collector = collect.collector; first = None; mode = LockMode.Shared; content = None } }
+    pub(crate) fn new(t: u64, number: u64, mode: LockMode, start: Prefix) -> Suite
+        requires { is_used_up start.pver ≡ false }
+        ensures { result ≡ record { collector = spec.collect mode start; first = None; mode = LockMode.Shared; content = None } }
     {
         Suite {
-            collect,
+            collect: Collect::new(t, number, mode, start),
             first: None,
             mode: LockMode::Shared,
             content: None,

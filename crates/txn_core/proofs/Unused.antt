@@ -1,0 +1,151 @@
+-- Versions that are not used up.
+use Rattle.std.proofs.Common.{◌≡◌, ℕ, ◌<◌, ◌-◌, ◌^◌, max, Bool, true, false, cond, inl, inr, List, [], ◌∷◌, Option, Some, None, refl, sym, ap, subst, ◌∙◌, arith}
+use Rattle.std.specs.Prelude.{◌==◌, ◌&&◌, ◌||◌, nat_lt, not, option_map, unwrap_or}
+use Rattle.std.proofs.lemmas.Bool.Decides.{nat_tests}
+use Rattle.std.proofs.lemmas.Option.{same_Some}
+use Rattle.vote_core.specs.Quorums.{Configuration}
+use Rattle.suite_prefix.specs.declared.copies.Prefix.{Prefix}
+use Rattle.suite_prefix.specs.declared.lock_mode.LockMode.{LockMode}
+use Rattle.suite_prefix.specs.Absent.{absent_prefix}
+use Rattle.rep_core.specs.Store.{is_used_up, last_number}
+use Rattle.rep_core.specs.Fits.{fits}
+use Rattle.rep_core.specs.declared.reply.Reply.{Reply}
+use Rattle.rep_core.specs.declared.reply.Reply.TheVariants as reply
+use Rattle.suite_collect.specs.declared.told.Said.{Said}
+use Rattle.suite_collect.specs.declared.told.Said.TheVariants as said
+use Rattle.suite_collect.specs.declared.told.Told.{Told}
+use Rattle.suite_collect.specs.Telling.{newer, newest, version_in, shown, greatest}
+use Rattle.suite_collect.specs.Collecting.{Collector, Widening, Asked, Poll, Upgrade, Next, Current, Ask, Short, first_members, version, collect, tell_at, tell, request_for, mode_asked, told_by, next}
+use Rattle.suite_collect.specs.Collecting as collecting
+use Rattle.suite_collect.proofs.Collected.{gives_of}
+use Rattle.weak_cache.specs.Entries.{Entry, Cache, entry_of, forgotten}
+use Rattle.weak_cache.specs.Cache.{Limits, hint, searched, put}
+use Rattle.weak_cache.proofs.Origins.{entries_come_from_puts}
+use Rattle.txn_core.specs.Doing.{Fixed, Task}
+use Rattle.txn_core.specs.Transactions.{start_from}
+use Rattle.txn_core.specs.Unused.{HasUnused, SawUnused, shows_unused}
+
+-- ---- replies
+
+pub fits_shows_unused : (t number : ℕ) (asked : Asked) (answer : Reply) → fits (request_for t number asked) answer ≡ true → shows_unused answer ≡ true
+fits_shows_unused t number (Poll mode) (reply.Held prefix dver) fine = of (shows_unused (reply.Held prefix dver)) fine
+  where
+    of : (b : Bool) → (((b || false) || false) || false) ≡ true → b ≡ true
+    of true fine = refl
+    of false fine = cc
+fits_shows_unused t number Upgrade (reply.Held prefix dver) fine = of (shows_unused (reply.Held prefix dver)) fine
+  where
+    of : (b : Bool) → (((b || false) || false) || false) ≡ true → b ≡ true
+    of true fine = refl
+    of false fine = cc
+fits_shows_unused t number asked _ fine = refl
+
+-- ---- what a collector saw
+
+both : (a b : Bool) → (not a && not b) ≡ true → (a ≡ false) × (b ≡ false)
+both false false is = (refl, refl)
+both false true is = cc
+both true b is = cc
+
+newer_unused : (prefix : Prefix) (what : Said) → is_used_up prefix.pver ≡ false → ((other : Prefix) (dver : ℕ) → what ≡ said.Held other dver → is_used_up other.pver ≡ false) → is_used_up (newer prefix what).pver ≡ false
+newer_unused prefix (said.Held other dver) unused shows = of (nat_lt prefix.pver other.pver)
+  where
+    of : (b : Bool) → is_used_up (cond b other prefix).pver ≡ false
+    of true = shows other dver refl
+    of false = unused
+newer_unused prefix (said.Busy holder) unused shows = unused
+newer_unused prefix said.Down unused shows = unused
+
+version_unused : (what : Said) (before : ℕ) → is_used_up before ≡ false → ((other : Prefix) (dver : ℕ) → what ≡ said.Held other dver → is_used_up dver ≡ false) → is_used_up (version_in what before) ≡ false
+version_unused (said.Held other dver) before unused shows = shows other dver refl
+version_unused (said.Busy holder) before unused shows = unused
+version_unused said.Down before unused shows = unused
+
+tell_unused : (c : Collector) (one : Told) → ((other : Prefix) (dver : ℕ) → one.said ≡ said.Held other dver → (is_used_up other.pver ≡ false) × (is_used_up dver ≡ false)) → SawUnused c → SawUnused (tell one c)
+tell_unused c one shows saw = at c.widening
+  where
+    of : (server : ℕ) (b : Bool) → is_used_up (cond b (version_in one.said (shown c.told server)) (shown c.told server)) ≡ false
+    of server true = version_unused one.said (shown c.told server) (saw.shown server) (λ other dver is. (shows other dver is).1)
+    of server false = saw.shown server
+
+    at : (w : Option Widening) → SawUnused (tell_at w one c)
+    at (Some w) = record { prefix = saw.prefix; shown = saw.shown }
+    at None = record {
+      prefix = newer_unused (newest c.start c.told) one.said saw.prefix (λ other dver is. (shows other dver is).0);
+      shown = λ server. of server (one.server == server);
+    }
+
+told_shows : (next : Next) (answer : Reply) (one : Told) → told_by next answer ≡ Some one → shows_unused answer ≡ true → (other : Prefix) (dver : ℕ) → one.said ≡ said.Held other dver → (is_used_up other.pver ≡ false) × (is_used_up dver ≡ false)
+told_shows (Current prefix version members) answer one was unused other dver is = cc
+told_shows (Short got needed busy) answer one was unused other dver is = cc
+told_shows (Ask server asked) (reply.Held prefix version) one was unused other dver is =
+    let heard : said.Held prefix version ≡ one.said = ap (λ (one : Told). one.said) (same_Some (record { server = server; mode = mode_asked asked; said = said.Held prefix version }) one was) in
+    let same : said.Held prefix version ≡ said.Held other dver = heard ∙ is in
+    let prefixes : prefix ≡ other = cc in
+    let versions : version ≡ dver = cc in
+    let fine = both (is_used_up prefix.pver) (is_used_up version) unused in
+    (ap (λ (prefix : Prefix). is_used_up prefix.pver) (sym prefixes) ∙ fine.0, ap is_used_up (sym versions) ∙ fine.1)
+told_shows (Ask server asked) (reply.Busy holder prepared) one was unused other dver is =
+    let heard : said.Busy holder ≡ one.said = ap (λ (one : Told). one.said) (same_Some (record { server = server; mode = mode_asked asked; said = said.Busy holder }) one was) in cc
+told_shows (Ask server (Poll mode)) reply.Down one was unused other dver is =
+    let heard : said.Down ≡ one.said = ap (λ (one : Told). one.said) (same_Some (record { server = server; mode = mode; said = said.Down }) one was) in cc
+told_shows (Ask server Upgrade) reply.Down one was unused other dver is = cc
+told_shows (Ask server asked) reply.Lost one was unused other dver is = cc
+told_shows (Ask server asked) (reply.Given version content) one was unused other dver is = cc
+told_shows (Ask server asked) reply.Prepared one was unused other dver is = cc
+told_shows (Ask server asked) (reply.Verdict v) one was unused other dver is = cc
+told_shows (Ask server asked) reply.Done one was unused other dver is = cc
+told_shows (Ask server asked) (reply.Locked locks) one was unused other dver is = cc
+
+-- it is kept by a reply that fits
+pub saw_more : (c : Collector) (next : Next) (answer : Reply) (one : Told) → told_by next answer ≡ Some one → shows_unused answer ≡ true → SawUnused c → SawUnused (tell one c)
+saw_more c next answer one was unused saw = tell_unused c one (told_shows next answer one was unused) saw
+
+-- it holds where nothing was told
+pub saw_none : (mode : LockMode) (start : Prefix) → is_used_up start.pver ≡ false → SawUnused (collect mode start)
+saw_none mode start unused = record { prefix = unused; shown = λ server. refl }
+
+-- and so what a Current gives is not used up
+pub max_unused : (a b : ℕ) → is_used_up a ≡ false → is_used_up b ≡ false → is_used_up (max a b) ≡ false
+max_unused a b one other = grind (arith, nat_tests)
+
+greatest_unused : (told : List Told) (servers : List ℕ) → ((server : ℕ) → is_used_up (shown told server) ≡ false) → is_used_up (greatest told servers) ≡ false
+greatest_unused told [] unused = refl
+greatest_unused told (server ∷ servers) unused = max_unused (shown told server) (greatest told servers) (unused server) (greatest_unused told servers unused)
+
+pub current_unused : (c : Collector) (prefix : Prefix) (dver : ℕ) (members : List ℕ) → next c ≡ Current prefix dver members → SawUnused c → (is_used_up prefix.pver ≡ false) × (is_used_up dver ≡ false)
+current_unused c prefix dver members is saw =
+    let gives = gives_of c prefix dver members is in (
+      ap (λ (prefix : Prefix). is_used_up prefix.pver) (sym gives.prefix_is) ∙ saw.prefix,
+      ap is_used_up (sym gives.version_is) ∙ greatest_unused c.told (first_members c) saw.shown,
+    )
+
+-- ---- caches
+
+pub unused_none : HasUnused []
+unused_none entry there = absurd (let below : there.0 < 0 = there.1 in omega (arith, below))
+
+pub unused_put : (limits : Limits) (entry : Entry) (cache : Cache) → is_used_up entry.prefix.pver ≡ false → HasUnused cache → HasUnused (put limits entry cache)
+unused_put limits entry cache unused all other there =
+    elim (entries_come_from_puts.put limits entry cache other there) [
+      | inl same ↦ ap (λ (entry : Entry). is_used_up entry.prefix.pver) same ∙ unused
+      | inr before ↦ all other before
+    ]
+
+pub unused_searched : (site suite dver : ℕ) (cache : Cache) → HasUnused cache → HasUnused (searched site suite dver cache)
+unused_searched site suite dver cache all other there = all other (entries_come_from_puts.searched site suite dver cache other there)
+
+pub unused_forgotten : (site : ℕ) (cache : Cache) → HasUnused cache → HasUnused (forgotten site cache)
+unused_forgotten site cache all other there = all other (entries_come_from_puts.forgotten site cache other there).0
+
+pub unused_hint : (cache : Cache) (site suite : ℕ) (prefix : Prefix) → hint cache site suite ≡ Some prefix → HasUnused cache → is_used_up prefix.pver ≡ false
+unused_hint cache site suite prefix is all =
+    let found = entries_come_from_puts.hint cache site suite prefix is in
+    ap (λ (prefix : Prefix). is_used_up prefix.pver) (sym found.3) ∙ all found.0 found.1
+
+pub unused_start : (fixed : Fixed) (task : Task) (cache : Cache) (suite : ℕ) → HasUnused cache → is_used_up (start_from fixed task cache suite).pver ≡ false
+unused_start fixed task cache suite all = of (hint cache task.site suite) refl
+  where
+    of : (found : Option Prefix) → hint cache task.site suite ≡ found → is_used_up (unwrap_or found (absent_prefix fixed.service.c0)).pver ≡ false
+    of (Some prefix) was = unused_hint cache task.site suite prefix was all
+    of None was = refl

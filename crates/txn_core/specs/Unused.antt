@@ -1,0 +1,22 @@
+-- Versions that are not used up: what an agent keeps and is told, so that each copy can get a version more.
+use Rattle.std.specs.Prelude.{◌≡◌, ℕ, Bool, true, false, ◌&&◌, not, Contains}
+use Rattle.rep_core.specs.Store.{is_used_up}
+use Rattle.rep_core.specs.declared.reply.Reply.{Reply}
+use Rattle.rep_core.specs.declared.reply.Reply.TheVariants.{Held}
+use Rattle.suite_collect.specs.Telling.{newest, shown}
+use Rattle.suite_collect.specs.Collecting.{Collector}
+use Rattle.weak_cache.specs.Entries.{Entry, Cache}
+
+-- of the prefixes in a cache
+abbrev pub HasUnused : Cache → Type 0
+HasUnused cache = (entry : Entry) → Contains cache entry → is_used_up entry.prefix.pver ≡ false
+
+-- of the newest prefix, and of the contents that were shown, before a widening
+pub record SawUnused (c : Collector) : Type 0 where
+  pub prefix : is_used_up (newest c.start c.told).pver ≡ false
+  pub shown : (server : ℕ) → is_used_up (shown c.told server) ≡ false
+
+-- of a prefix and a content that a reply shows
+abbrev pub shows_unused : Reply → Bool
+shows_unused (Held prefix dver) = not (is_used_up prefix.pver) && not (is_used_up dver)
+shows_unused _ = true

@@ -1,0 +1,39 @@
+//! A transaction.
+
+ghost use Rattle.std.specs.Prelude.{◌<◌, ◌^◌};
+ghost use Rattle.weak_cache.specs.Entries.{most_sites};
+
+use crate::job::Ops;
+use acl_core::Caller;
+use std::marker::Model;
+
+/// A transaction: its number, its caller, at which site, and what is asked.
+#[derive(Drop)]
+pub(crate) struct Task {
+    pub(crate) t: u64,
+    pub(crate) caller: Caller,
+    pub(crate) site: u8,
+    pub(crate) ops: Ops,
+}
+
+impl Model for Task {
+    ghost use Rattle.txn_core.specs.Doing as doing;
+
+    ghost Value = { doing.Task };
+
+    ghost use Rattle.txn_core.specs.TaskFields.{task_of, IsTask};
+
+    ghost view = { task_of };
+
+    ghost invariant = { IsTask };
+}
+
+impl Task {
+    /// A law: its number is below 2^60, and its site one of an agent's. It does nothing.
+    pub(crate) fn facts(&self)
+        ensures number { self.now.t < 2 ^ 60 }
+        ensures site { self.now.site < most_sites }
+    {
+        let _ = &self.ops;
+    }
+}
