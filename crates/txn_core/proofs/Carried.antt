@@ -1,9 +1,9 @@
 -- How suites stand once a plan was carried out.
-use Rattle.std.proofs.Common.{◌≡◌, ⊥, ℕ, true, Option, Some, None, refl, sym, ap, ◌∙◌}
-use Rattle.std.specs.Prelude.{is_some, IsSome}
+use Rattle.std.proofs.Common.{◌≡◌, ℕ, true, Option, Some, None, refl, sym, ap, ◌∙◌}
+use Rattle.std.specs.Prelude.{is_some, IsSome, IfSome}
 use Rattle.std.specs.Ordering.{nat_cmp}
 use Rattle.std.proofs.lemmas.Cmp.{nat_cmp_total}
-use Rattle.std.proofs.lemmas.Option.{none-some}
+use Rattle.std.proofs.lemmas.Bool.{false≢true}
 use Rattle.sorted_map.specs.Numbers.{get_insert_here}
 use Rattle.sorted_map.specs.SortedMap.{IsOrdered, replace}
 use Rattle.sorted_map.specs.Edits.{insert_present, replace_same, insert_same, insert-insert}
@@ -41,13 +41,15 @@ opens_some task all number content suite new first ordered is was more =
     ∙ ap (λ new. with_suite number new all.suites) more
     ∙ ap (λ (g : Gathered). g.suites) (opens task all number content suite (Some first) is was)
 
--- a suite is put back
-put_back : (suites : Suites) (number : ℕ) (suite before : Suite) → IsOrdered nat_cmp suites → Some before ≡ suite_of suites number → with_suite number before (with_suite number suite suites) ≡ suites
-put_back suites number suite before ordered is = insert-insert nat_cmp_total suites number suite before ∙ insert_same nat_cmp_total suites number before ordered (sym is)
+-- a suite is put back in place of another
+pub still_there : (suites now : Suites) (number : ℕ) (suite : Suite) → now ≡ with_suite number suite suites → IsSome (suite_of now number)
+still_there suites now number suite is = ap is_some (ap (λ l. suite_of l number) is ∙ get_insert_here suites number suite)
 
-pub still_there : (suites now : Suites) (number : ℕ) (suite : Suite) → now ≡ with_suite number suite suites → suite_of now number ≡ None → ⊥
-still_there suites now number suite is none = none-some suite (sym none ∙ ap (λ l. suite_of l number) is ∙ get_insert_here suites number suite)
-
-pub put_back_in : (suites now then' : Suites) (number : ℕ) (suite before : Suite) → IsOrdered nat_cmp suites → Some before ≡ suite_of suites number → now ≡ with_suite number suite suites → then' ≡ with_suite number before now → then' ≡ suites
-put_back_in suites now then' number suite before ordered is now_is then_is =
-    then_is ∙ ap (λ l. with_suite number before l) now_is ∙ put_back suites number suite before ordered is
+pub put_back : (suites now then' : Suites) (number : ℕ) (suite : Suite) (before : Option Suite) → IsOrdered nat_cmp suites → IsSome (suite_of suites number) → before ≡ suite_of suites number → now ≡ with_suite number suite suites
+    → IfSome before (λ before. then' ≡ with_suite number before now) → then' ≡ suites
+put_back suites now then' number suite (Some before) ordered there is now_is then_is =
+    then_is
+    ∙ ap (λ l. with_suite number before l) now_is
+    ∙ insert-insert nat_cmp_total suites number suite before
+    ∙ insert_same nat_cmp_total suites number before ordered (sym is)
+put_back suites now then' number suite None ordered there is now_is then_is = absurd (false≢true (ap is_some is ∙ there))

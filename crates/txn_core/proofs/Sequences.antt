@@ -94,9 +94,9 @@ module _ (fixed : Fixed) (task : Task) (before : Limited) (suites : Suites) (see
 
 -- ---- after a fetch
 
-same_pair : (suite other : Suite) (one two : Fetched) → Some (suite, one) ≡ Some (other, two) → (suite ≡ other) × (one ≡ two)
-same_pair suite other one two is =
-    let pair : (suite, one) ≡ (other, two) = same_Some (suite, one) (other, two) is in
+same_pair : (p q : Suite × Fetched) → Some p ≡ Some q → (p.0 ≡ q.0) × (p.1 ≡ q.1)
+same_pair p q is =
+    let pair : p ≡ q = same_Some p q is in
     (ap (λ (p : Suite × Fetched). p.0) pair, ap (λ (p : Suite × Fetched). p.1) pair)
 
 pub given_follows : (fixed : Fixed) (task : Task) (cache : Limited) (suites : Suites) (number server : ℕ) (content : Content) (suite : Suite) (one : Fetched) → fixed.limits ≡ cache.limits
@@ -107,7 +107,7 @@ given_follows fixed task cache suites number server content suite one limits = o
     firsts : (found : Suite) (first : Option First) → Some (suite, one) ≡ fetched_first task number content found first
         → execute fixed task (record { suites = with_suite number suite suites; cache = shelved cache (Some one) }) ≡ keep_content fixed task cache.entries suites number found content first server
     firsts found (Some first) is =
-        let pair = same_pair suite (record found { content = Some content }) one (kept_of task number content first) is in
+        let pair = same_pair (suite, one) (record found { content = Some content }, kept_of task number content first) is in
         ap (λ suite. execute fixed task (record { suites = with_suite number suite suites; cache = shelved cache (Some one) })) pair.0
         ∙ ap (λ one. execute fixed task (record { suites = with_suite number (record found { content = Some content }) suites; cache = shelved cache (Some one) })) pair.1
         ∙ ap (λ limits. execute fixed task (record { suites = with_suite number (record found { content = Some content }) suites; cache = put limits (record { site = task.site; suite = number; prefix = first.prefix; dver = first.dver; content = content }) cache.entries })) (sym limits)

@@ -138,9 +138,7 @@ impl<'a> Execution<'a> {
         match self.execute_after(suites, cache, fetched) {
             Ok(sequel) => Ok(sequel),
             Err(refused) => {
-                if let Some(before) = before {
-                    suites.insert_in_room(number, before);
-                }
+                put_back(suites, number, before);
                 Err(refused)
             }
         }
@@ -168,5 +166,15 @@ impl<'a> Execution<'a> {
         plan.make_room(suites)?;
         put(cache, fetched)?;
         Ok(plan.carry_out(self.task, suites, cache))
+    }
+}
+
+/// Puts a suite back in place of the one of its number.
+fn put_back(suites: &mut RoomyMap<u64, Suite>, number: u64, before: Option<Suite>)
+    requires { IsSome (suite_of suites.old.pairs number) }
+    ensures { IfSome before (λ suite. suites.new.pairs ≡ with_suite number suite suites.old.pairs) }
+{
+    if let Some(suite) = before {
+        suites.insert_in_room(number, suite);
     }
 }

@@ -1,5 +1,4 @@
-use Rattle.std.proofs.Common.{◌≡◌, ◌==◌, ⊥, ℕ, false, length, ap, sym, ◌∙◌, arith, eq-eqb}
-use Rattle.std.proofs.lemmas.Bool.{false≢true}
+use Rattle.std.proofs.Common.{◌≡◌, length, ap, sym, ◌∙◌, arith}
 use Rattle.file_exec.specs.Changes.{answered}
 use Rattle.file_exec.specs.Known.{exec_of}
 use Rattle.txn_core.specs.Doing.{Task}
@@ -30,7 +29,7 @@ loop-opened-preserved c =
     ∙ ap (λ (task : Task). answer_of task known) c.task.view_is in
     let here : c.len.result ≡ length c.loop-opened.opened.items = omega (arith, c.len.ensures, c.loop-opened.opened.ok.0) in
     let short : length c.loop-opened.opened.items ≡ length c.args.suites.now.pairs → ⊥ =
-    λ same. false≢true (sym c.if-len.false ∙ eq-eqb c.len.result c.len-in-loop-opened.result (here ∙ same ∙ sym c.len-in-loop-opened.ensures.len)) in
+    λ same. c.if-len.false (here ∙ same ∙ sym c.len-in-loop-opened.ensures.len) in
     playing_more (fixed_in c.args.self c.args.shelf.cache.now) c.args.self.task.now (seen_on c.args.shelf c.args.suites.now.pairs) c.loop-opened.opened.items known c.loop-opened.invariant
     c.in_ok-outcome.outcome answer (c.in-Some.number, c.in-Some.content) (sym c.in_ok-number.ensures ∙ c.in-Some.is) c.len-in-loop-opened.ensures.ordered
     short c.open.new.self c.open.ensures.service c.open.ensures.suites _ c.in_ok-push.ensures.items
