@@ -1,7 +1,7 @@
 //! How a job ends.
 
 ghost use Rattle.std.specs.Prelude.{◌≡◌};
-ghost use Rattle.txn_core.specs.Transactions.{lack_cause};
+ghost use Rattle.txn_core.specs.Transactions.{lack_cause, short_cause};
 
 use file_ops::{Answers, Refusal};
 use rep_core::Lack;
@@ -46,6 +46,16 @@ pub enum Ending {
 }
 
 impl Cause {
+    /// Why too few votes were to be had of a suite: the first server that was busy, or none was.
+    pub(crate) fn of_short(suite: u64, got: u32, needed: u32, busy: Option<(u8, u64)>) -> Cause
+        ensures { result ≡ short_cause suite got needed busy }
+    {
+        match busy {
+            Some((server, holder)) => Cause::Busy { server, holder },
+            None => Cause::Unavailable { suite, got, needed },
+        }
+    }
+
     /// Why a server did not serve a request.
     pub(crate) fn of_lack(server: u8, lack: Lack) -> Cause
         ensures { result ≡ lack_cause server lack }

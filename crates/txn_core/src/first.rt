@@ -1,5 +1,6 @@
 //! What the first quorum of a suite gave.
 
+use std::alloc::AllocError;
 use std::marker::Model;
 use suite_prefix::Prefix;
 
@@ -21,4 +22,19 @@ impl Model for First {
     ghost view = { first_of };
 
     ghost invariant = { IsUnused };
+}
+
+impl Clone for First {
+    ghost use Rattle.std.specs.Prelude.{◌≡◌};
+
+    ghost is_clone = { λ first copy. copy ≡ first };
+
+    fn clone(&self) -> Result<First, AllocError> {
+        let prefix = self.prefix.clone()?;
+        Ok(First {
+            prefix,
+            dver: self.dver,
+            source: self.source,
+        })
+    }
 }

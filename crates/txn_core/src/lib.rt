@@ -2,10 +2,12 @@
 #![tactic(auto)]
 
 mod carrying;
+mod coming;
 mod ending;
 mod execution;
 mod first;
 mod granted;
+mod hearing;
 mod home;
 mod job;
 mod knowing;

@@ -1,15 +1,20 @@
 //! What a transaction gathered of a suite.
 
-ghost use Rattle.std.specs.Prelude.{◌≡◌, None, Some, false};
-ghost use Rattle.rep_core.specs.Store.{is_used_up};
+ghost use Rattle.std.specs.Prelude.{◌≡◌, ◌==◌, find, None, Some, is_some, IsSome, OnOk, OnErr, true, false};
 ghost use Rattle.std.specs.Option.{option_copied};
+ghost use Rattle.rep_core.specs.Store.{is_used_up};
 ghost use Rattle.suite_collect.specs.Collecting as spec;
+ghost use Rattle.suite_collect.specs.Telling.{shown};
+ghost use Rattle.txn_core.specs.Coming.{Comes, told_one, settled_by};
 ghost use Rattle.txn_core.specs.Suites as gathering;
+ghost use Rattle.txn_core.specs.Unused.{shows_unused};
 
+use crate::coming::{Coming, asked_by};
 use crate::first::First;
+use rep_core::Reply;
 use std::alloc::AllocError;
 use std::marker::Model;
-use suite_collect::Collect;
+use suite_collect::{Collect, Members, Next};
 use suite_content::Content;
 use suite_prefix::{LockMode, Prefix};
 use vote_core::Votes;
@@ -26,11 +31,13 @@ pub(crate) struct Suite {
 
 impl Model for Suite {
     ghost use Rattle.txn_core.specs.Suites as gathering;
-    ghost use Rattle.txn_core.specs.SuiteFields.{suite_of};
+    ghost use Rattle.txn_core.specs.SuiteFields.{suite_of, IsUnused};
 
     ghost Value = { gathering.Suite };
 
     ghost view = { suite_of };
+
+    ghost invariant = { IsUnused };
 }
 
 impl Clone for Suite {
@@ -38,14 +45,8 @@ impl Clone for Suite {
 
     fn clone(&self) -> Result<Suite, AllocError> {
         let collect = self.collect.clone()?;
-        let first = match &self.first {
-            Some(first) => Some(First { prefix: first.prefix.clone()?, dver: first.dver, source: first.source }),
-            None => None,
-        };
-        let content = match &self.content {
-            Some(content) => Some(content.clone()?),
-            None => None,
-        };
+        let first = self.first.clone()?;
+        let content = self.content.clone()?;
         Ok(Suite {
             collect,
             first,
@@ -56,7 +57,8 @@ impl Clone for Suite {
 }
 
 impl Suite {
-    /// A suite of which nothing was told.
+    /// A suite of which nothing was told. `start` is a prefix that it once had, or that of what was never
+    /// made.
     pub(crate) fn new(t: u64, number: u64, mode: LockMode, start: Prefix) -> Suite
         requires { is_used_up start.pver ≡ false }
         ensures { result ≡ record { collector = spec.collect mode start; first = None; mode = LockMode.Shared; content = None } }
@@ -111,6 +113,65 @@ impl Suite {
         self.collect.widen(votes);
     }
 
+    /// What comes next. It takes no memory.
+    pub(crate) fn next(&self) -> Coming
+        ensures { Comes result (spec.next self.now.collector) }
+    {
+        match self.collect.next() {
+            Next::Current { .. } => Coming::Current,
+            Next::Ask { server, request } => Coming::Ask {
+                server,
+                asked: asked_by(&request),
+            },
+            Next::Short { got, needed, busy } => Coming::Short { got, needed, busy },
+        }
+    }
+
+    /// Whether a reply answers what was asked next, and the suite goes on with it. After any other the
+    /// transaction ends.
+    pub(crate) fn accepts(&self, reply: &Reply) -> bool
+        ensures { result ≡ is_some (spec.told_by (spec.next self.now.collector) reply.now) }
+    {
+        self.collect.accepts(reply)
+    }
+
+    /// Takes the reply to what was asked next.
+    pub(crate) fn take(&mut self, reply: Reply)
+        requires accepted { IsSome (spec.told_by (spec.next self.old.collector) reply) }
+        requires unused { shows_unused reply ≡ true }
+        ensures { self.new ≡ told_one (spec.told_by (spec.next self.old.collector) reply) self.old }
+    {
+        self.collect.take(reply);
+    }
+
+    /// Where it has a quorum: it is known in the mode that is wanted, and the first quorum gave what is
+    /// there. A want of memory leaves it as it was.
+    pub(crate) fn settle(&mut self) -> Result<(), AllocError>
+        ensures ok { OnOk result (self.new ≡ settled_by (spec.next self.old.collector) self.old) }
+        ensures err { OnErr result (self.new ≡ self.old) }
+    {
+        let Next::Current {
+            prefix,
+            dver,
+            members,
+        } = self.collect.next()
+        else {
+            return Ok(());
+        };
+        if self.first.is_none() {
+            let source = source_of(&self.collect, dver, &members);
+            let prefix = prefix.clone()?;
+            let first = First {
+                prefix,
+                dver,
+                source,
+            };
+            self.first = Some(first);
+        }
+        self.mode = self.collect.mode();
+        Ok(())
+    }
+
     /// Whether a server answered that it holds a lock.
     pub(crate) fn holds_lock(&self, server: u8) -> bool
         ensures { result ≡ gathering.holds_lock self.now server }
@@ -135,4 +196,19 @@ impl Suite {
             LockMode::Shared
         }
     }
+}
+
+/// The first of these servers that showed a version; another, where none did.
+fn source_of(collect: &Collect, dver: u64, members: &Members) -> u8
+    ensures { result ≡ gathering.source_of collect.now.collector dver members.now }
+{
+    first_showing(collect, dver, members).unwrap_or(0)
+}
+
+/// The first of these servers that showed a version.
+fn first_showing(collect: &Collect, dver: u64, members: &Members) -> Option<u8>
+    ensures { result ≡ find (λ server. shown collect.now.collector.told server == dver) members.now }
+{
+    let shows = |server: &u8| collect.shown(*server) == dver;
+    members.as_slice().iter().copied().find(shows)
 }

@@ -1,0 +1,55 @@
+//! What comes of a reply to what a suite asks.
+
+ghost use Rattle.std.specs.Prelude.{◌≡◌, IfOk, true};
+ghost use Rattle.txn_core.specs.Hearing.{heard};
+ghost use Rattle.txn_core.specs.Unused.{shows_unused};
+
+use crate::coming::Coming;
+use crate::suites::Suite;
+use rep_core::Reply;
+use std::alloc::AllocError;
+
+/// What comes of a reply to what a suite asks, with the suite that was told it.
+#[derive(Drop)]
+pub(crate) enum Hearing {
+    /// A lock is lost, or its server is down: the transaction ends.
+    Lost,
+    /// It asks on.
+    Asks(Suite),
+    /// Nobody is left to ask.
+    Short {
+        suite: Suite,
+        got: u32,
+        needed: u32,
+        busy: Option<(u8, u64)>,
+    },
+    /// It has a quorum, and knows what that gave.
+    Settled(Suite),
+}
+
+impl Suite {
+    /// What comes of the reply to what is asked next. The suite stays as it was.
+    pub(crate) fn hear(&self, reply: &Reply) -> Result<Hearing, AllocError>
+        requires { shows_unused reply.now ≡ true }
+        ensures { IfOk result (λ hearing. hearing ≡ heard self.now reply.now) }
+    {
+        if !self.accepts(reply) {
+            return Ok(Hearing::Lost);
+        }
+        let mut suite = self.clone()?;
+        suite.take(reply.clone()?);
+        match suite.next() {
+            Coming::Ask { .. } => Ok(Hearing::Asks(suite)),
+            Coming::Short { got, needed, busy } => Ok(Hearing::Short {
+                suite,
+                got,
+                needed,
+                busy,
+            }),
+            Coming::Current => {
+                suite.settle()?;
+                Ok(Hearing::Settled(suite))
+            }
+        }
+    }
+}
