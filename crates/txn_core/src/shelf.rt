@@ -53,7 +53,9 @@ impl<'a> Shelf<'a> {
         ensures { option_copied result ≡ content_at (entries_on self.entry) site suite dver }
     {
         match self.fetched {
-            Some(fetched) => self.cache.content_beside(fetched.entry(), site, suite, dver),
+            Some(fetched) => self
+                .cache
+                .content_beside(fetched.entry(), site, suite, dver),
             None => self.cache.content(site, suite, dver),
         }
     }

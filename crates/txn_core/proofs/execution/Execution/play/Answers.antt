@@ -1,6 +1,6 @@
 use Rattle.std.proofs.Common.{◌≡◌, length, ap, sym, ◌∙◌, arith}
 use Rattle.file_exec.specs.Changes.{answered}
-use Rattle.file_exec.specs.Known.{exec_of}
+use Rattle.file_exec.specs.Known.{exec_of, opened_suite}
 use Rattle.txn_core.specs.Doing.{Task}
 use Rattle.txn_core.specs.Plans.{fixed_in, seen_on}
 use Rattle.txn_core.proofs.Rounds.{answer_of, playing_starts, playing_more, playing_stops}
@@ -32,4 +32,4 @@ loop-opened-preserved c =
     λ same. c.if-len.false (here ∙ same ∙ sym c.len-in-loop-opened.ensures.len) in
     playing_more (fixed_in c.args.self c.args.shelf.cache.now) c.args.self.task.now (seen_on c.args.shelf c.args.suites.now.pairs) c.loop-opened.opened.items known c.loop-opened.invariant
     c.in_ok-outcome.outcome answer (c.in-Some.number, c.in-Some.content) (sym c.in_ok-number.ensures ∙ c.in-Some.is) c.len-in-loop-opened.ensures.ordered
-    short c.open.new.self c.open.ensures.service c.open.ensures.suites _ c.in_ok-push.ensures.items
+    short c.open.new.self c.open.ensures.service (c.open.ensures.suites ∙ ap (opened_suite known.suites c.in-Some.number) c.in_ok-clone.ensures.cases) _ c.in_ok-push.ensures.items
