@@ -1,14 +1,25 @@
--- stub of h2
+-- What follows once a transaction was executed on what it gathered.
 use Rattle.std.specs.Prelude.{ℕ, Option, Some, None, Err}
-use Rattle.suite_collect.specs.Collecting.{next}
 use Rattle.weak_cache.specs.Entries.{Cache}
-use Rattle.txn_core.specs.declared.ending.Cause.TheVariants.{Lost}
+use Rattle.suite_collect.specs.Collecting.{next}
+use Rattle.file_exec.specs.declared.need.Need.TheVariants.{Hold, Know}
+use Rattle.file_exec.specs.declared.executor.Outcome.{Outcome as Executed}
+use Rattle.file_exec.specs.declared.executor.Outcome.TheVariants as exec
 use Rattle.txn_core.specs.declared.sequel.Sequel.{Sequel}
 use Rattle.txn_core.specs.declared.sequel.Sequel.TheVariants.{Gather, Fetch, Grant, Refuse}
+use Rattle.txn_core.specs.declared.ending.Cause.TheVariants.{Lost}
 use Rattle.txn_core.specs.Doing.{Task, Gathering, Fetching}
 use Rattle.txn_core.specs.Suites.{Suite, Suites, suite_of}
 use Rattle.txn_core.specs.Transactions.{Step, on_with, give_up, gather_by, widen_all, to_widen, prepare, locked_at}
 
+-- what the executor's answer comes to
+abbrev pub sequel_of : Executed → Sequel
+sequel_of (exec.Need (Hold number mode)) = Gather number
+sequel_of (exec.Need (Know number)) = Fetch number
+sequel_of (exec.Done answers changes) = Grant (record { answers = answers; changes = changes })
+sequel_of (exec.Refused refusal) = Refuse refusal
+
+-- a suite that is among those that are asked for is gathered
 abbrev pub gather_again : Task → Cache → Suites → ℕ → Option Suite → Step
 gather_again task cache suites number (Some suite) = gather_by task cache suites number (next suite.collector)
 gather_again task cache suites number None = on_with task cache suites (Gathering number)
@@ -19,6 +30,7 @@ follow task cache suites (Fetch number) = on_with task cache suites (Fetching nu
 follow task cache suites (Grant granted) = widen_all task cache suites granted (to_widen granted.changes)
 follow task cache suites (Refuse refusal) = prepare task cache suites (Err refusal) (locked_at suites)
 
+-- the same after a fetch; nothing follows where the suite had no quorum, and the lock at the server counts as lost
 abbrev pub follow_or : Task → Cache → Suites → ℕ → Option Sequel → Step
 follow_or task cache suites server (Some sequel) = follow task cache suites sequel
 follow_or task cache suites server None = give_up task cache suites (Lost server)

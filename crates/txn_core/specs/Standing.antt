@@ -1,9 +1,9 @@
 -- An agent as its contracts see it: what never changes, and its state.
-use Rattle.std.specs.Prelude.{◌≡◌, ◌<◌, ◌≤◌, ℕ, true, option_map, Option, Some, None}
+use Rattle.std.specs.Prelude.{◌≡◌, ℕ, true, Option, Some, None}
 use Rattle.rep_core.specs.declared.request.Request.{Request}
-use Rattle.weak_cache.specs.Cache.{Limited}
 use Rattle.txn_core.specs.declared.word.Word.{Word}
-use Rattle.txn_core.specs.Doing.{Fixed}
+use Rattle.txn_core.specs.declared.ending.Ending.{Ending}
+use Rattle.txn_core.specs.Doing.{Fixed, Doing}
 use Rattle.txn_core.specs.Agents.{Agent}
 use Rattle.txn_core.specs.Laws.{fits_word}
 
@@ -15,3 +15,8 @@ pub record Standing : Type 0 where
 abbrev pub FitsAsked : Option (ℕ × Request) → Word → Type 0
 FitsAsked (Some asked) word = fits_word asked.1 word ≡ true
 FitsAsked None word = Unit {0}
+
+-- what is done once there is an ending, or none
+abbrev pub left_by : Option Ending → Option Doing → Option Doing
+left_by (Some ending) doing = None
+left_by None doing = doing

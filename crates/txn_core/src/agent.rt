@@ -2,7 +2,7 @@
 
 ghost use Rattle.std.specs.Prelude.{◌≡◌, ◌<◌, [], IfOk, OnOk, OnErr};
 ghost use Rattle.txn_core.specs.Agents as agents;
-ghost use Rattle.txn_core.specs.Standing.{FitsAsked};
+ghost use Rattle.txn_core.specs.Standing.{FitsAsked, left_by};
 ghost use Rattle.txn_core.specs.Transactions as course;
 
 use crate::course::Course;
@@ -143,26 +143,35 @@ impl Agent {
         ensures new { OnOk result (self.new ≡ record self.old { state = (agents.take self.old.fixed self.old.state word.now).agent }) }
         ensures err { OnErr result (self.new ≡ self.old) }
     {
-        let ending = match &mut self.doing {
+        match &mut self.doing {
             Some(Doing::Running(course)) => {
-                course.take(self.alloc, &self.service, &mut self.cache, word)?
+                let ending = course.take(self.alloc, &self.service, &mut self.cache, word)?;
+                Ok(self.ended(ending))
             }
-            Some(Doing::Rounding(round)) => round.take(self.alloc, &self.service, word)?,
-            None => None,
-        };
+            Some(Doing::Rounding(round)) => {
+                let ending = round.take(self.alloc, &self.service, word)?;
+                Ok(self.ended(ending))
+            }
+            None => Ok(None),
+        }
+    }
+
+    /// After an ending it does no job any more.
+    fn ended(&mut self, ending: Option<Ending>) -> Option<Ending>
+        ensures ending { result ≡ ending }
+        ensures new { self.new ≡ record self.old { state = record self.old.state { doing = left_by ending self.old.state.doing } } }
+    {
         if ending.is_some() {
             self.doing = None;
         }
-        Ok(ending)
+        ending
     }
 
     /// Lets go what it keeps for a site.
     pub fn forget(&mut self, site: u8)
         ensures { self.new ≡ record self.old { state = agents.forget self.old.state site } }
     {
-        if site < MAX_SITES {
-            self.cache.forget(site);
-        }
+        self.cache.forget(site);
     }
 
     /// Whether it does no job.

@@ -1,12 +1,17 @@
-//! An execution.
+//! A transaction on what it gathered: all that it comes to is set, or nothing.
 
-ghost use Rattle.std.specs.Prelude.{◌≡◌, ℕ, IfOk, OnErr, IsSome, Some};
-ghost use Rattle.txn_core.specs.Unused.{HasUnused};
+ghost use Rattle.std.specs.Prelude.{◌≡◌, ◌<◌, ℕ, IfOk, IfSome, OnOk, OnErr, IsSome, Some, false, zero};
+ghost use Rattle.rep_core.specs.Store.{is_used_up};
+ghost use Rattle.weak_cache.specs.Entries.{most_sites};
+ghost use Rattle.txn_core.specs.Plans as planning;
 ghost use Rattle.txn_core.specs.Sequels.{follow, follow_or};
 ghost use Rattle.txn_core.specs.Suites.{suite_of, with_suite};
 ghost use Rattle.txn_core.specs.Transactions as course;
+ghost use Rattle.txn_core.specs.Unused.{HasUnused};
 
+use crate::plan::Plan;
 use crate::sequel::Sequel;
+use crate::shelf::{Fetched, Shelf, put};
 use crate::suites::Suite;
 use crate::task::Task;
 use file_ops::Service;
@@ -15,7 +20,7 @@ use std::alloc::{AllocError, Global};
 use suite_content::Content;
 use weak_cache::WeakCache;
 
-/// What an execution is of.
+/// What is executed: a transaction of a service.
 #[derive(Clone, Copy)]
 pub(crate) struct Execution<'a> {
     pub(crate) alloc: Global,
@@ -24,42 +29,152 @@ pub(crate) struct Execution<'a> {
 }
 
 impl<'a> Execution<'a> {
-    pub(crate) fn execute(self, suites: &mut RoomyMap<u64, Suite>, cache: &mut WeakCache) -> Result<Sequel, AllocError>
+    /// Executes the transaction on what it gathered. An error leaves all as it was.
+    pub(crate) fn execute(
+        self,
+        suites: &mut RoomyMap<u64, Suite>,
+        cache: &mut WeakCache,
+    ) -> Result<Sequel, AllocError>
         requires hints { HasUnused cache.old.entries }
-        ensures ok { IfOk result (λ sequel. follow self.entry.task.now cache.new.entries suites.new.pairs sequel ≡ course.execute (record { service = self.entry.service.now; limits = cache.old.limits }) self.entry.task.now (record { suites = suites.old.pairs; cache = cache.old.entries })) }
+        ensures ok { IfOk result (λ sequel. follow self.entry.task.now cache.new.entries suites.new.pairs sequel ≡ course.execute (planning.fixed_in self.entry cache.old) self.entry.task.now (record { suites = suites.old.pairs; cache = cache.old.entries })) }
         ensures limits { cache.new.limits ≡ cache.old.limits }
         ensures unused { HasUnused cache.new.entries }
         ensures err { OnErr result ((suites.new.pairs ≡ suites.old.pairs) × (cache.new ≡ cache.old)) }
     {
-        let _ = suites;
-        let _ = cache;
-        Ok(Sequel::Gather(0))
+        self.execute_after(suites, cache, None)
     }
 
-    pub(crate) fn execute_with(self, suites: &mut RoomyMap<u64, Suite>, cache: &mut WeakCache, number: u64, suite: Suite) -> Result<Sequel, AllocError>
-        requires hints { HasUnused cache.old.entries }
+    /// The same with a suite in place of the one of its number.
+    pub(crate) fn execute_with(
+        self,
+        suites: &mut RoomyMap<u64, Suite>,
+        cache: &mut WeakCache,
+        number: u64,
+        suite: Suite,
+    ) -> Result<Sequel, AllocError>
         requires there { IsSome (suite_of suites.old.pairs number) }
-        ensures ok { IfOk result (λ sequel. follow self.entry.task.now cache.new.entries suites.new.pairs sequel ≡ course.execute (record { service = self.entry.service.now; limits = cache.old.limits }) self.entry.task.now (record { suites = with_suite number suite suites.old.pairs; cache = cache.old.entries })) }
+        requires hints { HasUnused cache.old.entries }
+        ensures ok { IfOk result (λ sequel. follow self.entry.task.now cache.new.entries suites.new.pairs sequel ≡ course.execute (planning.fixed_in self.entry cache.old) self.entry.task.now (record { suites = with_suite number suite suites.old.pairs; cache = cache.old.entries })) }
         ensures limits { cache.new.limits ≡ cache.old.limits }
         ensures unused { HasUnused cache.new.entries }
         ensures err { OnErr result ((suites.new.pairs ≡ suites.old.pairs) × (cache.new ≡ cache.old)) }
     {
-        let _ = suites;
-        let _ = cache;
-        let _ = suite;
-        Ok(Sequel::Gather(number))
+        self.execute_in_place(suites, cache, number, suite, None)
     }
 
-    pub(crate) fn execute_given(self, suites: &mut RoomyMap<u64, Suite>, cache: &mut WeakCache, number: u64, content: &Content) -> Result<Option<Sequel>, AllocError>
+    /// The same after the content of a suite was fetched; nothing, where the suite had no quorum.
+    pub(crate) fn execute_given(
+        self,
+        suites: &mut RoomyMap<u64, Suite>,
+        cache: &mut WeakCache,
+        number: u64,
+        content: &Content,
+    ) -> Result<Option<Sequel>, AllocError>
         requires hints { HasUnused cache.old.entries }
-        ensures ok { IfOk result (λ sequel. (server : ℕ) → follow_or self.entry.task.now cache.new.entries suites.new.pairs server sequel ≡ course.fetched (record { service = self.entry.service.now; limits = cache.old.limits }) self.entry.task.now cache.old.entries suites.old.pairs number (suite_of suites.old.pairs number) server (Some content.now)) }
+        ensures ok { IfOk result (λ sequel. (server : ℕ) → follow_or self.entry.task.now cache.new.entries suites.new.pairs server sequel ≡ course.fetched (planning.fixed_in self.entry cache.old) self.entry.task.now cache.old.entries suites.old.pairs number (suite_of suites.old.pairs number) server (Some content.now)) }
         ensures limits { cache.new.limits ≡ cache.old.limits }
         ensures unused { HasUnused cache.new.entries }
         ensures err { OnErr result ((suites.new.pairs ≡ suites.old.pairs) × (cache.new ≡ cache.old)) }
     {
-        let _ = suites;
-        let _ = cache;
-        let _ = content;
-        Ok(Some(Sequel::Gather(number)))
+        let Some((suite, fetched)) = self.fetch(suites, number, content)? else {
+            return Ok(None);
+        };
+        let sequel = self.execute_in_place(suites, cache, number, suite, Some(fetched))?;
+        Ok(Some(sequel))
+    }
+
+    /// A suite with its content that was fetched, and the content as it is kept; nothing, where the
+    /// suite had no quorum.
+    fn fetch(
+        self,
+        suites: &RoomyMap<u64, Suite>,
+        number: u64,
+        content: &Content,
+    ) -> Result<Option<(Suite, Fetched)>, AllocError>
+        ensures value { IfOk result (λ pair. pair ≡ planning.fetched_of self.entry.task.now number content.now (suite_of suites.now.pairs number)) }
+        ensures site { IfOk result (λ pair. IfSome pair (λ one. one.1.site < most_sites)) }
+        ensures unused { IfOk result (λ pair. IfSome pair (λ one. is_used_up one.1.prefix.pver ≡ false)) }
+    {
+        let Some(suite) = suites.get(&number) else {
+            return Ok(None);
+        };
+        let Some(first) = suite.first() else {
+            return Ok(None);
+        };
+        let task = self.task;
+        task.facts();
+        let prefix = first.prefix.clone()?;
+        let fetched = Fetched {
+            site: task.site,
+            suite: number,
+            prefix,
+            dver: first.dver,
+            content: content.clone()?,
+        };
+        let mut opened = suite.clone()?;
+        opened.open(content.clone()?);
+        Ok(Some((opened, fetched)))
+    }
+
+    /// Executes the transaction with a suite in place of the one of its number, and once a content was
+    /// put into the cache.
+    fn execute_in_place(
+        self,
+        suites: &mut RoomyMap<u64, Suite>,
+        cache: &mut WeakCache,
+        number: u64,
+        suite: Suite,
+        fetched: Option<Fetched>,
+    ) -> Result<Sequel, AllocError>
+        requires there { IsSome (suite_of suites.old.pairs number) }
+        requires site { IfSome fetched (λ one. one.site < most_sites) }
+        requires hints { HasUnused (planning.shelved cache.old fetched) }
+        ensures ok { IfOk result (λ sequel. follow self.entry.task.now cache.new.entries suites.new.pairs sequel ≡ course.execute (planning.fixed_in self.entry cache.old) self.entry.task.now (record { suites = with_suite number suite suites.old.pairs; cache = planning.shelved cache.old fetched })) }
+        ensures limits { cache.new.limits ≡ cache.old.limits }
+        ensures unused { OnOk result (HasUnused cache.new.entries) }
+        ensures err { OnErr result ((suites.new.pairs ≡ suites.old.pairs) × (cache.new ≡ cache.old)) }
+    {
+        let before = suites.insert_in_room(number, suite);
+        match self.execute_after(suites, cache, fetched) {
+            Ok(sequel) => Ok(sequel),
+            Err(refused) => {
+                put_back(suites, number, before);
+                Err(refused)
+            }
+        }
+    }
+
+    /// Executes the transaction on what it gathered, once a content was put into the cache.
+    fn execute_after(
+        self,
+        suites: &mut RoomyMap<u64, Suite>,
+        cache: &mut WeakCache,
+        fetched: Option<Fetched>,
+    ) -> Result<Sequel, AllocError>
+        requires site { IfSome fetched (λ one. one.site < most_sites) }
+        requires hints { HasUnused (planning.shelved cache.old fetched) }
+        ensures ok { IfOk result (λ sequel. follow self.entry.task.now cache.new.entries suites.new.pairs sequel ≡ course.execute (planning.fixed_in self.entry cache.old) self.entry.task.now (record { suites = suites.old.pairs; cache = planning.shelved cache.old fetched })) }
+        ensures limits { cache.new.limits ≡ cache.old.limits }
+        ensures unused { OnOk result (HasUnused cache.new.entries) }
+        ensures err { OnErr result ((suites.new.pairs ≡ suites.old.pairs) × (cache.new ≡ cache.old)) }
+    {
+        let shelf = Shelf {
+            cache,
+            fetched: fetched.as_ref(),
+        };
+        let plan = self.plan(suites, shelf)?;
+        plan.make_room(suites)?;
+        put(cache, fetched)?;
+        Ok(plan.carry_out(self.task, suites, cache))
+    }
+}
+
+/// Puts a suite back in place of the one of its number.
+fn put_back(suites: &mut RoomyMap<u64, Suite>, number: u64, before: Option<Suite>)
+    requires { IsSome (suite_of suites.old.pairs number) }
+    ensures { IfSome before (λ suite. suites.new.pairs ≡ with_suite number suite suites.old.pairs) }
+{
+    if let Some(suite) = before {
+        suites.insert_in_room(number, suite);
     }
 }

@@ -7,16 +7,16 @@ ghost use Rattle.txn_core.specs.KnowingSuites.{told};
 use crate::suites::Suite;
 use file_exec::Known;
 use file_ops::Service;
-use sorted_map::SortedMap;
+use sorted_map::RoomyMap;
 use std::alloc::{AllocError, Global};
 
 /// What is known of the suites that had a quorum. Lists and contents are shared.
 pub(crate) fn known_of(
     alloc: Global,
     service: &Service,
-    suites: &SortedMap<u64, Suite>,
+    suites: &RoomyMap<u64, Suite>,
 ) -> Result<Known, AllocError>
-    ensures { IfOk result (λ known. known ≡ record { service = service.now; suites = gathering.known_of suites.now }) }
+    ensures { IfOk result (λ known. known ≡ record { service = service.now; suites = gathering.known_of suites.now.pairs }) }
 {
     let mut known = Known::new(alloc, *service);
     for (number, suite) in suites.as_slice() {

@@ -3,6 +3,7 @@
 
 mod agent;
 mod asking;
+mod carrying;
 mod coming;
 mod course;
 mod ending;
@@ -16,8 +17,10 @@ mod job;
 mod knowing;
 mod phase;
 mod laws;
+mod plan;
 mod sequel;
 mod servers;
+mod shelf;
 mod sorting;
 mod suites;
 mod sweep;

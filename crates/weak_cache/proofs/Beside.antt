@@ -3,7 +3,7 @@ use Rattle.std.proofs.Common.{◌≡◌, ℕ, Bool, true, false, not, ◌&&◌, 
 use Rattle.std.specs.Prelude.{◌==◌, find, IsTrue}
 use Rattle.std.proofs.lemmas.Bool.{eqb-true, false≢true}
 use Rattle.weak_cache.specs.Entries.{Entry, Cache, is_of, forgotten, entry_of, without}
-use Rattle.weak_cache.specs.Cache.{Limits, has_room, at_version, content_at, put, within_quota}
+use Rattle.weak_cache.specs.Cache.{Limits, has_room, put, within_quota}
 use Rattle.weak_cache.proofs.Found.{find_kept, find_gone, of_same}
 use Rattle.weak_cache.proofs.Puts.{put_none}
 
@@ -34,12 +34,14 @@ not_true false h = refl
 left : (limits : Limits) (n : Entry) (c : Cache) (site suite : ℕ) → (IsTrue (has_room limits n.content) → ⊥) → entry_of (put limits n c) site suite ≡ entry_of (without n.site n.suite c) site suite
 left limits n c site suite none = ap (find (is_of site suite)) (put_none limits n c (not_true (has_room limits n.content) none))
 
-pub no_room_own : (limits : Limits) (n : Entry) (c : Cache) (site suite dver : ℕ) → (IsTrue (has_room limits n.content) → ⊥) → is_of site suite n ≡ true → None ≡ content_at (put limits n c) site suite dver
-no_room_own limits n c site suite dver none own =
+-- what the site kept of the suite is gone
+pub none_own : (limits : Limits) (n : Entry) (c : Cache) (site suite : ℕ) → (IsTrue (has_room limits n.content) → ⊥) → is_of site suite n ≡ true → None ≡ entry_of (put limits n c) site suite
+none_own limits n c site suite none own =
     let gone : entry_of (without n.site n.suite c) site suite ≡ None = find_gone (is_of site suite) (λ x. not (is_of n.site n.suite x)) (λ x here. ap not (of_same site suite n.site n.suite x here ∙ key_turned site suite n ∙ own)) c in
-    sym (ap (at_version dver) (left limits n c site suite none ∙ gone))
+    sym (left limits n c site suite none ∙ gone)
 
-pub no_room_other : (limits : Limits) (n : Entry) (c : Cache) (site suite dver : ℕ) → (IsTrue (has_room limits n.content) → ⊥) → is_of site suite n ≡ false → content_at (put limits n c) site suite dver ≡ content_at c site suite dver
-no_room_other limits n c site suite dver none other =
+-- and what else was kept is kept
+pub kept_other : (limits : Limits) (n : Entry) (c : Cache) (site suite : ℕ) → (IsTrue (has_room limits n.content) → ⊥) → is_of site suite n ≡ false → entry_of c site suite ≡ entry_of (put limits n c) site suite
+kept_other limits n c site suite none other =
     let kept : entry_of (without n.site n.suite c) site suite ≡ entry_of c site suite = find_kept (is_of site suite) (λ x. not (is_of n.site n.suite x)) (λ x here. ap not (of_same site suite n.site n.suite x here ∙ key_turned site suite n ∙ other)) c in
-    ap (at_version dver) (left limits n c site suite none ∙ kept)
+    sym (left limits n c site suite none ∙ kept)

@@ -2,6 +2,7 @@ pub mod Entries
 pub mod Cache
 pub mod EntryView
 pub mod CacheView
+pub mod NewEntry
 pub mod Loans
 pub mod Places
 pub mod Calls

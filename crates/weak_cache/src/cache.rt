@@ -1,8 +1,10 @@
 //! The cache of an agent's sites.
 
-ghost use Rattle.std.specs.Prelude.{◌≡◌, ◌==◌, ◌&&◌, ◌-◌, ◌<◌, ◌≤◌, IfOk, OnOk, OnErr, IsOk, IsSome, IsTrue, [], length, false};
+ghost use Rattle.std.specs.Prelude.{◌≡◌, ◌-◌, ◌<◌, ◌≤◌, IfOk, OnOk, OnErr, IsOk, IsSome, IsTrue, [], length, false};
 ghost use Rattle.std.specs.Option.{option_copied, SomeIff};
 ghost use Rattle.std.specs.Borrow.{sem};
+ghost use Rattle.weak_cache.specs.Entries.{is_of};
+ghost use Rattle.weak_cache.specs.NewEntry.{new_entry};
 
 use crate::entry::{SizedEntry, size_within};
 use crate::list::{Beside, Entries, EntryList};
@@ -24,11 +26,12 @@ pub struct WeakCache {
     entries: EntryList,
 }
 
-/// A content that may be put for a site and a suite: it and its version.
+/// An entry that may be put: of which site and suite, with which prefix, and a content at its version.
 #[derive(Clone, Copy)]
-pub struct NewContent<'a> {
+pub struct NewEntry<'a> {
     pub site: u8,
     pub suite: u64,
+    pub prefix: &'a Prefix,
     pub dver: u64,
     pub content: &'a Content,
 }
@@ -48,7 +51,6 @@ impl WeakCache {
     ghost use Rattle.weak_cache.specs.Cache.{IsWithin, hint, has_room, put, searched, content_at};
     ghost use Rattle.weak_cache.specs.Entries.{size_of, keys_of, forgotten, entry_of, most_sites};
     ghost use Rattle.weak_cache.specs.Loans.{EndsWith};
-    ghost use Rattle.suite_prefix.specs.declared.copies.Prefix.{Prefix};
 
     /// A cache without entries. All sites together may keep as many bytes as the budget says, each site
     /// as many as the quota, and there may be as many entries as there are slots.
@@ -108,31 +110,46 @@ impl WeakCache {
         self.entries.find(site, suite)?.content_at(dver)
     }
 
-    /// The content that would be found once another was put, of a site and suite at this version. It changes
-    /// nothing and takes no memory.
+    /// The content that would be found once an entry was put, of a site and suite at this version. It
+    /// changes nothing and takes no memory.
     pub fn content_beside<'a>(
         &'a self,
-        new: NewContent<'a>,
+        new: NewEntry<'a>,
         site: u8,
         suite: u64,
         dver: u64,
     ) -> Option<&'a Content>
-        ensures { (prefix : Prefix) → option_copied result ≡ content_at (put self.now.limits (record { site = new.entry.site; suite = new.entry.suite; prefix = prefix; dver = new.entry.dver; content = new.entry.content.now }) self.now.entries) site suite dver }
+        ensures { option_copied result ≡ content_at (put self.now.limits (new_entry new.entry) self.now.entries) site suite dver }
     {
-        let is_new = is_same(new.site, new.suite, site, suite);
-        let Some(size) = self.size_in_room(new.content) else {
-            if is_new {
-                return None;
-            }
-            return self.entries.find(site, suite)?.content_at(dver);
-        };
-        if is_new {
-            return (new.dver == dver).then_some(new.content);
+        if !new.is_of(site, suite) {
+            return self.other_beside(new, site, suite)?.content_at(dver);
         }
+        self.size_in_room(new.content)?;
+        (new.dver == dver).then_some(new.content)
+    }
+
+    /// The prefix that would be found once an entry was put, of a site and suite. It changes nothing and
+    /// takes no memory.
+    pub fn hint_beside<'a>(&'a self, new: NewEntry<'a>, site: u8, suite: u64) -> Option<&'a Prefix>
+        ensures { option_copied result ≡ hint (put self.now.limits (new_entry new.entry) self.now.entries) site suite }
+    {
+        if !new.is_of(site, suite) {
+            return Some(self.other_beside(new, site, suite)?.prefix());
+        }
+        self.size_in_room(new.content)?;
+        Some(new.prefix)
+    }
+
+    /// What another site, or the same of another suite, would keep once an entry was put.
+    fn other_beside(&self, new: NewEntry<'_>, site: u8, suite: u64) -> Option<&SizedEntry>
+        requires { is_of site suite (new_entry new) ≡ false }
+        ensures { option_copied result ≡ entry_of (put self.now.limits (new_entry new.entry) self.now.entries) site suite }
+    {
+        let Some(size) = self.size_in_room(new.content) else {
+            return self.entries.find(site, suite);
+        };
         let beside = self.beside(new.site, new.suite, size);
-        self.entries
-            .find_beside(beside, site, suite)?
-            .content_at(dver)
+        self.entries.find_beside(beside, site, suite)
     }
 
     /// Keeps a prefix and a content for a site, as the newest, in place of what it kept of the suite; if
@@ -197,16 +214,17 @@ impl WeakCache {
 
     /// Lets go what a site keeps.
     pub fn forget(&mut self, site: u8)
-        requires { site < most_sites }
         ensures { self.new ≡ record self.old { entries = forgotten site self.old.entries } }
     {
         self.entries.forget(site);
     }
 }
 
-/// Whether two sites and suites are the same.
-const fn is_same(site: u8, suite: u64, other: u8, number: u64) -> bool
-    ensures { result ≡ ((site == other) && (suite == number)) }
-{
-    site == other && suite == number
+impl<'a> NewEntry<'a> {
+    /// Whether it is of this site and this suite.
+    fn is_of(self, site: u8, suite: u64) -> bool
+        ensures { result ≡ is_of site suite (new_entry self.entry) }
+    {
+        self.site == site && self.suite == suite
+    }
 }

@@ -11,9 +11,10 @@
 //! type ([`WeakCache::is_within`]). A content and a prefix are shared with whoever gave them: storing and
 //! lending copies none.
 //!
-//! What would be found once an entry were put can be asked before it is put ([`WeakCache::content_beside`]).
+//! What would be found once an entry was put can be asked before it is put
+//! ([`WeakCache::content_beside`], [`WeakCache::hint_beside`]).
 //!
-//! What a caller owes: a site's number is below [`MAX_SITES`].
+//! What a caller owes: the number of a site that puts is below [`MAX_SITES`].
 #![tactic(auto)]
 
 mod cache;
@@ -21,7 +22,7 @@ mod entry;
 mod laws;
 mod list;
 
-pub use cache::{MAX_SITES, NewContent, WeakCache};
+pub use cache::{MAX_SITES, NewEntry, WeakCache};
 pub use laws::{
     a_search_keeps_all, entries_come_from_puts, found_was_put, oldest_go, site_lists,
 };

@@ -4,7 +4,7 @@ use Rattle.txn_core.proofs.knowing.known_of.Goals as goal
 
 pub loop-number-preserved : goal.loop-number-preserved
 loop-number-preserved c =
-    let long : length c.as_slice-number-items.result.now ≡ length c.args.suites.now = ap (λ l. length l) c.as_slice-number-items.ensures.pairs in (
+    let long : length c.as_slice-number-items.result.now ≡ length c.args.suites.now.pairs = ap (λ l. length l) c.as_slice-number-items.ensures.pairs in (
       c.tell.ensures.service ∙ c.loop-number.invariant.0,
-      telling_more c.args.suites.now c.loop-number.number-index c.loop-number-item.result _ _ (omega arith) (c.loop-number-item.is ∙ ap (λ l. get_or l c.loop-number.number-index c.loop-number-item.result) c.as_slice-number-items.ensures.pairs) c.in_ok-tell.ensures.suites c.loop-number.invariant.1,
+      telling_more c.args.suites.now.pairs c.loop-number.number-index c.loop-number-item.result _ _ (omega arith) (c.loop-number-item.is ∙ ap (λ l. get_or l c.loop-number.number-index c.loop-number-item.result) c.as_slice-number-items.ensures.pairs) c.in_ok-tell.ensures.suites c.loop-number.invariant.1,
     )

@@ -1,0 +1,120 @@
+-- What stays as it was where suites get contents that are to be had without asking.
+use Rattle.std.proofs.Common.{◌≡◌, ℕ, Bool, true, false, cond, List, [], ◌∷◌, ◌++◌, Option, Some, None, refl, sym, ap, ◌∙◌}
+use Rattle.std.specs.Prelude.{is_some, option_map, if◌then◌else◌, ◌==◌}
+use Rattle.std.specs.Ordering.{nat_cmp, is_eq}
+use Rattle.std.specs.BTreeMap.{is_at}
+use Rattle.std.proofs.lemmas.Cmp.{nat_cmp_total}
+use Rattle.std.proofs.lemmas.Map.Lookups.{exact_unsigned}
+use Rattle.sorted_map.specs.Comparisons.{equal_if}
+use Rattle.sorted_map.specs.SortedMap.{IsOrdered}
+use Rattle.sorted_map.specs.Laws.{get-insert, IsOrdered-insert}
+use Rattle.suite_content.specs.declared.content.Content.{Content}
+use Rattle.suite_content.specs.Contents.{empty_content}
+use Rattle.suite_prefix.specs.Copies.{held_by}
+use Rattle.weak_cache.specs.Entries.{Cache}
+use Rattle.weak_cache.specs.Cache.{content_at, hint, searched}
+use Rattle.weak_cache.proofs.Origins.{search_keeps_all}
+use Rattle.txn_core.specs.Suites.{First, Suite, Suites, suite_of, with_suite}
+use Rattle.txn_core.specs.Doing.{Task}
+use Rattle.txn_core.specs.Transactions.{Gathered, after_search, free_content}
+use Rattle.txn_core.specs.Unused.{HasUnused}
+use Rattle.txn_core.proofs.Unused.{unused_searched}
+use Rattle.txn_core.specs.Plans.{opened_first, opened_at, opened_by, opened_all, free_first, free_of}
+
+-- what the first quorum of a suite gave
+abbrev pub first_in : Option Suite → Option First
+first_in (Some suite) = suite.first
+first_in None = None
+
+pub record Keeps (all more : Gathered) : Type 0 where
+  pub ordered : IsOrdered nat_cmp all.suites → IsOrdered nat_cmp more.suites
+  pub firsts : (number : ℕ) → first_in (suite_of more.suites number) ≡ first_in (suite_of all.suites number)
+  pub there : (number : ℕ) → is_some (suite_of more.suites number) ≡ is_some (suite_of all.suites number)
+  pub contents : (site number dver : ℕ) → content_at more.cache site number dver ≡ content_at all.cache site number dver
+  pub hints : (site number : ℕ) → hint more.cache site number ≡ hint all.cache site number
+  pub unused : HasUnused all.cache → HasUnused more.cache
+
+keeps_itself : (all : Gathered) → Keeps all all
+keeps_itself all = record { ordered = λ o. o; firsts = λ number. refl; there = λ number. refl; contents = λ site number dver. refl; hints = λ site number. refl; unused = λ all. all }
+
+keeps_on : (all some more : Gathered) → Keeps all some → Keeps some more → Keeps all more
+keeps_on all some more first then' = record {
+  ordered = λ o. then'.ordered (first.ordered o);
+  firsts = λ number. then'.firsts number ∙ first.firsts number;
+  there = λ number. then'.there number ∙ first.there number;
+  contents = λ site number dver. then'.contents site number dver ∙ first.contents site number dver;
+  hints = λ site number. then'.hints site number ∙ first.hints site number;
+  unused = λ all. then'.unused (first.unused all);
+}
+
+-- at each number there is what the suite before and after have in common
+same_at : {X : Type 0} (see : Option Suite → X) (suites : Suites) (number : ℕ) (suite new : Suite) → suite_of suites number ≡ Some suite → see (Some new) ≡ see (Some suite)
+    → (other : ℕ) → see (suite_of (with_suite number new suites) other) ≡ see (suite_of suites other)
+same_at see suites number suite new is same other =
+    ap see (get-insert nat_cmp_total suites number new other) ∙ of (is_eq (nat_cmp number other)) refl
+  where
+    of : (b : Bool) → is_eq (nat_cmp number other) ≡ b → see (cond b (Some new) (suite_of suites other)) ≡ see (suite_of suites other)
+    of true at = same ∙ ap see (sym is) ∙ ap (λ n. see (suite_of suites n)) (exact_unsigned number other (equal_if (nat_cmp number other) at))
+    of false at = refl
+
+-- what is looked for in the cache moves, and stays
+pub record StaysFound (cache more : Cache) : Type 0 where
+  pub contents : (site number dver : ℕ) → content_at more site number dver ≡ content_at cache site number dver
+  pub hints : (site number : ℕ) → hint more site number ≡ hint cache site number
+  pub unused : HasUnused cache → HasUnused more
+
+search_keeps : (task : Task) (cache : Cache) (number : ℕ) (first : First) → StaysFound cache (after_search task cache number first)
+search_keeps task cache number first = of (first.dver == 0)
+  where
+    of : (b : Bool) → StaysFound cache (if b then cache else searched task.site number first.dver cache)
+    of true = record { contents = λ site other dver. refl; hints = λ site other. refl; unused = λ all. all }
+    of false = record {
+      contents = λ site other dver. search_keeps_all.content task.site number first.dver site other dver cache;
+      hints = λ site other. search_keeps_all.hint task.site number first.dver site other cache;
+      unused = unused_searched task.site number first.dver cache;
+    }
+
+keeps_one : (task : Task) (all : Gathered) (one : ℕ × Content) → Keeps all (opened_by task all one)
+keeps_one task all one = of (suite_of all.suites one.0) refl
+  where
+    opens : (suite : Suite) → suite_of all.suites one.0 ≡ Some suite → (first : Option First) → suite.first ≡ first → Keeps all (opened_first task all one.0 one.1 suite first)
+    opens suite is None was = keeps_itself all
+    opens suite is (Some first) was =
+        let new : Suite = record suite { content = Some one.1 } in
+        let cache = search_keeps task all.cache one.0 first in
+        record {
+          ordered = λ o. IsOrdered-insert nat_cmp_total all.suites one.0 new o;
+          firsts = same_at first_in all.suites one.0 suite new is refl;
+          there = same_at is_some all.suites one.0 suite new is refl;
+          contents = cache.contents;
+          hints = cache.hints;
+          unused = cache.unused;
+        }
+
+    of : (found : Option Suite) → suite_of all.suites one.0 ≡ found → Keeps all (opened_at task all one.0 one.1 found)
+    of (Some suite) is = opens suite is suite.first refl
+    of None is = keeps_itself all
+
+pub keeps_all : (task : Task) (list : List (ℕ × Content)) (all : Gathered) → Keeps all (opened_all task list all)
+keeps_all task [] all = keeps_itself all
+keeps_all task (one ∷ list) all = keeps_on all (opened_by task all one) (opened_all task list (opened_by task all one)) (keeps_one task all one) (keeps_all task list (opened_by task all one))
+
+-- the contents that are to be had without asking are the same
+same_free : (task : Task) (all more : Gathered) → Keeps all more → (number : ℕ) (first : First) → free_content task more.cache number first ≡ free_content task all.cache number first
+same_free task all more keeps number first =
+    ap (λ o. if first.dver == 0 then Some (empty_content (held_by first.prefix.kind)) else o) (keeps.contents task.site number first.dver)
+
+free_by_first : (task : Task) (cache : Cache) (number : ℕ) (found : Option Suite) → free_of task cache number found ≡ free_first task cache number (first_in found)
+free_by_first task cache number (Some suite) = refl
+free_by_first task cache number None = refl
+
+pub free_kept : (task : Task) (all more : Gathered) → Keeps all more → (number : ℕ) → free_of task more.cache number (suite_of more.suites number) ≡ free_of task all.cache number (suite_of all.suites number)
+free_kept task all more keeps number =
+    free_by_first task more.cache number (suite_of more.suites number)
+    ∙ ap (free_first task more.cache number) (keeps.firsts number)
+    ∙ of (first_in (suite_of all.suites number))
+    ∙ sym (free_by_first task all.cache number (suite_of all.suites number))
+  where
+    of : (first : Option First) → free_first task more.cache number first ≡ free_first task all.cache number first
+    of (Some first) = same_free task all more keeps number first
+    of None = refl

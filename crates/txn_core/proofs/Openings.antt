@@ -1,0 +1,81 @@
+-- Contents that are to be had without asking: what is known with them, and what they leave as it was.
+use Rattle.std.proofs.Common.{◌≡◌, ◌+◌, ◌⊎◌, ℕ, zero, suc, inl, inr, Bool, true, false, cond, List, [], ◌∷◌, ◌++◌, length, Option, Some, None, refl, sym, ap, subst, ◌∙◌, arith}
+use Rattle.std.specs.Prelude.{option_map, is_some}
+use Rattle.std.specs.Option.{option_map_or}
+use Rattle.std.specs.Ordering.{nat_cmp, is_eq}
+use Rattle.std.specs.BTreeMap.{is_at}
+use Rattle.std.proofs.lemmas.Cmp.{nat_cmp_total}
+use Rattle.std.proofs.lemmas.Option.{same_Some}
+use Rattle.sorted_map.specs.SortedMap.{IsOrdered, get, insert, replace}
+use Rattle.sorted_map.specs.Laws.{get-insert, IsOrdered-insert}
+use Rattle.sorted_map.specs.Edits.{insert_present}
+use Rattle.sorted_map.specs.Numbers.{get_insert_here}
+use Rattle.suite_content.specs.declared.content.Content.{Content}
+use Rattle.suite_content.specs.Contents.{empty_content}
+use Rattle.suite_prefix.specs.Copies.{held_by}
+use Rattle.suite_prefix.specs.declared.copies.Prefix.{Prefix}
+use Rattle.suite_prefix.specs.declared.copies.PrefixKind.{PrefixKind}
+use Rattle.suite_prefix.specs.declared.copies.PrefixKind.TheVariants as kind
+use Rattle.file_ops.specs.Rows.{Row, with_content}
+use Rattle.file_exec.specs.declared.known.KnownSuite.{KnownSuite}
+use Rattle.file_exec.specs.Known as known
+use Rattle.file_exec.specs.Known.{Known}
+use Rattle.txn_core.specs.Suites.{First, Suite, Suites, suite_of, with_suite, row_with, known_row, known_if, known_of}
+use Rattle.txn_core.proofs.Setting.{known_at}
+
+-- ---- what is known of a suite that gets its content
+
+row_again : (kind : PrefixKind) (prefix : Prefix) (before : Option Content) (content : Content) → option_map (λ (row : Row). with_content row content) (row_with kind prefix before) ≡ row_with kind prefix (Some content)
+row_again kind.Absent prefix before content = refl
+row_again kind.File prefix before content = refl
+row_again kind.Folder prefix before content = refl
+
+abbrev with_it : Suite → Content → Suite
+with_it suite content = record suite { content = Some content }
+
+row_opened : (suite : Suite) (first : First) (content : Content) → known.opened (known_row suite first) content ≡ known_row (record suite { content = Some content }) first
+row_opened suite first content =
+    let read : Option Row → KnownSuite = λ row. record { mode = suite.mode; row = row; opened = true } in
+    ap read (row_again first.prefix.kind first.prefix suite.content content)
+
+-- another value at the number of a suite that had a quorum
+replaced_known : (suites : Suites) (number : ℕ) (suite new : Suite) (first : First) → suite_of suites number ≡ Some suite → suite.first ≡ Some first → new.first ≡ Some first
+    → replace nat_cmp (known_of suites) number (known_row new first) ≡ known_of (replace nat_cmp suites number new)
+replaced_known [] number suite new first is was now = refl
+replaced_known (e ∷ es) number suite new first is was now = of (λ is. replaced_known es number suite new first is was now) (is_at (nat_cmp number) e.0) refl is
+  where
+    row : KnownSuite
+    row = known_row new first
+
+    here : (found : Option First) → found ≡ Some first → is_at (nat_cmp number) e.0 ≡ true → replace nat_cmp (known_if e.0 e.1 found (known_of es)) number row ≡ (e.0, row) ∷ known_of es
+    here (Some other) same at = ap (λ b. cond b ((e.0, row) ∷ known_of es) ((e.0, known_row e.1 other) ∷ replace nat_cmp (known_of es) number row)) at
+    here None same at = cc
+
+    later : (found : Option First) → is_at (nat_cmp number) e.0 ≡ false → replace nat_cmp (known_of es) number row ≡ known_of (replace nat_cmp es number new)
+        → replace nat_cmp (known_if e.0 e.1 found (known_of es)) number row ≡ known_if e.0 e.1 found (known_of (replace nat_cmp es number new))
+    later (Some other) at rest =
+        ap (λ b. cond b ((e.0, row) ∷ known_of es) ((e.0, known_row e.1 other) ∷ replace nat_cmp (known_of es) number row)) at
+        ∙ ap (λ (l : Known). (e.0, known_row e.1 other) ∷ l) rest
+    later None at rest = rest
+
+    of : (suite_of es number ≡ Some suite → replace nat_cmp (known_of es) number row ≡ known_of (replace nat_cmp es number new))
+        → (b : Bool) → is_at (nat_cmp number) e.0 ≡ b → cond b (Some e.1) (suite_of es number) ≡ Some suite
+        → replace nat_cmp (known_of (e ∷ es)) number row ≡ known_of (replace nat_cmp (e ∷ es) number new)
+    of again true at is =
+        let same : e.1 ≡ suite = same_Some e.1 suite is in
+        here e.1.first (ap (λ (it : Suite). it.first) same ∙ was) at
+        ∙ sym (ap (λ o. known_if e.0 new o (known_of es)) now)
+        ∙ sym (ap (λ b. known_of (cond b ((e.0, new) ∷ es) (e ∷ replace nat_cmp es number new))) at)
+    of again false at is =
+        later e.1.first at (again is)
+        ∙ sym (ap (λ b. known_of (cond b ((e.0, new) ∷ es) (e ∷ replace nat_cmp es number new))) at)
+
+pub known_opened : (suites : Suites) (number : ℕ) (suite : Suite) (first : First) (content : Content) → IsOrdered nat_cmp suites → suite_of suites number ≡ Some suite → suite.first ≡ Some first
+    → known.opened_suite (known_of suites) number content ≡ known_of (with_suite number (record suite { content = Some content }) suites)
+known_opened suites number suite first content ordered is was =
+    let new = with_it suite content in
+    let known' = known_of suites in
+    ap (λ o. option_map_or (λ held. replace nat_cmp known' number (known.opened held content)) o known') (known_at suites number suite first is was)
+    ∙ ap (λ held. replace nat_cmp known' number held) (row_opened suite first content)
+    ∙ replaced_known suites number suite new first is was was
+    ∙ ap known_of (sym (insert_present nat_cmp_total suites number new ordered (ap is_some is)))

@@ -1,0 +1,76 @@
+-- An agent that takes a word, as its code goes about it.
+use Rattle.std.proofs.Common.{◌≡◌, ℕ, Option, Some, None, refl, sym, ap, ◌∙◌, subst}
+use Rattle.rep_core.specs.declared.request.Request.{Request}
+use Rattle.weak_cache.specs.Entries.{Cache}
+use Rattle.txn_core.specs.declared.ending.Ending.{Ending}
+use Rattle.txn_core.specs.declared.word.Word.{Word}
+use Rattle.txn_core.specs.Agents.{Agent, Taken, left, end_of, with_step, take_in, take, next_in}
+use Rattle.txn_core.specs.Doing.{Fixed, Course, Round, Doing, Running, Rounding, After, GoesOn, Ends}
+use Rattle.txn_core.specs.RoundFields.{Comes}
+use Rattle.txn_core.specs.Standing.{left_by}
+use Rattle.txn_core.specs.Steps.{Steps, Becomes, taken}
+use Rattle.txn_core.specs.Sweeps as sweep
+use Rattle.txn_core.specs.Transactions.{Step, request_of}
+use Rattle.txn_core.specs.Transactions as course
+
+-- what was taken: the ending, and the agent after it
+pub record Took (fixed : Fixed) (state : Agent) (word : Word) (ending : Option Ending) (cache : Cache) (doing : Option Doing) : Type 0 where
+  pub ending : ending ≡ (take fixed state word).ending
+  pub agent : record state { cache = cache; doing = left_by ending doing } ≡ (take fixed state word).agent
+
+module _ (fixed : Fixed) (state : Agent) (word : Word) (ending : Option Ending) where
+  take_of : (doing : Option Doing) → state.doing ≡ doing → take fixed state word ≡ take_in fixed state word doing (next_in fixed doing)
+  take_of doing is = ap (λ doing. take_in fixed state word doing (next_in fixed doing)) is
+
+  -- ---- a transaction
+
+  module _ (after : Course) (kept : Cache) where
+    at_after : (cache : Cache) (a : After Course) → kept ≡ cache → Becomes a ending after
+        → (ending ≡ end_of a) × (record state { cache = kept; doing = left_by ending (Some (Running after)) } ≡ record state { cache = cache; doing = left Running a })
+    at_after cache (GoesOn more) same became = (
+      became.0,
+      ap (λ ending. record state { cache = kept; doing = left_by ending (Some (Running after)) }) became.0
+      ∙ ap (λ (after : Course). record state { cache = kept; doing = Some (Running after) }) became.1
+      ∙ ap (λ cache. record state { cache = cache; doing = Some (Running more) }) same,
+    )
+    at_after cache (Ends how) same became = (
+      became,
+      ap (λ ending. record state { cache = kept; doing = left_by ending (Some (Running after)) }) became
+      ∙ ap (λ cache. record state { cache = cache; doing = None }) same,
+    )
+
+    at_asked : (running : Course) (asked : Option (ℕ × Request)) → state.doing ≡ Some (Running running) → Steps (taken fixed running state.cache asked word) ending after kept
+        → (ending ≡ (take_in fixed state word (Some (Running running)) asked).ending) × (record state { cache = kept; doing = left_by ending (Some (Running after)) } ≡ (take_in fixed state word (Some (Running running)) asked).agent)
+    at_asked running (Some asked) is steps = let step = course.after_word fixed running state.cache asked.0 asked.1 word in at_after step.cache step.after steps.0 steps.1
+    at_asked running None is steps =
+        let both = at_after state.cache (GoesOn running) steps.0 steps.1 in
+        (both.0, both.1 ∙ ap (λ doing. record state { doing = doing }) (sym is))
+
+    pub took_word : (running : Course) → state.doing ≡ Some (Running running) → Steps (taken fixed running state.cache (request_of fixed running) word) ending after kept → Took fixed state word ending kept (Some (Running after))
+    took_word running is steps =
+        let both = at_asked running (request_of fixed running) is steps in
+        let same = take_of (Some (Running running)) is in
+        record { ending = both.0 ∙ ap (λ (t : Taken). t.ending) (sym same); agent = both.1 ∙ ap (λ (t : Taken). t.agent) (sym same) }
+
+  -- ---- a sweep
+
+  module _ (after : Round) where
+    round_after : (a : After Round) → Comes a ending after → (ending ≡ end_of a) × (record state { doing = left_by ending (Some (Rounding after)) } ≡ record state { doing = left Rounding a })
+    round_after (GoesOn more) came = (
+      came.0,
+      ap (λ ending. record state { doing = left_by ending (Some (Rounding after)) }) came.0 ∙ ap (λ (after : Round). record state { doing = Some (Rounding after) }) came.1,
+    )
+    round_after (Ends how) came = (came, ap (λ ending. record state { doing = left_by ending (Some (Rounding after)) }) came)
+
+    pub swept_word : (round : Round) → state.doing ≡ Some (Rounding round) → Comes (sweep.after_word fixed.service round (sweep.asked_now fixed.service round round.now).0 word) ending after → Took fixed state word ending state.cache (Some (Rounding after))
+    swept_word round is came =
+        let both = round_after (sweep.after_word fixed.service round (sweep.asked_now fixed.service round round.now).0 word) came in
+        let same = take_of (Some (Rounding round)) is in
+        record { ending = both.0 ∙ ap (λ (t : Taken). t.ending) (sym same); agent = both.1 ∙ ap (λ (t : Taken). t.agent) (sym same) }
+
+  -- ---- nothing
+
+  pub took_nothing : state.doing ≡ None → Took fixed state word None state.cache None
+  took_nothing is =
+      let same = take_of None is in
+      record { ending = ap (λ (t : Taken). t.ending) (sym same); agent = ap (λ doing. record state { doing = doing }) (sym is) ∙ ap (λ (t : Taken). t.agent) (sym same) }

@@ -1,0 +1,11 @@
+use Rattle.std.proofs.Common.{ap, ◌∙◌}
+use Rattle.suite_prefix.specs.declared.copies.Prefix.{Prefix}
+use Rattle.rep_core.specs.Store.{is_used_up}
+use Rattle.txn_core.specs.Plans.{fixed_in, entries_on}
+use Rattle.txn_core.proofs.Unused.{unused_start}
+use Rattle.txn_core.proofs.execution.Execution.new_for.Goals as goal
+
+pub new-requires : goal.new-requires
+new-requires c =
+    ap (λ (prefix : Prefix). is_used_up prefix.pver) c.in_ok-start.ensures
+    ∙ unused_start (fixed_in c.args.self c.args.shelf.cache.now) c.args.self.task.now (entries_on c.args.shelf) c.in-Need-Hold.number c.requires

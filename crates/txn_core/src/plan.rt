@@ -1,0 +1,172 @@
+//! What an execution sets, found before anything is set.
+
+ghost use Rattle.std.specs.Prelude.{◌≡◌, ◌<◌, ◌≤◌, IfOk, IsSome, unwrap_or};
+ghost use Rattle.std.specs.Option.{option_copied};
+ghost use Rattle.sorted_map.specs.SortedMap.{IsOrdered};
+ghost use Rattle.suite_collect.specs.Collecting.{raise};
+ghost use Rattle.suite_prefix.specs.Absent.{absent_prefix};
+ghost use Rattle.weak_cache.specs.Cache.{hint};
+ghost use Rattle.txn_core.specs.Plans as spec;
+ghost use Rattle.txn_core.specs.Sequels as sequel;
+ghost use Rattle.txn_core.specs.Suites.{suite_of};
+ghost use Rattle.txn_core.specs.Transactions.{free_content};
+ghost use Rattle.txn_core.specs.Unused.{HasUnused};
+
+use crate::execution::Execution;
+use crate::first::First;
+use crate::knowing::known_of;
+use crate::shelf::Shelf;
+use crate::suites::Suite;
+use file_exec::{Need, Outcome, exec};
+use sorted_map::RoomyMap;
+use std::alloc::AllocError;
+use suite_content::Content;
+use suite_prefix::Prefix;
+
+/// What an execution sets, found before anything is set.
+#[derive(Drop)]
+pub(crate) struct Plan {
+    /// The contents that are to be had without asking, in the order in which they are needed.
+    pub(crate) opened: Vec<(u64, Content)>,
+    /// What the transaction comes to with them.
+    pub(crate) outcome: Outcome,
+    /// The suite that is needed then, where it was not asked for yet.
+    pub(crate) new: Option<Suite>,
+}
+
+impl<'a> Execution<'a> {
+    /// The plan of an execution. It changes nothing.
+    pub(crate) fn plan(
+        self,
+        suites: &RoomyMap<u64, Suite>,
+        shelf: Shelf<'_>,
+    ) -> Result<Plan, AllocError>
+        requires { HasUnused (spec.entries_on shelf) }
+        ensures { IfOk result (λ plan. spec.IsPlanOf (spec.fixed_in self.entry shelf.entry.cache.now) self.entry.task.now (spec.seen_on shelf.entry suites.now.pairs) plan) }
+    {
+        let (opened, outcome) = self.play(suites, shelf)?;
+        let new = self.new_for(suites, shelf, &outcome)?;
+        Ok(Plan {
+            opened,
+            outcome,
+            new,
+        })
+    }
+
+    /// Executes the transaction, opens what it needs and is to be had without asking, and so on.
+    fn play(
+        self,
+        suites: &RoomyMap<u64, Suite>,
+        shelf: Shelf<'_>,
+    ) -> Result<(Vec<(u64, Content)>, Outcome), AllocError>
+        ensures { IfOk result (λ played. spec.IsPlayed (spec.fixed_in self.entry shelf.entry.cache.now) self.entry.task.now (spec.seen_on shelf.entry suites.now.pairs) played.0.items played.1) }
+    {
+        let task = self.task;
+        task.facts();
+        let mut known = known_of(self.alloc, self.service, suites)?;
+        let mut opened = Vec::new(self.alloc);
+        loop {
+            let outcome = exec(
+                self.alloc,
+                &known,
+                task.t,
+                &task.caller,
+                task.ops.as_slice(),
+            )?;
+            if opened.len() == suites.len() {
+                return Ok((opened, outcome));
+            }
+            let Some((number, content)) = self.to_open(suites, shelf, &outcome)? else {
+                return Ok((opened, outcome));
+            };
+            known.open(number, content.clone()?);
+            opened.push((number, content))?;
+        }
+    }
+
+    /// The content that is needed, where it is to be had without asking.
+    fn to_open(
+        self,
+        suites: &RoomyMap<u64, Suite>,
+        shelf: Shelf<'_>,
+        outcome: &Outcome,
+    ) -> Result<Option<(u64, Content)>, AllocError>
+        ensures { IfOk result (λ one. one ≡ spec.to_open self.entry.task.now (spec.seen_on shelf.entry suites.now.pairs) outcome.now) }
+    {
+        let Outcome::Need(Need::Know(number)) = outcome else {
+            return Ok(None);
+        };
+        let content = self.free_of(suites, shelf, *number)?;
+        Ok(content.map(|content| (*number, content)))
+    }
+
+    /// The content of a suite, where it is to be had without asking.
+    fn free_of(
+        self,
+        suites: &RoomyMap<u64, Suite>,
+        shelf: Shelf<'_>,
+        number: u64,
+    ) -> Result<Option<Content>, AllocError>
+        ensures { IfOk result (λ content. content ≡ spec.free_of self.entry.task.now (spec.entries_on shelf.entry) number (suite_of suites.now.pairs number)) }
+    {
+        let Some(suite) = suites.get(&number) else {
+            return Ok(None);
+        };
+        let Some(first) = suite.first() else {
+            return Ok(None);
+        };
+        self.free_content(shelf, number, first)
+    }
+
+    /// An empty content of version 0, or one of the cache.
+    fn free_content(
+        self,
+        shelf: Shelf<'_>,
+        number: u64,
+        first: &First,
+    ) -> Result<Option<Content>, AllocError>
+        ensures { IfOk result (λ content. content ≡ free_content self.entry.task.now (spec.entries_on shelf.entry) number first.now) }
+    {
+        if first.dver == 0 {
+            let kind = first.prefix.kind.held();
+            return Ok(Some(Content::empty(self.alloc, kind)));
+        }
+        let task = self.task;
+        match shelf.content(task.site, number, first.dver) {
+            Some(content) => Ok(Some(content.clone()?)),
+            None => Ok(None),
+        }
+    }
+
+    /// The suite that is needed, where it was not asked for yet.
+    fn new_for(
+        self,
+        suites: &RoomyMap<u64, Suite>,
+        shelf: Shelf<'_>,
+        outcome: &Outcome,
+    ) -> Result<Option<Suite>, AllocError>
+        requires { HasUnused (spec.entries_on shelf) }
+        ensures { IfOk result (λ new. new ≡ spec.new_for (spec.fixed_in self.entry shelf.entry.cache.now) self.entry.task.now (spec.seen_on shelf.entry suites.now.pairs) outcome.now) }
+    {
+        let Outcome::Need(Need::Hold(number, mode)) = outcome else {
+            return Ok(None);
+        };
+        if suites.contains_key(number) {
+            return Ok(None);
+        }
+        let task = self.task;
+        let start = self.start_of(shelf, *number)?;
+        Ok(Some(Suite::new(task.t, *number, *mode, start)))
+    }
+
+    /// From which prefix a suite is gathered: the site's hint, or that of what was never made.
+    fn start_of(self, shelf: Shelf<'_>, number: u64) -> Result<Prefix, AllocError>
+        ensures { IfOk result (λ start. start ≡ unwrap_or (hint (spec.entries_on shelf.entry) self.entry.task.now.site number) (absent_prefix self.entry.service.now.c0)) }
+    {
+        let task = self.task;
+        match shelf.hint(task.site, number) {
+            Some(prefix) => prefix.clone(),
+            None => Prefix::absent(self.alloc, self.service.c0),
+        }
+    }
+}

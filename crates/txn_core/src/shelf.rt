@@ -1,0 +1,84 @@
+//! What a cache has, once a content that was fetched is put there.
+
+ghost use Rattle.std.specs.Prelude.{◌≡◌, ◌<◌, IfSome, OnOk, OnErr};
+ghost use Rattle.std.specs.Option.{option_copied};
+ghost use Rattle.weak_cache.specs.Cache.{content_at, hint};
+ghost use Rattle.weak_cache.specs.Entries.{most_sites};
+ghost use Rattle.txn_core.specs.Plans.{entries_on, shelved};
+
+use std::alloc::AllocError;
+use suite_content::Content;
+use suite_prefix::Prefix;
+use weak_cache::{NewEntry, WeakCache};
+
+/// A content that was fetched, and with what it is kept.
+#[derive(Drop)]
+pub(crate) struct Fetched {
+    pub(crate) site: u8,
+    pub(crate) suite: u64,
+    pub(crate) prefix: Prefix,
+    pub(crate) dver: u64,
+    pub(crate) content: Content,
+}
+
+impl Fetched {
+    /// It as an entry that may be put.
+    fn entry(&self) -> NewEntry<'_>
+        ensures site { result.site ≡ self.now.site }
+        ensures suite { result.suite ≡ self.now.suite }
+        ensures prefix { result.prefix.now ≡ self.now.prefix }
+        ensures dver { result.dver ≡ self.now.dver }
+        ensures content { result.content.now ≡ self.now.content }
+    {
+        NewEntry {
+            site: self.site,
+            suite: self.suite,
+            prefix: &self.prefix,
+            dver: self.dver,
+            content: &self.content,
+        }
+    }
+}
+
+/// What a cache has, once what was fetched is put there.
+#[derive(Clone, Copy)]
+pub(crate) struct Shelf<'a> {
+    pub(crate) cache: &'a WeakCache,
+    pub(crate) fetched: Option<&'a Fetched>,
+}
+
+impl<'a> Shelf<'a> {
+    /// The content that a site has of a suite, if it is of this version.
+    pub(crate) fn content(self, site: u8, suite: u64, dver: u64) -> Option<&'a Content>
+        ensures { option_copied result ≡ content_at (entries_on self.entry) site suite dver }
+    {
+        match self.fetched {
+            Some(fetched) => self
+                .cache
+                .content_beside(fetched.entry(), site, suite, dver),
+            None => self.cache.content(site, suite, dver),
+        }
+    }
+
+    /// The prefix that a site has of a suite.
+    pub(crate) fn hint(self, site: u8, suite: u64) -> Option<&'a Prefix>
+        ensures { option_copied result ≡ hint (entries_on self.entry) site suite }
+    {
+        match self.fetched {
+            Some(fetched) => self.cache.hint_beside(fetched.entry(), site, suite),
+            None => self.cache.hint(site, suite),
+        }
+    }
+}
+
+/// Puts what was fetched into a cache. An error leaves the cache as it was.
+pub(crate) fn put(cache: &mut WeakCache, fetched: Option<Fetched>) -> Result<(), AllocError>
+    requires { IfSome fetched (λ one. one.site < most_sites) }
+    ensures ok { OnOk result (cache.new ≡ record cache.old { entries = shelved cache.old fetched }) }
+    ensures err { OnErr result (cache.new ≡ cache.old) }
+{
+    let Some(one) = fetched else {
+        return Ok(());
+    };
+    cache.put(one.site, one.suite, one.prefix, one.dver, one.content)
+}

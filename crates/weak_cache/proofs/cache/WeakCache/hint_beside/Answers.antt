@@ -1,0 +1,12 @@
+use Rattle.std.proofs.Common.{sym, ap, ◌∙◌}
+use Rattle.std.specs.Prelude.{option_map}
+use Rattle.std.specs.Option.{option_copied}
+use Rattle.weak_cache.specs.Entries.{Entry}
+use Rattle.weak_cache.specs.NewEntry.{new_entry}
+use Rattle.weak_cache.proofs.Beside.{none_own}
+use Rattle.weak_cache.proofs.cache.WeakCache.hint_beside.Goals as goal
+
+pub returns-in_err-size_in_room : goal.returns-in_err-size_in_room
+returns-in_err-size_in_room c =
+    ap option_copied c.from_residual-in_err-size_in_room.ensures
+    ∙ ap (option_map (λ (entry : Entry). entry.prefix)) (none_own c.args.self.now.limits (new_entry c.args.new) c.args.self.now.entries c.args.site c.args.suite c.in_err-size_in_room.ensures (sym c.is_of.ensures ∙ c.if-not-is_of.false))
