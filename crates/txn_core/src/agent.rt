@@ -161,10 +161,9 @@ impl Agent {
         ensures ending { result ≡ ending }
         ensures new { self.new ≡ record self.old { state = record self.old.state { doing = left_by ending self.old.state.doing } } }
     {
-        if ending.is_some() {
-            self.doing = None;
-        }
-        ending
+        let ending = ending?;
+        self.doing = None;
+        Some(ending)
     }
 
     /// Lets go what it keeps for a site.

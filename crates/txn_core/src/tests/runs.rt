@@ -12,6 +12,7 @@ use std::process::Abort;
 use suite_prefix::Settings;
 
 /// The servers, and two agents.
+#[derive(Drop)]
 struct World {
     servers: Vec<Server>,
     first: Agent,
@@ -37,7 +38,7 @@ fn agent(rt: &(impl Abort + AllocGlobal), index: u8, settings: &Settings) -> Age
     Agent::new(rt.alloc(), index % 64, settings).expect(rt, "memory")
 }
 
-fn world(rt: &(impl Abort + AllocGlobal), text: &str) -> World {
+fn opened(rt: &(impl Abort + AllocGlobal), text: &str) -> World {
     let settings = settings(rt, text);
     let mut servers = Vec::new(rt.alloc());
     for index in 0..settings.servers() as u8 {
@@ -70,11 +71,26 @@ fn step(rt: &impl Abort, servers: &mut [Server], agent: &mut Agent) -> Option<En
     agent.take(&word).expect(rt, "memory")
 }
 
+/// How many steps a job took, and how it ended.
+fn ending_text(rt: &(impl Abort + AllocGlobal), steps: u8, ending: &Ending) -> String {
+    let text = match ending {
+        Ending::Answered(answers) => format!(in rt.alloc(); "{steps} {:?}", answers.as_slice()),
+        Ending::Refused(refusal) => format!(in rt.alloc(); "{steps} {:?}", refusal.why),
+        Ending::Undecided(cause) => format!(in rt.alloc(); "{steps} {cause:?}"),
+        Ending::Swept {
+            broken,
+            finished,
+            left,
+        } => format!(in rt.alloc(); "{steps} swept {broken} {finished} {left}"),
+    };
+    text.ok().expect(rt, "memory")
+}
+
 /// A job from its begin on, for so many steps at most: how many it took, and how it ended.
 fn run(rt: &(impl Abort + AllocGlobal), servers: &mut [Server], agent: &mut Agent, most: u8) -> String {
     for steps in 1..=most {
         if let Some(ending) = step(rt, servers, agent) {
-            return format!(in rt.alloc(); "{steps} {ending:?}").ok().expect(rt, "memory");
+            return ending_text(rt, steps, &ending);
         }
     }
     String::from_str(rt.alloc(), "goes on").ok().expect(rt, "memory")
@@ -109,7 +125,7 @@ fn play(rt: &(impl Abort + AllocGlobal), world: &mut World, line: &str) -> Strin
         "crash" => befalls(rt, &mut world.servers, rest, Request::Crash),
         "return" => befalls(rt, &mut world.servers, rest, Request::Return),
         "forget" => world.first.forget(small(rt, rest)),
-        "stop" => return run(rt, &mut world.servers, &mut world.first, small(rt, rest)),
+        "go" => return run(rt, &mut world.servers, &mut world.first, small(rt, rest)),
         "second" => {
             begin(rt, &mut world.second, rest);
             return run(rt, &mut world.servers, &mut world.second, 30);
@@ -130,7 +146,7 @@ fn begin(rt: &(impl Abort + AllocGlobal), agent: &mut Agent, text: &str) {
 
 /// Plays the lines of a text, the settings first. What is to come of a line stands after an arrow.
 fn plays(rt: &(impl Abort + AllocGlobal), settings: &str, text: &str) {
-    let mut world = world(rt, settings);
+    let mut world = opened(rt, settings);
     for line in text.lines().skip(1) {
         let (line, wanted) = line.split_once(" -> ").unwrap_or((line, ""));
         let came = play(rt, &mut world, line);
@@ -139,18 +155,97 @@ fn plays(rt: &(impl Abort + AllocGlobal), settings: &str, text: &str) {
 }
 
 /// With a cache the second read fetches nothing, and what was forgotten is fetched again. A denied write is
-/// decided.
+/// decided: two polls, a prepare at each of the two, the decision, and two finishes.
 #[test]
 fn a_cache_spares_the_fetch(rt: HostRuntime) {
     plays(
         &rt,
         "3 4096 1,1,1/2/2",
         "
-first 1000 0 file '/a' 644; write '/a' hi -> 10
-first 2000 0 read '/a' -> 11
-first 2000 0 read '/a' -> 9
+first 1000 0 file '/a' 644; write '/a' hi -> 10 [Made(1), Wrote]
+first 2000 0 read '/a' -> 11 [Read(FileBytes { shared: Some([104, 105]) })]
+first 2000 0 read '/a' -> 9 [Read(FileBytes { shared: Some([104, 105]) })]
 forget 0
-first 2000 0 read '/a' -> 11
-first 2000 0 write '/a' no -> 9",
+first 2000 0 read '/a' -> 11 [Read(FileBytes { shared: Some([104, 105]) })]
+first 2000 0 write '/a' no -> 9 Denied(Denial { suite: 1, wanted: Perms(2), decider: Other })",
+    );
+}
+
+/// All must be there to write, and one is down.
+#[test]
+fn too_few_votes(rt: HostRuntime) {
+    plays(
+        &rt,
+        "3 0 1,1,1/1/3",
+        "
+first 1000 0 file '/a' 644 -> 14 [Made(1)]
+crash 2
+first 1000 0 read '/a' -> 7 [Read(FileBytes { shared: None })]
+first 1000 0 write '/a' x -> 7 Unavailable { suite: 1, got: 2, needed: 3 }",
+    );
+}
+
+/// Votes are moved, and the content is found where they went. What is made with votes of its own is too.
+#[test]
+fn votes_are_moved(rt: HostRuntime) {
+    plays(
+        &rt,
+        "6 0 1,1,1/2/2",
+        "
+first 1000 0 file '/a' 644; write '/a' hi -> 10 [Made(1), Wrote]
+first 1000 0 setvotes '/a' -,-,-,1,1,1/2/2 -> 17 [Set]
+crash 0
+crash 1
+crash 2
+return 0
+return 1
+return 2
+first 2000 0 read '/a' -> 16 [Read(FileBytes { shared: Some([104, 105]) })]
+first 1000 0 file '/b' 644 -,-,-,1,1,1/2/2; write '/b' yes -> 16 [Made(1537), Wrote]
+first 2000 0 read '/b' -> 16 [Read(FileBytes { shared: Some([121, 101, 115]) })]",
+    );
+}
+
+/// Two servers have prepared a write when they are swept; its home then has it aborted. Once it is decided a sweep
+/// carries it out.
+#[test]
+fn a_half_done_write_is_swept(rt: HostRuntime) {
+    plays(
+        &rt,
+        "3 0 1,1,1/2/2",
+        "
+first 1000 0 file '/a' 644; write '/a' hi -> 10 [Made(1), Wrote]
+begin 1000 0 write '/a' no
+go 7 -> goes on
+second sweep 0 -> 3 swept 0 1 0
+second sweep 1 -> 3 swept 0 1 0
+go 9 -> 3 Overruled
+begin 1000 0 write '/a' no
+go 8 -> goes on
+second sweep 0 -> 3 swept 0 1 0
+second sweep 1 -> 3 swept 0 1 0
+go 9 -> 2 [Wrote]",
+    );
+}
+
+/// A lock that is lost in a crash, one that another has, and a home that is down.
+#[test]
+fn what_ends_a_transaction(rt: HostRuntime) {
+    plays(
+        &rt,
+        "3 0 1,1,1/2/2",
+        "
+first 1000 0 file '/a' 644; write '/a' hi -> 10 [Made(1), Wrote]
+begin 1000 0 read '/a'; write '/a' x
+go 6 -> goes on
+crash 0
+return 0
+second 1000 0 setacl '/a' 644 -> 13 [Set]
+go 9 -> 3 Lost { server: 0 }
+begin 1000 0 write '/a' x
+go 5 -> goes on
+second 1000 0 write '/a' y -> 9 Busy { server: 0, holder: 128 }
+crash 2
+go 9 -> 5 HomeDown",
     );
 }
