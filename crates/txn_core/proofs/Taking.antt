@@ -15,7 +15,7 @@ use Rattle.txn_core.specs.Transactions as course
 
 -- what was taken: the ending, and the agent after it
 pub record Took (fixed : Fixed) (state : Agent) (word : Word) (ending : Option Ending) (cache : Cache) (doing : Option Doing) : Type 0 where
-  pub ending : ending ≡ (take fixed state word).ending
+  pub told : ending ≡ (take fixed state word).ending
   pub agent : record state { cache = cache; doing = left_by ending doing } ≡ (take fixed state word).agent
 
 module _ (fixed : Fixed) (state : Agent) (word : Word) (ending : Option Ending) where
@@ -50,7 +50,7 @@ module _ (fixed : Fixed) (state : Agent) (word : Word) (ending : Option Ending) 
     took_word running is steps =
         let both = at_asked running (request_of fixed running) is steps in
         let same = take_of (Some (Running running)) is in
-        record { ending = both.0 ∙ ap (λ (t : Taken). t.ending) (sym same); agent = both.1 ∙ ap (λ (t : Taken). t.agent) (sym same) }
+        record { told = both.0 ∙ ap (λ (t : Taken). t.ending) (sym same); agent = both.1 ∙ ap (λ (t : Taken). t.agent) (sym same) }
 
   -- ---- a sweep
 
@@ -66,11 +66,11 @@ module _ (fixed : Fixed) (state : Agent) (word : Word) (ending : Option Ending) 
     swept_word round is came =
         let both = round_after (sweep.after_word fixed.service round (sweep.asked_now fixed.service round round.now).0 word) came in
         let same = take_of (Some (Rounding round)) is in
-        record { ending = both.0 ∙ ap (λ (t : Taken). t.ending) (sym same); agent = both.1 ∙ ap (λ (t : Taken). t.agent) (sym same) }
+        record { told = both.0 ∙ ap (λ (t : Taken). t.ending) (sym same); agent = both.1 ∙ ap (λ (t : Taken). t.agent) (sym same) }
 
   -- ---- nothing
 
   pub took_nothing : state.doing ≡ None → Took fixed state word None state.cache None
   took_nothing is =
       let same = take_of None is in
-      record { ending = ap (λ (t : Taken). t.ending) (sym same); agent = ap (λ doing. record state { doing = doing }) (sym is) ∙ ap (λ (t : Taken). t.agent) (sym same) }
+      record { told = ap (λ (t : Taken). t.ending) (sym same); agent = ap (λ doing. record state { doing = doing }) (sym is) ∙ ap (λ (t : Taken). t.agent) (sym same) }
