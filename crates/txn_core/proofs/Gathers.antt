@@ -1,6 +1,6 @@
 -- What is kept of the suites that a transaction gathers: from where each was gathered, what its first Current gave, and to which votes it was widened.
 use Rattle.std.proofs.Common.{◌≡◌, ℕ, Bool, true, false, cond, ◌⊎◌, inl, inr, List, [], ◌∷◌, ◌++◌, Option, Some, None, refl, sym, ap, subst, ◌∙◌, arith}
-use Rattle.std.specs.Prelude.{◌==◌, option_map}
+use Rattle.std.specs.Prelude.{◌==◌, map, filter, option_map}
 use Rattle.std.specs.Ordering.{nat_cmp, is_eq}
 use Rattle.std.specs.BTreeMap.{is_at}
 use Rattle.std.specs.Cmp.{unsigned_tied}
@@ -25,7 +25,7 @@ use Rattle.txn_core.specs.Writing.{change_of}
 use Rattle.txn_core.specs.declared.word.Word.{Word}
 use Rattle.txn_core.specs.declared.word.Word.TheVariants.{Replied, Lacked}
 use Rattle.txn_core.specs.Doing.{Changes, Fixed, Task}
-use Rattle.txn_core.specs.Transactions.{start_from, heard_on, to_widen, widened, said_to}
+use Rattle.txn_core.specs.Transactions.{start_from, heard_on, votes_then, votes_after, to_widen, widened, said_to}
 use Rattle.txn_core.specs.Laws.{Exchange, locks, told_of, told_by, more_told}
 use Rattle.txn_core.specs.Caching.{gathered_from, IsCurrent, FirstGave}
 
@@ -166,7 +166,7 @@ listed_change (one ∷ changes) number has = of (is_at (nat_cmp number) one.0) r
     rest : is_at (nat_cmp number) one.0 ≡ false → (change : Change) × (change_of changes number ≡ Some change) → (change : Change) × (change_of (one ∷ changes) number ≡ Some change)
     rest other found = (found.0, ap (λ b. cond b (Some one.1) (change_of changes number)) other ∙ found.1)
 
-    of : (b : Bool) → is_at (nat_cmp number) one.0 ≡ b → (v : Bool) → Has (cond v (one.0 ∷ to_widen changes) (to_widen changes)) number → (Has (to_widen changes) number → (change : Change) × (change_of changes number ≡ Some change))
+    of : (b : Bool) → is_at (nat_cmp number) one.0 ≡ b → (v : Bool) → Has (map (λ one. one.0) (cond v (one ∷ filter (λ one. one.1.votes) changes) (filter (λ one. one.1.votes) changes))) number → (Has (to_widen changes) number → (change : Change) × (change_of changes number ≡ Some change))
         → (change : Change) × (change_of (one ∷ changes) number ≡ Some change)
     of true here v has later = (one.1, ap (λ b. cond b (Some one.1) (change_of changes number)) here)
     of false other false has later = rest other (later has)
@@ -213,7 +213,7 @@ first_same : (past : List Exchange) (number : ℕ) (suite other : Suite) → oth
 first_same past number suite other start first kept = record { first = kept.first; was = first ∙ kept.was; gave = subst (λ start. FirstGave start number past kept.first) (sym start) kept.gave }
 
 module _ (fixed : Fixed) (task : Task) where
-  wide_told : (number : ℕ) (suite : Suite) (one : Told) → Wide fixed task number suite → Wide fixed task number (record suite { collector = tell one suite.collector })
+  pub wide_told : (number : ℕ) (suite : Suite) (one : Told) → Wide fixed task number suite → Wide fixed task number (record suite { collector = tell one suite.collector })
   wide_told number suite one wide after is = let was = tell_votes one suite.collector after is in subst (Sets fixed task number) was.2 (wide was.0 was.1)
 
   pub wide_widened : (changes : Changes) (answers : List Answer) (number : ℕ) (suite : Suite) → Grants fixed task answers changes → Has (to_widen changes) number → Wide fixed task number (widened changes number suite)
@@ -224,8 +224,103 @@ module _ (fixed : Fixed) (task : Task) where
     where
       of : (change : Change) → change_of changes number ≡ Some change → change.row.votes ≡ after.votes
       of change set =
-          let same = ap (λ (w : Widening). w.votes) (same_Some (record { votes = _; told = told_since suite.collector.widening }) after is) in
-          ap (λ found. votes_then' found) (sym set) ∙ same
+          ap (λ found. votes_then found suite.first suite.collector.start.votes) (sym set)
+          ∙ ap (λ (w : Widening). w.votes) (same_Some (record { votes = votes_after changes number suite; told = told_since suite.collector.widening }) after is)
+
+-- ---- how it is kept
+
+asks_not : (server : ℕ) (asked : Asked) (next : Next) → next ≡ Ask server asked → IsCurrent next → ⊥
+asks_not server asked next is current = let same : Ask server asked ≡ Current current.0 current.1 current.2 = sym is ∙ current.3 in cc
+
+none_more : (start : Prefix) (mode : LockMode) (number : ℕ) (past : List Exchange) (one : Exchange) (server : ℕ) (asked : Asked) → NoneYet start mode number past → next (gathered_from start mode number (past ++ one ∷ [])) ≡ Ask server asked
+    → NoneYet start mode number (past ++ one ∷ [])
+none_more start mode number past one server asked none is early [] parts current =
+    asks_not server asked (next (gathered_from start mode number early)) (ap (λ past. next (gathered_from start mode number past)) (sym (parts ∙ append-nil early)) ∙ is) current
+none_more start mode number past one server asked none is early (y ∷ rest) parts current = let before = cut_before past early rest one y parts in none early before.0 before.1 current
+
+none_same : (start other : Prefix) (mode another : LockMode) (number : ℕ) (past : List Exchange) → other ≡ start → another ≡ mode → NoneYet start mode number past → NoneYet other another number past
+none_same start other mode another number past same_start same_mode none early rest parts current =
+    none early rest parts (subst (λ mode. IsCurrent (next (gathered_from start mode number early))) same_mode (subst (λ start. IsCurrent (next (gathered_from start another number early))) same_start current))
+
+module _ (fixed : Fixed) (task : Task) (Old : ℕ → Prefix → Type 0) (past : List Exchange) (number : ℕ) where
+  pub kept_same : (suite other : Suite) → other.collector.start ≡ suite.collector.start → other.first ≡ suite.first → Wide fixed task number other → Kept fixed task Old past number suite → Kept fixed task Old past number other
+  kept_same suite other start first wide kept = record { start = subst (Old number) (sym start) kept.start; first = first_same past number suite other start first kept.first; wide = wide }
+
+  pub kept_more : (more : List Exchange) (suite : Suite) → Kept fixed task Old past number suite → Kept fixed task Old (past ++ more) number suite
+  kept_more more suite kept = record { start = kept.start; first = first_more past more number suite kept.first; wide = kept.wide }
+
+  pub asking_of : (suite : Suite) → Kept fixed task Old past number suite → Asking fixed task Old past number suite
+  asking_of suite kept = record { start = kept.start; first = inl kept.first; wide = kept.wide }
+
+  -- a suite that is new
+  pub asks_new : (mode another : LockMode) (start : Prefix) → told_of number [] past ≡ [] → Old number start → Asking fixed task Old past number (record { collector = collect mode start; first = None; mode = another; content = None })
+  asks_new mode another start untold old = record {
+    start = old;
+    first = inr (refl, refl, λ server asked is early rest parts current. asks_not server asked (next (gathered_from start mode number early)) (nothing early rest parts ∙ is) current);
+    wide = λ w is. cc;
+  }
+    where
+      nothing : (early rest : List Exchange) → past ≡ early ++ rest → next (gathered_from start mode number early) ≡ next (collect mode start)
+      nothing early rest parts = ap (λ told. next (record { start = start; mode = mode; told = told; widening = None })) (untold_before number past early rest untold parts)
+
+  -- a suite that was told something more
+  module _ (suite : Suite) (one : Told) (x : Exchange) (heard : all_told (tell one suite.collector) ≡ told_of number [] (past ++ x ∷ [])) where
+    abbrev now : Suite
+    now = record suite { collector = tell one suite.collector }
+
+    now_is : suite.collector.widening ≡ None → now.collector ≡ gathered_from now.collector.start now.collector.mode number (past ++ x ∷ [])
+    now_is narrow = narrow_is (tell one suite.collector) (told_of number [] (past ++ x ∷ [])) (tell_narrow one suite.collector narrow) heard
+
+    first_told : FirstKept past number suite → FirstKept (past ++ x ∷ []) number now
+    first_told kept = first_same (past ++ x ∷ []) number suite now (tell_start one suite.collector) refl (first_more past (x ∷ []) number suite kept)
+
+    pub kept_told : Kept fixed task Old past number suite → Kept fixed task Old (past ++ x ∷ []) number now
+    kept_told kept = record { start = subst (Old number) (sym (tell_start one suite.collector)) kept.start; first = first_told kept.first; wide = wide_told fixed task number suite one kept.wide }
+
+    module _ (server : ℕ) (asked : Asked) (asks : next suite.collector ≡ Ask server asked) (asking : Asking fixed task Old past number suite) where
+      none_now : NoneYet suite.collector.start suite.collector.mode number past → NoneYet now.collector.start now.collector.mode number past
+      none_now = none_same suite.collector.start now.collector.start suite.collector.mode now.collector.mode number past (tell_start one suite.collector) (tell_mode one suite.collector)
+
+      -- and asks on
+      pub asks_on : (who : ℕ) (what : Asked) → next now.collector ≡ Ask who what → Asking fixed task Old (past ++ x ∷ []) number now
+      asks_on who what is = record {
+        start = subst (Old number) (sym (tell_start one suite.collector)) asking.start;
+        first = of asking.first;
+        wide = wide_told fixed task number suite one asking.wide;
+      }
         where
-          votes_then' : Option Change → Configuration
-          votes_then' found = votes_then found suite.first suite.collector.start.votes
+          of : FirstOrAsks past number suite → FirstOrAsks (past ++ x ∷ []) number now
+          of (inl kept) = inl (first_told kept)
+          of (inr none) = inr (
+              none.0,
+              tell_narrow one suite.collector none.1,
+              λ _ _ _. none_more now.collector.start now.collector.mode number past x who what (none_now (none.2 server asked asks)) (ap next (sym (now_is none.1)) ∙ is),
+              )
+
+      -- or is Current
+      pub settles_on : (prefix : Prefix) (dver : ℕ) (members : List ℕ) → next now.collector ≡ Current prefix dver members → Kept fixed task Old (past ++ x ∷ []) number (settled prefix dver members now)
+      settles_on prefix dver members is = record {
+        start = subst (Old number) (sym (tell_start one suite.collector)) asking.start;
+        first = of asking.first;
+        wide = wide_told fixed task number suite one asking.wide;
+      }
+        where
+          new : First
+          new = record { prefix = prefix; dver = dver; source = source_of now.collector dver members }
+
+          of : FirstOrAsks past number suite → FirstKept (past ++ x ∷ []) number (settled prefix dver members now)
+          of (inl kept) = let told = first_told kept in record { first = told.first; was = ap (λ first. first_or first new) told.was; gave = told.gave }
+          of (inr none) = record {
+            first = new;
+            was = ap (λ first. first_or first new) none.0;
+            gave = record {
+              mode = now.collector.mode;
+              members = members;
+              before = past ++ x ∷ [];
+              later = [];
+              parts = sym (append-nil (past ++ x ∷ []));
+              gave = ap next (sym (now_is none.1)) ∙ is;
+              source = ap (λ c. source_of c dver members) (now_is none.1);
+              never_before = λ early y rest parts current. let before = cut_before past early rest x y parts in none_now (none.2 server asked asks) early before.0 before.1 current;
+            };
+          }

@@ -300,7 +300,7 @@ pub record SetsVotes (fixed : Fixed) (agent : Agent) (job : Job) (suite : ℕ) (
   pub changes : Changes
   pub done : heard_on fixed (task_of agent caller site ops) suites ≡ exec.Done answers changes
   pub gets : Contains (to_widen changes) suite
-  pub votes : option_map (λ change. change.row.votes) (change_of changes suite) ≡ Some votes
+  pub are : option_map (λ change. change.row.votes) (change_of changes suite) ≡ Some votes
 
 -- Too few votes were to be had of a suite. The votes that count are those of the newest prefix that was seen, the one from which it was
 -- gathered among them, or those that the transaction sets. The servers that were heard to hold the lock that is wanted have `got` of them,

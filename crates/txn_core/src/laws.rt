@@ -1,5 +1,6 @@
 //! What holds of every agent that began a job, whatever it is told.
 
+ghost use Rattle.txn_core.specs.Caching.{CachesWhatWasFetched};
 ghost use Rattle.txn_core.specs.Runs.{WorkedRuns};
 ghost use Rattle.txn_core.specs.Laws.{NobodyIsPolledTwice, DecideIsSentOnce, NothingFollowsAnEnd, PrepareListsTheLocks, APrepareRises, AllPrepareFirst, FinishCarriesTheVerdict, WhatIsWrittenIsFixed, DecidesOnQuorums, EndsAreCaused, LateStepsAreFew, EndsInTime, SweepEndsInTime};
 
@@ -61,6 +62,13 @@ pub fn ends_are_caused()
 /// nothing.
 pub fn late_steps_are_few()
     ensures { LateStepsAreFew }
+{}
+
+/// A law: what the cache keeps after a word was there before, but for an entry with the content that the
+/// word told: it has the prefix and the version that the suite's first quorum gave, so never a prefix that
+/// the transaction itself changes. Of a site that is forgotten nothing is left. It does nothing.
+pub fn caches_what_was_fetched()
+    ensures { CachesWhatWasFetched }
 {}
 
 /// A law: with `n` servers asked and `k` suites named a transaction takes `k*(2n + 1) + 2n + 1` steps at
