@@ -126,7 +126,7 @@ CausedBy fixed task Old Loose past HomeDown = (server : ℕ) × Was past server 
 CausedBy fixed task Old Loose past (Full server) = Was past server (λ asked word. is_lack lack.Full word)
 CausedBy fixed task Old Loose past Memory = (server : ℕ) × Was past server (λ asked word. is_lack lack.Memory word)
 
-abbrev EndIs : Fixed → Task → (ℕ → Prefix → Type 0) → (ℕ → Prefix → Type 0) → List Exchange → Ending → Type 0
+abbrev pub EndIs : Fixed → Task → (ℕ → Prefix → Type 0) → (ℕ → Prefix → Type 0) → List Exchange → Ending → Type 0
 EndIs fixed task Old Loose past (Undecided cause) = CausedBy fixed task Old Loose past cause
 EndIs fixed task Old Loose past (Answered answers) = Unit {0}
 EndIs fixed task Old Loose past (Refused refusal) = Unit {0}
@@ -155,7 +155,7 @@ pub record Fresh (fixed : Fixed) (task : Task) (cache : Cache) (past : List Exch
 abbrev pub OrFresh : Fixed → Task → Cache → List Exchange → (ℕ → Prefix → Type 0) → ℕ → Prefix → Type 0
 OrFresh fixed task cache past Old number start = Old number start ⊎ Fresh fixed task cache past number start
 
-abbrev LeftOf : Fixed → Task → (Old Loose : ℕ → Prefix → Type 0) → List Exchange → Cache → After Course → Type 0
+abbrev pub LeftOf : Fixed → Task → (Old Loose : ℕ → Prefix → Type 0) → List Exchange → Cache → After Course → Type 0
 LeftOf fixed task Old Loose past cache (GoesOn course) =
     (course.task ≡ task) × Stands fixed task Old (OrFresh fixed task cache past Old) (OrFresh fixed task cache past Loose) past course.suites course.phase
 LeftOf fixed task Old Loose past cache (Ends ending) = EndCaused fixed task Old (OrFresh fixed task cache past Loose) past ending
@@ -164,7 +164,7 @@ LeftOf fixed task Old Loose past cache (Ends ending) = EndCaused fixed task Old 
 abbrev pub Leaves : Fixed → Task → (Old Loose : ℕ → Prefix → Type 0) → List Exchange → Step → Type 0
 Leaves fixed task Old Loose past step = LeftOf fixed task Old Loose past step.cache step.after
 
-was_now : (past : List Exchange) (server : ℕ) (asked : Request) (word : Word) (kind : Request → Word → Bool) → kind asked word ≡ true → Was (push past server asked word) server kind
+pub was_now : (past : List Exchange) (server : ℕ) (asked : Request) (word : Word) (kind : Request → Word → Bool) → kind asked word ≡ true → Was (push past server asked word) server kind
 was_now past server asked word kind is = record { one = record { server = server; request = asked; word = word }; there = Contains-push past (record { server = server; request = asked; word = word }); at = refl; is = is }
 
 was_more : (past more : List Exchange) (server : ℕ) (kind : Request → Word → Bool) → Was past server kind → Was (past ++ more) server kind
