@@ -82,7 +82,7 @@ pub fn sweep_ends_in_time()
     ensures { SweepEndsInTime }
 {}
 
-/// A law: how eight runs of an agent and servers end, and in how many steps. It does nothing.
+/// A law: how nine runs of an agent and servers end, and in how many steps. It does nothing.
 pub fn worked_runs()
     ensures { WorkedRuns }
 {}
