@@ -61,7 +61,7 @@ same_widen task cache suites granted [] = same_prepare task cache suites (Ok gra
 same_widen task cache suites granted (number ∷ left) =
     same_widen_one task cache suites (Widening (number ∷ left) granted) granted number (suite_of suites number) _ (λ suites. same_widen task cache suites granted left)
 
-same_proceed : (fixed : Fixed) (task : Task) (cache : Cache) (suites : Suites) (heard : Executed) → (proceed fixed task cache suites heard).cache ≡ cache
+pub same_proceed : (fixed : Fixed) (task : Task) (cache : Cache) (suites : Suites) (heard : Executed) → (proceed fixed task cache suites heard).cache ≡ cache
 same_proceed fixed task cache suites (exec.Need (Hold number mode)) =
     let suite = raised_or_new fixed task cache number mode (suite_of suites number) in same_gather task cache (with_suite number suite suites) number (next suite.collector)
 same_proceed fixed task cache suites (exec.Need (Know number)) = refl
@@ -124,7 +124,7 @@ pub record PutBy (fixed : Fixed) (task : Task) (suites : Suites) (phase : Phase)
   pub told : word ≡ Replied (reply.Given dver content)
   pub is : x ≡ record { site = task.site; suite = number; prefix = first.prefix; dver = first.dver; content = content }
 
-given_is : (said : Reply) (content : Content) → given_in said ≡ Some content → (dver : ℕ) × (said ≡ reply.Given dver content)
+pub given_is : (said : Reply) (content : Content) → given_in said ≡ Some content → (dver : ℕ) × (said ≡ reply.Given dver content)
 given_is (reply.Given dver other) content is = (dver, ap (reply.Given dver) (same_Some other content is))
 given_is (reply.Held prefix dver) content is = cc
 given_is (reply.Busy holder prepared) content is = cc

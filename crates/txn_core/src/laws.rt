@@ -1,6 +1,6 @@
 //! What holds of every agent that began a job, whatever it is told.
 
-ghost use Rattle.txn_core.specs.Caching.{CachesWhatWasFetched};
+ghost use Rattle.txn_core.specs.Caching.{CachesWhatWasFetched, KnowsContents};
 ghost use Rattle.txn_core.specs.Runs.{WorkedRuns};
 ghost use Rattle.txn_core.specs.Laws.{NobodyIsPolledTwice, DecideIsSentOnce, NothingFollowsAnEnd, PrepareListsTheLocks, APrepareRises, AllPrepareFirst, FinishCarriesTheVerdict, WhatIsWrittenIsFixed, DecidesOnQuorums, EndsAreCaused, LateStepsAreFew, EndsInTime, SweepEndsInTime};
 
@@ -69,6 +69,13 @@ pub fn late_steps_are_few()
 /// the transaction itself changes. Of a site that is forgotten nothing is left. It does nothing.
 pub fn caches_what_was_fetched()
     ensures { CachesWhatWasFetched }
+{}
+
+/// A law: the content that a transaction knows of a suite is at the version that the suite's first quorum
+/// gave: the site's cache had it at that version, or the server that showed it told it, or it is the
+/// empty one of what has none yet. It does nothing.
+pub fn knows_contents()
+    ensures { KnowsContents }
 {}
 
 /// A law: with `n` servers asked and `k` suites named a transaction takes `k*(2n + 1) + 2n + 1` steps at
