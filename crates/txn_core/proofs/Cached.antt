@@ -1,5 +1,5 @@
 -- What a step leaves in the cache.
-use Rattle.std.proofs.Common.{◌≡◌, ℕ, zero, suc, Bool, true, false, cond, ◌⊎◌, inl, inr, List, [], ◌∷◌, Option, Some, None, Ok, Err, refl, sym, ap, subst, ◌∙◌}
+use Rattle.std.proofs.Common.{◌≡◌, ℕ, zero, suc, Bool, true, false, cond, ◌⊎◌, inl, inr, List, [], ◌∷◌, Option, Some, None, Ok, Err, refl, sym, ap, subst}
 use Rattle.std.specs.Prelude.{◌==◌, length}
 use Rattle.std.proofs.lemmas.Option.{same_Some}
 use Rattle.suite_content.specs.declared.content.Content.{Content}
@@ -25,7 +25,7 @@ use Rattle.txn_core.specs.declared.ending.Cause.{Cause}
 use Rattle.txn_core.specs.declared.ending.Cause.TheVariants.{Lost}
 use Rattle.txn_core.specs.declared.ending.Ending.{Ending}
 use Rattle.txn_core.specs.Doing.{Granted, Fixed, Task, Outcome, Phase, Gathering, Fetching, Widening, Preparing, Deciding, Finishing}
-use Rattle.txn_core.specs.Transactions.{Step, Gathered, tell_end, give_up, prepare, locked_at, short_cause, gather_by, widen_by, widen_one, widened, widen_all, opened, or_all, open_needed, open_suite, open_first, opened_with, free_content, after_search, heard_on, raised_or_new, keep_content, heard_of, said_to, proceed, execute, collected, hear, fetched, after_lack, after_word, given_in, lack_cause, verdict_in, ending_by, cause_of_abort}
+use Rattle.txn_core.specs.Transactions.{Step, Gathered, tell_end, give_up, prepare, locked_at, short_cause, gather_by, widen_by, widen_one, widened, widen_all, opened, or_all, open_needed, open_suite, open_first, opened_with, free_content, heard_on, raised_or_new, keep_content, heard_of, said_to, proceed, execute, collected, hear, fetched, after_lack, after_word, given_in, lack_cause, verdict_in, ending_by, cause_of_abort}
 
 -- ---- steps that leave it as it was
 
@@ -166,8 +166,8 @@ module _ (fixed : Fixed) (task : Task) (cache : Cache) (suites : Suites) (x : En
           let entry : Entry = record { site = task.site; suite = number; prefix = first.prefix; dver = first.dver; content = content } in
           elim (put_has fixed.limits entry cache x (execute_has fixed task _ x has)) [
             | inl same ↦
-              let told = given_is said content given in
-              inr (record { number = number; fetching = refl; suite = suite; there = there; first = first; was = was; dver = told.0; content = content; told = ap Replied told.1; is = same })
+                let told = given_is said content given in
+                inr (record { number = number; fetching = refl; suite = suite; there = there; first = first; was = was; dver = told.0; content = content; told = ap Replied told.1; is = same })
             | inr before ↦ inl before
           ]
 

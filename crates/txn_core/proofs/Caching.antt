@@ -1,24 +1,20 @@
 -- What an agent's cache keeps, and from where.
-use Rattle.std.proofs.Common.{◌≡◌, ℕ, true, false, Bool, cond, ◌⊎◌, inl, inr, List, [], ◌∷◌, ◌++◌, Option, Some, None, refl, sym, ap, subst, ◌∙◌}
-use Rattle.std.specs.Prelude.{◌+◌, ◌&&◌, nat_lt, Contains}
+use Rattle.std.proofs.Common.{◌≡◌, ℕ, true, false, Bool, cond, ◌⊎◌, inl, inr, List, [], Option, Some, None, refl, sym, ap, subst, ◌∙◌}
+use Rattle.std.specs.Prelude.{◌+◌, ◌&&◌, nat_lt}
 use Rattle.std.proofs.lemmas.Option.{same_Some}
-use Rattle.suite_prefix.specs.declared.copies.Prefix.{Prefix}
 use Rattle.rep_core.specs.declared.request.Request.{Request}
-use Rattle.rep_core.specs.declared.request.Request.TheVariants as request
-use Rattle.rep_core.specs.declared.reply.Reply.TheVariants as reply
-use Rattle.weak_cache.specs.Entries.{Entry, Cache, is_at}
+use Rattle.weak_cache.specs.Entries.{Entry}
 use Rattle.weak_cache.proofs.Origins.{Has, has_from, has_to, entries_come_from_puts}
-use Rattle.txn_core.specs.Suites.{First, Suite, Suites, suite_of}
+use Rattle.txn_core.specs.Suites.{First}
 use Rattle.txn_core.specs.declared.word.Word.{Word}
-use Rattle.txn_core.specs.declared.word.Word.TheVariants.{Replied}
 use Rattle.txn_core.specs.declared.job.Job.{Job}
 use Rattle.txn_core.specs.declared.job.Job.TheVariants.{Transaction, Sweep}
-use Rattle.txn_core.specs.Doing.{Fixed, Task, Fetching, Phase, Course, Doing, Running, Rounding}
-use Rattle.txn_core.specs.Transactions.{execute, after_word, request_in, fetched_for, fetched_at}
-use Rattle.txn_core.specs.Agents.{Agent, Event, Take, next_in, next_of, take_in, take, begin, started, forget, is_idle, has_sense, most_jobs, after_all}
-use Rattle.txn_core.specs.Laws.{Exchange, of_job, IsStart, task_of}
+use Rattle.txn_core.specs.Doing.{Fixed, Task, Fetching, Course, Doing, Running, Rounding}
+use Rattle.txn_core.specs.Transactions.{request_in, fetched_for, fetched_at}
+use Rattle.txn_core.specs.Agents.{Agent, Event, Take, next_in, next_of, take_in, take, begin, started, is_idle, has_sense, most_jobs, after_all}
+use Rattle.txn_core.specs.Laws.{of_job, task_of}
 use Rattle.txn_core.specs.Caching.{FirstGave, IsFetched, CachesWhatWasFetched}
-use Rattle.txn_core.proofs.Gathers.{Each, Kept}
+use Rattle.txn_core.proofs.Gathers.{Kept}
 use Rattle.txn_core.proofs.Causes.{Stands}
 use Rattle.txn_core.proofs.Cached.{PutBy, execute_has, word_has}
 use Rattle.txn_core.proofs.Upheld.{Begins, Started, started_is, Runs, DoingStands, after-append, stands_after}

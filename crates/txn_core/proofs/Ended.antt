@@ -1,13 +1,13 @@
 -- Undecided ends are caused.
 use Rattle.std.proofs.Common.{◌≡◌, ℕ, ◌+◌, Bool, true, false, cond, ◌⊎◌, inl, inr, List, [], ◌∷◌, ◌++◌, Option, Some, None, refl, sym, ap, subst, ◌∙◌}
-use Rattle.std.specs.Prelude.{◌==◌, ◌&&◌, option_map, Contains}
+use Rattle.std.specs.Prelude.{◌==◌}
 use Rattle.std.proofs.lemmas.Bool.{eqb-true}
 use Rattle.std.proofs.lemmas.Option.{same_Some}
 use Rattle.acl_core.specs.Identity.{Identity}
 use Rattle.file_ops.specs.declared.operation.Op.{Op}
 use Rattle.weak_cache.specs.Entries.{Cache}
 use Rattle.suite_collect.specs.declared.told.Said.{Said}
-use Rattle.vote_core.specs.Quorums.{Representative, Configuration}
+use Rattle.vote_core.specs.Quorums.{Configuration}
 use Rattle.suite_prefix.specs.declared.copies.Prefix.{Prefix}
 use Rattle.suite_prefix.specs.declared.lock_mode.LockMode.{LockMode}
 use Rattle.suite_prefix.specs.declared.lock_mode.LockMode.TheVariants.{Exclusive}
@@ -20,13 +20,10 @@ use Rattle.rep_core.specs.declared.reply.Reply.TheVariants as reply
 use Rattle.rep_core.specs.declared.stamped.Lack.{Lack}
 use Rattle.rep_core.specs.declared.stamped.Lack.TheVariants as lack
 use Rattle.rep_core.specs.Fits.{fits}
-use Rattle.file_exec.specs.declared.executor.Outcome.TheVariants as exec
-use Rattle.suite_collect.specs.declared.told.Told.{Told}
 use Rattle.suite_collect.specs.Telling.{newest, has_told, has_refused, first_busy}
 use Rattle.suite_collect.specs.Collecting.{Collector, told_since, votes_or, mode_or, all_told, counted, wanted, is_member, Short, next}
 use Rattle.suite_collect.specs.Collecting as collecting
-use Rattle.suite_collect.specs.Laws as collector
-use Rattle.suite_collect.proofs.Finding.{Has, has_to}
+use Rattle.suite_collect.proofs.Finding.{has_to}
 use Rattle.suite_collect.proofs.Shortness.{short_has_none_left}
 use Rattle.txn_core.specs.declared.word.Word.{Word}
 use Rattle.txn_core.specs.declared.word.Word.TheVariants.{Replied, Lacked}
@@ -37,13 +34,13 @@ use Rattle.txn_core.specs.declared.ending.Ending.TheVariants.{Answered, Refused,
 use Rattle.txn_core.specs.declared.job.Job.{Job}
 use Rattle.txn_core.specs.declared.job.Job.TheVariants.{Transaction}
 use Rattle.txn_core.specs.Doing.{home_of, Fixed, Task, Course, Sweeping, Listing, Resolving, Telling, Breaking, Round, Doing, Running, Rounding, After, GoesOn, Ends}
-use Rattle.txn_core.specs.Transactions.{Step, heard_on, to_widen, after_word, request_of, lack_cause}
+use Rattle.txn_core.specs.Transactions.{heard_on, to_widen, after_word, lack_cause}
 use Rattle.txn_core.specs.Sweeps as sweep
-use Rattle.txn_core.specs.Agents.{Agent, Event, Take, next_in, next_of, end_of, take_in, take, begin, is_idle, after_all}
-use Rattle.txn_core.specs.Laws.{Exchange, of_job, exchange_of, is_decide, is_down, told_of, Was, loses, says_aborted, says_down, is_lack, fits_word, all_fit, has_said, holding, refusing, down, task_of, IsStart, SetsVotes, IsShort, IsCaused, EndsAreCaused}
+use Rattle.txn_core.specs.Agents.{Agent, Event, Take, next_in, next_of, end_of, take_in, begin, after_all}
+use Rattle.txn_core.specs.Laws.{Exchange, of_job, exchange_of, is_down, told_of, Was, loses, is_lack, fits_word, all_fit, has_said, holding, refusing, down, task_of, IsStart, SetsVotes, IsShort, IsCaused, EndsAreCaused}
 use Rattle.txn_core.proofs.Gathers.{Sets}
-use Rattle.txn_core.proofs.Causes.{push, Tells, Begun, ShortBy, CausedBy, EndIs, EndCaused, OrFresh, Fresh, LeftOf, Leaves, was_now, last_fits}
-use Rattle.txn_core.proofs.Upheld.{Begins, Started, started_is, untold_is, begins_more, started_more, fresh_begins, map_cause, Runs, DoingStands, after-append, exchanges-take, word_leaves, stands_after}
+use Rattle.txn_core.proofs.Causes.{push, Begun, ShortBy, CausedBy, EndIs, OrFresh, LeftOf, was_now, last_fits}
+use Rattle.txn_core.proofs.Upheld.{Begins, Started, started_is, untold_is, begins_more, started_more, fresh_begins, map_cause, DoingStands, after-append, exchanges-take, word_leaves, stands_after}
 use Rattle.txn_core.proofs.Shown.{told_said, busy_said, votes_same, tells_busy, kind_of}
 
 -- ---- sweeps
@@ -173,9 +170,9 @@ module _ (fixed : Fixed) (agent : Agent) (job : Job) (events : List Event) where
         ∙ ap (λ told. (newest by.collector.start told).votes) (sym (ap (λ w. told_since w ++ by.collector.told) is) ∙ by.told)
         )
     which (Some w) is = inr (
-        ap (λ w. mode_or w by.collector.mode) is,
-        subst (SetsVotes fixed agent job suite) (sym (ap (λ w. votes_or w (newest by.collector.start by.collector.told)) is)) (sets task own suite w.votes (by.wide w is)),
-        )
+      ap (λ w. mode_or w by.collector.mode) is,
+      subst (SetsVotes fixed agent job suite) (sym (ap (λ w. votes_or w (newest by.collector.start by.collector.told)) is)) (sets task own suite w.votes (by.wide w is)),
+    )
 
     gathered : Begun (Started fixed agent job events) (Begins fixed agent job events) suite by.collector → IsStart fixed agent job events suite by.collector.start
     gathered (inl started) = started_is fixed agent job events suite by.collector.start started

@@ -1,7 +1,7 @@
 -- What is kept of the suites that a transaction gathers: from where each was gathered, what its first Current gave, and to which votes it was widened.
-use Rattle.std.proofs.Common.{◌≡◌, ℕ, Bool, true, false, cond, ◌⊎◌, inl, inr, List, [], ◌∷◌, ◌++◌, Option, Some, None, refl, sym, ap, subst, ◌∙◌, arith}
+use Rattle.std.proofs.Common.{◌≡◌, ℕ, Bool, true, false, cond, ◌⊎◌, inl, inr, List, [], ◌∷◌, ◌++◌, Option, Some, None, refl, sym, ap, subst, ◌∙◌}
 use Rattle.std.specs.Prelude.{◌==◌, map, filter, option_map}
-use Rattle.std.specs.Ordering.{nat_cmp, is_eq}
+use Rattle.std.specs.Ordering.{nat_cmp}
 use Rattle.std.specs.BTreeMap.{is_at}
 use Rattle.std.specs.Cmp.{unsigned_tied}
 use Rattle.std.proofs.lemmas.Bool.{eqb-true, eq-eqb, false≢true}
@@ -17,15 +17,14 @@ use Rattle.file_exec.specs.declared.changes.Change.{Change}
 use Rattle.file_exec.specs.declared.executor.Outcome.TheVariants as exec
 use Rattle.suite_collect.specs.declared.told.Told.{Told}
 use Rattle.suite_collect.specs.declared.told.Said.{Said}
-use Rattle.suite_collect.specs.Collecting.{Widening, Collector, told_since, all_told, tell_at, tell, collect, Asked, Next, Current, Ask, Short, next}
+use Rattle.suite_collect.specs.Collecting.{Widening, Collector, told_since, all_told, tell_at, tell, collect, Asked, Next, Current, Ask, next}
 use Rattle.suite_collect.proofs.Finding.{Has}
-use Rattle.weak_cache.specs.Entries.{Cache}
 use Rattle.txn_core.specs.Suites.{First, Suite, Suites, suite_of, with_suite, source_of, first_or, settled}
 use Rattle.txn_core.specs.Writing.{change_of}
 use Rattle.txn_core.specs.declared.word.Word.{Word}
 use Rattle.txn_core.specs.declared.word.Word.TheVariants.{Replied, Lacked}
 use Rattle.txn_core.specs.Doing.{Changes, Fixed, Task}
-use Rattle.txn_core.specs.Transactions.{start_from, heard_on, votes_then, votes_after, to_widen, widened, said_to}
+use Rattle.txn_core.specs.Transactions.{heard_on, votes_then, votes_after, to_widen, widened, said_to}
 use Rattle.txn_core.specs.Laws.{Exchange, locks, told_of, told_by, more_told}
 use Rattle.txn_core.specs.Caching.{gathered_from, IsCurrent, FirstGave}
 
@@ -292,10 +291,10 @@ module _ (fixed : Fixed) (task : Task) (Old : ℕ → Prefix → Type 0) (past :
           of : FirstOrAsks past number suite → FirstOrAsks (past ++ x ∷ []) number now
           of (inl kept) = inl (first_told kept)
           of (inr none) = inr (
-              none.0,
-              tell_narrow one suite.collector none.1,
-              λ _ _ _. none_more now.collector.start now.collector.mode number past x who what (none_now (none.2 server asked asks)) (ap next (sym (now_is none.1)) ∙ is),
-              )
+            none.0,
+            tell_narrow one suite.collector none.1,
+            λ _ _ _. none_more now.collector.start now.collector.mode number past x who what (none_now (none.2 server asked asks)) (ap next (sym (now_is none.1)) ∙ is),
+          )
 
       -- or is Current
       pub settles_on : (prefix : Prefix) (dver : ℕ) (members : List ℕ) → next now.collector ≡ Current prefix dver members → Kept fixed task Old (past ++ x ∷ []) number (settled prefix dver members now)

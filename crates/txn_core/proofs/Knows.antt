@@ -1,5 +1,5 @@
 -- Which contents a transaction knows.
-use Rattle.std.proofs.Common.{◌≡◌, ℕ, zero, suc, ◌+◌, ◌*◌, Bool, true, false, cond, ◌⊎◌, inl, inr, List, [], ◌∷◌, ◌++◌, Option, Some, None, Ok, Err, refl, sym, ap, subst, ◌∙◌}
+use Rattle.std.proofs.Common.{◌≡◌, ℕ, zero, suc, ◌+◌, Bool, true, false, cond, ◌⊎◌, inl, inr, List, [], ◌∷◌, ◌++◌, Option, Some, None, Ok, Err, refl, sym, ap, subst, ◌∙◌}
 use Rattle.std.specs.Prelude.{◌==◌, ◌&&◌, nat_lt, length, Contains}
 use Rattle.std.proofs.lemmas.Bool.{eqb-true}
 use Rattle.std.proofs.lemmas.Option.{same_Some}
@@ -22,7 +22,7 @@ use Rattle.file_exec.specs.declared.need.Need.TheVariants.{Hold, Know}
 use Rattle.file_exec.specs.declared.executor.Outcome.{Outcome as Executed}
 use Rattle.file_exec.specs.declared.executor.Outcome.TheVariants as exec
 use Rattle.suite_collect.specs.declared.told.Said.{Said}
-use Rattle.suite_collect.specs.Collecting.{tell, raise, mode_of, Next, Ask, Current, Short, next}
+use Rattle.suite_collect.specs.Collecting.{tell, mode_of, Next, Ask, Current, Short, next}
 use Rattle.weak_cache.specs.Entries.{Cache}
 use Rattle.weak_cache.specs.Cache.{content_at, searched}
 use Rattle.weak_cache.proofs.Origins.{search_keeps_all}
@@ -35,13 +35,13 @@ use Rattle.txn_core.specs.declared.ending.Ending.{Ending}
 use Rattle.txn_core.specs.declared.job.Job.{Job}
 use Rattle.txn_core.specs.declared.job.Job.TheVariants.{Transaction, Sweep}
 use Rattle.txn_core.specs.Doing.{Granted, Fixed, Task, Outcome, Phase, Gathering, Fetching, Widening, Preparing, Deciding, Finishing, Course, Round, Doing, Running, Rounding, After, GoesOn, Ends}
-use Rattle.txn_core.specs.Transactions.{Step, Gathered, tell_end, give_up, prepare, locked_at, short_cause, gather_by, widen_by, widen_one, widened, widen_all, opened, or_all, open_needed, open_suite, open_first, opened_with, free_content, after_search, heard_on, raised_or_new, keep_content, heard_of, said_to, proceed, execute, collected, hear, fetched, fetched_at, fetched_for, after_lack, after_word, given_in, lack_cause, verdict_in, ending_by, cause_of_abort, request_in, request_of}
+use Rattle.txn_core.specs.Transactions.{Step, Gathered, tell_end, give_up, prepare, locked_at, short_cause, gather_by, widen_by, widen_one, widened, widen_all, opened, or_all, open_needed, open_suite, open_first, opened_with, free_content, after_search, heard_on, raised_or_new, keep_content, heard_of, said_to, proceed, execute, collected, hear, fetched, fetched_at, fetched_for, after_lack, after_word, given_in, lack_cause, verdict_in, ending_by, cause_of_abort, request_in}
 use Rattle.txn_core.specs.Sweeps as sweep
-use Rattle.txn_core.specs.Agents.{Agent, Event, Take, Forget, next_in, next_of, left, take_in, take, begin, started, forget, is_idle, has_sense, most_jobs, after_all}
-use Rattle.txn_core.specs.Laws.{Exchange, exchange_of, exchanges, of_job, task_of}
-use Rattle.txn_core.specs.Caching.{WasCached, WasGiven, IsContentOf, KnowsContents}
+use Rattle.txn_core.specs.Agents.{Agent, Event, Take, Forget, next_in, next_of, left, take_in, begin, started, is_idle, has_sense, most_jobs, after_all}
+use Rattle.txn_core.specs.Laws.{Exchange, exchange_of, of_job, task_of}
+use Rattle.txn_core.specs.Caching.{IsContentOf, KnowsContents}
 use Rattle.txn_core.proofs.Asks.{asks_same}
-use Rattle.txn_core.proofs.Gathers.{Each, EachBut, each_but, each_with}
+use Rattle.txn_core.proofs.Gathers.{Each, each_but, each_with}
 use Rattle.txn_core.proofs.Cached.{same_proceed, given_is}
 use Rattle.txn_core.proofs.Upheld.{after-append, exchanges-take, exchanges-forget}
 
@@ -259,8 +259,12 @@ module _ (C : ℕ → First → Content → Type 0) where
             let new : Suite = record suite { content = Some content } in
             let said_is = given_is said content told in
             let at : server ≡ first.source = sym (ap (λ (pair : ℕ × Request). pair.0) (same_Some (first.source, request.Fetch task.t number) (server, asked) is)) in
-            let knows : Knows C number new = λ found at'. (first, was, subst (C number first) (same_Some content found at')
-            (given number first content said_is.0 at (sym (asks_same first.source server (request.Fetch task.t number) asked is)) said_is.1)) in
+            let knows : Knows C number new = λ found at'. (
+              first,
+              was,
+              subst (C number first) (same_Some content found at')
+                  (given number first content said_is.0 at (sym (asks_same first.source server (request.Fetch task.t number) asked is)) said_is.1),
+            ) in
             knows_execute fixed _ free (each_with (Knows C) number suites new (each_but (Knows C) number suites each) knows)
 
         of : (found : Option Suite) → suite_of suites number ≡ found → fetched_for task number found ≡ Some (server, asked) → (content : Option Content) → given_in said ≡ content → FreeIn (fetched fixed task cache suites number found server content).cache

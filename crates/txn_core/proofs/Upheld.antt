@@ -1,6 +1,6 @@
 -- What stands after every event of a job.
-use Rattle.std.proofs.Common.{◌≡◌, ℕ, Bool, true, false, cond, ◌⊎◌, inl, inr, List, [], ◌∷◌, ◌++◌, Option, Some, None, refl, sym, ap, subst, ◌∙◌}
-use Rattle.std.specs.Prelude.{◌+◌, ◌*◌, ◌&&◌, nat_lt}
+use Rattle.std.proofs.Common.{◌≡◌, ℕ, Bool, true, false, cond, inl, inr, List, [], ◌∷◌, ◌++◌, Option, Some, None, refl, sym, ap, subst, ◌∙◌}
+use Rattle.std.specs.Prelude.{◌+◌, ◌&&◌, nat_lt}
 use Rattle.std.proofs.lemmas.List.{append-nil, append_assoc}
 use Rattle.acl_core.specs.Identity.{Identity}
 use Rattle.file_ops.specs.declared.operation.Op.{Op}
@@ -16,10 +16,9 @@ use Rattle.txn_core.specs.declared.ending.Ending.TheVariants.{Answered, Refused,
 use Rattle.txn_core.specs.declared.job.Job.{Job}
 use Rattle.txn_core.specs.declared.job.Job.TheVariants.{Transaction, Sweep}
 use Rattle.txn_core.specs.Doing.{Fixed, Task, Phase, Gathering, Fetching, Widening, Preparing, Deciding, Finishing, Course, Round, Doing, Running, Rounding, After, GoesOn, Ends}
-use Rattle.txn_core.specs.Transactions.{Step, start_from, execute, after_word, request_in, request_of}
+use Rattle.txn_core.specs.Transactions.{start_from, execute, after_word, request_in, request_of}
 use Rattle.txn_core.specs.Sweeps as sweep
-use Rattle.txn_core.specs.Agents as agents
-use Rattle.txn_core.specs.Agents.{Agent, Event, Take, Forget, next_in, next_of, left, with_step, take_in, take, begin, started, forget, is_idle, has_sense, most_jobs, after_event, after_all}
+use Rattle.txn_core.specs.Agents.{Agent, Event, Take, Forget, next_in, next_of, left, take_in, take, begin, started, forget, is_idle, has_sense, most_jobs, after_event, after_all}
 use Rattle.txn_core.specs.Laws.{Exchange, exchange_of, exchanges, of_job, told_of, locks, task_of, asks_for, IsStart}
 use Rattle.txn_core.proofs.Locks.{are_nil, asks_lock}
 use Rattle.txn_core.proofs.Gathers.{self, Kept}
@@ -203,8 +202,8 @@ module _ (fixed : Fixed) (agent : Agent) (job : Job) where
           let now : (n : ℕ) (start : Prefix) → course.phase ≡ Gathering n → OrFresh fixed task cache px Old n start → Started fixed agent job events n start = λ n start phase begun. elim begun [
             | inl was ↦ old n start was
             | inr fresh ↦
-              let asks : locks n asked.1 ≡ true = asks_lock course.task n (suite_of course.suites n) asked.0 asked.1 (ap (request_in fixed course.task course.suites) (sym phase) ∙ is) n ∙ self n in
-              record { begins = fresh_begins n start fresh; asks = ap (λ doing. asks_for n (next_in fixed doing)) doing ∙ ap (asks_for n) is ∙ asks }
+                let asks : locks n asked.1 ≡ true = asks_lock course.task n (suite_of course.suites n) asked.0 asked.1 (ap (request_in fixed course.task course.suites) (sym phase) ∙ is) n ∙ self n in
+                record { begins = fresh_begins n start fresh; asks = ap (λ doing. asks_for n (next_in fixed doing)) doing ∙ ap (asks_for n) is ∙ asks }
           ] in
           let also : (n : ℕ) (start : Prefix) → OrFresh fixed task cache px Loose n start → Begins fixed agent job events n start = λ n start begun. elim begun [
             | inl was ↦ loose n start was

@@ -23,7 +23,10 @@ pub(crate) enum Coming {
     /// It has a quorum.
     Current,
     /// A server is to be asked.
-    Ask { server: u8, asked: Asked },
+    Ask {
+        server: u8,
+        asked: Asked,
+    },
     /// Nobody is left to ask, and so many votes of those that are needed were had. The first server that
     /// was busy stands beside them, with the transaction in its way.
     Short {
