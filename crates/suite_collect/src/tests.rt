@@ -125,6 +125,7 @@ fn talk(rt: &(impl Abort + AllocGlobal), mode: LockMode, steps: &[Step]) {
     let mut collect = Collect::new(7, 9, mode, prefix(rt, 0, Where::Here));
     for Step(what, want) in steps {
         act(rt, &mut collect, what);
+        collect = collect.clone().expect(rt, "memory");
         let got = words(rt, &collect);
         assert_eq!(rt; got.as_str(), *want);
     }

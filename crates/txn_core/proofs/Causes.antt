@@ -1,15 +1,11 @@
 -- Undecided ends are caused.
-use Rattle.std.proofs.Common.{◌≡◌, ℕ, ◌+◌, Bool, true, false, cond, List, [], ◌∷◌, ◌++◌, Option, Some, None, Ok, Err, refl, sym, ap, subst, ◌∙◌, arith}
-use Rattle.std.specs.Prelude.{◌==◌, ◌&&◌, length, nat_lt, ◌*◌}
+use Rattle.std.proofs.Common.{◌≡◌, ℕ, Bool, true, false, cond, List, [], ◌∷◌, ◌++◌, Option, Some, None, Ok, Err, refl, sym, ◌⊎◌, inl, inr, zero, suc, ap, subst, ◌∙◌}
+use Rattle.std.specs.Prelude.{◌==◌, ◌&&◌, length}
 use Rattle.std.proofs.lemmas.Bool.{eqb-true}
-use Rattle.std.proofs.lemmas.Bool.Decides.{nat_tests}
-use Rattle.std.proofs.lemmas.List.{append-nil, append_assoc}
 use Rattle.std.proofs.lemmas.List.Elements.{Contains-append_left, Contains-push}
 use Rattle.std.proofs.lemmas.List.Folds.{list_all-append}
 use Rattle.std.proofs.lemmas.Option.{same_Some}
 use Rattle.suite_content.specs.declared.content.Content.{Content}
-use Rattle.file_ops.specs.declared.service.Service.{Service}
-use Rattle.rep_core.specs.declared.lock.Lock.{Lock}
 use Rattle.rep_core.specs.declared.request.Decision.{Decision}
 use Rattle.rep_core.specs.declared.request.Part.{Part}
 use Rattle.rep_core.specs.declared.request.Request.{Request}
@@ -26,26 +22,27 @@ use Rattle.file_exec.specs.declared.executor.Outcome.{Outcome as Executed}
 use Rattle.file_exec.specs.declared.executor.Outcome.TheVariants as exec
 use Rattle.suite_collect.specs.declared.told.Told.{Told}
 use Rattle.suite_collect.specs.declared.told.Said.{Said}
-use Rattle.suite_collect.specs.Collecting.{Collector, all_told, tell, mode_of, request_for, Asked, Poll, Upgrade, Next, Ask, Current, Short, next}
+use Rattle.suite_prefix.specs.declared.copies.Prefix.{Prefix}
+use Rattle.suite_prefix.specs.declared.lock_mode.LockMode.{LockMode}
+use Rattle.suite_prefix.specs.declared.lock_mode.LockMode.TheVariants.{Shared}
+use Rattle.suite_collect.proofs.Finding.{Has}
+use Rattle.suite_collect.specs.Collecting as collecting
+use Rattle.suite_collect.specs.Collecting.{Collector, all_told, raise, tell, mode_of, request_for, Asked, Poll, Upgrade, Next, Ask, Current, Short, next}
 use Rattle.weak_cache.specs.Entries.{Cache}
 use Rattle.txn_core.specs.Suites.{First, Suite, Suites, suite_of, with_suite, settled}
 use Rattle.txn_core.specs.Writing.{parts_at}
 use Rattle.txn_core.specs.declared.word.Word.{Word}
 use Rattle.txn_core.specs.declared.ending.Cause.{Cause}
 use Rattle.txn_core.specs.declared.ending.Ending.{Ending}
-use Rattle.txn_core.specs.declared.job.Job.{Job}
 use Rattle.txn_core.specs.declared.word.Word.TheVariants.{Replied, Lacked}
 use Rattle.txn_core.specs.declared.ending.Cause.TheVariants.{Unavailable, Busy, Lost, Overruled, HomeDown, Full, Memory}
 use Rattle.txn_core.specs.declared.ending.Ending.TheVariants.{Answered, Refused, Swept, Undecided}
-use Rattle.txn_core.specs.declared.job.Job.TheVariants.{Transaction, Sweep}
-use Rattle.txn_core.specs.Doing.{Granted, home_of, Fixed, Task, Outcome, Phase, Gathering, Fetching, Widening, Preparing, Deciding, Finishing, Course, Sweeping, Listing, Resolving, Telling, Breaking, Round, Doing, Running, Rounding, After, GoesOn, Ends}
-use Rattle.txn_core.specs.Transactions.{Step, Gathered, tell_end, give_up, prepare, locked_at, short_cause, gather_by, widen_by, widen_one, widened, widen_all, to_widen, opened, heard_on, raised_or_new, keep_content, heard_of, said_to, proceed, execute, collected, hear, fetched, prepared, after_lack, after_word, asked_by, asked_for, fetched_at, fetched_for, request_in, changes_of, decision_of, given_in, verdict_in, ending_by, cause_of_abort, lack_cause}
-use Rattle.txn_core.specs.Sweeps as sweep
-use Rattle.txn_core.specs.Agents as agents
-use Rattle.txn_core.specs.Agents.{Agent, Event, Take, Forget, next_in, next_of, end_of, take_in, take, begin, started, forget, is_idle, has_sense, most_jobs, after_all}
-use Rattle.txn_core.specs.Laws.{Exchange, of_job, exchange_of, exchanges, locks, is_decide, is_down, told_of, told_by, more_told, Was, loses, says_aborted, says_down, is_lack, fits_word, all_fit}
+use Rattle.txn_core.specs.Doing.{Granted, home_of, Fixed, Task, Outcome, Phase, Gathering, Fetching, Widening, Preparing, Deciding, Finishing, Course, After, GoesOn, Ends}
+use Rattle.txn_core.specs.Transactions.{Step, Gathered, tell_end, give_up, prepare, locked_at, short_cause, gather_by, widen_by, widen_one, widened, widen_all, to_widen, opened, or_all, open_needed, open_suite, open_first, opened_with, free_content, start_from, heard_on, raised_or_new, keep_content, heard_of, said_to, proceed, execute, collected, hear, fetched, prepared, after_lack, after_word, asked_by, asked_for, fetched_at, fetched_for, request_in, changes_of, decision_of, given_in, verdict_in, ending_by, cause_of_abort, lack_cause}
+use Rattle.txn_core.specs.Laws.{Exchange, locks, is_decide, told_of, told_by, more_told, Was, loses, says_aborted, says_down, is_lack, fits_word, all_fit}
 use Rattle.txn_core.proofs.Asks.{asks_same}
-use Rattle.txn_core.proofs.Locks.{told_in, Are, are_with, are_same, are_nil, are_opened, told_raised, all_told-tell, asks_lock}
+use Rattle.txn_core.proofs.Gathers.{self, with_at, at_with, Each, EachBut, each_but, each_with, but_with, tell_start, Sets, Grants, Kept, Asking, wide_told, wide_widened, kept_same, kept_more, kept_told, asking_of, asks_new, asks_on, settles_on}
+use Rattle.txn_core.proofs.Locks.{told_in, Are, are_with, are_same, are_opened, told_raised, all_told-tell, asks_lock}
 
 -- ---- replies that lose a lock
 
@@ -93,42 +90,72 @@ lost_prepare t parts (reply.Locked locks) fine none = cc
 
 -- ---- causes
 
-abbrev push : List Exchange → ℕ → Request → Word → List Exchange
+abbrev pub push : List Exchange → ℕ → Request → Word → List Exchange
 push past server asked word = past ++ record { server = server; request = asked; word = word } ∷ []
 
-abbrev Tells : List Exchange → ℕ → List Told
+abbrev pub Tells : List Exchange → ℕ → List Told
 Tells past number = told_of number [] past
 
+-- a start that is one, or else that of a suite of which nothing was told
+abbrev pub Begun : (ℕ → Prefix → Type 0) → (ℕ → Prefix → Type 0) → ℕ → Collector → Type 0
+Begun Old Loose suite collector = Old suite collector.start ⊎ (Loose suite collector.start × (all_told collector ≡ []))
+
 -- a collector that was told just this falls short
-pub record ShortBy (past : List Exchange) (suite got needed : ℕ) (busy : Option (ℕ × ℕ)) : Type 0 where
+pub record ShortBy (fixed : Fixed) (task : Task) (Old Loose : ℕ → Prefix → Type 0) (past : List Exchange) (suite got needed : ℕ) (busy : Option (ℕ × ℕ)) : Type 0 where
   pub collector : Collector
   pub told : all_told collector ≡ told_of suite [] past
   pub short : next collector ≡ Short got needed busy
+  pub begun : Begun Old Loose suite collector
+  pub wide : (w : collecting.Widening) → collector.widening ≡ Some w → Sets fixed task suite w.votes
 
-abbrev pub CausedBy : Cause → List Exchange → Type 0
-CausedBy (Unavailable suite got needed) past = ShortBy past suite got needed None
-CausedBy (Busy server holder) past = (suite got needed : ℕ) × ShortBy past suite got needed (Some (server, holder))
-CausedBy (Lost server) past = Was past server loses
-CausedBy Overruled past = (server : ℕ) × Was past server (λ asked word. is_decide asked && says_aborted word)
-CausedBy HomeDown past = (server : ℕ) × Was past server (λ asked word. is_decide asked && says_down word)
-CausedBy (Full server) past = Was past server (λ asked word. is_lack lack.Full word)
-CausedBy Memory past = (server : ℕ) × Was past server (λ asked word. is_lack lack.Memory word)
+abbrev pub CausedBy : Fixed → Task → (ℕ → Prefix → Type 0) → (ℕ → Prefix → Type 0) → List Exchange → Cause → Type 0
+CausedBy fixed task Old Loose past (Unavailable suite got needed) = ShortBy fixed task Old Loose past suite got needed None
+CausedBy fixed task Old Loose past (Busy server holder) = (suite got needed : ℕ) × ShortBy fixed task Old Loose past suite got needed (Some (server, holder))
+CausedBy fixed task Old Loose past (Lost server) = Was past server loses
+CausedBy fixed task Old Loose past Overruled = (server : ℕ) × Was past server (λ asked word. is_decide asked && says_aborted word)
+CausedBy fixed task Old Loose past HomeDown = (server : ℕ) × Was past server (λ asked word. is_decide asked && says_down word)
+CausedBy fixed task Old Loose past (Full server) = Was past server (λ asked word. is_lack lack.Full word)
+CausedBy fixed task Old Loose past Memory = (server : ℕ) × Was past server (λ asked word. is_lack lack.Memory word)
 
-abbrev EndCaused : List Exchange → Ending → Type 0
-EndCaused past (Undecided cause) = CausedBy cause past
-EndCaused past (Answered answers) = Unit {0}
-EndCaused past (Refused refusal) = Unit {0}
-EndCaused past (Swept broken finished left) = Unit {0}
+abbrev pub EndIs : Fixed → Task → (ℕ → Prefix → Type 0) → (ℕ → Prefix → Type 0) → List Exchange → Ending → Type 0
+EndIs fixed task Old Loose past (Undecided cause) = CausedBy fixed task Old Loose past cause
+EndIs fixed task Old Loose past (Answered answers) = Unit {0}
+EndIs fixed task Old Loose past (Refused refusal) = Unit {0}
+EndIs fixed task Old Loose past (Swept broken finished left) = Unit {0}
 
-abbrev PhaseCaused : List Exchange → Suites → Phase → Type 0
-PhaseCaused past suites (Finishing servers v ending) = EndCaused past ending
-PhaseCaused past suites _ = Are (Tells past) suites
+-- where all that was told fits
+abbrev pub EndCaused : Fixed → Task → (ℕ → Prefix → Type 0) → (ℕ → Prefix → Type 0) → List Exchange → Ending → Type 0
+EndCaused fixed task Old Loose past ending = all_fit past ≡ true → EndIs fixed task Old Loose past ending
 
-abbrev LeftCaused : List Exchange → After Course → Type 0
-LeftCaused past (GoesOn course) = PhaseCaused past course.suites course.phase
-LeftCaused past (Ends ending) = EndCaused past ending
+-- What a phase keeps: of the suite that is gathered, of all others, of the suites that get votes, and of how it ends.
+abbrev pub Stands : Fixed → Task → (Old Now Loose : ℕ → Prefix → Type 0) → List Exchange → Suites → Phase → Type 0
+Stands fixed task Old Now Loose past suites (Gathering number) =
+    Are (Tells past) suites × EachBut (Kept fixed task Old past) number suites × ((suite : Suite) → suite_of suites number ≡ Some suite → Asking fixed task Now past number suite)
+Stands fixed task Old Now Loose past suites (Fetching number) = Are (Tells past) suites × Each (Kept fixed task Old past) suites
+Stands fixed task Old Now Loose past suites (Widening left granted) =
+    Are (Tells past) suites × Each (Kept fixed task Old past) suites × Grants fixed task granted.answers granted.changes × ((number : ℕ) → Has left number → Has (to_widen granted.changes) number)
+Stands fixed task Old Now Loose past suites (Preparing left outcome) = Unit {0}
+Stands fixed task Old Now Loose past suites (Deciding outcome) = Unit {0}
+Stands fixed task Old Now Loose past suites (Finishing servers v ending) = EndCaused fixed task Old Loose past ending
 
-was_now : (past : List Exchange) (server : ℕ) (asked : Request) (word : Word) (kind : Request → Word → Bool) → kind asked word ≡ true → Was (push past server asked word) server kind
+-- from where a suite starts that is gathered just now
+pub record Fresh (fixed : Fixed) (task : Task) (cache : Cache) (past : List Exchange) (number : ℕ) (start : Prefix) : Type 0 where
+  pub from : start ≡ start_from fixed task cache number
+  pub untold : told_of number [] past ≡ []
+
+abbrev pub OrFresh : Fixed → Task → Cache → List Exchange → (ℕ → Prefix → Type 0) → ℕ → Prefix → Type 0
+OrFresh fixed task cache past Old number start = Old number start ⊎ Fresh fixed task cache past number start
+
+abbrev pub LeftOf : Fixed → Task → (Old Loose : ℕ → Prefix → Type 0) → List Exchange → Cache → After Course → Type 0
+LeftOf fixed task Old Loose past cache (GoesOn course) =
+    (course.task ≡ task) × Stands fixed task Old (OrFresh fixed task cache past Old) (OrFresh fixed task cache past Loose) past course.suites course.phase
+LeftOf fixed task Old Loose past cache (Ends ending) = EndCaused fixed task Old (OrFresh fixed task cache past Loose) past ending
+
+-- what a step leaves
+abbrev pub Leaves : Fixed → Task → (Old Loose : ℕ → Prefix → Type 0) → List Exchange → Step → Type 0
+Leaves fixed task Old Loose past step = LeftOf fixed task Old Loose past step.cache step.after
+
+pub was_now : (past : List Exchange) (server : ℕ) (asked : Request) (word : Word) (kind : Request → Word → Bool) → kind asked word ≡ true → Was (push past server asked word) server kind
 was_now past server asked word kind is = record { one = record { server = server; request = asked; word = word }; there = Contains-push past (record { server = server; request = asked; word = word }); at = refl; is = is }
 
 was_more : (past more : List Exchange) (server : ℕ) (kind : Request → Word → Bool) → Was past server kind → Was (past ++ more) server kind
@@ -146,91 +173,57 @@ told_same past server asked word none number =
 are_quiet : (past : List Exchange) (suites : Suites) (server : ℕ) (asked : Request) (word : Word) → ((number : ℕ) → locks number asked ≡ false) → Are (Tells past) suites → Are (Tells (push past server asked word)) suites
 are_quiet past suites server asked word none are = (are.0, λ number. are.1 number ∙ sym (told_same past server asked word none number))
 
--- what no lock is asked for leaves causes as they were
-short_still : (past : List Exchange) (server : ℕ) (asked : Request) (word : Word) → ((number : ℕ) → locks number asked ≡ false) → (suite had wanting : ℕ) (busy : Option (ℕ × ℕ)) → ShortBy past suite had wanting busy → ShortBy (push past server asked word) suite had wanting busy
-short_still past server asked word none suite had wanting busy short = record { collector = short.collector; told = short.told ∙ sym (told_same past server asked word none suite); short = short.short }
+-- ---- what fits
 
-still_caused : (past : List Exchange) (server : ℕ) (asked : Request) (word : Word) → ((number : ℕ) → locks number asked ≡ false) → (cause : Cause) → CausedBy cause past → CausedBy cause (push past server asked word)
-still_caused past server asked word none (Unavailable suite had wanting) is = short_still past server asked word none suite had wanting None is
-still_caused past server asked word none (Busy at holder) is = (is.0, is.1, is.2, short_still past server asked word none is.0 is.1 is.2 (Some (at, holder)) is.3)
-still_caused past server asked word none (Lost at) is = was_more past _ at _ is
-still_caused past server asked word none Overruled is = (is.0, was_more past _ is.0 _ is.1)
-still_caused past server asked word none HomeDown is = (is.0, was_more past _ is.0 _ is.1)
-still_caused past server asked word none (Full at) is = was_more past _ at _ is
-still_caused past server asked word none Memory is = (is.0, was_more past _ is.0 _ is.1)
+pub both_fit : (past later : List Exchange) → all_fit (past ++ later) ≡ true → (all_fit past ≡ true) × (all_fit later ≡ true)
+both_fit past later fine = of (all_fit past) (all_fit later) (sym (list_all-append (λ (one : Exchange). fits_word one.request one.word) past later) ∙ fine)
+  where
+    of : (a b : Bool) → (a && b) ≡ true → (a ≡ true) × (b ≡ true)
+    of true b is = (refl, is)
+    of false b is = cc
 
-still_ended : (past : List Exchange) (server : ℕ) (asked : Request) (word : Word) → ((number : ℕ) → locks number asked ≡ false) → (ending : Ending) → EndCaused past ending → EndCaused (push past server asked word) ending
-still_ended past server asked word none (Undecided cause) is = still_caused past server asked word none cause is
-still_ended past server asked word none (Answered answers) is = tt
-still_ended past server asked word none (Refused refusal) is = tt
-still_ended past server asked word none (Swept broken finished left) is = tt
+pub last_fits : (past : List Exchange) (server : ℕ) (asked : Request) (word : Word) → all_fit (push past server asked word) ≡ true → fits_word asked word ≡ true
+last_fits past server asked word fine = of (fits_word asked word) (both_fit past (record { server = server; request = asked; word = word } ∷ []) fine).1
+  where
+    of : (a : Bool) → (a && true) ≡ true → a ≡ true
+    of true is = refl
+    of false is = cc
 
-short_caused : (past : List Exchange) (number : ℕ) (collector : Collector) (had wanting : ℕ) (busy : Option (ℕ × ℕ)) → all_told collector ≡ Tells past number → next collector ≡ Short had wanting busy → CausedBy (short_cause number had wanting busy) past
-short_caused past number collector had wanting None same is = record { collector = collector; told = same; short = is }
-short_caused past number collector had wanting (Some busy) same is = (number, had, wanting, record { collector = collector; told = same; short = is })
+-- ---- contents that are opened
 
-lack_caused : (past : List Exchange) (server : ℕ) (asked : Request) (lacked : Lack) → CausedBy (lack_cause server lacked) (push past server asked (Lacked lacked))
-lack_caused past server asked lack.Full = was_now past server asked (Lacked lack.Full) (λ asked word. is_lack lack.Full word) refl
-lack_caused past server asked lack.Memory = (server, was_now past server asked (Lacked lack.Memory) (λ asked word. is_lack lack.Memory word) refl)
+pub each_opened : (K : ℕ → Suite → Type 0) → ((number : ℕ) (suite : Suite) (content : Content) → K number suite → K number (record suite { content = Some content })) → (n : ℕ) (fixed : Fixed) (task : Task) (all : Gathered) → Each K all.suites
+    → Each K (opened n fixed task all).suites
+each_opened K opens zero fixed task all each = each
+each_opened K opens (suc n) fixed task all each = of (heard_on fixed task all.suites) (λ more each. each_opened K opens n fixed task more each)
+  where
+    or' : (found : Option Gathered) → ((more : Gathered) → found ≡ Some more → Each K more.suites) → ((more : Gathered) → Each K more.suites → Each K (opened n fixed task more).suites) → Each K (or_all all found (λ all. opened n fixed task all)).suites
+    or' (Some more) found_each later = later more (found_each more refl)
+    or' None found_each later = each
 
--- ---- steps that hear nothing
+    with_content : (number : ℕ) (suite : Suite) (first : First) (content : Option Content) (more : Gathered) → suite_of all.suites number ≡ Some suite → opened_with task all number suite first content ≡ Some more → Each K more.suites
+    with_content number suite first (Some content) more there is =
+        subst (λ (more : Gathered). Each K more.suites) (same_Some _ more is)
+        (each_with K number all.suites (record suite { content = Some content }) (each_but K number all.suites each) (opens number suite content (each number suite there)))
+    with_content number suite first None more there is = cc
 
-caused_end : (past : List Exchange) (task : Task) (cache : Cache) (suites : Suites) (v : Verdict) (ending : Ending) (servers : List ℕ) → EndCaused past ending → LeftCaused past (tell_end task cache suites v ending servers).after
-caused_end past task cache suites v ending [] is = is
-caused_end past task cache suites v ending (server ∷ servers) is = is
+    at_first : (number : ℕ) (suite : Suite) (first : Option First) (more : Gathered) → suite_of all.suites number ≡ Some suite → open_first task all number suite first ≡ Some more → Each K more.suites
+    at_first number suite (Some first) more there is = with_content number suite first (free_content task all.cache number first) more there is
+    at_first number suite None more there is = cc
 
-caused_give_up : (past : List Exchange) (task : Task) (cache : Cache) (suites : Suites) (cause : Cause) → CausedBy cause past → LeftCaused past (give_up task cache suites cause).after
-caused_give_up past task cache suites cause is = caused_end past task cache suites verdict.Aborted (Undecided cause) (locked_at suites) is
+    at_suite : (number : ℕ) (found : Option Suite) (more : Gathered) → suite_of all.suites number ≡ found → open_suite task all number found ≡ Some more → Each K more.suites
+    at_suite number (Some suite) more there is = at_first number suite suite.first more there is
+    at_suite number None more there is = cc
 
-caused_prepare : (past : List Exchange) (task : Task) (cache : Cache) (suites : Suites) (outcome : Outcome) (servers : List ℕ) → Are (Tells past) suites → LeftCaused past (prepare task cache suites outcome servers).after
-caused_prepare past task cache suites outcome [] are = are
-caused_prepare past task cache suites outcome (server ∷ servers) are = are
+    needed' : (heard : Executed) (more : Gathered) → open_needed task all heard ≡ Some more → Each K more.suites
+    needed' (exec.Need (Know number)) more is = at_suite number (suite_of all.suites number) more refl is
+    needed' (exec.Need (Hold number mode)) more is = cc
+    needed' (exec.Done answers changes) more is = cc
+    needed' (exec.Refused refusal) more is = cc
 
-caused_gather : (past : List Exchange) (task : Task) (cache : Cache) (suites : Suites) (number : ℕ) (collector : Collector) (after : Next) → Are (Tells past) suites → all_told collector ≡ Tells past number → next collector ≡ after
-    → LeftCaused past (gather_by task cache suites number after).after
-caused_gather past task cache suites number collector (Short had wanting busy) are same is = caused_give_up past task cache suites (short_cause number had wanting busy) (short_caused past number collector had wanting busy same is)
-caused_gather past task cache suites number collector (Ask server asked) are same is = are
-caused_gather past task cache suites number collector (Current prefix dver members) are same is = are
+    of : (heard : Executed) → ((more : Gathered) → Each K more.suites → Each K (opened n fixed task more).suites) → Each K (or_all all (open_needed task all heard) (λ all. opened n fixed task all)).suites
+    of heard later = or' (open_needed task all heard) (needed' heard) later
 
-caused_widen_by : (past : List Exchange) (task : Task) (cache : Cache) (suites : Suites) (left : List ℕ) (granted : Granted) (number : ℕ) (collector : Collector) (after : Next) (go_on : Suites → Step)
-    → Are (Tells past) suites → all_told collector ≡ Tells past number → next collector ≡ after → ((suites : Suites) → Are (Tells past) suites → LeftCaused past (go_on suites).after)
-    → LeftCaused past (widen_by task cache suites (Widening left granted) number after go_on).after
-caused_widen_by past task cache suites left granted number collector (Current prefix dver members) go_on are same is more = more suites are
-caused_widen_by past task cache suites left granted number collector (Ask server asked) go_on are same is more = are
-caused_widen_by past task cache suites left granted number collector (Short had wanting busy) go_on are same is more = caused_give_up past task cache suites (short_cause number had wanting busy) (short_caused past number collector had wanting busy same is)
-
-told_there : (past : List Exchange) (suites : Suites) (number : ℕ) (found : Option Suite) → suite_of suites number ≡ found → Are (Tells past) suites → told_in found ≡ Tells past number
-told_there past suites number found there are = ap told_in (sym there) ∙ are.1 number
-
-caused_widen_one : (past : List Exchange) (task : Task) (cache : Cache) (suites : Suites) (left : List ℕ) (granted : Granted) (number : ℕ) (found : Option Suite) (go_on : Suites → Step) → suite_of suites number ≡ found
-    → Are (Tells past) suites → ((suites : Suites) → Are (Tells past) suites → LeftCaused past (go_on suites).after)
-    → LeftCaused past (widen_one task cache suites (Widening left granted) granted.changes number found go_on).after
-caused_widen_one past task cache suites left granted number (Some suite) go_on there are more =
-    let now = widened granted.changes number suite in
-    caused_widen_by past task cache (with_suite number now suites) left granted number now.collector (next now.collector) go_on
-    (are_same (Tells past) suites number now are (sym (ap told_in there))) (told_there past suites number (Some suite) there are) refl more
-caused_widen_one past task cache suites left granted number None go_on there are more = more suites are
-
-caused_widen : (past : List Exchange) (task : Task) (cache : Cache) (suites : Suites) (granted : Granted) (left : List ℕ) → Are (Tells past) suites → LeftCaused past (widen_all task cache suites granted left).after
-caused_widen past task cache suites granted [] are = caused_prepare past task cache suites (Ok granted) (locked_at suites) are
-caused_widen past task cache suites granted (number ∷ left) are =
-    caused_widen_one past task cache suites (number ∷ left) granted number (suite_of suites number) _ refl are (λ suites are. caused_widen past task cache suites granted left are)
-
-caused_proceed : (past : List Exchange) (fixed : Fixed) (task : Task) (cache : Cache) (suites : Suites) (heard : Executed) → Are (Tells past) suites → LeftCaused past (proceed fixed task cache suites heard).after
-caused_proceed past fixed task cache suites (exec.Need (Hold number mode)) are =
-    let suite = raised_or_new fixed task cache number mode (suite_of suites number) in
-    let same = told_raised fixed task cache number mode (suite_of suites number) in
-    caused_gather past task cache (with_suite number suite suites) number suite.collector (next suite.collector) (are_same (Tells past) suites number suite are same) (same ∙ are.1 number) refl
-caused_proceed past fixed task cache suites (exec.Need (Know number)) are = are
-caused_proceed past fixed task cache suites (exec.Done answers changes) are = caused_widen past task cache suites (record { answers = answers; changes = changes }) (to_widen changes) are
-caused_proceed past fixed task cache suites (exec.Refused refusal) are = caused_prepare past task cache suites (Err refusal) (locked_at suites) are
-
-caused_execute : (past : List Exchange) (fixed : Fixed) (task : Task) (all : Gathered) → Are (Tells past) all.suites → LeftCaused past (execute fixed task all).after
-caused_execute past fixed task all are =
-    let open' = opened (length all.suites) fixed task all in
-    caused_proceed past fixed task open'.cache open'.suites (heard_on fixed task open'.suites) (are_opened (Tells past) (length all.suites) fixed task all are)
-
--- ---- a reply to a collector
+-- ---- what is told
 
 lost_asked : (task : Task) (number : ℕ) (after : Next) (server : ℕ) (asked : Request) (said : Reply) → asked_by task number after ≡ Some (server, asked) → fits asked said ≡ true → said_to asked said ≡ None → loses asked (Replied said) ≡ true
 lost_asked task number (Ask who question) server asked said is =
@@ -256,276 +249,298 @@ are_heard told new suites number one now are newly same =
     at other true is = same ∙ ap (λ other. one ∷ told other) (eqb-true number other is)
     at other false is = refl
 
-caused_collected : (past : List Exchange) (task : Task) (cache : Cache) (suites : Suites) (phase : Phase) (number : ℕ) (now : Suite) (after : Next) (go_on : Suites → Step)
-    → ((it : Suite) → it.collector ≡ now.collector → Are (Tells past) (with_suite number it suites)) → all_told now.collector ≡ Tells past number → next now.collector ≡ after
-    → ((suites : Suites) → Are (Tells past) suites → PhaseCaused past suites phase) → ((suites : Suites) → Are (Tells past) suites → LeftCaused past (go_on suites).after)
-    → LeftCaused past (collected task cache suites phase number now after (λ suite. go_on (with_suite number suite suites))).after
-caused_collected past task cache suites phase number now (Ask server asked) go_on are same is keep more = keep (with_suite number now suites) (are now refl)
-caused_collected past task cache suites phase number now (Short had wanting busy) go_on are same is keep more =
-    caused_give_up past task cache (with_suite number now suites) (short_cause number had wanting busy) (short_caused past number now.collector had wanting busy same is)
-caused_collected past task cache suites phase number now (Current prefix dver members) go_on are same is keep more =
-    more (with_suite number (settled prefix dver members now) suites) (are (settled prefix dver members now) refl)
+told_there : (past : List Exchange) (suites : Suites) (number : ℕ) (found : Option Suite) → suite_of suites number ≡ found → Are (Tells past) suites → told_in found ≡ Tells past number
+told_there past suites number found there are = ap told_in (sym there) ∙ are.1 number
 
-caused_heard : (past : List Exchange) (task : Task) (cache : Cache) (suites : Suites) (phase : Phase) (number : ℕ) (found : Option Suite) (server : ℕ) (asked : Request) (said : Reply) (go_on : Suites → Step)
-    → Are (Tells past) suites → suite_of suites number ≡ found → asked_for task number found ≡ Some (server, asked) → fits asked said ≡ true
-    → ((suites : Suites) → Are (Tells (push past server asked (Replied said))) suites → PhaseCaused (push past server asked (Replied said)) suites phase)
-    → ((suites : Suites) → Are (Tells (push past server asked (Replied said))) suites → LeftCaused (push past server asked (Replied said)) (go_on suites).after)
-    → LeftCaused (push past server asked (Replied said)) (heard_of task cache suites phase number found server asked said go_on).after
-caused_heard past task cache suites phase number None server asked said go_on are there is fine keep more = cc
-caused_heard past task cache suites phase number (Some suite) server asked said go_on are there is fine keep more = of (said_to asked said) refl
-  where
-    of : (heard : Option Said) → said_to asked said ≡ heard → LeftCaused (push past server asked (Replied said)) (hear task cache suites phase number suite server asked heard (λ suite. go_on (with_suite number suite suites))).after
-    of None was =
-        caused_give_up (push past server asked (Replied said)) task cache suites (Lost server)
-        (was_now past server asked (Replied said) loses (lost_asked task number (next suite.collector) server asked said is fine was))
-    of (Some heard) was =
-        let one : Told = record { server = server; mode = mode_of asked; said = heard } in
-        let now : Suite = record suite { collector = tell one suite.collector } in
-        let newly = tells_heard past number server asked said heard (asks_lock task number (Some suite) server asked is) was in
-        let same : all_told (tell one suite.collector) ≡ one ∷ Tells past number = all_told-tell one suite.collector ∙ ap (λ told. one ∷ told) (told_there past suites number (Some suite) there are) in
-        caused_collected (push past server asked (Replied said)) task cache suites phase number now (next now.collector) go_on
-        (λ it at. are_heard (Tells past) (Tells (push past server asked (Replied said))) suites number one it are newly (ap all_told at ∙ same))
-        (same ∙ ap (λ b. cond b (one ∷ Tells past number) (Tells past number)) (sym (self number)) ∙ sym (newly number)) refl keep more
-      where
-        self : (number : ℕ) → (number == number) ≡ true
-        self number = grind (arith, nat_tests)
+there_with : (number : ℕ) (suite : Suite) (suites : Suites) → suite_of (with_suite number suite suites) number ≡ Some suite
+there_with number suite suites = with_at number suite suites number ∙ ap (λ b. cond b (Some suite) (suite_of suites number)) (self number)
 
--- ---- other words
+-- ---- steps
 
-caused_fetched : (past : List Exchange) (fixed : Fixed) (task : Task) (cache : Cache) (suites : Suites) (number : ℕ) (found : Option Suite) (server : ℕ) (asked : Request) (said : Reply) → Are (Tells past) suites → suite_of suites number ≡ found
-    → fetched_for task number found ≡ Some (server, asked) → fits asked said ≡ true → LeftCaused (push past server asked (Replied said)) (fetched fixed task cache suites number found server (given_in said)).after
-caused_fetched past fixed task cache suites number None server asked said are there is fine = cc
-caused_fetched past fixed task cache suites number (Some suite) server asked said are there is fine = of (given_in said) refl
-  where
-    what : (first : Option First) → fetched_at task number first ≡ Some (server, asked) → request.Fetch task.t number ≡ asked
-    what (Some first) is = asks_same first.source server (request.Fetch task.t number) asked is
-    what None is = cc
+module _ (fixed : Fixed) (task : Task) (Old Loose : ℕ → Prefix → Type 0) where
+  abbrev Keeps : List Exchange → ℕ → Suite → Type 0
+  Keeps past number suite = Kept fixed task Old past number suite
 
-    kept : (content : Content) (first : Option First) → fetched_at task number first ≡ Some (server, asked) → LeftCaused (push past server asked (Replied said)) (keep_content fixed task cache suites number suite content first server).after
-    kept content None is = cc
-    kept content (Some first) is =
-        caused_execute (push past server asked (Replied said)) fixed task _
-        (are_same (Tells (push past server asked (Replied said))) suites number (record suite { content = Some content }) (are_quiet past suites server asked (Replied said) (λ number. ap (locks number) (sym (what (Some first) is))) are) (sym (ap told_in there)))
+  -- what no lock is asked for leaves causes as they were
+  short_still : (past : List Exchange) (cache : Cache) (server : ℕ) (asked : Request) (word : Word) → ((number : ℕ) → locks number asked ≡ false) → (suite had wanting : ℕ) (busy : Option (ℕ × ℕ)) → ShortBy fixed task Old Loose past suite had wanting busy
+      → ShortBy fixed task Old (OrFresh fixed task cache (push past server asked word) Loose) (push past server asked word) suite had wanting busy
+  short_still past cache server asked word none suite had wanting busy by = record {
+    collector = by.collector;
+    told = by.told ∙ sym (told_same past server asked word none suite);
+    short = by.short;
+    begun = elim by.begun [ inl old ↦ inl old | inr loose ↦ inr (inl loose.0, loose.1) ];
+    wide = by.wide;
+  }
 
-    of : (given : Option Content) → given_in said ≡ given → LeftCaused (push past server asked (Replied said)) (fetched fixed task cache suites number (Some suite) server given).after
-    of (Some content) was = kept content suite.first is
-    of None was =
-        caused_give_up (push past server asked (Replied said)) task cache suites (Lost server)
-        (was_now past server asked (Replied said) loses (subst (λ asked. fits asked said ≡ true → loses asked (Replied said) ≡ true) (what suite.first is) (λ fine. lost_fetch task.t number said fine was) fine))
+  still_caused : (past : List Exchange) (cache : Cache) (server : ℕ) (asked : Request) (word : Word) → ((number : ℕ) → locks number asked ≡ false) → (cause : Cause) → CausedBy fixed task Old Loose past cause
+      → CausedBy fixed task Old (OrFresh fixed task cache (push past server asked word) Loose) (push past server asked word) cause
+  still_caused past cache server asked word none (Unavailable suite had wanting) is = short_still past cache server asked word none suite had wanting None is
+  still_caused past cache server asked word none (Busy at holder) is = (is.0, is.1, is.2, short_still past cache server asked word none is.0 is.1 is.2 (Some (at, holder)) is.3)
+  still_caused past cache server asked word none (Lost at) is = was_more past _ at _ is
+  still_caused past cache server asked word none Overruled is = (is.0, was_more past _ is.0 _ is.1)
+  still_caused past cache server asked word none HomeDown is = (is.0, was_more past _ is.0 _ is.1)
+  still_caused past cache server asked word none (Full at) is = was_more past _ at _ is
+  still_caused past cache server asked word none Memory is = (is.0, was_more past _ is.0 _ is.1)
 
-caused_lack : (past : List Exchange) (task : Task) (cache : Cache) (suites : Suites) (phase : Phase) (server : ℕ) (asked : Request) (lacked : Lack) (fixed : Fixed) → request_in fixed task suites phase ≡ Some (server, asked) → PhaseCaused past suites phase
-    → LeftCaused (push past server asked (Lacked lacked)) (after_lack task cache suites phase server lacked).after
-caused_lack past task cache suites (Gathering number) server asked lacked fixed is caused = caused_give_up _ task cache suites (lack_cause server lacked) (lack_caused past server asked lacked)
-caused_lack past task cache suites (Fetching number) server asked lacked fixed is caused = caused_give_up _ task cache suites (lack_cause server lacked) (lack_caused past server asked lacked)
-caused_lack past task cache suites (Widening left granted) server asked lacked fixed is caused = caused_give_up _ task cache suites (lack_cause server lacked) (lack_caused past server asked lacked)
-caused_lack past task cache suites (Preparing left outcome) server asked lacked fixed is caused = caused_give_up _ task cache suites (lack_cause server lacked) (lack_caused past server asked lacked)
-caused_lack past task cache suites (Deciding outcome) server asked lacked fixed is caused = caused_give_up _ task cache suites (lack_cause server lacked) (lack_caused past server asked lacked)
-caused_lack past task cache suites (Finishing [] v ending) server asked lacked fixed is caused = cc
-caused_lack past task cache suites (Finishing (now ∷ left) v ending) server asked lacked fixed is caused =
-    caused_end _ task cache suites v ending left (still_ended past server asked (Lacked lacked) (λ number. ap (locks number) (sym (asks_same now server (request.Finish task.t v) asked is))) ending caused)
+  still_ended : (past : List Exchange) (cache : Cache) (server : ℕ) (asked : Request) (word : Word) → ((number : ℕ) → locks number asked ≡ false) → (ending : Ending) → EndCaused fixed task Old Loose past ending
+      → EndCaused fixed task Old (OrFresh fixed task cache (push past server asked word) Loose) (push past server asked word) ending
+  still_ended past cache server asked word none (Undecided cause) is fine = still_caused past cache server asked word none cause (is (both_fit past (record { server = server; request = asked; word = word } ∷ []) fine).0)
+  still_ended past cache server asked word none (Answered answers) is fine = tt
+  still_ended past cache server asked word none (Refused refusal) is fine = tt
+  still_ended past cache server asked word none (Swept broken finished left) is fine = tt
 
-decided_caused : (past : List Exchange) (server t : ℕ) (decision : Decision) (said : Reply) → fits (request.Decide t decision) said ≡ true
-    → EndCaused (push past server (request.Decide t decision) (Replied said)) (ending_by (verdict_in said verdict.Aborted) (cause_of_abort said))
-decided_caused past server t decision (reply.Verdict (verdict.Answered answers)) fine = tt
-decided_caused past server t decision (reply.Verdict (verdict.Refused refusal)) fine = tt
-decided_caused past server t decision (reply.Verdict verdict.Aborted) fine =
-    (server, was_now past server (request.Decide t decision) (Replied (reply.Verdict verdict.Aborted)) (λ asked word. is_decide asked && says_aborted word) refl)
-decided_caused past server t decision reply.Down fine = (server, was_now past server (request.Decide t decision) (Replied reply.Down) (λ asked word. is_decide asked && says_down word) refl)
-decided_caused past server t decision (reply.Held prefix dver) fine = cc
-decided_caused past server t decision (reply.Busy holder prepared) fine = cc
-decided_caused past server t decision reply.Lost fine = cc
-decided_caused past server t decision (reply.Given dver content) fine = cc
-decided_caused past server t decision reply.Prepared fine = cc
-decided_caused past server t decision reply.Done fine = cc
-decided_caused past server t decision (reply.Locked locks) fine = cc
+  short_caused : (L : ℕ → Prefix → Type 0) (past : List Exchange) (number : ℕ) (collector : Collector) (had wanting : ℕ) (busy : Option (ℕ × ℕ)) → all_told collector ≡ Tells past number → next collector ≡ Short had wanting busy → Begun Old L number collector
+      → ((w : collecting.Widening) → collector.widening ≡ Some w → Sets fixed task number w.votes) → CausedBy fixed task Old L past (short_cause number had wanting busy)
+  short_caused L past number collector had wanting None same is begun wide = record { collector = collector; told = same; short = is; begun = begun; wide = wide }
+  short_caused L past number collector had wanting (Some busy) same is begun wide = (number, had, wanting, record { collector = collector; told = same; short = is; begun = begun; wide = wide })
 
-caused_word : (past : List Exchange) (fixed : Fixed) (task : Task) (cache : Cache) (suites : Suites) (phase : Phase) (server : ℕ) (asked : Request) (word : Word) → request_in fixed task suites phase ≡ Some (server, asked) → fits_word asked word ≡ true
-    → PhaseCaused past suites phase → LeftCaused (push past server asked word) (after_word fixed (record { task = task; suites = suites; phase = phase }) cache server asked word).after
-caused_word past fixed task cache suites phase server asked (Lacked lacked) is fine caused = caused_lack past task cache suites phase server asked lacked fixed is caused
-caused_word past fixed task cache suites (Gathering number) server asked (Replied said) is fine caused =
-    caused_heard past task cache suites (Gathering number) number (suite_of suites number) server asked said _ caused refl is fine (λ suites are. are) (λ suites are. caused_execute (push past server asked (Replied said)) fixed task (record { suites = suites; cache = cache }) are)
-caused_word past fixed task cache suites (Fetching number) server asked (Replied said) is fine caused = caused_fetched past fixed task cache suites number (suite_of suites number) server asked said caused refl is fine
-caused_word past fixed task cache suites (Widening [] granted) server asked (Replied said) is fine caused = cc
-caused_word past fixed task cache suites (Widening (number ∷ left) granted) server asked (Replied said) is fine caused =
-    caused_heard past task cache suites (Widening (number ∷ left) granted) number (suite_of suites number) server asked said _ caused refl is fine (λ suites are. are) (λ suites are. caused_widen (push past server asked (Replied said)) task cache suites granted left are)
-caused_word past fixed task cache suites (Preparing [] outcome) server asked (Replied said) is fine caused = cc
-caused_word past fixed task cache suites (Preparing (now ∷ left) outcome) server asked (Replied said) is fine caused =
-    elim (is_prepared said) as (λ b. is_prepared said ≡ b → LeftCaused (push past server asked (Replied said)) (cond b (prepare task cache suites outcome left) (give_up task cache suites (Lost server))).after) [
-      | true ↦ λ _. caused_prepare (push past server asked (Replied said)) task cache suites outcome left (are_quiet past suites server asked (Replied said) (λ number. ap (locks number) (sym what)) caused)
-      | false ↦ λ not'. caused_give_up (push past server asked (Replied said)) task cache suites (Lost server) (was_now past server asked (Replied said) loses
-          (subst (λ asked. fits asked said ≡ true → loses asked (Replied said) ≡ true) what (λ fine. lost_prepare task.t (parts_at suites (changes_of outcome) now) said fine not') fine))
-    ] refl
-  where
-    what : request.Prepare task.t (parts_at suites (changes_of outcome) now) ≡ asked
-    what = asks_same now server (request.Prepare task.t (parts_at suites (changes_of outcome) now)) asked is
-caused_word past fixed task cache suites (Deciding outcome) server asked (Replied said) is fine caused =
-    caused_end (push past server asked (Replied said)) task cache suites (verdict_in said verdict.Aborted) (ending_by (verdict_in said verdict.Aborted) (cause_of_abort said)) (locked_at suites)
-    (subst (λ asked. fits asked said ≡ true → EndCaused (push past server asked (Replied said)) (ending_by (verdict_in said verdict.Aborted) (cause_of_abort said)))
-    (asks_same (home_of fixed.service task.t) server (request.Decide task.t (decision_of task outcome)) asked is) (decided_caused past server task.t (decision_of task outcome) said) fine)
-caused_word past fixed task cache suites (Finishing [] v ending) server asked (Replied said) is fine caused = cc
-caused_word past fixed task cache suites (Finishing (now ∷ left) v ending) server asked (Replied said) is fine caused =
-    caused_end (push past server asked (Replied said)) task cache suites v ending left (still_ended past server asked (Replied said) (λ number. ap (locks number) (sym (asks_same now server (request.Finish task.t v) asked is))) ending caused)
+  lack_caused : (L : ℕ → Prefix → Type 0) (past : List Exchange) (server : ℕ) (asked : Request) (lacked : Lack) → CausedBy fixed task Old L (push past server asked (Lacked lacked)) (lack_cause server lacked)
+  lack_caused L past server asked lack.Full = was_now past server asked (Lacked lack.Full) (λ asked word. is_lack lack.Full word) refl
+  lack_caused L past server asked lack.Memory = (server, was_now past server asked (Lacked lack.Memory) (λ asked word. is_lack lack.Memory word) refl)
 
--- ---- sweeps
+  -- ---- steps that hear nothing
 
-abbrev RoundCaused : List Exchange → After Round → Type 0
-RoundCaused past (GoesOn round) = Unit {0}
-RoundCaused past (Ends ending) = EndCaused past ending
+  caused_end : (past : List Exchange) (cache : Cache) (suites : Suites) (v : Verdict) (ending : Ending) (servers : List ℕ) → EndCaused fixed task Old (OrFresh fixed task cache past Loose) past ending
+      → Leaves fixed task Old Loose past (tell_end task cache suites v ending servers)
+  caused_end past cache suites v ending [] is = is
+  caused_end past cache suites v ending (server ∷ servers) is = (refl, is)
 
-caused_sweep : (past : List Exchange) (round : Round) (locks : List Lock) → RoundCaused past (sweep.sweep_on round locks)
-caused_sweep past round [] = tt
-caused_sweep past round (lock ∷ locks) = tt
+  caused_give_up : (past : List Exchange) (cache : Cache) (suites : Suites) (cause : Cause) → (all_fit past ≡ true → CausedBy fixed task Old (OrFresh fixed task cache past Loose) past cause) → Leaves fixed task Old Loose past (give_up task cache suites cause)
+  caused_give_up past cache suites cause is = caused_end past cache suites verdict.Aborted (Undecided cause) (locked_at suites) is
 
-caused_lost : (past : List Exchange) (round : Round) (server : ℕ) (asked : Request) → is_down asked ≡ true → server ≡ round.server → RoundCaused (push past server asked (Replied reply.Down)) (sweep.lost round)
-caused_lost past round server asked is at = subst (λ who. Was (push past server asked (Replied reply.Down)) who loses) at (was_now past server asked (Replied reply.Down) loses is)
+  caused_prepare : (past : List Exchange) (cache : Cache) (suites : Suites) (outcome : Outcome) (servers : List ℕ) → Leaves fixed task Old Loose past (prepare task cache suites outcome servers)
+  caused_prepare past cache suites outcome [] = (refl, tt)
+  caused_prepare past cache suites outcome (server ∷ servers) = (refl, tt)
 
-abbrev push_now : List Exchange → Service → Round → Sweeping → Word → List Exchange
-push_now past service round now word = push past (sweep.asked_now service round now).0 (sweep.asked_now service round now).1 word
+  caused_gather : (past : List Exchange) (cache : Cache) (suites : Suites) (number : ℕ) (suite : Suite) (after : Next) → Are (Tells past) suites → EachBut (Keeps past) number suites → suite_of suites number ≡ Some suite
+      → all_told suite.collector ≡ Tells past number → Asking fixed task (OrFresh fixed task cache past Old) past number suite → next suite.collector ≡ after → Leaves fixed task Old Loose past (gather_by task cache suites number after)
+  caused_gather past cache suites number suite (Short had wanting busy) are others there same asking is =
+      caused_give_up past cache suites (short_cause number had wanting busy) (λ _. short_caused (OrFresh fixed task cache past Loose) past number suite.collector had wanting busy same is
+      (elim asking.start [ inl old ↦ inl old | inr fresh ↦ inr (inr fresh, same ∙ fresh.untold) ]) asking.wide)
+  caused_gather past cache suites number suite (Ask server asked) are others there same asking is =
+      (refl, (are, others, λ found at. subst (Asking fixed task (OrFresh fixed task cache past Old) past number) (same_Some suite found (sym there ∙ at)) asking))
+  caused_gather past cache suites number suite (Current prefix dver members) are others there same asking is =
+      (refl, (are, others, λ found at. subst (Asking fixed task (OrFresh fixed task cache past Old) past number) (same_Some suite found (sym there ∙ at)) asking))
 
-caused_answer : (past : List Exchange) (service : Service) (round : Round) (now : Sweeping) (said : Reply) → fits (sweep.asked_now service round now).1 said ≡ true → RoundCaused (push_now past service round now (Replied said)) (sweep.after_answer service round now said)
-caused_answer past service round Listing (reply.Held prefix dver) fine = cc
-caused_answer past service round Listing (reply.Busy holder prepared) fine = cc
-caused_answer past service round Listing reply.Down fine = caused_lost past round round.server request.Locks refl refl
-caused_answer past service round Listing reply.Lost fine = cc
-caused_answer past service round Listing (reply.Given dver content) fine = cc
-caused_answer past service round Listing reply.Prepared fine = cc
-caused_answer past service round Listing (reply.Verdict v) fine = cc
-caused_answer past service round Listing reply.Done fine = cc
-caused_answer past service round Listing (reply.Locked locks) fine = caused_sweep _ round (sweep.rising locks)
-caused_answer past service round (Telling t w left) (reply.Held prefix dver) fine = cc
-caused_answer past service round (Telling t w left) (reply.Busy holder prepared) fine = cc
-caused_answer past service round (Telling t w left) reply.Down fine = caused_lost past round round.server (request.Finish t w) refl refl
-caused_answer past service round (Telling t w left) reply.Lost fine = cc
-caused_answer past service round (Telling t w left) (reply.Given dver content) fine = cc
-caused_answer past service round (Telling t w left) reply.Prepared fine = cc
-caused_answer past service round (Telling t w left) (reply.Verdict v) fine = cc
-caused_answer past service round (Telling t w left) reply.Done fine = caused_sweep _ (record round { finished = round.finished + 1 }) left
-caused_answer past service round (Telling t w left) (reply.Locked locks) fine = cc
-caused_answer past service round (Breaking lock left) (reply.Held prefix dver) fine = cc
-caused_answer past service round (Breaking lock left) (reply.Busy holder prepared) fine = cc
-caused_answer past service round (Breaking lock left) reply.Down fine = caused_lost past round round.server (request.Break lock.t lock.suite) refl refl
-caused_answer past service round (Breaking lock left) reply.Lost fine = cc
-caused_answer past service round (Breaking lock left) (reply.Given dver content) fine = cc
-caused_answer past service round (Breaking lock left) reply.Prepared fine = cc
-caused_answer past service round (Breaking lock left) (reply.Verdict v) fine = cc
-caused_answer past service round (Breaking lock left) reply.Done fine = caused_sweep _ (record round { broken = round.broken + 1 }) left
-caused_answer past service round (Breaking lock left) (reply.Locked locks) fine = cc
-caused_answer past service round (Resolving t left) (reply.Held prefix dver) fine = cc
-caused_answer past service round (Resolving t left) (reply.Busy holder prepared) fine = cc
-caused_answer past service round (Resolving t left) reply.Down fine =
-    elim (home_of service t == round.server) as (λ b. (home_of service t == round.server) ≡ b
-    → RoundCaused (push past (home_of service t) (request.Resolve t) (Replied reply.Down)) (cond b (sweep.lost round) (sweep.sweep_on (record round { left = round.left + 1 }) left))) [
-      | true ↦ λ same. caused_lost past round (home_of service t) (request.Resolve t) refl (eqb-true (home_of service t) round.server same)
-      | false ↦ λ _. caused_sweep _ (record round { left = round.left + 1 }) left
-    ] refl
-caused_answer past service round (Resolving t left) reply.Lost fine = cc
-caused_answer past service round (Resolving t left) (reply.Given dver content) fine = cc
-caused_answer past service round (Resolving t left) reply.Prepared fine = cc
-caused_answer past service round (Resolving t left) (reply.Verdict v) fine = tt
-caused_answer past service round (Resolving t left) reply.Done fine = cc
-caused_answer past service round (Resolving t left) (reply.Locked locks) fine = cc
+  -- what is gathered: a suite that is there, or a new one
+  gathers : (past : List Exchange) (cache : Cache) (number : ℕ) (mode : LockMode) (found : Option Suite) → ((suite : Suite) → found ≡ Some suite → Keeps past number suite) → (found ≡ None → told_of number [] past ≡ [])
+      → Asking fixed task (OrFresh fixed task cache past Old) past number (raised_or_new fixed task cache number mode found)
+  gathers past cache number mode (Some suite) kept untold =
+      let raised : Suite = record suite { collector = raise suite.collector } in
+      let was = kept suite refl in
+      let now = kept_same fixed task Old past number suite raised refl refl (λ w is. was.wide w is) was in
+      record { start = inl now.start; first = inl now.first; wide = now.wide }
+  gathers past cache number mode None kept untold =
+      asks_new fixed task (OrFresh fixed task cache past Old) past number mode Shared (start_from fixed task cache number) (untold refl) (inr (record { from = refl; untold = untold refl }))
 
-caused_round : (past : List Exchange) (service : Service) (round : Round) (word : Word) → fits_word (sweep.asked_now service round round.now).1 word ≡ true
-    → RoundCaused (push_now past service round round.now word) (sweep.after_word service round (sweep.asked_now service round round.now).0 word)
-caused_round past service round (Replied said) fine = caused_answer past service round round.now said fine
-caused_round past service round (Lacked lacked) fine = lack_caused past (sweep.asked_now service round round.now).0 (sweep.asked_now service round round.now).1 lacked
+  caused_widen_by : (past : List Exchange) (cache : Cache) (suites : Suites) (left : List ℕ) (granted : Granted) (number : ℕ) (collector : Collector) (after : Next) (go_on : Suites → Step)
+      → Stands fixed task Old (OrFresh fixed task cache past Old) (OrFresh fixed task cache past Loose) past suites (Widening left granted) → all_told collector ≡ Tells past number → next collector ≡ after → Old number collector.start
+      → ((w : collecting.Widening) → collector.widening ≡ Some w → Sets fixed task number w.votes) → Leaves fixed task Old Loose past (go_on suites) → Leaves fixed task Old Loose past (widen_by task cache suites (Widening left granted) number after go_on)
+  caused_widen_by past cache suites left granted number collector (Current prefix dver members) go_on stands same is old wide more = more
+  caused_widen_by past cache suites left granted number collector (Ask server asked) go_on stands same is old wide more = (refl, stands)
+  caused_widen_by past cache suites left granted number collector (Short had wanting busy) go_on stands same is old wide more =
+      caused_give_up past cache suites (short_cause number had wanting busy) (λ _. short_caused (OrFresh fixed task cache past Loose) past number collector had wanting busy same is (inl old) wide)
 
--- ---- all words
+  caused_widen_one : (past : List Exchange) (cache : Cache) (suites : Suites) (number : ℕ) (left : List ℕ) (granted : Granted) (found : Option Suite) (go_on : Suites → Step) → suite_of suites number ≡ found → Are (Tells past) suites → Each (Keeps past) suites
+      → Grants fixed task granted.answers granted.changes → ((n : ℕ) → Has (number ∷ left) n → Has (to_widen granted.changes) n) → ((suites : Suites) → Are (Tells past) suites → Each (Keeps past) suites → Leaves fixed task Old Loose past (go_on suites))
+      → Leaves fixed task Old Loose past (widen_one task cache suites (Widening (number ∷ left) granted) granted.changes number found go_on)
+  caused_widen_one past cache suites number left granted None go_on there are each grants gets more = more suites are each
+  caused_widen_one past cache suites number left granted (Some suite) go_on there are each grants gets more =
+      let now = widened granted.changes number suite in
+      let was = each number suite there in
+      let kept = kept_same fixed task Old past number suite now refl refl (wide_widened fixed task granted.changes granted.answers number suite grants (gets number (inl refl))) was in
+      let are' = are_same (Tells past) suites number now are (sym (ap told_in there)) in
+      let each' = each_with (Keeps past) number suites now (each_but (Keeps past) number suites each) kept in
+      caused_widen_by past cache (with_suite number now suites) (number ∷ left) granted number now.collector (next now.collector) go_on (are', each', grants, gets) (told_there past suites number (Some suite) there are) refl kept.start kept.wide
+      (more (with_suite number now suites) are' each')
 
-abbrev DoingCaused : List Exchange → Option Doing → Type 0
-DoingCaused past (Some (Running course)) = PhaseCaused past course.suites course.phase
-DoingCaused past (Some (Rounding round)) = Unit {0}
-DoingCaused past None = Unit {0}
+  caused_widen : (past : List Exchange) (cache : Cache) (suites : Suites) (granted : Granted) (left : List ℕ) → Are (Tells past) suites → Each (Keeps past) suites → Grants fixed task granted.answers granted.changes
+      → ((n : ℕ) → Has left n → Has (to_widen granted.changes) n) → Leaves fixed task Old Loose past (widen_all task cache suites granted left)
+  caused_widen past cache suites granted [] are each grants gets = caused_prepare past cache suites (Ok granted) (locked_at suites)
+  caused_widen past cache suites granted (number ∷ left) are each grants gets =
+      caused_widen_one past cache suites number left granted (suite_of suites number) _ refl are each grants gets (λ suites are each. caused_widen past cache suites granted left are each grants (λ n has. gets n (inr has)))
 
-left_caused : (past : List Exchange) (after : After Course) → LeftCaused past after → DoingCaused past (agents.left Running after)
-left_caused past (GoesOn course) caused = caused
-left_caused past (Ends ending) caused = tt
+  caused_proceed : (past : List Exchange) (cache : Cache) (suites : Suites) (heard : Executed) → heard_on fixed task suites ≡ heard → Are (Tells past) suites → Each (Keeps past) suites → Leaves fixed task Old Loose past (proceed fixed task cache suites heard)
+  caused_proceed past cache suites (exec.Need (Hold number mode)) is are each =
+      let suite = raised_or_new fixed task cache number mode (suite_of suites number) in
+      let same = told_raised fixed task cache number mode (suite_of suites number) in
+      caused_gather past cache (with_suite number suite suites) number suite (next suite.collector) (are_same (Tells past) suites number suite are same)
+      (but_with (Keeps past) number suites suite (each_but (Keeps past) number suites each)) (there_with number suite suites) (same ∙ are.1 number)
+      (gathers past cache number mode (suite_of suites number) (each number) (λ none. sym (ap told_in (sym none) ∙ are.1 number))) refl
+  caused_proceed past cache suites (exec.Need (Know number)) is are each = (refl, (are, each))
+  caused_proceed past cache suites (exec.Done answers changes) is are each =
+      caused_widen past cache suites (record { answers = answers; changes = changes }) (to_widen changes) are each (record { suites = suites; done = is }) (λ n has. has)
+  caused_proceed past cache suites (exec.Refused refusal) is are each = caused_prepare past cache suites (Err refusal) (locked_at suites)
 
-round_caused : (past : List Exchange) (after : After Round) → DoingCaused past (agents.left Rounding after)
-round_caused past (GoesOn round) = tt
-round_caused past (Ends ending) = tt
+  pub caused_execute : (past : List Exchange) (all : Gathered) → Are (Tells past) all.suites → Each (Keeps past) all.suites → Leaves fixed task Old Loose past (execute fixed task all)
+  caused_execute past all are each =
+      let open' = opened (length all.suites) fixed task all in
+      caused_proceed past open'.cache open'.suites (heard_on fixed task open'.suites) refl (are_opened (Tells past) (length all.suites) fixed task all are)
+      (each_opened (Keeps past) (λ number suite content kept. kept_same fixed task Old past number suite (record suite { content = Some content }) refl refl (λ w is. kept.wide w is) kept) (length all.suites) fixed task all each)
 
-course_ends : (past : List Exchange) (after : After Course) (cause : Cause) → LeftCaused past after → end_of after ≡ Some (Undecided cause) → CausedBy cause past
-course_ends past (GoesOn course) cause caused is = cc
-course_ends past (Ends ending) cause caused is = subst (EndCaused past) (same_Some ending (Undecided cause) is) caused
+  -- ---- a reply to a collector
 
-round_ends : (past : List Exchange) (after : After Round) (cause : Cause) → RoundCaused past after → end_of after ≡ Some (Undecided cause) → CausedBy cause past
-round_ends past (GoesOn round) cause caused is = cc
-round_ends past (Ends ending) cause caused is = subst (EndCaused past) (same_Some ending (Undecided cause) is) caused
+  -- a suite that was told something: what is kept of it, and what follows
+  record Hears (past : List Exchange) (cache : Cache) (suites : Suites) (phase : Phase) (number : ℕ) (go_on : Suites → Step) (now : Suite) : Type 0 where
+    told : all_told now.collector ≡ Tells past number
+    are : (it : Suite) → it.collector ≡ now.collector → Are (Tells past) (with_suite number it suites)
+    begun : Old number now.collector.start
+    wide : (w : collecting.Widening) → now.collector.widening ≡ Some w → Sets fixed task number w.votes
+    asks : (who : ℕ) (what : Asked) → next now.collector ≡ Ask who what → Stands fixed task Old (OrFresh fixed task cache past Old) (OrFresh fixed task cache past Loose) past (with_suite number now suites) phase
+    settles : (prefix : Prefix) (dver : ℕ) (members : List ℕ) → next now.collector ≡ Current prefix dver members → Keeps past number (settled prefix dver members now)
+    more : (it : Suite) → Are (Tells past) (with_suite number it suites) → Keeps past number it → Leaves fixed task Old Loose past (go_on (with_suite number it suites))
 
-first_fits : (asked : Request) (word : Word) (server : ℕ) (later : List Exchange) → all_fit (record { server = server; request = asked; word = word } ∷ later) ≡ true → fits_word asked word ≡ true
-first_fits asked word server later fine = of (fits_word asked word) fine
-  where
-    of : (a : Bool) → (a && all_fit later) ≡ true → a ≡ true
-    of true is = refl
-    of false is = cc
+  caused_collected : (past : List Exchange) (cache : Cache) (suites : Suites) (phase : Phase) (number : ℕ) (go_on : Suites → Step) (now : Suite) (after : Next) → Hears past cache suites phase number go_on now → next now.collector ≡ after
+      → Leaves fixed task Old Loose past (collected task cache suites phase number now after (λ suite. go_on (with_suite number suite suites)))
+  caused_collected past cache suites phase number go_on now (Ask server asked) hears is = (refl, hears.asks server asked is)
+  caused_collected past cache suites phase number go_on now (Short had wanting busy) hears is =
+      caused_give_up past cache (with_suite number now suites) (short_cause number had wanting busy) (λ _. short_caused (OrFresh fixed task cache past Loose) past number now.collector had wanting busy hears.told is (inl hears.begun) hears.wide)
+  caused_collected past cache suites phase number go_on now (Current prefix dver members) hears is =
+      hears.more (settled prefix dver members now) (hears.are (settled prefix dver members now) refl) (hears.settles prefix dver members is)
 
--- one word more: what is kept, and how it ends
-take_caused : (past : List Exchange) (fixed : Fixed) (agent : Agent) (word : Word) (doing : Option Doing) (asked : Option (ℕ × Request)) → agent.doing ≡ doing → next_in fixed doing ≡ asked → all_fit (exchange_of asked word) ≡ true
-    → DoingCaused past doing → DoingCaused (past ++ exchange_of asked word) (take_in fixed agent word doing asked).agent.doing
-take_caused past fixed agent word (Some (Running running)) (Some asked) was is fine caused =
-    left_caused (push past asked.0 asked.1 word) (after_word fixed running agent.cache asked.0 asked.1 word).after (caused_word past fixed running.task agent.cache running.suites running.phase asked.0 asked.1 word is (first_fits asked.1 word asked.0 [] fine) caused)
-take_caused past fixed agent word (Some (Running running)) None was is fine caused =
-    subst (λ past. DoingCaused past agent.doing) (sym (append-nil past)) (subst (DoingCaused past) (sym was) caused)
-take_caused past fixed agent word (Some (Rounding round)) (Some asked) was is fine caused = round_caused (push past asked.0 asked.1 word) (sweep.after_word fixed.service round asked.0 word)
-take_caused past fixed agent word (Some (Rounding round)) None was is fine caused = cc
-take_caused past fixed agent word None (Some asked) was is fine caused = cc
-take_caused past fixed agent word None None was is fine caused = subst (DoingCaused (past ++ [])) (sym was) tt
+  caused_heard : (past : List Exchange) (cache : Cache) (suites : Suites) (phase : Phase) (number : ℕ) (found : Option Suite) (server : ℕ) (asked : Request) (said : Reply) (go_on : Suites → Step)
+      → Are (Tells past) suites → suite_of suites number ≡ found → asked_for task number found ≡ Some (server, asked) → ((suite : Suite) → found ≡ Some suite → Asking fixed task Old past number suite)
+      → ((suite : Suite) (one : Told) → found ≡ Some suite → (heard : all_told (tell one suite.collector) ≡ Tells (push past server asked (Replied said)) number)
+      → Are (Tells (push past server asked (Replied said))) (with_suite number (record suite { collector = tell one suite.collector }) suites)
+      → Asking fixed task Old (push past server asked (Replied said)) number (record suite { collector = tell one suite.collector })
+      → Stands fixed task Old (OrFresh fixed task cache (push past server asked (Replied said)) Old) (OrFresh fixed task cache (push past server asked (Replied said)) Loose) (push past server asked (Replied said)) (with_suite number (record suite { collector = tell one suite.collector }) suites) phase)
+      → ((it : Suite) → Are (Tells (push past server asked (Replied said))) (with_suite number it suites) → Keeps (push past server asked (Replied said)) number it → Leaves fixed task Old Loose (push past server asked (Replied said)) (go_on (with_suite number it suites)))
+      → Leaves fixed task Old Loose (push past server asked (Replied said)) (heard_of task cache suites phase number found server asked said go_on)
+  caused_heard past cache suites phase number None server asked said go_on are there is own keep more = cc
+  caused_heard past cache suites phase number (Some suite) server asked said go_on are there is own keep more = at (next suite.collector) refl is
+    where
+      px : List Exchange
+      px = push past server asked (Replied said)
 
-take_ends : (past : List Exchange) (fixed : Fixed) (agent : Agent) (word : Word) (doing : Option Doing) (asked : Option (ℕ × Request)) (cause : Cause) → next_in fixed doing ≡ asked → all_fit (exchange_of asked word) ≡ true
-    → DoingCaused past doing → (take_in fixed agent word doing asked).ending ≡ Some (Undecided cause) → CausedBy cause (past ++ exchange_of asked word)
-take_ends past fixed agent word (Some (Running running)) (Some asked) cause is fine caused ends =
-    course_ends (push past asked.0 asked.1 word) (after_word fixed running agent.cache asked.0 asked.1 word).after cause
-    (caused_word past fixed running.task agent.cache running.suites running.phase asked.0 asked.1 word is (first_fits asked.1 word asked.0 [] fine) caused) ends
-take_ends past fixed agent word (Some (Running running)) None cause is fine caused ends = cc
-take_ends past fixed agent word (Some (Rounding round)) (Some asked) cause is fine caused ends =
-    round_ends (push past asked.0 asked.1 word) (sweep.after_word fixed.service round asked.0 word) cause
-    (subst (λ (asked : ℕ × Request). fits_word asked.1 word ≡ true → RoundCaused (push past asked.0 asked.1 word) (sweep.after_word fixed.service round asked.0 word))
-    (same_Some (sweep.asked_now fixed.service round round.now) asked is) (caused_round past fixed.service round word) (first_fits asked.1 word asked.0 [] fine)) ends
-take_ends past fixed agent word (Some (Rounding round)) None cause is fine caused ends = cc
-take_ends past fixed agent word None (Some asked) cause is fine caused ends = cc
-take_ends past fixed agent word None None cause is fine caused ends = cc
+      at : (after : Next) → next suite.collector ≡ after → asked_by task number after ≡ Some (server, asked) → Leaves fixed task Old Loose (push past server asked (Replied said)) (hear task cache suites phase number suite server asked (said_to asked said) (λ suite. go_on (with_suite number suite suites)))
+      at (Current prefix dver members) asks is = cc
+      at (Short had wanting busy) asks is = cc
+      at (Ask who question) asks is = of (said_to asked said) refl
+        where
+          of : (heard : Option Said) → said_to asked said ≡ heard → Leaves fixed task Old Loose (push past server asked (Replied said)) (hear task cache suites phase number suite server asked heard (λ suite. go_on (with_suite number suite suites)))
+          of None was =
+              caused_give_up (push past server asked (Replied said)) cache suites (Lost server)
+              (λ fine. was_now past server asked (Replied said) loses (lost_asked task number (Ask who question) server asked said is (last_fits past server asked (Replied said) fine) was))
+          of (Some heard) was =
+              let one : Told = record { server = server; mode = mode_of asked; said = heard } in
+              let now : Suite = record suite { collector = tell one suite.collector } in
+              let x : Exchange = record { server = server; request = asked; word = Replied said } in
+              let lock : (other : ℕ) → locks other asked ≡ (number == other) = asks_lock task number (Some suite) server asked (ap (asked_by task number) asks ∙ is) in
+              let newly = tells_heard past number server asked said heard lock was in
+              let same : all_told (tell one suite.collector) ≡ one ∷ Tells past number = all_told-tell one suite.collector ∙ ap (λ told. one ∷ told) (told_there past suites number (Some suite) there are) in
+              let told : all_told (tell one suite.collector) ≡ Tells (push past server asked (Replied said)) number = same ∙ ap (λ b. cond b (one ∷ Tells past number) (Tells past number)) (sym (self number)) ∙ sym (newly number) in
+              let asking = own suite refl in
+              let areas : (it : Suite) → it.collector ≡ now.collector → Are (Tells (push past server asked (Replied said))) (with_suite number it suites) =
+              λ it at. are_heard (Tells past) (Tells (push past server asked (Replied said))) suites number one it are newly (ap all_told at ∙ same) in
+              caused_collected (push past server asked (Replied said)) cache suites phase number go_on now (next now.collector) (record {
+                told = told;
+                are = areas;
+                begun = subst (Old number) (sym (tell_start one suite.collector)) asking.start;
+                wide = wide_told fixed task number suite one asking.wide;
+                asks = λ at what is. keep suite one refl told (areas now refl) (asks_on fixed task Old past number suite one x told who question asks asking at what is);
+                settles = settles_on fixed task Old past number suite one x told who question asks asking;
+                more = more;
+              }) refl
 
-both_fit : (past later : List Exchange) → all_fit (past ++ later) ≡ true → (all_fit past ≡ true) × (all_fit later ≡ true)
-both_fit past later fine = of (all_fit past) (all_fit later) (sym (list_all-append (λ (one : Exchange). fits_word one.request one.word) past later) ∙ fine)
-  where
-    of : (a b : Bool) → (a && b) ≡ true → (a ≡ true) × (b ≡ true)
-    of true b is = (refl, is)
-    of false b is = cc
+  -- ---- other words
 
-all_ends : (past : List Exchange) (fixed : Fixed) (agent : Agent) (events : List Event) (word : Word) (cause : Cause) → DoingCaused past agent.doing → all_fit (exchanges fixed agent (events ++ Take word ∷ [])) ≡ true
-    → (take fixed (after_all fixed agent events) word).ending ≡ Some (Undecided cause) → CausedBy cause (past ++ exchanges fixed agent (events ++ Take word ∷ []))
-all_ends past fixed agent [] word cause caused fine ends =
-    let one = exchange_of (next_of fixed agent) word in
-    subst (λ later. CausedBy cause (past ++ later)) (sym (append-nil one))
-    (take_ends past fixed agent word agent.doing (next_of fixed agent) cause refl (both_fit one [] fine).0 caused ends)
-all_ends past fixed agent (Forget site ∷ events) word cause caused fine ends = all_ends past fixed (forget agent site) events word cause caused fine ends
-all_ends past fixed agent (Take first ∷ events) word cause caused fine ends =
-    let one = exchange_of (next_of fixed agent) first in
-    let rest = exchanges fixed (take fixed agent first).agent (events ++ Take word ∷ []) in
-    let fit = both_fit one rest fine in
-    subst (CausedBy cause) (append_assoc past one rest)
-    (all_ends (past ++ one) fixed (take fixed agent first).agent events word cause (take_caused past fixed agent first agent.doing (next_of fixed agent) refl refl fit.0 caused) fit.1 ends)
+  caused_fetched : (past : List Exchange) (cache : Cache) (suites : Suites) (number : ℕ) (found : Option Suite) (server : ℕ) (asked : Request) (said : Reply) → Are (Tells past) suites → Each (Keeps past) suites → suite_of suites number ≡ found
+      → fetched_for task number found ≡ Some (server, asked) → Leaves fixed task Old Loose (push past server asked (Replied said)) (fetched fixed task cache suites number found server (given_in said))
+  caused_fetched past cache suites number None server asked said are each there is = cc
+  caused_fetched past cache suites number (Some suite) server asked said are each there is = of (given_in said) refl
+    where
+      what : (first : Option First) → fetched_at task number first ≡ Some (server, asked) → request.Fetch task.t number ≡ asked
+      what (Some first) is = asks_same first.source server (request.Fetch task.t number) asked is
+      what None is = cc
 
-begin_caused : (fixed : Fixed) (agent : Agent) (job : Job) → is_idle agent.doing ≡ true → DoingCaused [] (begin fixed agent job).doing
-begin_caused fixed agent job idle =
-    elim (is_idle agent.doing && has_sense fixed job && nat_lt agent.count most_jobs) as (λ b. DoingCaused [] (cond b (record (started fixed agent job) { count = agent.count + 1 }) agent).doing) [
-      | true ↦ of job
-      | false ↦ at agent.doing idle
-    ]
-  where
-    at : (doing : Option Doing) → is_idle doing ≡ true → DoingCaused [] doing
-    at None idle = tt
-    at (Some doing) idle = cc
+      x : Exchange
+      x = record { server = server; request = asked; word = Replied said }
 
-    of : (job : Job) → DoingCaused [] (started fixed agent job).doing
-    of (Transaction caller site ops) =
-        let task : Task = record { t = 64 * agent.count + agent.index; caller = caller; site = site; ops = ops } in
-        left_caused [] _ (caused_execute [] fixed task (record { suites = []; cache = agent.cache }) are_nil)
-    of (Sweep server) = tt
+      opens : (content : Content) → Keeps (past ++ x ∷ []) number (record suite { content = Some content })
+      opens content =
+          let kept = kept_more fixed task Old past number (x ∷ []) suite (each number suite there) in
+          kept_same fixed task Old (past ++ x ∷ []) number suite (record suite { content = Some content }) refl refl (λ w is. kept.wide w is) kept
 
-pub ends_by : (fixed : Fixed) (agent : Agent) (job : Job) (events : List Event) (word : Word) (cause : Cause) → is_idle agent.doing ≡ true
-    → all_fit (of_job fixed agent job (events ++ Take word ∷ [])) ≡ true
-    → (take fixed (after_all fixed (begin fixed agent job) events) word).ending ≡ Some (Undecided cause)
-    → CausedBy cause (of_job fixed agent job (events ++ Take word ∷ []))
-ends_by fixed agent job events word cause idle fine ends = all_ends [] fixed (begin fixed agent job) events word cause (begin_caused fixed agent job idle) fine ends
+      kept : (content : Content) (first : Option First) → fetched_at task number first ≡ Some (server, asked) → Leaves fixed task Old Loose (push past server asked (Replied said)) (keep_content fixed task cache suites number suite content first server)
+      kept content None is = cc
+      kept content (Some first) is =
+          caused_execute (push past server asked (Replied said)) _
+          (are_same (Tells (push past server asked (Replied said))) suites number (record suite { content = Some content }) (are_quiet past suites server asked (Replied said) (λ number. ap (locks number) (sym (what (Some first) is))) are) (sym (ap told_in there)))
+          (each_with (Keeps (past ++ x ∷ [])) number suites (record suite { content = Some content }) (λ n other _ at. kept_more fixed task Old past n (x ∷ []) other (each n other at)) (opens content))
+
+      of : (given : Option Content) → given_in said ≡ given → Leaves fixed task Old Loose (push past server asked (Replied said)) (fetched fixed task cache suites number (Some suite) server given)
+      of (Some content) was = kept content suite.first is
+      of None was =
+          caused_give_up (push past server asked (Replied said)) cache suites (Lost server)
+          (λ fine. was_now past server asked (Replied said) loses (subst (λ asked. fits asked said ≡ true → loses asked (Replied said) ≡ true) (what suite.first is) (λ fine. lost_fetch task.t number said fine was) (last_fits past server asked (Replied said) fine)))
+
+  caused_lack : (past : List Exchange) (cache : Cache) (suites : Suites) (phase : Phase) (server : ℕ) (asked : Request) (lacked : Lack) → request_in fixed task suites phase ≡ Some (server, asked) → Stands fixed task Old Old Loose past suites phase
+      → Leaves fixed task Old Loose (push past server asked (Lacked lacked)) (after_lack task cache suites phase server lacked)
+  caused_lack past cache suites (Gathering number) server asked lacked is stands = caused_give_up _ cache suites (lack_cause server lacked) (λ _. lack_caused _ past server asked lacked)
+  caused_lack past cache suites (Fetching number) server asked lacked is stands = caused_give_up _ cache suites (lack_cause server lacked) (λ _. lack_caused _ past server asked lacked)
+  caused_lack past cache suites (Widening left granted) server asked lacked is stands = caused_give_up _ cache suites (lack_cause server lacked) (λ _. lack_caused _ past server asked lacked)
+  caused_lack past cache suites (Preparing left outcome) server asked lacked is stands = caused_give_up _ cache suites (lack_cause server lacked) (λ _. lack_caused _ past server asked lacked)
+  caused_lack past cache suites (Deciding outcome) server asked lacked is stands = caused_give_up _ cache suites (lack_cause server lacked) (λ _. lack_caused _ past server asked lacked)
+  caused_lack past cache suites (Finishing [] v ending) server asked lacked is stands = cc
+  caused_lack past cache suites (Finishing (now ∷ left) v ending) server asked lacked is stands =
+      caused_end _ cache suites v ending left (still_ended past cache server asked (Lacked lacked) (λ number. ap (locks number) (sym (asks_same now server (request.Finish task.t v) asked is))) ending stands)
+
+  decided_caused : (L : ℕ → Prefix → Type 0) (past : List Exchange) (server t : ℕ) (decision : Decision) (said : Reply) → fits (request.Decide t decision) said ≡ true
+      → EndIs fixed task Old L (push past server (request.Decide t decision) (Replied said)) (ending_by (verdict_in said verdict.Aborted) (cause_of_abort said))
+  decided_caused L past server t decision (reply.Verdict (verdict.Answered answers)) fine = tt
+  decided_caused L past server t decision (reply.Verdict (verdict.Refused refusal)) fine = tt
+  decided_caused L past server t decision (reply.Verdict verdict.Aborted) fine =
+      (server, was_now past server (request.Decide t decision) (Replied (reply.Verdict verdict.Aborted)) (λ asked word. is_decide asked && says_aborted word) refl)
+  decided_caused L past server t decision reply.Down fine = (server, was_now past server (request.Decide t decision) (Replied reply.Down) (λ asked word. is_decide asked && says_down word) refl)
+  decided_caused L past server t decision (reply.Held prefix dver) fine = cc
+  decided_caused L past server t decision (reply.Busy holder prepared) fine = cc
+  decided_caused L past server t decision reply.Lost fine = cc
+  decided_caused L past server t decision (reply.Given dver content) fine = cc
+  decided_caused L past server t decision reply.Prepared fine = cc
+  decided_caused L past server t decision reply.Done fine = cc
+  decided_caused L past server t decision (reply.Locked locks) fine = cc
+
+  pub caused_word : (past : List Exchange) (cache : Cache) (suites : Suites) (phase : Phase) (server : ℕ) (asked : Request) (word : Word) → request_in fixed task suites phase ≡ Some (server, asked) → Stands fixed task Old Old Loose past suites phase
+      → Leaves fixed task Old Loose (push past server asked word) (after_word fixed (record { task = task; suites = suites; phase = phase }) cache server asked word)
+  caused_word past cache suites phase server asked (Lacked lacked) is stands = caused_lack past cache suites phase server asked lacked is stands
+  caused_word past cache suites (Gathering number) server asked (Replied said) is stands =
+      let x : Exchange = record { server = server; request = asked; word = Replied said } in
+      let others : EachBut (Keeps (past ++ x ∷ [])) number suites = λ n suite other at. kept_more fixed task Old past n (x ∷ []) suite (stands.1 n suite other at) in
+      caused_heard past cache suites (Gathering number) number (suite_of suites number) server asked said _ stands.0 refl is stands.2
+      (λ suite one there heard are asking. (
+        are,
+        but_with (Keeps (past ++ x ∷ [])) number suites (record suite { collector = tell one suite.collector }) others,
+        λ found at. subst (Asking fixed task (OrFresh fixed task cache (past ++ x ∷ []) Old) (past ++ x ∷ []) number) (at_with number (record suite { collector = tell one suite.collector }) found suites at) (record { start = inl asking.start; first = asking.first; wide = asking.wide }),
+      ))
+      (λ it are kept. caused_execute (push past server asked (Replied said)) (record { suites = with_suite number it suites; cache = cache }) are (each_with (Keeps (past ++ x ∷ [])) number suites it others kept))
+  caused_word past cache suites (Fetching number) server asked (Replied said) is stands = caused_fetched past cache suites number (suite_of suites number) server asked said stands.0 stands.1 refl is
+  caused_word past cache suites (Widening [] granted) server asked (Replied said) is stands = cc
+  caused_word past cache suites (Widening (number ∷ left) granted) server asked (Replied said) is stands =
+      let x : Exchange = record { server = server; request = asked; word = Replied said } in
+      let others : EachBut (Keeps (past ++ x ∷ [])) number suites = λ n suite _ at. kept_more fixed task Old past n (x ∷ []) suite (stands.1 n suite at) in
+      caused_heard past cache suites (Widening (number ∷ left) granted) number (suite_of suites number) server asked said _ stands.0 refl is (λ suite at. asking_of fixed task Old past number suite (stands.1 number suite at))
+      (λ suite one there heard are asking. (
+        are,
+        each_with (Keeps (past ++ x ∷ [])) number suites (record suite { collector = tell one suite.collector }) others (kept_told fixed task Old past number suite one x heard (stands.1 number suite there)),
+        stands.2,
+        stands.3,
+      ))
+      (λ it are kept. caused_widen (push past server asked (Replied said)) cache (with_suite number it suites) granted left are (each_with (Keeps (past ++ x ∷ [])) number suites it others kept) stands.2 (λ n has. stands.3 n (inr has)))
+  caused_word past cache suites (Preparing [] outcome) server asked (Replied said) is stands = cc
+  caused_word past cache suites (Preparing (now ∷ left) outcome) server asked (Replied said) is stands =
+      elim (is_prepared said) as (λ b. is_prepared said ≡ b → Leaves fixed task Old Loose (push past server asked (Replied said)) (cond b (prepare task cache suites outcome left) (give_up task cache suites (Lost server)))) [
+        | true ↦ λ _. caused_prepare (push past server asked (Replied said)) cache suites outcome left
+        | false ↦ λ not'. caused_give_up (push past server asked (Replied said)) cache suites (Lost server) (λ fine. was_now past server asked (Replied said) loses
+            (subst (λ asked. fits asked said ≡ true → loses asked (Replied said) ≡ true) what (λ fine. lost_prepare task.t (parts_at suites (changes_of outcome) now) said fine not') (last_fits past server asked (Replied said) fine)))
+      ] refl
+    where
+      what : request.Prepare task.t (parts_at suites (changes_of outcome) now) ≡ asked
+      what = asks_same now server (request.Prepare task.t (parts_at suites (changes_of outcome) now)) asked is
+  caused_word past cache suites (Deciding outcome) server asked (Replied said) is stands =
+      caused_end (push past server asked (Replied said)) cache suites (verdict_in said verdict.Aborted) (ending_by (verdict_in said verdict.Aborted) (cause_of_abort said)) (locked_at suites)
+      (λ fine. subst (λ asked. fits asked said ≡ true → EndIs fixed task Old (OrFresh fixed task cache (push past server asked (Replied said)) Loose) (push past server asked (Replied said)) (ending_by (verdict_in said verdict.Aborted) (cause_of_abort said)))
+      (asks_same (home_of fixed.service task.t) server (request.Decide task.t (decision_of task outcome)) asked is)
+      (decided_caused (OrFresh fixed task cache (push past server (request.Decide task.t (decision_of task outcome)) (Replied said)) Loose) past server task.t (decision_of task outcome) said) (last_fits past server asked (Replied said) fine))
+  caused_word past cache suites (Finishing [] v ending) server asked (Replied said) is stands = cc
+  caused_word past cache suites (Finishing (now ∷ left) v ending) server asked (Replied said) is stands =
+      caused_end (push past server asked (Replied said)) cache suites v ending left (still_ended past cache server asked (Replied said) (λ number. ap (locks number) (sym (asks_same now server (request.Finish task.t v) asked is))) ending stands)

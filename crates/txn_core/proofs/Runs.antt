@@ -6,6 +6,7 @@ pub worked_runs : WorkedRuns
 worked_runs = record {
   ten_steps = refl;
   cached_ends = refl;
+  rewritten_ends = refl;
   all_needed_ends = refl;
   moved_ends = refl;
   revoked_ends = refl;

@@ -1,26 +1,20 @@
 -- What a collector that falls short was told, in the words of the exchanges.
-use Rattle.std.proofs.Common.{◌≡◌, ℕ, ◌+◌, Bool, true, false, cond, ◌⊎◌, inl, inr, List, [], ◌∷◌, ◌++◌, Option, Some, None, refl, sym, ap, ◌∙◌}
+use Rattle.std.proofs.Common.{◌≡◌, ℕ, ◌+◌, Bool, true, false, cond, List, [], ◌∷◌, Option, Some, None, refl, sym, ap, ◌∙◌}
 use Rattle.std.specs.Prelude.{◌==◌, ◌&&◌, ◌||◌, nat_le, find}
 use Rattle.vote_core.specs.Quorums.{Representative, votes_in}
 use Rattle.suite_prefix.specs.declared.lock_mode.LockMode.{LockMode}
-use Rattle.suite_prefix.specs.declared.lock_mode.LockMode.TheVariants.{Exclusive}
 use Rattle.suite_collect.specs.declared.told.Said.{Said}
 use Rattle.suite_collect.specs.declared.told.Said.TheVariants as said
 use Rattle.suite_collect.specs.declared.told.Told.{Told}
-use Rattle.suite_collect.specs.Telling.{newest, has_told, has_refused, first_busy, busy_in}
+use Rattle.suite_collect.specs.Telling.{newest, has_told, first_busy, busy_in}
 use Rattle.suite_collect.specs.Collecting.{Collector, told_since, votes_or, mode_or, all_told, counted, wanted, is_member, is_left, needed, got, ask_or_short, mode_of, Next, Current, Ask, Short, next}
 use Rattle.suite_collect.specs.Collecting as collecting
-use Rattle.suite_collect.specs.Laws as collector
-use Rattle.suite_collect.proofs.Shortness.{short_has_none_left}
 use Rattle.txn_core.specs.declared.word.Word.{Word}
 use Rattle.txn_core.specs.declared.word.Word.TheVariants.{Replied, Lacked}
-use Rattle.txn_core.specs.declared.ending.Cause.{Cause}
-use Rattle.txn_core.specs.declared.ending.Cause.TheVariants.{Unavailable, Busy, Lost, Overruled, HomeDown, Full, Memory}
 use Rattle.txn_core.specs.Transactions.{said_to}
-use Rattle.txn_core.specs.Laws.{Exchange, locks, told_of, told_by, more_told, heard_in, is_said, has_said, holding, refusing, down, busy_at, first_of, first_busy_in, IsShort, IsCaused, EndsAreCaused}
-use Rattle.txn_core.proofs.Causes.{ShortBy, CausedBy, ends_by}
+use Rattle.txn_core.specs.Laws.{Exchange, locks, told_of, told_by, more_told, heard_in, is_said, has_said, busy_at, first_of, first_busy_in}
 
-abbrev kind_of : (LockMode → Said → Bool) → Told → Bool
+abbrev pub kind_of : (LockMode → Said → Bool) → Told → Bool
 kind_of kind one = kind one.mode one.said
 
 -- what was told is what was said
@@ -50,7 +44,7 @@ told_now kind before one suite server = of (locks suite one.request) one.word
     of true (Lacked lacked) = out (one.server == server) (has_told (kind_of kind) before server) ∙ on (one.server == server) false (has_told (kind_of kind) before server)
     of false word = off (one.server == server) (is_said kind one.request (heard_in one.request word)) (has_told (kind_of kind) before server)
 
-told_said : (kind : LockMode → Said → Bool) (suite server : ℕ) (before : List Told) (past : List Exchange) → has_told (kind_of kind) (told_of suite before past) server ≡ (has_told (kind_of kind) before server || has_said past suite kind server)
+pub told_said : (kind : LockMode → Said → Bool) (suite server : ℕ) (before : List Told) (past : List Exchange) → has_told (kind_of kind) (told_of suite before past) server ≡ (has_told (kind_of kind) before server || has_said past suite kind server)
 told_said kind suite server before [] = of (has_told (kind_of kind) before server)
   where
     of : (b : Bool) → b ≡ (b || false)
@@ -90,7 +84,7 @@ busy_now before one suite = of (locks suite one.request) one.word
     of true (Lacked lacked) = out (first_busy before)
     of false word = out (first_busy before)
 
-busy_said : (suite : ℕ) (before : List Told) (past : List Exchange) → first_busy (told_of suite before past) ≡ first_of (first_busy before) (first_busy_in suite past)
+pub busy_said : (suite : ℕ) (before : List Told) (past : List Exchange) → first_busy (told_of suite before past) ≡ first_of (first_busy before) (first_busy_in suite past)
 busy_said suite before [] = of (first_busy before)
   where
     of : (first : Option (ℕ × ℕ)) → first ≡ first_of first None
@@ -105,7 +99,7 @@ busy_said suite before (one ∷ past) =
     of (Some a) b = refl
     of None b = refl
 
-votes_same : (reps : List Representative) (f g : ℕ → Bool) → ((server : ℕ) → f server ≡ g server) → votes_in reps f ≡ votes_in reps g
+pub votes_same : (reps : List Representative) (f g : ℕ → Bool) → ((server : ℕ) → f server ≡ g server) → votes_in reps f ≡ votes_in reps g
 votes_same [] f g same = refl
 votes_same (rep ∷ reps) f g same = ap (λ b. cond b rep.1 0 + votes_in reps f) (same rep.0) ∙ ap (λ n. cond (g rep.0) rep.1 0 + n) (votes_same reps f g same)
 
@@ -115,53 +109,10 @@ busy_of (Short had wanting busy) = busy
 busy_of (Current prefix dver members) = None
 busy_of (Ask server asked) = None
 
-tells_busy : (c : Collector) (had wanting : ℕ) (busy : Option (ℕ × ℕ)) → next c ≡ Short had wanting busy → busy ≡ first_busy (all_told c)
+pub tells_busy : (c : Collector) (had wanting : ℕ) (busy : Option (ℕ × ℕ)) → next c ≡ Short had wanting busy → busy ≡ first_busy (all_told c)
 tells_busy c had wanting busy is = of (nat_le (needed c) (got c)) (find (is_left c) (counted c).reps) is
   where
     of : (b : Bool) (found : Option Representative) → cond b (Current (newest c.start c.told) (collecting.version c) (collecting.members_of (counted c) (is_member c))) (ask_or_short c found) ≡ Short had wanting busy → busy ≡ first_busy (all_told c)
     of true found is = cc
     of false (Some rep) is = cc
     of false None is = sym (ap busy_of is)
-
-shown : (past : List Exchange) (suite had wanting : ℕ) (busy : Option (ℕ × ℕ)) → ShortBy past suite had wanting busy → IsShort past suite had wanting busy
-shown past suite had wanting busy by = record {
-  start = by.collector.start;
-  votes = counted by.collector;
-  mode = wanted by.collector;
-  count = which by.collector.widening refl;
-  had = short.votes ∙ votes_same (counted by.collector).reps (is_member by.collector) (has_said past suite (holding (wanted by.collector))) (said_of (holding (wanted by.collector)));
-  wanting = short.threshold;
-  too_few = short.too_few;
-  none_left = λ rep there some. either rep.0 (short.none_left rep there some);
-  first_busy = tells_busy by.collector had wanting busy by.short ∙ ap first_busy by.told ∙ busy_said suite [] past;
-  all_down = λ none server refused. sym (said_of down server) ∙ short.all_down none server (said_of refusing server ∙ refused);
-}
-  where
-    short : collector.IsShort by.collector had wanting busy
-    short = short_has_none_left by.collector had wanting busy by.short
-
-    said_of : (kind : LockMode → Said → Bool) (server : ℕ) → has_told (kind_of kind) (all_told by.collector) server ≡ has_said past suite kind server
-    said_of kind server = ap (λ told. has_told (kind_of kind) told server) by.told ∙ told_said kind suite server [] past
-
-    either : (server : ℕ) → (is_member by.collector server ≡ true) ⊎ (has_refused (all_told by.collector) server ≡ true) → (has_said past suite (holding (wanted by.collector)) server ≡ true) ⊎ (has_said past suite refusing server ≡ true)
-    either server (inl held) = inl (sym (said_of (holding (wanted by.collector)) server) ∙ held)
-    either server (inr refused) = inr (sym (said_of refusing server) ∙ refused)
-
-    which : (widening : Option collecting.Widening) → by.collector.widening ≡ widening → (counted by.collector ≡ (newest by.collector.start (told_of suite [] past)).votes) ⊎ (wanted by.collector ≡ Exclusive)
-    which None is = inl (
-        ap (λ w. votes_or w (newest by.collector.start by.collector.told)) is
-        ∙ ap (λ told. (newest by.collector.start told).votes) (sym (ap (λ w. told_since w ++ by.collector.told) is) ∙ by.told)
-        )
-    which (Some w) is = inr (ap (λ w. mode_or w by.collector.mode) is)
-
-caused : (cause : Cause) (past : List Exchange) → CausedBy cause past → IsCaused cause past
-caused (Unavailable suite had wanting) past by = shown past suite had wanting None by
-caused (Busy server holder) past by = (by.0, by.1, by.2, shown past by.0 by.1 by.2 (Some (server, holder)) by.3)
-caused (Lost server) past by = by
-caused Overruled past by = by
-caused HomeDown past by = by
-caused (Full server) past by = by
-caused Memory past by = by
-
-pub ends_are_caused : EndsAreCaused
-ends_are_caused fixed agent job events word cause idle fine ends = caused cause _ (ends_by fixed agent job events word cause idle fine ends)

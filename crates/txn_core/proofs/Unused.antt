@@ -1,13 +1,12 @@
 -- Versions that are not used up.
-use Rattle.std.proofs.Common.{◌≡◌, ℕ, ◌<◌, ◌-◌, ◌^◌, max, Bool, true, false, cond, inl, inr, List, [], ◌∷◌, Option, Some, None, refl, sym, ap, subst, ◌∙◌, arith}
-use Rattle.std.specs.Prelude.{◌==◌, ◌&&◌, ◌||◌, nat_lt, not, option_map, unwrap_or}
+use Rattle.std.proofs.Common.{◌≡◌, ℕ, ◌<◌, max, Bool, true, false, cond, inl, inr, List, [], ◌∷◌, Option, Some, None, refl, sym, ap, ◌∙◌, arith}
+use Rattle.std.specs.Prelude.{◌==◌, ◌&&◌, ◌||◌, nat_lt, not, unwrap_or}
 use Rattle.std.proofs.lemmas.Bool.Decides.{nat_tests}
 use Rattle.std.proofs.lemmas.Option.{same_Some}
-use Rattle.vote_core.specs.Quorums.{Configuration}
 use Rattle.suite_prefix.specs.declared.copies.Prefix.{Prefix}
 use Rattle.suite_prefix.specs.declared.lock_mode.LockMode.{LockMode}
 use Rattle.suite_prefix.specs.Absent.{absent_prefix}
-use Rattle.rep_core.specs.Store.{is_used_up, last_number}
+use Rattle.rep_core.specs.Store.{is_used_up}
 use Rattle.rep_core.specs.Fits.{fits}
 use Rattle.rep_core.specs.declared.reply.Reply.{Reply}
 use Rattle.rep_core.specs.declared.reply.Reply.TheVariants as reply
@@ -16,9 +15,8 @@ use Rattle.suite_collect.specs.declared.told.Said.TheVariants as said
 use Rattle.suite_collect.specs.declared.told.Told.{Told}
 use Rattle.suite_collect.specs.Telling.{newer, newest, version_in, shown, greatest}
 use Rattle.suite_collect.specs.Collecting.{Collector, Widening, Asked, Poll, Upgrade, Next, Current, Ask, Short, first_members, version, collect, tell_at, tell, request_for, mode_asked, told_by, next}
-use Rattle.suite_collect.specs.Collecting as collecting
 use Rattle.suite_collect.proofs.Collected.{gives_of}
-use Rattle.weak_cache.specs.Entries.{Entry, Cache, entry_of, forgotten}
+use Rattle.weak_cache.specs.Entries.{Entry, Cache, forgotten}
 use Rattle.weak_cache.specs.Cache.{Limits, hint, searched, put}
 use Rattle.weak_cache.proofs.Origins.{entries_come_from_puts}
 use Rattle.txn_core.specs.Doing.{Fixed, Task}

@@ -83,6 +83,14 @@ revoked =
     let set = job fixed (crash read 1) (Transaction owner 0 (op a (action.SetAcl (minimal_list 416)) ∷ [])) 12 in
     job fixed (restart set 1) read_a 9
 
+-- a content that was written since at another site is read anew
+abbrev pub rewritten : World
+rewritten =
+    let fixed = fixed_of (settings 3 4096 2 2) in
+    let read = job fixed (job fixed (open_world (settings 3 4096 2 2)) make_a 10) read_a 11 in
+    let written = job fixed read (Transaction owner 1 (op a (action.Write (0 ∷ [])) ∷ [])) 10 in
+    job fixed written read_a 10
+
 -- both sides of the deciding step, with a sweep of each server by another agent
 abbrev pub write_a : Job
 write_a = Transaction owner 0 (op a (action.Write (0 ∷ 0 ∷ [])) ∷ [])
@@ -109,6 +117,8 @@ pub record WorkedRuns : Type 0 where
   pub ten_steps : (job (fixed_of (settings 3 0 2 2)) (open_world (settings 3 0 2 2)) make_a 10).ends ≡ (10, Answered (answer.Made 1 ∷ answer.Wrote ∷ [])) ∷ []
   -- with a cache the second read fetches nothing
   pub cached_ends : cached.ends ≡ (9, Answered (answer.Read (104 ∷ 105 ∷ []) ∷ [])) ∷ (11, Answered (answer.Read (104 ∷ 105 ∷ []) ∷ [])) ∷ (10, Answered (answer.Made 1 ∷ answer.Wrote ∷ [])) ∷ []
+  -- a content that the cache has at another version is fetched
+  pub rewritten_ends : rewritten.ends ≡ (10, Answered (answer.Read (0 ∷ []) ∷ [])) ∷ (10, Answered (answer.Wrote ∷ [])) ∷ (11, Answered (answer.Read (104 ∷ 105 ∷ []) ∷ [])) ∷ (10, Answered (answer.Made 1 ∷ answer.Wrote ∷ [])) ∷ []
   -- a write quorum of three, of which one is down
   pub all_needed_ends : all_needed.ends ≡ (7, Undecided (Unavailable 1 2 3)) ∷ (7, Answered (answer.Read [] ∷ [])) ∷ (14, Answered (answer.Made 1 ∷ [])) ∷ []
   -- the content is read where the votes went, and found there

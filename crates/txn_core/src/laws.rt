@@ -1,5 +1,6 @@
 //! What holds of every agent that began a job, whatever it is told.
 
+ghost use Rattle.txn_core.specs.Caching.{CachesWhatWasFetched, KnowsContents};
 ghost use Rattle.txn_core.specs.Runs.{WorkedRuns};
 ghost use Rattle.txn_core.specs.Laws.{NobodyIsPolledTwice, DecideIsSentOnce, NothingFollowsAnEnd, PrepareListsTheLocks, APrepareRises, AllPrepareFirst, FinishCarriesTheVerdict, WhatIsWrittenIsFixed, DecidesOnQuorums, EndsAreCaused, LateStepsAreFew, EndsInTime, SweepEndsInTime};
 
@@ -63,6 +64,20 @@ pub fn late_steps_are_few()
     ensures { LateStepsAreFew }
 {}
 
+/// A law: what the cache keeps after a word was there before, but for an entry with the content that the
+/// word told: it has the prefix and the version that the suite's first quorum gave, so never a prefix that
+/// the transaction itself changes. Of a site that is forgotten nothing is left. It does nothing.
+pub fn caches_what_was_fetched()
+    ensures { CachesWhatWasFetched }
+{}
+
+/// A law: the content that a transaction knows of a suite is at the version that the suite's first quorum
+/// gave: the site's cache had it at that version, or the server that showed it told it, or it is the
+/// empty one of what has none yet. It does nothing.
+pub fn knows_contents()
+    ensures { KnowsContents }
+{}
+
 /// A law: with `n` servers asked and `k` suites named a transaction takes `k*(2n + 1) + 2n + 1` steps at
 /// most. It does nothing.
 pub fn ends_in_time()
@@ -74,7 +89,7 @@ pub fn sweep_ends_in_time()
     ensures { SweepEndsInTime }
 {}
 
-/// A law: how eight runs of an agent and servers end, and in how many steps. It does nothing.
+/// A law: how nine runs of an agent and servers end, and in how many steps. It does nothing.
 pub fn worked_runs()
     ensures { WorkedRuns }
 {}

@@ -33,10 +33,10 @@ pub use agent::Agent;
 pub use ending::{Cause, Ending};
 pub use job::{Job, Ops};
 pub use laws::{
-    a_prepare_rises, all_prepare_first, decide_is_sent_once, decides_on_quorums, ends_are_caused,
-    ends_in_time, finish_carries_the_verdict, late_steps_are_few, nobody_is_polled_twice,
-    nothing_follows_an_end, prepare_lists_the_locks, sweep_ends_in_time, what_is_written_is_fixed,
-    worked_runs,
+    a_prepare_rises, all_prepare_first, caches_what_was_fetched, decide_is_sent_once,
+    decides_on_quorums, ends_are_caused, ends_in_time, finish_carries_the_verdict, knows_contents,
+    late_steps_are_few, nobody_is_polled_twice, nothing_follows_an_end, prepare_lists_the_locks,
+    sweep_ends_in_time, what_is_written_is_fixed, worked_runs,
 };
 pub use word::Word;
 

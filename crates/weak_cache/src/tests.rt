@@ -1,7 +1,10 @@
 //! A cache as its users meet it: a table of calls with the entries that each leaves, memory that is
 //! refused, and the most entries that there may be, turned over.
 
-use crate::{MAX_SITES, WeakCache, found_was_put, oldest_go, site_lists};
+use crate::{
+    MAX_SITES, WeakCache, a_search_keeps_all, entries_come_from_puts, found_was_put, oldest_go,
+    site_lists,
+};
 use acl_core::{Acl, Mode};
 use std::alloc::{AllocError, Global};
 use std::process::Abort;
@@ -117,6 +120,8 @@ fn the_least_recently_used_goes_first(rt: HostRuntime) -> Result<(), Fail> {
     let alloc = rt.alloc();
     let mut cache = WeakCache::new(alloc, 10, 6, 4)?;
     puts(&rt, alloc, &mut cache, &BEFORE_USE)?;
+    assert!(rt; cache.content(0, 2, 1).is_some() && cache.content(0, 2, 2).is_none());
+    stand(&rt, alloc, &cache, "(1,1)(0,2)")?;
     assert!(rt; cache.content_at(0, 2, 1).is_some());
     stand(&rt, alloc, &cache, "(0,2)(1,1)")?;
     puts(&rt, alloc, &mut cache, &AFTER_USE)?;
@@ -126,6 +131,8 @@ fn the_least_recently_used_goes_first(rt: HostRuntime) -> Result<(), Fail> {
     found_was_put();
     oldest_go();
     site_lists();
+    a_search_keeps_all();
+    entries_come_from_puts();
     stand(&rt, alloc, &cache, "")
 }
 

@@ -1,4 +1,4 @@
-use Rattle.txn_core.proofs.Shown.{ends_are_caused}
+use Rattle.txn_core.proofs.Undecided.{ends_are_caused}
 use Rattle.txn_core.proofs.laws.ends_are_caused.Goals as goal
 
 pub returns : goal.returns

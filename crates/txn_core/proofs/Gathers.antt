@@ -1,0 +1,325 @@
+-- What is kept of the suites that a transaction gathers: from where each was gathered, what its first Current gave, and to which votes it was widened.
+use Rattle.std.proofs.Common.{◌≡◌, ℕ, Bool, true, false, cond, ◌⊎◌, inl, inr, List, [], ◌∷◌, ◌++◌, Option, Some, None, refl, sym, ap, subst, ◌∙◌}
+use Rattle.std.specs.Prelude.{◌==◌, map, filter, option_map}
+use Rattle.std.specs.Ordering.{nat_cmp}
+use Rattle.std.specs.BTreeMap.{is_at}
+use Rattle.std.specs.Cmp.{unsigned_tied}
+use Rattle.std.proofs.lemmas.Bool.{eqb-true, eq-eqb, false≢true}
+use Rattle.std.proofs.lemmas.Option.{same_Some}
+use Rattle.std.proofs.lemmas.List.{append-nil, append_assoc}
+use Rattle.std.proofs.lemmas.Cmp.{nat_cmp_total}
+use Rattle.sorted_map.specs.Laws.{get-insert}
+use Rattle.vote_core.specs.Quorums.{Configuration}
+use Rattle.suite_prefix.specs.declared.copies.Prefix.{Prefix}
+use Rattle.suite_prefix.specs.declared.lock_mode.LockMode.{LockMode}
+use Rattle.file_ops.specs.declared.answer.Answer.{Answer}
+use Rattle.file_exec.specs.declared.changes.Change.{Change}
+use Rattle.file_exec.specs.declared.executor.Outcome.TheVariants as exec
+use Rattle.suite_collect.specs.declared.told.Told.{Told}
+use Rattle.suite_collect.specs.declared.told.Said.{Said}
+use Rattle.suite_collect.specs.Collecting.{Widening, Collector, told_since, all_told, tell_at, tell, collect, Asked, Next, Current, Ask, next}
+use Rattle.suite_collect.proofs.Finding.{Has}
+use Rattle.txn_core.specs.Suites.{First, Suite, Suites, suite_of, with_suite, source_of, first_or, settled}
+use Rattle.txn_core.specs.Writing.{change_of}
+use Rattle.txn_core.specs.declared.word.Word.{Word}
+use Rattle.txn_core.specs.declared.word.Word.TheVariants.{Replied, Lacked}
+use Rattle.txn_core.specs.Doing.{Changes, Fixed, Task}
+use Rattle.txn_core.specs.Transactions.{heard_on, votes_then, votes_after, to_widen, widened, said_to}
+use Rattle.txn_core.specs.Laws.{Exchange, locks, told_of, told_by, more_told}
+use Rattle.txn_core.specs.Caching.{gathered_from, IsCurrent, FirstGave}
+
+-- ---- lists
+
+nothing_after : {X : Type 0} (y : X) (early rest : List X) → [] ≡ early ++ y ∷ rest → ⊥
+nothing_after y [] rest is = cc
+nothing_after y (e ∷ early) rest is = cc
+
+-- what is cut off before the last one is cut off before it came
+pub cut_before : {X : Type 0} (past early rest : List X) (x y : X) → past ++ x ∷ [] ≡ early ++ y ∷ rest → (later : List X) × (past ≡ early ++ later)
+cut_before past [] rest x y is = (past, refl)
+cut_before [] (e ∷ early) rest x y is = absurd (nothing_after y early rest (let tail : [] ≡ early ++ y ∷ rest = cc in tail))
+cut_before (p ∷ past) (e ∷ early) rest x y is =
+    let head : p ≡ e = cc in
+    let tail : past ++ x ∷ [] ≡ early ++ y ∷ rest = cc in
+    let before = cut_before past early rest x y tail in
+    (before.0, ap (λ p. p ∷ past) head ∙ ap (λ past. e ∷ past) before.1)
+
+-- what was told is told later too
+pub told-append : (number : ℕ) (before : List Told) (past later : List Exchange) → told_of number before (past ++ later) ≡ told_of number (told_of number before past) later
+told-append number before [] later = refl
+told-append number before (one ∷ past) later = told-append number (cond (locks number one.request) (told_by before one one.word) before) past later
+
+untold_first : (number : ℕ) (before : List Told) (past : List Exchange) → told_of number before past ≡ [] → before ≡ []
+untold_first number before [] is = is
+untold_first number before (one ∷ past) is = of (locks number one.request) one.word (untold_first number (cond (locks number one.request) (told_by before one one.word) before) past is)
+  where
+    by : (heard : Option Said) → more_told before one.server one.request heard ≡ [] → before ≡ []
+    by None is = is
+    by (Some heard) is = cc
+
+    of : (b : Bool) (word : Word) → cond b (told_by before one word) before ≡ [] → before ≡ []
+    of false word is = is
+    of true (Lacked lacked) is = is
+    of true (Replied said) is = by (said_to one.request said) is
+
+pub untold_before : (number : ℕ) (past early rest : List Exchange) → told_of number [] past ≡ [] → past ≡ early ++ rest → told_of number [] early ≡ []
+untold_before number past early rest is parts = untold_first number (told_of number [] early) rest (sym (told-append number [] early rest) ∙ ap (told_of number []) (sym parts) ∙ is)
+
+-- ---- suites by their numbers
+
+pub self : (number : ℕ) → (number == number) ≡ true
+self number = eq-eqb number number refl
+
+pub with_at : (number : ℕ) (suite : Suite) (suites : Suites) (n : ℕ) → suite_of (with_suite number suite suites) n ≡ cond (number == n) (Some suite) (suite_of suites n)
+with_at number suite suites n = get-insert nat_cmp_total suites number suite n ∙ ap (λ b. cond b (Some suite) (suite_of suites n)) (unsigned_tied number n)
+
+pub at_with : (number : ℕ) (suite other : Suite) (suites : Suites) → suite_of (with_suite number suite suites) number ≡ Some other → suite ≡ other
+at_with number suite other suites is = same_Some suite other (sym (with_at number suite suites number ∙ ap (λ b. cond b (Some suite) (suite_of suites number)) (self number)) ∙ is)
+
+-- of each suite; of each but one
+abbrev pub Each : (ℕ → Suite → Type 0) → Suites → Type 0
+Each K suites = (n : ℕ) (suite : Suite) → suite_of suites n ≡ Some suite → K n suite
+
+abbrev pub EachBut : (ℕ → Suite → Type 0) → ℕ → Suites → Type 0
+EachBut K number suites = (n : ℕ) (suite : Suite) → (number == n) ≡ false → suite_of suites n ≡ Some suite → K n suite
+
+module _ (K : ℕ → Suite → Type 0) (number : ℕ) (suites : Suites) where
+  pub each_but : Each K suites → EachBut K number suites
+  each_but each n suite other is = each n suite is
+
+  pub each_with : (suite : Suite) → EachBut K number suites → K number suite → Each K (with_suite number suite suites)
+  each_with suite others own n found is = of (number == n) refl (sym (with_at number suite suites n) ∙ is)
+    where
+      of : (b : Bool) → (number == n) ≡ b → cond b (Some suite) (suite_of suites n) ≡ Some found → K n found
+      of true same is = subst (λ n. K n found) (eqb-true number n same) (subst (K number) (same_Some suite found is) own)
+      of false other is = others n found other is
+
+  pub but_with : (suite : Suite) → EachBut K number suites → EachBut K number (with_suite number suite suites)
+  but_with suite others n found other is = others n found other (sym (with_at number suite suites n ∙ ap (λ b. cond b (Some suite) (suite_of suites n)) other) ∙ is)
+
+-- ---- collectors
+
+pub tell_start : (one : Told) (c : Collector) → (tell one c).start ≡ c.start
+tell_start one c = of c.widening
+  where
+    of : (w : Option Widening) → (tell_at w one c).start ≡ c.start
+    of None = refl
+    of (Some w) = refl
+
+tell_mode : (one : Told) (c : Collector) → (tell one c).mode ≡ c.mode
+tell_mode one c = of c.widening
+  where
+    of : (w : Option Widening) → (tell_at w one c).mode ≡ c.mode
+    of None = refl
+    of (Some w) = refl
+
+tell_narrow : (one : Told) (c : Collector) → c.widening ≡ None → (tell one c).widening ≡ None
+tell_narrow one c narrow = ap (λ w. (tell_at w one c).widening) narrow ∙ narrow
+
+tell_votes : (one : Told) (c : Collector) (after : Widening) → (tell one c).widening ≡ Some after → (w : Widening) × (c.widening ≡ Some w) × (w.votes ≡ after.votes)
+tell_votes one c after is = of c.widening refl is
+  where
+    of : (w : Option Widening) → c.widening ≡ w → (tell_at w one c).widening ≡ Some after → (w : Widening) × (c.widening ≡ Some w) × (w.votes ≡ after.votes)
+    of None was is = (after, is, refl)
+    of (Some w) was is = (w, was, ap (λ (w : Widening). w.votes) (same_Some (record w { told = one ∷ w.told }) after is))
+
+-- before a widening a collector is what it was told
+narrow_is : (c : Collector) (told : List Told) → c.widening ≡ None → all_told c ≡ told → c ≡ record { start = c.start; mode = c.mode; told = told; widening = None }
+narrow_is c told narrow is =
+    let with' : List Told → Option Widening → Collector = λ told w. record { start = c.start; mode = c.mode; told = told; widening = w } in
+    ap (λ w. with' c.told w) narrow ∙ ap (λ told. with' told None) (ap (λ w. told_since w ++ c.told) (sym narrow) ∙ is)
+
+-- ---- what a first Current gave
+
+pub gave_more : (start : Prefix) (number : ℕ) (past more : List Exchange) (first : First) → FirstGave start number past first → FirstGave start number (past ++ more) first
+gave_more start number past more first gave = record {
+  mode = gave.mode;
+  members = gave.members;
+  before = gave.before;
+  later = gave.later ++ more;
+  parts = ap (λ past. past ++ more) gave.parts ∙ append_assoc gave.before gave.later more;
+  gave = gave.gave;
+  source = gave.source;
+  never_before = gave.never_before;
+}
+
+-- ---- votes that are set
+
+pub record Sets (fixed : Fixed) (task : Task) (number : ℕ) (votes : Configuration) : Type 0 where
+  pub suites : Suites
+  pub answers : List Answer
+  pub changes : Changes
+  pub done : heard_on fixed task suites ≡ exec.Done answers changes
+  pub gets : Has (to_widen changes) number
+  pub are : option_map (λ (change : Change). change.row.votes) (change_of changes number) ≡ Some votes
+
+-- what the executor has set
+pub record Grants (fixed : Fixed) (task : Task) (answers : List Answer) (changes : Changes) : Type 0 where
+  pub suites : Suites
+  pub done : heard_on fixed task suites ≡ exec.Done answers changes
+
+listed_change : (changes : Changes) (number : ℕ) → Has (to_widen changes) number → (change : Change) × (change_of changes number ≡ Some change)
+listed_change [] number has = absurd has
+listed_change (one ∷ changes) number has = of (is_at (nat_cmp number) one.0) refl one.1.votes has (listed_change changes number)
+  where
+    rest : is_at (nat_cmp number) one.0 ≡ false → (change : Change) × (change_of changes number ≡ Some change) → (change : Change) × (change_of (one ∷ changes) number ≡ Some change)
+    rest other found = (found.0, ap (λ b. cond b (Some one.1) (change_of changes number)) other ∙ found.1)
+
+    of : (b : Bool) → is_at (nat_cmp number) one.0 ≡ b → (v : Bool) → Has (map (λ one. one.0) (cond v (one ∷ filter (λ one. one.1.votes) changes) (filter (λ one. one.1.votes) changes))) number → (Has (to_widen changes) number → (change : Change) × (change_of changes number ≡ Some change))
+        → (change : Change) × (change_of (one ∷ changes) number ≡ Some change)
+    of true here v has later = (one.1, ap (λ b. cond b (Some one.1) (change_of changes number)) here)
+    of false other false has later = rest other (later has)
+    of false other true (inr has) later = rest other (later has)
+    of false other true (inl same) later = absurd (false≢true (sym other ∙ unsigned_tied number one.0 ∙ eq-eqb number one.0 (sym same)))
+
+-- ---- what is kept of a suite
+
+pub record FirstKept (past : List Exchange) (number : ℕ) (suite : Suite) : Type 0 where
+  pub first : First
+  pub was : suite.first ≡ Some first
+  pub gave : FirstGave suite.collector.start number past first
+
+abbrev pub Wide : Fixed → Task → ℕ → Suite → Type 0
+Wide fixed task number suite = (w : Widening) → suite.collector.widening ≡ Some w → Sets fixed task number w.votes
+
+-- a suite that had a Current
+pub record Kept (fixed : Fixed) (task : Task) (Old : ℕ → Prefix → Type 0) (past : List Exchange) (number : ℕ) (suite : Suite) : Type 0 where
+  pub start : Old number suite.collector.start
+  pub first : FirstKept past number suite
+  pub wide : Wide fixed task number suite
+
+-- none was Current of what was told
+abbrev pub NoneYet : Prefix → LockMode → ℕ → List Exchange → Type 0
+NoneYet start mode number past = (early rest : List Exchange) → past ≡ early ++ rest → IsCurrent (next (gathered_from start mode number early)) → ⊥
+
+abbrev pub FirstOrAsks : List Exchange → ℕ → Suite → Type 0
+FirstOrAsks past number suite =
+    FirstKept past number suite
+    ⊎ ((suite.first ≡ None) × (suite.collector.widening ≡ None)
+    × ((server : ℕ) (asked : Asked) → next suite.collector ≡ Ask server asked → NoneYet suite.collector.start suite.collector.mode number past))
+
+-- a suite that is gathered
+pub record Asking (fixed : Fixed) (task : Task) (Start : ℕ → Prefix → Type 0) (past : List Exchange) (number : ℕ) (suite : Suite) : Type 0 where
+  pub start : Start number suite.collector.start
+  pub first : FirstOrAsks past number suite
+  pub wide : Wide fixed task number suite
+
+first_more : (past more : List Exchange) (number : ℕ) (suite : Suite) → FirstKept past number suite → FirstKept (past ++ more) number suite
+first_more past more number suite kept = record { first = kept.first; was = kept.was; gave = gave_more suite.collector.start number past more kept.first kept.gave }
+
+-- another with the same start and the same first
+first_same : (past : List Exchange) (number : ℕ) (suite other : Suite) → other.collector.start ≡ suite.collector.start → other.first ≡ suite.first → FirstKept past number suite → FirstKept past number other
+first_same past number suite other start first kept = record { first = kept.first; was = first ∙ kept.was; gave = subst (λ start. FirstGave start number past kept.first) (sym start) kept.gave }
+
+module _ (fixed : Fixed) (task : Task) where
+  pub wide_told : (number : ℕ) (suite : Suite) (one : Told) → Wide fixed task number suite → Wide fixed task number (record suite { collector = tell one suite.collector })
+  wide_told number suite one wide after is = let was = tell_votes one suite.collector after is in subst (Sets fixed task number) was.2 (wide was.0 was.1)
+
+  pub wide_widened : (changes : Changes) (answers : List Answer) (number : ℕ) (suite : Suite) → Grants fixed task answers changes → Has (to_widen changes) number → Wide fixed task number (widened changes number suite)
+  wide_widened changes answers number suite grants gets after is =
+      let change = listed_change changes number gets in
+      let votes : change.0.row.votes ≡ after.votes = of change.0 change.1 in
+      record { suites = grants.suites; answers = answers; changes = changes; done = grants.done; gets = gets; are = ap (option_map (λ (change : Change). change.row.votes)) change.1 ∙ ap Some votes }
+    where
+      of : (change : Change) → change_of changes number ≡ Some change → change.row.votes ≡ after.votes
+      of change set =
+          ap (λ found. votes_then found suite.first suite.collector.start.votes) (sym set)
+          ∙ ap (λ (w : Widening). w.votes) (same_Some (record { votes = votes_after changes number suite; told = told_since suite.collector.widening }) after is)
+
+-- ---- how it is kept
+
+asks_not : (server : ℕ) (asked : Asked) (next : Next) → next ≡ Ask server asked → IsCurrent next → ⊥
+asks_not server asked next is current = let same : Ask server asked ≡ Current current.0 current.1 current.2 = sym is ∙ current.3 in cc
+
+none_more : (start : Prefix) (mode : LockMode) (number : ℕ) (past : List Exchange) (one : Exchange) (server : ℕ) (asked : Asked) → NoneYet start mode number past → next (gathered_from start mode number (past ++ one ∷ [])) ≡ Ask server asked
+    → NoneYet start mode number (past ++ one ∷ [])
+none_more start mode number past one server asked none is early [] parts current =
+    asks_not server asked (next (gathered_from start mode number early)) (ap (λ past. next (gathered_from start mode number past)) (sym (parts ∙ append-nil early)) ∙ is) current
+none_more start mode number past one server asked none is early (y ∷ rest) parts current = let before = cut_before past early rest one y parts in none early before.0 before.1 current
+
+none_same : (start other : Prefix) (mode another : LockMode) (number : ℕ) (past : List Exchange) → other ≡ start → another ≡ mode → NoneYet start mode number past → NoneYet other another number past
+none_same start other mode another number past same_start same_mode none early rest parts current =
+    none early rest parts (subst (λ mode. IsCurrent (next (gathered_from start mode number early))) same_mode (subst (λ start. IsCurrent (next (gathered_from start another number early))) same_start current))
+
+module _ (fixed : Fixed) (task : Task) (Old : ℕ → Prefix → Type 0) (past : List Exchange) (number : ℕ) where
+  pub kept_same : (suite other : Suite) → other.collector.start ≡ suite.collector.start → other.first ≡ suite.first → Wide fixed task number other → Kept fixed task Old past number suite → Kept fixed task Old past number other
+  kept_same suite other start first wide kept = record { start = subst (Old number) (sym start) kept.start; first = first_same past number suite other start first kept.first; wide = wide }
+
+  pub kept_more : (more : List Exchange) (suite : Suite) → Kept fixed task Old past number suite → Kept fixed task Old (past ++ more) number suite
+  kept_more more suite kept = record { start = kept.start; first = first_more past more number suite kept.first; wide = kept.wide }
+
+  pub asking_of : (suite : Suite) → Kept fixed task Old past number suite → Asking fixed task Old past number suite
+  asking_of suite kept = record { start = kept.start; first = inl kept.first; wide = kept.wide }
+
+  -- a suite that is new
+  pub asks_new : (mode another : LockMode) (start : Prefix) → told_of number [] past ≡ [] → Old number start → Asking fixed task Old past number (record { collector = collect mode start; first = None; mode = another; content = None })
+  asks_new mode another start untold old = record {
+    start = old;
+    first = inr (refl, refl, λ server asked is early rest parts current. asks_not server asked (next (gathered_from start mode number early)) (nothing early rest parts ∙ is) current);
+    wide = λ w is. cc;
+  }
+    where
+      nothing : (early rest : List Exchange) → past ≡ early ++ rest → next (gathered_from start mode number early) ≡ next (collect mode start)
+      nothing early rest parts = ap (λ told. next (record { start = start; mode = mode; told = told; widening = None })) (untold_before number past early rest untold parts)
+
+  -- a suite that was told something more
+  module _ (suite : Suite) (one : Told) (x : Exchange) (heard : all_told (tell one suite.collector) ≡ told_of number [] (past ++ x ∷ [])) where
+    abbrev now : Suite
+    now = record suite { collector = tell one suite.collector }
+
+    now_is : suite.collector.widening ≡ None → now.collector ≡ gathered_from now.collector.start now.collector.mode number (past ++ x ∷ [])
+    now_is narrow = narrow_is (tell one suite.collector) (told_of number [] (past ++ x ∷ [])) (tell_narrow one suite.collector narrow) heard
+
+    first_told : FirstKept past number suite → FirstKept (past ++ x ∷ []) number now
+    first_told kept = first_same (past ++ x ∷ []) number suite now (tell_start one suite.collector) refl (first_more past (x ∷ []) number suite kept)
+
+    pub kept_told : Kept fixed task Old past number suite → Kept fixed task Old (past ++ x ∷ []) number now
+    kept_told kept = record { start = subst (Old number) (sym (tell_start one suite.collector)) kept.start; first = first_told kept.first; wide = wide_told fixed task number suite one kept.wide }
+
+    module _ (server : ℕ) (asked : Asked) (asks : next suite.collector ≡ Ask server asked) (asking : Asking fixed task Old past number suite) where
+      none_now : NoneYet suite.collector.start suite.collector.mode number past → NoneYet now.collector.start now.collector.mode number past
+      none_now = none_same suite.collector.start now.collector.start suite.collector.mode now.collector.mode number past (tell_start one suite.collector) (tell_mode one suite.collector)
+
+      -- and asks on
+      pub asks_on : (who : ℕ) (what : Asked) → next now.collector ≡ Ask who what → Asking fixed task Old (past ++ x ∷ []) number now
+      asks_on who what is = record {
+        start = subst (Old number) (sym (tell_start one suite.collector)) asking.start;
+        first = of asking.first;
+        wide = wide_told fixed task number suite one asking.wide;
+      }
+        where
+          of : FirstOrAsks past number suite → FirstOrAsks (past ++ x ∷ []) number now
+          of (inl kept) = inl (first_told kept)
+          of (inr none) = inr (
+            none.0,
+            tell_narrow one suite.collector none.1,
+            λ _ _ _. none_more now.collector.start now.collector.mode number past x who what (none_now (none.2 server asked asks)) (ap next (sym (now_is none.1)) ∙ is),
+          )
+
+      -- or is Current
+      pub settles_on : (prefix : Prefix) (dver : ℕ) (members : List ℕ) → next now.collector ≡ Current prefix dver members → Kept fixed task Old (past ++ x ∷ []) number (settled prefix dver members now)
+      settles_on prefix dver members is = record {
+        start = subst (Old number) (sym (tell_start one suite.collector)) asking.start;
+        first = of asking.first;
+        wide = wide_told fixed task number suite one asking.wide;
+      }
+        where
+          new : First
+          new = record { prefix = prefix; dver = dver; source = source_of now.collector dver members }
+
+          of : FirstOrAsks past number suite → FirstKept (past ++ x ∷ []) number (settled prefix dver members now)
+          of (inl kept) = let told = first_told kept in record { first = told.first; was = ap (λ first. first_or first new) told.was; gave = told.gave }
+          of (inr none) = record {
+            first = new;
+            was = ap (λ first. first_or first new) none.0;
+            gave = record {
+              mode = now.collector.mode;
+              members = members;
+              before = past ++ x ∷ [];
+              later = [];
+              parts = sym (append-nil (past ++ x ∷ []));
+              gave = ap next (sym (now_is none.1)) ∙ is;
+              source = ap (λ c. source_of c dver members) (now_is none.1);
+              never_before = λ early y rest parts current. let before = cut_before past early rest x y parts in none_now (none.2 server asked asks) early before.0 before.1 current;
+            };
+          }

@@ -1,0 +1,264 @@
+-- Undecided ends are caused.
+use Rattle.std.proofs.Common.{◌≡◌, ℕ, ◌+◌, Bool, true, false, cond, ◌⊎◌, inl, inr, List, [], ◌∷◌, ◌++◌, Option, Some, None, refl, sym, ap, subst, ◌∙◌}
+use Rattle.std.specs.Prelude.{◌==◌}
+use Rattle.std.proofs.lemmas.Bool.{eqb-true}
+use Rattle.std.proofs.lemmas.Option.{same_Some}
+use Rattle.acl_core.specs.Identity.{Identity}
+use Rattle.file_ops.specs.declared.operation.Op.{Op}
+use Rattle.weak_cache.specs.Entries.{Cache}
+use Rattle.suite_collect.specs.declared.told.Said.{Said}
+use Rattle.vote_core.specs.Quorums.{Configuration}
+use Rattle.suite_prefix.specs.declared.copies.Prefix.{Prefix}
+use Rattle.suite_prefix.specs.declared.lock_mode.LockMode.{LockMode}
+use Rattle.suite_prefix.specs.declared.lock_mode.LockMode.TheVariants.{Exclusive}
+use Rattle.file_ops.specs.declared.service.Service.{Service}
+use Rattle.rep_core.specs.declared.lock.Lock.{Lock}
+use Rattle.rep_core.specs.declared.request.Request.{Request}
+use Rattle.rep_core.specs.declared.request.Request.TheVariants as request
+use Rattle.rep_core.specs.declared.reply.Reply.{Reply}
+use Rattle.rep_core.specs.declared.reply.Reply.TheVariants as reply
+use Rattle.rep_core.specs.declared.stamped.Lack.{Lack}
+use Rattle.rep_core.specs.declared.stamped.Lack.TheVariants as lack
+use Rattle.rep_core.specs.Fits.{fits}
+use Rattle.suite_collect.specs.Telling.{newest, has_told, has_refused, first_busy}
+use Rattle.suite_collect.specs.Collecting.{Collector, told_since, votes_or, mode_or, all_told, counted, wanted, is_member, Short, next}
+use Rattle.suite_collect.specs.Collecting as collecting
+use Rattle.suite_collect.proofs.Finding.{has_to}
+use Rattle.suite_collect.proofs.Shortness.{short_has_none_left}
+use Rattle.txn_core.specs.declared.word.Word.{Word}
+use Rattle.txn_core.specs.declared.word.Word.TheVariants.{Replied, Lacked}
+use Rattle.txn_core.specs.declared.ending.Cause.{Cause}
+use Rattle.txn_core.specs.declared.ending.Cause.TheVariants.{Unavailable, Busy, Lost, Overruled, HomeDown, Full, Memory}
+use Rattle.txn_core.specs.declared.ending.Ending.{Ending}
+use Rattle.txn_core.specs.declared.ending.Ending.TheVariants.{Answered, Refused, Swept, Undecided}
+use Rattle.txn_core.specs.declared.job.Job.{Job}
+use Rattle.txn_core.specs.declared.job.Job.TheVariants.{Transaction}
+use Rattle.txn_core.specs.Doing.{home_of, Fixed, Task, Course, Sweeping, Listing, Resolving, Telling, Breaking, Round, Doing, Running, Rounding, After, GoesOn, Ends}
+use Rattle.txn_core.specs.Transactions.{heard_on, to_widen, after_word, lack_cause}
+use Rattle.txn_core.specs.Sweeps as sweep
+use Rattle.txn_core.specs.Agents.{Agent, Event, Take, next_in, next_of, end_of, take_in, begin, after_all}
+use Rattle.txn_core.specs.Laws.{Exchange, of_job, exchange_of, is_down, told_of, Was, loses, is_lack, fits_word, all_fit, has_said, holding, refusing, down, task_of, IsStart, SetsVotes, IsShort, IsCaused, EndsAreCaused}
+use Rattle.txn_core.proofs.Gathers.{Sets}
+use Rattle.txn_core.proofs.Causes.{push, Begun, ShortBy, CausedBy, EndIs, OrFresh, LeftOf, was_now, last_fits}
+use Rattle.txn_core.proofs.Upheld.{Begins, Started, started_is, untold_is, begins_more, started_more, fresh_begins, map_cause, DoingStands, after-append, exchanges-take, word_leaves, stands_after}
+use Rattle.txn_core.proofs.Shown.{told_said, busy_said, votes_same, tells_busy, kind_of}
+
+-- ---- sweeps
+
+-- a sweep falls short of nothing
+abbrev SweepCaused : List Exchange → Cause → Type 0
+SweepCaused past (Unavailable suite got needed) = ⊥
+SweepCaused past (Busy server holder) = ⊥
+SweepCaused past (Lost server) = Was past server loses
+SweepCaused past Overruled = ⊥
+SweepCaused past HomeDown = ⊥
+SweepCaused past (Full server) = Was past server (λ asked word. is_lack lack.Full word)
+SweepCaused past Memory = (server : ℕ) × Was past server (λ asked word. is_lack lack.Memory word)
+
+abbrev SweepEnds : List Exchange → Ending → Type 0
+SweepEnds past (Undecided cause) = SweepCaused past cause
+SweepEnds past (Answered answers) = Unit {0}
+SweepEnds past (Refused refusal) = Unit {0}
+SweepEnds past (Swept broken finished left) = Unit {0}
+
+abbrev RoundCaused : List Exchange → After Round → Type 0
+RoundCaused past (GoesOn round) = Unit {0}
+RoundCaused past (Ends ending) = SweepEnds past ending
+
+lack_swept : (past : List Exchange) (server : ℕ) (asked : Request) (lacked : Lack) → SweepCaused (push past server asked (Lacked lacked)) (lack_cause server lacked)
+lack_swept past server asked lack.Full = was_now past server asked (Lacked lack.Full) (λ asked word. is_lack lack.Full word) refl
+lack_swept past server asked lack.Memory = (server, was_now past server asked (Lacked lack.Memory) (λ asked word. is_lack lack.Memory word) refl)
+
+caused_sweep : (past : List Exchange) (round : Round) (locks : List Lock) → RoundCaused past (sweep.sweep_on round locks)
+caused_sweep past round [] = tt
+caused_sweep past round (lock ∷ locks) = tt
+
+caused_lost : (past : List Exchange) (round : Round) (server : ℕ) (asked : Request) → is_down asked ≡ true → server ≡ round.server → RoundCaused (push past server asked (Replied reply.Down)) (sweep.lost round)
+caused_lost past round server asked is at = subst (λ who. Was (push past server asked (Replied reply.Down)) who loses) at (was_now past server asked (Replied reply.Down) loses is)
+
+abbrev push_now : List Exchange → Service → Round → Sweeping → Word → List Exchange
+push_now past service round now word = push past (sweep.asked_now service round now).0 (sweep.asked_now service round now).1 word
+
+caused_answer : (past : List Exchange) (service : Service) (round : Round) (now : Sweeping) (said : Reply) → fits (sweep.asked_now service round now).1 said ≡ true → RoundCaused (push_now past service round now (Replied said)) (sweep.after_answer service round now said)
+caused_answer past service round Listing (reply.Held prefix dver) fine = cc
+caused_answer past service round Listing (reply.Busy holder prepared) fine = cc
+caused_answer past service round Listing reply.Down fine = caused_lost past round round.server request.Locks refl refl
+caused_answer past service round Listing reply.Lost fine = cc
+caused_answer past service round Listing (reply.Given dver content) fine = cc
+caused_answer past service round Listing reply.Prepared fine = cc
+caused_answer past service round Listing (reply.Verdict v) fine = cc
+caused_answer past service round Listing reply.Done fine = cc
+caused_answer past service round Listing (reply.Locked locks) fine = caused_sweep _ round (sweep.rising locks)
+caused_answer past service round (Telling t w left) (reply.Held prefix dver) fine = cc
+caused_answer past service round (Telling t w left) (reply.Busy holder prepared) fine = cc
+caused_answer past service round (Telling t w left) reply.Down fine = caused_lost past round round.server (request.Finish t w) refl refl
+caused_answer past service round (Telling t w left) reply.Lost fine = cc
+caused_answer past service round (Telling t w left) (reply.Given dver content) fine = cc
+caused_answer past service round (Telling t w left) reply.Prepared fine = cc
+caused_answer past service round (Telling t w left) (reply.Verdict v) fine = cc
+caused_answer past service round (Telling t w left) reply.Done fine = caused_sweep _ (record round { finished = round.finished + 1 }) left
+caused_answer past service round (Telling t w left) (reply.Locked locks) fine = cc
+caused_answer past service round (Breaking lock left) (reply.Held prefix dver) fine = cc
+caused_answer past service round (Breaking lock left) (reply.Busy holder prepared) fine = cc
+caused_answer past service round (Breaking lock left) reply.Down fine = caused_lost past round round.server (request.Break lock.t lock.suite) refl refl
+caused_answer past service round (Breaking lock left) reply.Lost fine = cc
+caused_answer past service round (Breaking lock left) (reply.Given dver content) fine = cc
+caused_answer past service round (Breaking lock left) reply.Prepared fine = cc
+caused_answer past service round (Breaking lock left) (reply.Verdict v) fine = cc
+caused_answer past service round (Breaking lock left) reply.Done fine = caused_sweep _ (record round { broken = round.broken + 1 }) left
+caused_answer past service round (Breaking lock left) (reply.Locked locks) fine = cc
+caused_answer past service round (Resolving t left) (reply.Held prefix dver) fine = cc
+caused_answer past service round (Resolving t left) (reply.Busy holder prepared) fine = cc
+caused_answer past service round (Resolving t left) reply.Down fine =
+    elim (home_of service t == round.server) as (λ b. (home_of service t == round.server) ≡ b
+    → RoundCaused (push past (home_of service t) (request.Resolve t) (Replied reply.Down)) (cond b (sweep.lost round) (sweep.sweep_on (record round { left = round.left + 1 }) left))) [
+      | true ↦ λ same. caused_lost past round (home_of service t) (request.Resolve t) refl (eqb-true (home_of service t) round.server same)
+      | false ↦ λ _. caused_sweep _ (record round { left = round.left + 1 }) left
+    ] refl
+caused_answer past service round (Resolving t left) reply.Lost fine = cc
+caused_answer past service round (Resolving t left) (reply.Given dver content) fine = cc
+caused_answer past service round (Resolving t left) reply.Prepared fine = cc
+caused_answer past service round (Resolving t left) (reply.Verdict v) fine = tt
+caused_answer past service round (Resolving t left) reply.Done fine = cc
+caused_answer past service round (Resolving t left) (reply.Locked locks) fine = cc
+
+caused_round : (past : List Exchange) (service : Service) (round : Round) (word : Word) → fits_word (sweep.asked_now service round round.now).1 word ≡ true
+    → RoundCaused (push_now past service round round.now word) (sweep.after_word service round (sweep.asked_now service round round.now).0 word)
+caused_round past service round (Replied said) fine = caused_answer past service round round.now said fine
+caused_round past service round (Lacked lacked) fine = lack_swept past (sweep.asked_now service round round.now).0 (sweep.asked_now service round round.now).1 lacked
+
+-- ---- what a collector that falls short was told
+
+module _ (fixed : Fixed) (agent : Agent) (job : Job) (events : List Event) where
+  abbrev past : List Exchange
+  past = of_job fixed agent job events
+
+  -- of a transaction with this task
+  record IsOf (task : Task) : Type 0 where
+    caller : Identity
+    site : ℕ
+    ops : List Op
+    transaction : job ≡ Transaction caller site ops
+    task_is : task ≡ task_of agent caller site ops
+
+  sets : (task : Task) → IsOf task → (number : ℕ) (votes : Configuration) → Sets fixed task number votes → SetsVotes fixed agent job number votes
+  sets task own number votes set = record {
+    caller = own.caller;
+    site = own.site;
+    ops = own.ops;
+    transaction = own.transaction;
+    suites = set.suites;
+    answers = set.answers;
+    changes = set.changes;
+    done = ap (λ task. heard_on fixed task set.suites) (sym own.task_is) ∙ set.done;
+    gets = has_to (to_widen set.changes) number set.gets;
+    are = set.are;
+  }
+
+  module _ (task : Task) (own : IsOf task) (suite had wanting : ℕ) (busy : Option (ℕ × ℕ)) (by : ShortBy fixed task (Started fixed agent job events) (Begins fixed agent job events) past suite had wanting busy) where
+    said_of : (kind : LockMode → Said → Bool) (server : ℕ) → has_told (kind_of kind) (all_told by.collector) server ≡ has_said past suite kind server
+    said_of kind server = ap (λ told. has_told (kind_of kind) told server) by.told ∙ told_said kind suite server [] past
+
+    either : (server : ℕ) → (is_member by.collector server ≡ true) ⊎ (has_refused (all_told by.collector) server ≡ true) → (has_said past suite (holding (wanted by.collector)) server ≡ true) ⊎ (has_said past suite refusing server ≡ true)
+    either server (inl held) = inl (sym (said_of (holding (wanted by.collector)) server) ∙ held)
+    either server (inr refused) = inr (sym (said_of refusing server) ∙ refused)
+
+    which : (widening : Option collecting.Widening) → by.collector.widening ≡ widening
+        → (counted by.collector ≡ (newest by.collector.start (told_of suite [] past)).votes) ⊎ ((wanted by.collector ≡ Exclusive) × SetsVotes fixed agent job suite (counted by.collector))
+    which None is = inl (
+        ap (λ w. votes_or w (newest by.collector.start by.collector.told)) is
+        ∙ ap (λ told. (newest by.collector.start told).votes) (sym (ap (λ w. told_since w ++ by.collector.told) is) ∙ by.told)
+        )
+    which (Some w) is = inr (
+      ap (λ w. mode_or w by.collector.mode) is,
+      subst (SetsVotes fixed agent job suite) (sym (ap (λ w. votes_or w (newest by.collector.start by.collector.told)) is)) (sets task own suite w.votes (by.wide w is)),
+    )
+
+    gathered : Begun (Started fixed agent job events) (Begins fixed agent job events) suite by.collector → IsStart fixed agent job events suite by.collector.start
+    gathered (inl started) = started_is fixed agent job events suite by.collector.start started
+    gathered (inr begins) = untold_is fixed agent job events suite by.collector.start begins.0 (sym by.told ∙ begins.1)
+
+    is_short : IsShort fixed agent job events suite had wanting busy
+    is_short =
+        let short = short_has_none_left by.collector had wanting busy by.short in
+        record {
+          start = by.collector.start;
+          gathered = gathered by.begun;
+          votes = counted by.collector;
+          mode = wanted by.collector;
+          count = which by.collector.widening refl;
+          had = short.votes ∙ votes_same (counted by.collector).reps (is_member by.collector) (has_said past suite (holding (wanted by.collector))) (said_of (holding (wanted by.collector)));
+          wanting = short.threshold;
+          too_few = short.too_few;
+          none_left = λ rep there some. either rep.0 (short.none_left rep there some);
+          first_busy = tells_busy by.collector had wanting busy by.short ∙ ap first_busy by.told ∙ busy_said suite [] past;
+          all_down = λ none server refused. sym (said_of down server) ∙ short.all_down none server (said_of refusing server ∙ refused);
+        }
+
+  caused : (task : Task) → IsOf task → (cause : Cause) → CausedBy fixed task (Started fixed agent job events) (Begins fixed agent job events) past cause → IsCaused fixed agent job events cause
+  caused task own (Unavailable suite had wanting) by = is_short task own suite had wanting None by
+  caused task own (Busy server holder) by = (by.0, by.1, by.2, is_short task own by.0 by.1 by.2 (Some (server, holder)) by.3)
+  caused task own (Lost server) by = by
+  caused task own Overruled by = by
+  caused task own HomeDown by = by
+  caused task own (Full server) by = by
+  caused task own Memory by = by
+
+  swept : (cause : Cause) → SweepCaused past cause → IsCaused fixed agent job events cause
+  swept (Unavailable suite had wanting) by = absurd by
+  swept (Busy server holder) by = absurd by
+  swept (Lost server) by = by
+  swept Overruled by = absurd by
+  swept HomeDown by = absurd by
+  swept (Full server) by = by
+  swept Memory by = by
+
+-- ---- all words
+
+course_ends : (fixed : Fixed) (task : Task) (Old Loose : ℕ → Prefix → Type 0) (px : List Exchange) (cache : Cache) (after : After Course) (cause : Cause) → LeftOf fixed task Old Loose px cache after → end_of after ≡ Some (Undecided cause) → all_fit px ≡ true
+    → CausedBy fixed task Old (OrFresh fixed task cache px Loose) px cause
+course_ends fixed task Old Loose px cache (GoesOn course) cause left is fine = cc
+course_ends fixed task Old Loose px cache (Ends ending) cause left is fine = subst (EndIs fixed task Old (OrFresh fixed task cache px Loose) px) (same_Some ending (Undecided cause) is) (left fine)
+
+round_ends : (past : List Exchange) (after : After Round) (cause : Cause) → RoundCaused past after → end_of after ≡ Some (Undecided cause) → SweepCaused past cause
+round_ends past (GoesOn round) cause caused is = cc
+round_ends past (Ends ending) cause caused is = subst (SweepEnds past) (same_Some ending (Undecided cause) is) caused
+
+module _ (fixed : Fixed) (agent : Agent) (job : Job) (events : List Event) (word : Word) (cause : Cause) where
+  abbrev now : Agent
+  now = after_all fixed (begin fixed agent job) events
+
+  abbrev then' : List Event
+  then' = events ++ Take word ∷ []
+
+  ends : (doing : Option Doing) (asked : Option (ℕ × Request)) → now.doing ≡ doing → next_in fixed doing ≡ asked → of_job fixed agent job then' ≡ of_job fixed agent job events ++ exchange_of asked word
+      → after_all fixed (begin fixed agent job) then' ≡ (take_in fixed now word doing asked).agent → all_fit (of_job fixed agent job then') ≡ true → DoingStands fixed agent job events doing
+      → (take_in fixed now word doing asked).ending ≡ Some (Undecided cause) → IsCaused fixed agent job then' cause
+  ends (Some (Running running)) (Some asked) was is told after fine stands end' =
+      let step = after_word fixed running now.cache asked.0 asked.1 word in
+      let px = push (of_job fixed agent job events) asked.0 asked.1 word in
+      let fine' : all_fit px ≡ true = ap all_fit (sym told) ∙ fine in
+      let by = course_ends fixed running.task (Started fixed agent job events) (Begins fixed agent job events) px step.cache step.after cause (word_leaves fixed agent job events word running asked is stands) end' fine' in
+      let loose : (n : ℕ) (start : Prefix) → OrFresh fixed running.task step.cache px (Begins fixed agent job events) n start → Begins fixed agent job then' n start = λ n start begun. elim begun [
+        | inl before ↦ begins_more fixed agent job events (Take word ∷ []) n start before
+        | inr fresh ↦ fresh_begins fixed agent job stands.caller stands.site stands.ops stands.transaction running.task stands.task px step.cache then' told (ap (λ (agent : Agent). agent.cache) after) n start fresh
+      ] in
+      let mapped = map_cause fixed running.task (Started fixed agent job events) (OrFresh fixed running.task step.cache px (Begins fixed agent job events)) (Started fixed agent job then') (Begins fixed agent job then') px
+      (started_more fixed agent job events (Take word ∷ [])) loose cause by in
+      caused fixed agent job then' running.task (record { caller = stands.caller; site = stands.site; ops = stands.ops; transaction = stands.transaction; task_is = stands.task }) cause
+      (subst (λ past. CausedBy fixed running.task (Started fixed agent job then') (Begins fixed agent job then') past cause) (sym told) mapped)
+  ends (Some (Running running)) None was is told after fine stands end' = cc
+  ends (Some (Rounding round)) (Some asked) was is told after fine stands end' =
+      let px = push (of_job fixed agent job events) asked.0 asked.1 word in
+      let fits' = last_fits (of_job fixed agent job events) asked.0 asked.1 word (ap all_fit (sym told) ∙ fine) in
+      let caused' = subst (λ (asked : ℕ × Request). fits_word asked.1 word ≡ true → RoundCaused (push (of_job fixed agent job events) asked.0 asked.1 word) (sweep.after_word fixed.service round asked.0 word))
+      (same_Some (sweep.asked_now fixed.service round round.now) asked is) (caused_round (of_job fixed agent job events) fixed.service round word) fits' in
+      swept fixed agent job then' cause (subst (λ past. SweepCaused past cause) (sym told) (round_ends px (sweep.after_word fixed.service round asked.0 word) cause caused' end'))
+  ends (Some (Rounding round)) None was is told after fine stands end' = cc
+  ends None (Some asked) was is told after fine stands end' = cc
+  ends None None was is told after fine stands end' = cc
+
+pub ends_are_caused : EndsAreCaused
+ends_are_caused fixed agent job events word cause idle fine end' =
+    let now = after_all fixed (begin fixed agent job) events in
+    ends fixed agent job events word cause now.doing (next_of fixed now) refl refl (exchanges-take fixed (begin fixed agent job) events word) (after-append fixed (begin fixed agent job) events (Take word)) fine (stands_after fixed agent job events idle) end'

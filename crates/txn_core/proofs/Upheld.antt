@@ -1,0 +1,302 @@
+-- What stands after every event of a job.
+use Rattle.std.proofs.Common.{◌≡◌, ℕ, Bool, true, false, cond, inl, inr, List, [], ◌∷◌, ◌++◌, Option, Some, None, refl, sym, ap, subst, ◌∙◌}
+use Rattle.std.specs.Prelude.{◌+◌, ◌&&◌, nat_lt}
+use Rattle.std.proofs.lemmas.List.{append-nil, append_assoc}
+use Rattle.acl_core.specs.Identity.{Identity}
+use Rattle.file_ops.specs.declared.operation.Op.{Op}
+use Rattle.suite_prefix.specs.declared.copies.Prefix.{Prefix}
+use Rattle.rep_core.specs.declared.request.Request.{Request}
+use Rattle.weak_cache.specs.Entries.{Cache}
+use Rattle.txn_core.specs.Suites.{Suite, Suites, suite_of}
+use Rattle.txn_core.specs.declared.word.Word.{Word}
+use Rattle.txn_core.specs.declared.ending.Cause.{Cause}
+use Rattle.txn_core.specs.declared.ending.Ending.{Ending}
+use Rattle.txn_core.specs.declared.ending.Cause.TheVariants.{Unavailable, Busy, Lost, Overruled, HomeDown, Full, Memory}
+use Rattle.txn_core.specs.declared.ending.Ending.TheVariants.{Answered, Refused, Swept, Undecided}
+use Rattle.txn_core.specs.declared.job.Job.{Job}
+use Rattle.txn_core.specs.declared.job.Job.TheVariants.{Transaction, Sweep}
+use Rattle.txn_core.specs.Doing.{Fixed, Task, Phase, Gathering, Fetching, Widening, Preparing, Deciding, Finishing, Course, Round, Doing, Running, Rounding, After, GoesOn, Ends}
+use Rattle.txn_core.specs.Transactions.{start_from, execute, after_word, request_in, request_of}
+use Rattle.txn_core.specs.Sweeps as sweep
+use Rattle.txn_core.specs.Agents.{Agent, Event, Take, Forget, next_in, next_of, left, take_in, take, begin, started, forget, is_idle, has_sense, most_jobs, after_event, after_all}
+use Rattle.txn_core.specs.Laws.{Exchange, exchange_of, exchanges, of_job, told_of, locks, task_of, asks_for, IsStart}
+use Rattle.txn_core.proofs.Locks.{are_nil, asks_lock}
+use Rattle.txn_core.proofs.Gathers.{self, Kept}
+use Rattle.txn_core.proofs.Causes.{push, ShortBy, CausedBy, EndIs, Stands, Fresh, OrFresh, LeftOf, Leaves, caused_execute, caused_word}
+
+-- ---- events
+
+pub after-append : (fixed : Fixed) (agent : Agent) (events : List Event) (event : Event) → after_all fixed agent (events ++ event ∷ []) ≡ after_event fixed (after_all fixed agent events) event
+after-append fixed agent [] event = refl
+after-append fixed agent (first ∷ events) event = after-append fixed (after_event fixed agent first) events event
+
+pub exchanges-take : (fixed : Fixed) (agent : Agent) (events : List Event) (word : Word)
+    → exchanges fixed agent (events ++ Take word ∷ []) ≡ exchanges fixed agent events ++ exchange_of (next_of fixed (after_all fixed agent events)) word
+exchanges-take fixed agent [] word = append-nil (exchange_of (next_of fixed agent) word)
+exchanges-take fixed agent (Forget site ∷ events) word = exchanges-take fixed (forget agent site) events word
+exchanges-take fixed agent (Take first ∷ events) word =
+    let one = exchange_of (next_of fixed agent) first in
+    let after = (take fixed agent first).agent in
+    ap (λ later. one ++ later) (exchanges-take fixed after events word)
+    ∙ sym (append_assoc one (exchanges fixed after events) (exchange_of (next_of fixed (after_all fixed after events)) word))
+
+pub exchanges-forget : (fixed : Fixed) (agent : Agent) (events : List Event) (site : ℕ) → exchanges fixed agent (events ++ Forget site ∷ []) ≡ exchanges fixed agent events
+exchanges-forget fixed agent [] site = refl
+exchanges-forget fixed agent (Forget first ∷ events) site = exchanges-forget fixed (forget agent first) events site
+exchanges-forget fixed agent (Take first ∷ events) site = ap (λ later. exchange_of (next_of fixed agent) first ++ later) (exchanges-forget fixed (take fixed agent first).agent events site)
+
+-- ---- from where a suite was gathered
+
+-- at some moment at which nothing was told of it
+pub record Begins (fixed : Fixed) (agent : Agent) (job : Job) (events : List Event) (suite : ℕ) (start : Prefix) : Type 0 where
+  pub caller : Identity
+  pub site : ℕ
+  pub ops : List Op
+  pub transaction : job ≡ Transaction caller site ops
+  pub before : List Event
+  pub later : List Event
+  pub parts : events ≡ before ++ later
+  pub untold : told_of suite [] (of_job fixed agent job before) ≡ []
+  pub from : start ≡ start_from fixed (task_of agent caller site ops) (after_all fixed (begin fixed agent job) before).cache suite
+
+-- and at which it was to be asked for
+pub record Started (fixed : Fixed) (agent : Agent) (job : Job) (events : List Event) (suite : ℕ) (start : Prefix) : Type 0 where
+  pub begins : Begins fixed agent job events suite start
+  pub asks : asks_for suite (next_of fixed (after_all fixed (begin fixed agent job) begins.before)) ≡ true
+
+module _ (fixed : Fixed) (agent : Agent) (job : Job) (events more : List Event) (suite : ℕ) (start : Prefix) where
+  pub begins_more : Begins fixed agent job events suite start → Begins fixed agent job (events ++ more) suite start
+  begins_more begins = record {
+    caller = begins.caller;
+    site = begins.site;
+    ops = begins.ops;
+    transaction = begins.transaction;
+    before = begins.before;
+    later = begins.later ++ more;
+    parts = ap (λ events. events ++ more) begins.parts ∙ append_assoc begins.before begins.later more;
+    untold = begins.untold;
+    from = begins.from;
+  }
+
+  pub started_more : Started fixed agent job events suite start → Started fixed agent job (events ++ more) suite start
+  unfolding begins_more
+  started_more was = record { begins = begins_more was.begins; asks = was.asks }
+
+pub started_is : (fixed : Fixed) (agent : Agent) (job : Job) (events : List Event) (n : ℕ) (start : Prefix) → Started fixed agent job events n start → IsStart fixed agent job events n start
+started_is fixed agent job events n start started = record {
+  caller = started.begins.caller;
+  site = started.begins.site;
+  ops = started.begins.ops;
+  transaction = started.begins.transaction;
+  before = started.begins.before;
+  later = started.begins.later;
+  parts = started.begins.parts;
+  untold = started.begins.untold;
+  moment = inl started.asks;
+  from = started.begins.from;
+}
+
+pub untold_is : (fixed : Fixed) (agent : Agent) (job : Job) (events : List Event) (n : ℕ) (start : Prefix) → Begins fixed agent job events n start → told_of n [] (of_job fixed agent job events) ≡ [] → IsStart fixed agent job events n start
+untold_is fixed agent job events n start begins none = record {
+  caller = begins.caller;
+  site = begins.site;
+  ops = begins.ops;
+  transaction = begins.transaction;
+  before = begins.before;
+  later = begins.later;
+  parts = begins.parts;
+  untold = begins.untold;
+  moment = inr none;
+  from = begins.from;
+}
+
+-- ---- the same of other starts
+
+module _ (fixed : Fixed) (task : Task) (Old Loose Old' Loose' : ℕ → Prefix → Type 0) (past : List Exchange) (old : (n : ℕ) (start : Prefix) → Old n start → Old' n start) (loose : (n : ℕ) (start : Prefix) → Loose n start → Loose' n start) where
+  map_kept : (n : ℕ) (suite : Suite) → Kept fixed task Old past n suite → Kept fixed task Old' past n suite
+  map_kept n suite kept = record { start = old n suite.collector.start kept.start; first = kept.first; wide = kept.wide }
+
+  map_short : (suite had wanting : ℕ) (busy : Option (ℕ × ℕ)) → ShortBy fixed task Old Loose past suite had wanting busy → ShortBy fixed task Old' Loose' past suite had wanting busy
+  map_short suite had wanting busy by = record {
+    collector = by.collector;
+    told = by.told;
+    short = by.short;
+    begun = elim by.begun [ inl is ↦ inl (old suite by.collector.start is) | inr is ↦ inr (loose suite by.collector.start is.0, is.1) ];
+    wide = by.wide;
+  }
+
+  pub map_cause : (cause : Cause) → CausedBy fixed task Old Loose past cause → CausedBy fixed task Old' Loose' past cause
+  map_cause (Unavailable suite had wanting) is = map_short suite had wanting None is
+  map_cause (Busy at holder) is = (is.0, is.1, is.2, map_short is.0 is.1 is.2 (Some (at, holder)) is.3)
+  map_cause (Lost at) is = is
+  map_cause Overruled is = is
+  map_cause HomeDown is = is
+  map_cause (Full at) is = is
+  map_cause Memory is = is
+
+  map_end : (ending : Ending) → EndIs fixed task Old Loose past ending → EndIs fixed task Old' Loose' past ending
+  map_end (Undecided cause) is = map_cause cause is
+  map_end (Answered answers) is = tt
+  map_end (Refused refusal) is = tt
+  map_end (Swept broken finished left) is = tt
+
+  pub map_stands : (Now : ℕ → Prefix → Type 0) (suites : Suites) (phase : Phase) → ((n : ℕ) (start : Prefix) → phase ≡ Gathering n → Now n start → Old' n start) → Stands fixed task Old Now Loose past suites phase → Stands fixed task Old' Old' Loose' past suites phase
+  map_stands Now suites (Gathering number) now stands = (
+    stands.0,
+    λ n suite other at. map_kept n suite (stands.1 n suite other at),
+    λ suite at. let asking = stands.2 suite at in record { start = now number suite.collector.start refl asking.start; first = asking.first; wide = asking.wide },
+  )
+  map_stands Now suites (Fetching number) now stands = (stands.0, λ n suite at. map_kept n suite (stands.1 n suite at))
+  map_stands Now suites (Widening left granted) now stands = (stands.0, λ n suite at. map_kept n suite (stands.1 n suite at), stands.2, stands.3)
+  map_stands Now suites (Preparing left outcome) now stands = tt
+  map_stands Now suites (Deciding outcome) now stands = tt
+  map_stands Now suites (Finishing servers v ending) now stands = λ fine. map_end ending (stands fine)
+
+-- ---- after each event
+
+module _ (fixed : Fixed) (agent : Agent) (job : Job) where
+  abbrev pub After_all : List Event → Agent
+  After_all events = after_all fixed (begin fixed agent job) events
+
+  -- what stands of a transaction that asks on
+  pub record Runs (events : List Event) (course : Course) : Type 0 where
+    pub caller : Identity
+    pub site : ℕ
+    pub ops : List Op
+    pub transaction : job ≡ Transaction caller site ops
+    pub task : course.task ≡ task_of agent caller site ops
+    pub stands : (asked : ℕ × Request) → request_of fixed course ≡ Some asked
+        → Stands fixed course.task (Started fixed agent job events) (Started fixed agent job events) (Begins fixed agent job events) (of_job fixed agent job events) course.suites course.phase
+
+  abbrev pub DoingStands : List Event → Option Doing → Type 0
+  DoingStands events (Some (Running course)) = Runs events course
+  DoingStands events (Some (Rounding round)) = Unit {0}
+  DoingStands events None = Unit {0}
+
+  module _ (caller : Identity) (site : ℕ) (ops : List Op) (transaction : job ≡ Transaction caller site ops) (task : Task) (task_is : task ≡ task_of agent caller site ops) (px : List Exchange) (cache : Cache) (events : List Event)
+      (told : of_job fixed agent job events ≡ px) (cache_is : (After_all events).cache ≡ cache) where
+    pub fresh_begins : (n : ℕ) (start : Prefix) → Fresh fixed task cache px n start → Begins fixed agent job events n start
+    fresh_begins n start fresh = record {
+      caller = caller;
+      site = site;
+      ops = ops;
+      transaction = transaction;
+      before = events;
+      later = [];
+      parts = sym (append-nil events);
+      untold = ap (told_of n []) told ∙ fresh.untold;
+      from = fresh.from ∙ ap (λ task. start_from fixed task cache n) task_is ∙ ap (λ cache. start_from fixed (task_of agent caller site ops) cache n) (sym cache_is);
+    }
+
+    convert : (Old Loose : ℕ → Prefix → Type 0) (after : After Course) → (After_all events).doing ≡ left Running after → ((n : ℕ) (start : Prefix) → Old n start → Started fixed agent job events n start)
+        → ((n : ℕ) (start : Prefix) → Loose n start → Begins fixed agent job events n start) → LeftOf fixed task Old Loose px cache after → DoingStands events (left Running after)
+    unfolding fresh_begins
+    convert Old Loose (Ends ending) doing old loose leaves = tt
+    convert Old Loose (GoesOn course) doing old loose leaves = record {
+      caller = caller;
+      site = site;
+      ops = ops;
+      transaction = transaction;
+      task = leaves.0 ∙ task_is;
+      stands = λ asked is.
+          let now : (n : ℕ) (start : Prefix) → course.phase ≡ Gathering n → OrFresh fixed task cache px Old n start → Started fixed agent job events n start = λ n start phase begun. elim begun [
+            | inl was ↦ old n start was
+            | inr fresh ↦
+                let asks : locks n asked.1 ≡ true = asks_lock course.task n (suite_of course.suites n) asked.0 asked.1 (ap (request_in fixed course.task course.suites) (sym phase) ∙ is) n ∙ self n in
+                record { begins = fresh_begins n start fresh; asks = ap (λ doing. asks_for n (next_in fixed doing)) doing ∙ ap (asks_for n) is ∙ asks }
+          ] in
+          let also : (n : ℕ) (start : Prefix) → OrFresh fixed task cache px Loose n start → Begins fixed agent job events n start = λ n start begun. elim begun [
+            | inl was ↦ loose n start was
+            | inr fresh ↦ fresh_begins n start fresh
+          ] in
+          let mapped = map_stands fixed task Old (OrFresh fixed task cache px Loose) (Started fixed agent job events) (Begins fixed agent job events) px old also (OrFresh fixed task cache px Old) course.suites course.phase now leaves.1 in
+          subst (λ past. Stands fixed course.task (Started fixed agent job events) (Started fixed agent job events) (Begins fixed agent job events) past course.suites course.phase) (sym told)
+          (subst (λ task. Stands fixed task (Started fixed agent job events) (Started fixed agent job events) (Begins fixed agent job events) px course.suites course.phase) (sym leaves.0) mapped);
+    }
+
+  round_stands : (events : List Event) (after : After Round) → DoingStands events (left Rounding after)
+  round_stands events (GoesOn round) = tt
+  round_stands events (Ends ending) = tt
+
+  -- what a word leaves of a transaction
+  pub word_leaves : (events : List Event) (word : Word) (running : Course) (asked : ℕ × Request) → request_of fixed running ≡ Some asked → Runs events running
+      → Leaves fixed running.task (Started fixed agent job events) (Begins fixed agent job events) (push (of_job fixed agent job events) asked.0 asked.1 word) (after_word fixed running (After_all events).cache asked.0 asked.1 word)
+  word_leaves events word running asked is runs =
+      caused_word fixed running.task (Started fixed agent job events) (Begins fixed agent job events) (of_job fixed agent job events) (After_all events).cache running.suites running.phase asked.0 asked.1 word is (runs.stands asked is)
+
+  stands_take : (events : List Event) (word : Word) (doing : Option Doing) (asked : Option (ℕ × Request)) → (After_all events).doing ≡ doing → next_in fixed doing ≡ asked
+      → of_job fixed agent job (events ++ Take word ∷ []) ≡ of_job fixed agent job events ++ exchange_of asked word → After_all (events ++ Take word ∷ []) ≡ (take_in fixed (After_all events) word doing asked).agent
+      → DoingStands events doing → DoingStands (events ++ Take word ∷ []) (take_in fixed (After_all events) word doing asked).agent.doing
+  stands_take events word (Some (Running running)) (Some asked) was is told after stands =
+      let step = after_word fixed running (After_all events).cache asked.0 asked.1 word in
+      convert stands.caller stands.site stands.ops stands.transaction running.task stands.task (push (of_job fixed agent job events) asked.0 asked.1 word) step.cache (events ++ Take word ∷ []) told (ap (λ (agent : Agent). agent.cache) after)
+      (Started fixed agent job events) (Begins fixed agent job events) step.after (ap (λ (agent : Agent). agent.doing) after)
+      (started_more fixed agent job events (Take word ∷ [])) (begins_more fixed agent job events (Take word ∷ [])) (word_leaves events word running asked is stands)
+  stands_take events word (Some (Running running)) None was is told after stands = subst (DoingStands (events ++ Take word ∷ [])) (sym was) (record {
+    caller = stands.caller;
+    site = stands.site;
+    ops = stands.ops;
+    transaction = stands.transaction;
+    task = stands.task;
+    stands = λ asked asks. cc;
+  })
+  stands_take events word (Some (Rounding round)) (Some asked) was is told after stands = round_stands (events ++ Take word ∷ []) (sweep.after_word fixed.service round asked.0 word)
+  stands_take events word (Some (Rounding round)) None was is told after stands = cc
+  stands_take events word None (Some asked) was is told after stands = cc
+  stands_take events word None None was is told after stands = subst (DoingStands (events ++ Take word ∷ [])) (sym was) tt
+
+  stands_forget : (events : List Event) (site : ℕ) (doing : Option Doing) → DoingStands events doing → DoingStands (events ++ Forget site ∷ []) doing
+  stands_forget events site (Some (Running running)) stands = record {
+    caller = stands.caller;
+    site = stands.site;
+    ops = stands.ops;
+    transaction = stands.transaction;
+    task = stands.task;
+    stands = λ asked is.
+        subst (λ past. Stands fixed running.task (Started fixed agent job (events ++ Forget site ∷ [])) (Started fixed agent job (events ++ Forget site ∷ [])) (Begins fixed agent job (events ++ Forget site ∷ [])) past running.suites running.phase)
+        (sym (exchanges-forget fixed (begin fixed agent job) events site))
+        (map_stands fixed running.task (Started fixed agent job events) (Begins fixed agent job events) (Started fixed agent job (events ++ Forget site ∷ [])) (Begins fixed agent job (events ++ Forget site ∷ [])) (of_job fixed agent job events)
+        (started_more fixed agent job events (Forget site ∷ [])) (begins_more fixed agent job events (Forget site ∷ [])) (Started fixed agent job events) running.suites running.phase
+        (λ n start _ started. started_more fixed agent job events (Forget site ∷ []) n start started) (stands.stands asked is));
+  }
+  stands_forget events site (Some (Rounding round)) stands = tt
+  stands_forget events site None stands = tt
+
+  stands_more : (events : List Event) (event : Event) → DoingStands events (After_all events).doing → DoingStands (events ++ event ∷ []) (After_all (events ++ event ∷ [])).doing
+  stands_more events (Take word) stands =
+      let after = after-append fixed (begin fixed agent job) events (Take word) in
+      subst (λ (agent : Agent). DoingStands (events ++ Take word ∷ []) agent.doing) (sym after)
+      (stands_take events word (After_all events).doing (next_of fixed (After_all events)) refl refl (exchanges-take fixed (begin fixed agent job) events word) after stands)
+  stands_more events (Forget site) stands =
+      subst (λ (agent : Agent). DoingStands (events ++ Forget site ∷ []) agent.doing) (sym (after-append fixed (begin fixed agent job) events (Forget site))) (stands_forget events site (After_all events).doing stands)
+
+  all_stand : (events more : List Event) → DoingStands events (After_all events).doing → DoingStands (events ++ more) (After_all (events ++ more)).doing
+  all_stand events [] stands = subst (λ events. DoingStands events (After_all events).doing) (sym (append-nil events)) stands
+  all_stand events (event ∷ more) stands =
+      subst (λ events. DoingStands events (After_all events).doing) (append_assoc events (event ∷ []) more) (all_stand (events ++ event ∷ []) more (stands_more events event stands))
+
+  begin_stands : is_idle agent.doing ≡ true → DoingStands [] (begin fixed agent job).doing
+  begin_stands idle = of (is_idle agent.doing && has_sense fixed job && nat_lt agent.count most_jobs) refl job refl
+    where
+      none : (doing : Option Doing) → is_idle doing ≡ true → DoingStands [] doing
+      none None idle = tt
+      none (Some doing) idle = cc
+
+      begun : (j : Job) → job ≡ j → begin fixed agent job ≡ record (started fixed agent j) { count = agent.count + 1 } → DoingStands [] (started fixed agent j).doing
+      begun (Sweep server) same is = tt
+      begun (Transaction caller site ops) same is =
+          let task = task_of agent caller site ops in
+          let step = execute fixed task (record { suites = []; cache = agent.cache }) in
+          convert caller site ops same task refl [] step.cache [] refl (ap (λ (agent : Agent). agent.cache) is) (λ _ _. ⊥) (λ _ _. ⊥) step.after (ap (λ (agent : Agent). agent.doing) is) (λ n start no. absurd no) (λ n start no. absurd no)
+          (caused_execute fixed task (λ _ _. ⊥) (λ _ _. ⊥) [] (record { suites = []; cache = agent.cache }) are_nil (λ n suite there. cc))
+
+      of : (b : Bool) → (is_idle agent.doing && has_sense fixed job && nat_lt agent.count most_jobs) ≡ b → (j : Job) → job ≡ j → DoingStands [] (begin fixed agent job).doing
+      of true is j same =
+          let has_begun : begin fixed agent job ≡ record (started fixed agent j) { count = agent.count + 1 } =
+          ap (λ b. cond b (record (started fixed agent job) { count = agent.count + 1 }) agent) is ∙ ap (λ job. record (started fixed agent job) { count = agent.count + 1 }) same in
+          subst (λ (agent : Agent). DoingStands [] agent.doing) (sym has_begun) (begun j same has_begun)
+      of false is j same =
+          subst (λ (agent : Agent). DoingStands [] agent.doing) (sym (ap (λ b. cond b (record (started fixed agent job) { count = agent.count + 1 }) agent) is)) (none agent.doing idle)
+
+  pub stands_after : (events : List Event) → is_idle agent.doing ≡ true → DoingStands events (After_all events).doing
+  stands_after events idle = all_stand [] events (begin_stands idle)

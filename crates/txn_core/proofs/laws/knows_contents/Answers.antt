@@ -1,0 +1,5 @@
+use Rattle.txn_core.proofs.Knows.{knows_contents}
+use Rattle.txn_core.proofs.laws.knows_contents.Goals as goal
+
+pub returns : goal.returns
+returns c = knows_contents
