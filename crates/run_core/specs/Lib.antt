@@ -1,0 +1,6 @@
+pub mod Worlds
+pub mod Runs
+pub mod Decisions
+pub mod TableOfRun
+pub mod Laws
+pub mod WorkedRuns
