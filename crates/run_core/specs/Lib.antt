@@ -4,3 +4,9 @@ pub mod Decisions
 pub mod TableOfRun
 pub mod Laws
 pub mod WorkedRuns
+pub mod Opened
+pub mod Seats
+pub mod SeatFields
+pub mod Exchanges
+pub mod Orders
+pub mod WorldFields

@@ -27,3 +27,17 @@ pub struct Done {
     pub served: Option<Served>,
     pub outcome: Option<Outcome>,
 }
+
+impl Done {
+    ghost use Rattle.std.specs.Prelude.{◌≡◌, None};
+
+    /// Nothing was served, and no job ended.
+    pub(crate) fn nothing() -> Done
+        ensures { result ≡ record { served = None; outcome = None } }
+    {
+        Done {
+            served: None,
+            outcome: None,
+        }
+    }
+}
