@@ -131,7 +131,8 @@ impl World {
 fn keep(outcomes: &mut Vec<Outcome>, done: Done) -> Result<(), AllocError>
     ensures { OnOk result (outcomes.new.items ≡ outcomes.old.items ++ cons_option done.outcome []) }
 {
-    if let Some(outcome) = done.outcome {
+    let Done { outcome, .. } = done;
+    if let Some(outcome) = outcome {
         outcomes.push(outcome)?;
     }
     Ok(())
