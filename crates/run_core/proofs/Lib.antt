@@ -1,0 +1,7 @@
+pub mod Appending
+pub mod Exchanging
+pub mod Numbered
+pub mod Moving
+pub mod Operating
+pub mod Playing
+mod Worked

@@ -1,0 +1,44 @@
+-- The servers and the agents of a service, as it opens.
+use Rattle.std.proofs.Common.{◌≡◌, ℕ, zero, suc, ◌+◌, List, [], ◌∷◌, ◌++◌, refl, ap, ◌∙◌, arith}
+use Rattle.std.proofs.lemmas.List.Elements.{All-nil, All-cons}
+use Rattle.suite_prefix.specs.SettingsRules.{Opening}
+use Rattle.rep_core.specs.State as state
+use Rattle.rep_core.specs.State.{State}
+use Rattle.txn_core.specs.Agents.{fixed_of}
+use Rattle.run_core.specs.Worlds.{Actor, servers_from, actors_from}
+use Rattle.run_core.specs.Seats.{Seated, opening, seats_from, actors_in, AreOf}
+
+servers_from-more : (given : Opening) (start count : ℕ) → servers_from given start (suc count) ≡ servers_from given start count ++ state.opening (start + count) given ∷ []
+servers_from-more given start zero = let same : start ≡ start + 0 = omega arith in ap (λ n. state.opening n given ∷ []) same
+servers_from-more given start (suc count) =
+    let same : start + 1 + count ≡ start + suc count = omega arith in
+    ap (λ (servers : List State). state.opening start given ∷ servers) (servers_from-more given (start + 1) count ∙ ap (λ n. servers_from given (start + 1) count ++ state.opening n given ∷ []) same)
+
+pub one_more_server : (given : Opening) (count : ℕ) → servers_from given 0 (count + 1) ≡ servers_from given 0 count ++ state.opening count given ∷ []
+one_more_server given count =
+    let same : 0 + count ≡ count = omega arith in
+    let next : count + 1 ≡ suc count = omega arith in
+    ap (servers_from given 0) next ∙ servers_from-more given 0 count ∙ ap (λ n. servers_from given 0 count ++ state.opening n given ∷ []) same
+
+seats_from-more : (given : Opening) (start count : ℕ) → seats_from given start (suc count) ≡ seats_from given start count ++ opening given (start + count) ∷ []
+seats_from-more given start zero = let same : start ≡ start + 0 = omega arith in ap (λ n. opening given n ∷ []) same
+seats_from-more given start (suc count) =
+    let same : start + 1 + count ≡ start + suc count = omega arith in
+    ap (λ (seats : List Seated). opening given start ∷ seats) (seats_from-more given (start + 1) count ∙ ap (λ n. seats_from given (start + 1) count ++ opening given n ∷ []) same)
+
+pub one_more_seat : (given : Opening) (count : ℕ) → seats_from given 0 (count + 1) ≡ seats_from given 0 count ++ opening given count ∷ []
+one_more_seat given count =
+    let same : 0 + count ≡ count = omega arith in
+    let next : count + 1 ≡ suc count = omega arith in
+    ap (seats_from given 0) next ∙ seats_from-more given 0 count ∙ ap (λ n. seats_from given 0 count ++ opening given n ∷ []) same
+
+pub actors_of_seats : (given : Opening) (start count : ℕ) → actors_in (seats_from given start count) ≡ actors_from start count
+actors_of_seats given start zero = refl
+actors_of_seats given start (suc count) = ap (λ (actors : List Actor). (opening given start).actor ∷ actors) (actors_of_seats given (start + 1) count)
+
+abbrev IsOf : Opening → Seated → Type 0
+IsOf given seat = seat.fixed ≡ fixed_of given
+
+pub seats_of_one_service : (given : Opening) (start count : ℕ) → AreOf (fixed_of given) (seats_from given start count)
+seats_of_one_service given start zero = All-nil (IsOf given)
+seats_of_one_service given start (suc count) = All-cons (IsOf given) (opening given start) (seats_from given (start + 1) count) refl (seats_of_one_service given (start + 1) count)

@@ -1,0 +1,26 @@
+use Rattle.std.proofs.Common.{◌<◌, length, ◌∙◌, refl, arith}
+use Rattle.run_core.proofs.Playing.{world_played, outcomes_played}
+use Rattle.run_core.proofs.world.World.play.Goals as goal
+
+pub loop-event-preserved : goal.loop-event-preserved
+loop-event-preserved c =
+    let so_far = c.loop-event.invariant in
+    let stepped = c.in-Ok.ensures in
+    let kept = c.in-Ok-keep.ensures in
+    let within : c.loop-event.event-index < length c.args.events.now = omega arith in
+    record {
+      given = stepped.given ∙ so_far.given;
+      played = omega arith;
+      world = world_played c.args.self.now.given c.loop-event.self.given c.args.self.now.world c.loop-event.self.world c.step.new.self.world c.args.events.now c.loop-event.event-index c.loop-event.event-index c.event-item.result c.in-Ok.done
+          within so_far.given refl so_far.world c.event-item.is stepped.ok;
+      outcomes = outcomes_played c.args.self.now.given c.loop-event.self.given c.args.self.now.world c.loop-event.self.world c.step.new.self.world c.args.events.now c.loop-event.event-index c.event-item.result c.in-Ok.done c.loop-event.outcomes.items c.keep.new.outcomes.items
+          within so_far.given so_far.world c.event-item.is stepped.ok so_far.outcomes kept;
+    }
+
+pub returns-in_default-keep-clause-stopped : goal.returns-in_default-keep-clause-stopped
+returns-in_default-keep-clause-stopped c =
+    let so_far = c.loop-event.invariant in
+    let stepped = c.in-Ok.ensures in
+    let within : c.loop-event.event-index < length c.args.events.now = omega arith in
+    world_played c.args.self.now.given c.loop-event.self.given c.args.self.now.world c.loop-event.self.world c.step.new.self.world c.args.events.now c.loop-event.event-index c.loop-event.played c.event-item.result c.in-Ok.done
+        within so_far.given so_far.played so_far.world c.event-item.is stepped.ok

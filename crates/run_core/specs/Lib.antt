@@ -1,0 +1,12 @@
+pub mod Worlds
+pub mod Runs
+pub mod Decisions
+pub mod TableOfRun
+pub mod Laws
+pub mod WorkedRuns
+pub mod Opened
+pub mod Seats
+pub mod SeatFields
+pub mod Exchanges
+pub mod Orders
+pub mod WorldFields

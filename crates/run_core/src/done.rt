@@ -1,0 +1,43 @@
+//! What was done in an event.
+
+use rep_core::{Reply, Request, Stamped};
+use txn_core::Ending;
+
+/// A request that a server served, with its reply.
+#[derive(Debug, Drop)]
+pub struct Served {
+    pub server: u8,
+    pub request: Stamped<Request>,
+    pub reply: Stamped<Reply>,
+}
+
+/// How a job of an agent ended: the agent's jobs are counted from 0, and `steps` of the job's own steps
+/// were taken.
+#[derive(Debug, Drop)]
+pub struct Outcome {
+    pub agent: u8,
+    pub count: u64,
+    pub steps: u64,
+    pub ending: Ending,
+}
+
+/// What was done in an event: what was served, if anything was, and how a job ended, if one did.
+#[derive(Debug, Drop)]
+pub struct Done {
+    pub served: Option<Served>,
+    pub outcome: Option<Outcome>,
+}
+
+impl Done {
+    ghost use Rattle.std.specs.Prelude.{◌≡◌, None};
+
+    /// Nothing was served, and no job ended.
+    pub(crate) fn nothing() -> Done
+        ensures { result ≡ record { served = None; outcome = None } }
+    {
+        Done {
+            served: None,
+            outcome: None,
+        }
+    }
+}

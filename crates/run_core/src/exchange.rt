@@ -1,0 +1,79 @@
+//! One request of an agent to a server.
+
+ghost use Rattle.std.specs.Prelude.{◌≡◌, IfOk, OnErr};
+ghost use Rattle.txn_core.specs.Agents.{next_of};
+ghost use Rattle.run_core.specs.Exchanges.{Hears, IsExchange, IsUnserved};
+ghost use Rattle.run_core.specs.Seats.{Fits};
+ghost use Rattle.txn_core.specs.declared.word.Word.TheVariants.{Replied, Lacked};
+
+use crate::done::{Done, Served};
+use crate::seat::{Heard, Seat};
+use rep_core::{Lack, Reply, Request, Server, Stamped};
+use std::alloc::AllocError;
+use txn_core::Word;
+
+/// The agent of this number asks this server. Where memory runs out neither has changed.
+pub(crate) fn exchange(
+    host: &mut Server,
+    server: u8,
+    seat: &mut Seat,
+    number: u8,
+    request: Request,
+) -> Result<Done, AllocError>
+    requires { next_of seat.old.fixed seat.old.actor.agent ≡ Some (server, request) }
+    ensures ok { IfOk result (λ done. IsExchange host.old host.new seat.old seat.new server number request done) }
+    ensures err { OnErr result ((host.new ≡ host.old) × (seat.new ≡ seat.old)) }
+{
+    let stamp = seat.stamp();
+    let asked = Stamped {
+        stamp,
+        value: request.clone()?,
+    };
+    host.copies_are_sound();
+    let told = host.serve_then(asked, seat, |seat: &mut Seat, reply: Stamped<Reply>|
+        requires { Fits seat.old (Replied reply.value) }
+        ensures { Hears number seat.old reply result seat.new }
+    {
+        seat.hear(number, reply)
+    });
+    let heard = match told {
+        Ok(heard) => heard?,
+        Err(lack) => {
+            let done = unserved(seat, number, lack)?;
+            return Ok(done);
+        }
+    };
+    let Heard { reply, outcome } = heard;
+    let request = Stamped {
+        stamp,
+        value: request,
+    };
+    let served = Served {
+        server,
+        request,
+        reply,
+    };
+    Ok(Done {
+        served: Some(served),
+        outcome,
+    })
+}
+
+/// The server did not serve the request. Where it is full the agent is told so.
+fn unserved(seat: &mut Seat, number: u8, lack: Lack) -> Result<Done, AllocError>
+    requires { Fits seat.old (Lacked lack) }
+    ensures ok { IfOk result (λ done. IsUnserved number lack seat.old seat.new done) }
+    ensures err { OnErr result (seat.new ≡ seat.old) }
+{
+    match lack {
+        Lack::Memory => Err(AllocError),
+        Lack::Full => {
+            let stamp = seat.stamp();
+            let outcome = seat.take(number, stamp, &Word::Lacked(lack))?;
+            Ok(Done {
+                served: None,
+                outcome,
+            })
+        }
+    }
+}

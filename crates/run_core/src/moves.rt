@@ -1,0 +1,80 @@
+//! What an agent of a world does in an event.
+
+ghost use Rattle.std.specs.Prelude.{◌≡◌, IfOk, OnOk, OnErr, List, slice_get};
+ghost use Rattle.txn_core.specs.Agents as agents;
+ghost use Rattle.txn_core.specs.Doing.{Fixed};
+ghost use Rattle.txn_core.specs.declared.word.Word.TheVariants.{Lacked};
+ghost use Rattle.run_core.specs.Worlds as worlds;
+ghost use Rattle.run_core.specs.Seats.{AreOf, Becomes, actors_in, changed, world_of};
+ghost use Rattle.rep_core.specs.State.{State};
+
+use crate::done::Done;
+use crate::exchange::exchange;
+use crate::seat::Seat;
+use rep_core::{Lack, Server};
+use std::alloc::AllocError;
+use txn_core::{Job, Word};
+
+/// The agent of this number begins a job.
+pub(crate) fn begin(seats: &mut Vec<Seat>, number: u8, job: &Job) -> Result<(), AllocError>
+    ensures ok { OnOk result (Becomes (slice_get seats.old.items number) (λ seat. changed seat (agents.begin seat.fixed seat.actor.agent job.now)) number seats.old.items seats.new.items) }
+    ensures err { OnErr result (seats.new.items ≡ seats.old.items) }
+{
+    match seats.get_mut(usize::from(number)) {
+        Some(seat) => seat.begin(job),
+        None => Ok(()),
+    }
+}
+
+/// The agent of this number forgets what its cache keeps for a site.
+pub(crate) fn forget(seats: &mut Vec<Seat>, number: u8, site: u8)
+    ensures { Becomes (slice_get seats.old.items number) (λ seat. changed seat (agents.forget seat.actor.agent site)) number seats.old.items seats.new.items }
+{
+    if let Some(seat) = seats.get_mut(usize::from(number)) {
+        seat.forget(site);
+    }
+}
+
+/// The agent of this number asks a server.
+pub(crate) fn ask(
+    servers: &mut Vec<Server>,
+    seats: &mut Vec<Seat>,
+    number: u8,
+) -> Result<Done, AllocError>
+    ensures of { (fixed : Fixed) → AreOf fixed seats.old.items → AreOf fixed seats.new.items }
+    ensures ok { IfOk result (λ done. (fixed : Fixed) → AreOf fixed seats.old.items → worlds.steps_once fixed (world_of servers.old.items seats.old.items) number (slice_get (actors_in seats.old.items) number) ≡ record { world = world_of servers.new.items seats.new.items; done = done }) }
+    ensures err { OnErr result ((servers.new.items ≡ servers.old.items) × (seats.new.items ≡ seats.old.items)) }
+{
+    let Some(seat) = seats.get_mut(usize::from(number)) else {
+        return Ok(Done::nothing());
+    };
+    let Some(asked) = seat.next()? else {
+        return Ok(Done::nothing());
+    };
+    let (server, request) = asked;
+    let Some(host) = servers.get_mut(usize::from(server)) else {
+        return Ok(Done::nothing());
+    };
+    let done = exchange(host, server, seat, number, request)?;
+    Ok(done)
+}
+
+/// The agent of this number is told that its request is not served.
+pub(crate) fn lack(seats: &mut Vec<Seat>, number: u8, lack: Lack) -> Result<Done, AllocError>
+    ensures of { (fixed : Fixed) → AreOf fixed seats.old.items → AreOf fixed seats.new.items }
+    ensures ok { IfOk result (λ done. (fixed : Fixed) (servers : List State) → AreOf fixed seats.old.items → worlds.lacks fixed (world_of servers seats.old.items) number (Lacked lack) (slice_get (actors_in seats.old.items) number) ≡ record { world = world_of servers seats.new.items; done = done }) }
+    ensures err { OnErr result (seats.new.items ≡ seats.old.items) }
+{
+    let Some(seat) = seats.get_mut(usize::from(number)) else {
+        return Ok(Done::nothing());
+    };
+    let Some(_asked) = seat.next()? else {
+        return Ok(Done::nothing());
+    };
+    let stamp = seat.stamp();
+    let outcome = seat.take(number, stamp, &Word::Lacked(lack))?;
+    Ok(Done {
+        served: None,
+        outcome,
+    })
+}

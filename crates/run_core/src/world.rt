@@ -1,0 +1,139 @@
+//! A world: the servers and the agents of a service, event by event.
+
+ghost use Rattle.std.specs.Prelude.{◌≡◌, ◌≤◌, ◌++◌, [], take, length, IfOk, IfErr, OnOk, OnErr};
+ghost use Rattle.std.specs.List.{cons_option};
+ghost use Rattle.txn_core.specs.Agents.{fixed_of};
+ghost use Rattle.run_core.specs.Runs as runs;
+ghost use Rattle.run_core.specs.Worlds as worlds;
+
+use crate::done::{Done, Outcome};
+use crate::event::Event;
+use crate::moves;
+use crate::opening::{seats_of, servers_of};
+use crate::operator::{Order, operate};
+use crate::seat::Seat;
+use file_ops::AuditItem;
+use rep_core::Server;
+use std::alloc::{AllocError, Global};
+use std::marker::Model;
+use suite_prefix::Settings;
+
+/// Why events were not all played: memory ran out. The world is as after `done` of them.
+#[derive(Clone, Copy, Debug, PartialEq, Eq)]
+pub struct Stopped {
+    pub done: usize,
+}
+
+/// The servers and the agents of a service.
+#[derive(Drop)]
+pub struct World {
+    alloc: Global,
+    settings: Settings,
+    servers: Vec<Server>,
+    seats: Vec<Seat>,
+}
+
+impl Model for World {
+    ghost use Rattle.run_core.specs.Opened.{Opened};
+    ghost use Rattle.run_core.specs.WorldFields.{IsOfOneService, opened_of};
+
+    ghost Value = { Opened };
+
+    ghost view = { opened_of };
+
+    ghost invariant = { IsOfOneService };
+}
+
+impl World {
+    /// The world as a service opens with these settings.
+    pub fn opening(alloc: Global, settings: &Settings) -> Result<World, AllocError>
+        ensures { IfOk result (λ world. world ≡ record { given = settings.now; world = worlds.opening settings.now }) }
+    {
+        let settings = settings.clone()?;
+        let servers = servers_of(alloc, &settings)?;
+        let seats = seats_of(alloc, &settings)?;
+        Ok(World {
+            alloc,
+            settings,
+            servers,
+            seats,
+        })
+    }
+
+    /// Plays one event. Where it has no sense nothing comes of it. Where memory runs out nothing has
+    /// changed, and the same event may be played again.
+    pub fn step(&mut self, event: &Event) -> Result<Done, AllocError>
+        ensures given { self.new.given ≡ self.old.given }
+        ensures ok { IfOk result (λ done. worlds.step (fixed_of self.old.given) self.old.world event.now ≡ record { world = self.new.world; done = done }) }
+        ensures err { OnErr result (self.new ≡ self.old) }
+    {
+        match event {
+            Event::Begin { agent, job } => {
+                moves::begin(&mut self.seats, *agent, job)?;
+                Ok(Done::nothing())
+            }
+            Event::Step { agent } => moves::ask(&mut self.servers, &mut self.seats, *agent),
+            Event::Crash { server } => Ok(operate(&mut self.servers, *server, Order::Crash)),
+            Event::Return { server } => Ok(operate(&mut self.servers, *server, Order::Return)),
+            Event::Forget { agent, site } => {
+                moves::forget(&mut self.seats, *agent, *site);
+                Ok(Done::nothing())
+            }
+            Event::Lack { agent, lack } => moves::lack(&mut self.seats, *agent, *lack),
+        }
+    }
+
+    /// Plays events, one after the other, and answers how jobs ended. Where memory runs out the world is
+    /// as after the events that are told, and the others may be played next.
+    pub fn play(&mut self, events: &[Event]) -> Result<Vec<Outcome>, Stopped>
+        ensures given { self.new.given ≡ self.old.given }
+        ensures outcomes { IfOk result (λ outcomes. outcomes.items ≡ runs.outcomes (runs.dones (fixed_of self.old.given) self.old.world events.now)) }
+        ensures world { OnOk result (self.new.world ≡ runs.after (fixed_of self.old.given) self.old.world events.now) }
+        ensures stopped { IfErr result (λ stopped. self.new.world ≡ runs.after (fixed_of self.old.given) self.old.world (take stopped.done events.now)) }
+        ensures within { IfErr result (λ stopped. stopped.done ≤ length events.now) }
+    {
+        let mut outcomes = Vec::new(self.alloc);
+        let mut played = 0;
+        for event in events {
+            let Ok(done) = self.step(event) else {
+                return Err(Stopped { done: played });
+            };
+            played += 1;
+            let Ok(()) = keep(&mut outcomes, done) else {
+                return Err(Stopped { done: played });
+            };
+        }
+        Ok(outcomes)
+    }
+
+    /// The denials that a server recorded, in their order. One that is not there recorded none.
+    pub fn audit(&self, server: u8) -> &[AuditItem]
+        ensures { result.now ≡ worlds.audit_of self.now.world server }
+    {
+        match self.servers.get(usize::from(server)) {
+            Some(found) => found.audit(),
+            None => &[],
+        }
+    }
+
+    /// Whether an agent has no job. One that is not there has none.
+    pub fn idle(&self, agent: u8) -> bool
+        ensures { result ≡ worlds.has_no_job (worlds.actor_at self.now.world agent) }
+    {
+        match self.seats.get(usize::from(agent)) {
+            Some(seat) => seat.is_idle(),
+            None => true,
+        }
+    }
+}
+
+/// The outcome of what was done is kept, if there is one.
+fn keep(outcomes: &mut Vec<Outcome>, done: Done) -> Result<(), AllocError>
+    ensures { OnOk result (outcomes.new.items ≡ outcomes.old.items ++ cons_option done.outcome []) }
+{
+    let Done { outcome, .. } = done;
+    if let Some(outcome) = outcome {
+        outcomes.push(outcome)?;
+    }
+    Ok(())
+}
