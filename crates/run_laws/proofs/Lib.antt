@@ -1,0 +1,14 @@
+pub mod Words
+pub mod Asking
+pub mod Records
+pub mod Standing
+pub mod Places
+pub mod Servers
+pub mod Agents
+pub mod Past
+pub mod Turns
+pub mod Worlds
+pub mod Order
+pub mod Conclusions
+pub mod Begun
+pub mod Worked

@@ -1,0 +1,4 @@
+pub mod Naming
+pub mod Numbers
+pub mod Claims
+pub mod Worked
