@@ -13,20 +13,17 @@ use Rattle.rep_core.specs.declared.reply.Verdict.{Verdict}
 use Rattle.rep_core.specs.declared.reply.Verdict.TheVariants as verdict
 use Rattle.rep_core.proofs.Members.{Has}
 use Rattle.txn_core.specs.declared.word.Word.{Word}
-use Rattle.txn_core.specs.declared.ending.Cause.{Cause}
 use Rattle.txn_core.specs.declared.ending.Ending.{Ending}
 use Rattle.txn_core.specs.declared.ending.Ending.TheVariants.{Answered, Refused, Swept, Undecided}
 use Rattle.txn_core.specs.declared.job.Job.{Job}
 use Rattle.txn_core.specs.declared.job.Job.TheVariants.{Transaction, Sweep}
 use Rattle.txn_core.specs.Doing.{home_of, Fixed, Task, Course, Round, Doing, Running, Rounding, After, GoesOn, Ends, Sweeping, Listing, Resolving, Telling, Breaking}
-use Rattle.txn_core.specs.Transactions as course
-use Rattle.txn_core.specs.Transactions.{ending_by, execute}
 use Rattle.txn_core.specs.Sweeps as sweep
 use Rattle.txn_core.specs.Laws.{is_decide, said_by}
-use Rattle.txn_core.specs.Agents.{Agent, next_in, next_of, left, end_of, take_in, take, begin, started, forget, is_idle, has_sense, most_jobs}
+use Rattle.txn_core.specs.Agents.{Agent, next_in, left, end_of, take_in, begin, started, is_idle, has_sense, most_jobs}
 use Rattle.run_core.specs.Decisions.{Decided}
 use Rattle.run_laws.proofs.Standing.{In, NotIn, Stands, in_more, not_in_more, stands_more, has_append}
-use Rattle.run_laws.proofs.Places.{Puts, Here, Elsewhere, at_puts, same_or}
+use Rattle.run_laws.proofs.Places.{Puts, at_puts, same_or}
 use Rattle.run_laws.proofs.Words.{EndsAs, Tells, Leaves, leaves_begin, leaves_word}
 
 -- ---- numbers of transactions
@@ -211,11 +208,11 @@ begins fixed agent job i ds index new =
     let begun : Agent = record (started fixed agent job) { count = agent.count + 1 } in
     elim (is_idle agent.doing && has_sense fixed job && nat_lt agent.count most_jobs) as (λ b. (is_idle agent.doing && has_sense fixed job && nat_lt agent.count most_jobs) ≡ b → (cond b begun agent ≡ agent) ⊎ Begins ds i agent (cond b begun agent)) [
       | true ↦ λ is. inr (record {
-          idle = idle_none agent.doing (and_parts (is_idle agent.doing) (has_sense fixed job) (and_parts (is_idle agent.doing && has_sense fixed job) (nat_lt agent.count most_jobs) is).0).0;
-          more = refl;
-          index = begins_index fixed agent job;
-          at = begins_job fixed agent job i ds index new;
-        })
+        idle = idle_none agent.doing (and_parts (is_idle agent.doing) (has_sense fixed job) (and_parts (is_idle agent.doing && has_sense fixed job) (nat_lt agent.count most_jobs) is).0).0;
+        more = refl;
+        index = begins_index fixed agent job;
+        at = begins_job fixed agent job i ds index new;
+      })
       | false ↦ λ _. inl refl
     ] refl
 

@@ -1,25 +1,22 @@
 -- Each number of a transaction is begun once, and asked for by its agent alone.
-use Rattle.std.proofs.Common.{◌≡◌, ◌≢◌, ◌⊎◌, inl, inr, ⊎_elim, ℕ, ◌+◌, ◌≤◌, ◌<◌, Bool, true, false, cond, List, [], ◌∷◌, ◌++◌, Option, Some, None, refl, sym, ap, subst, ◌∙◌, arith}
-use Rattle.std.specs.Prelude.{◌*◌, ◌%◌, ◌&&◌, nat_eq, nat_lt, slice_get, slice_set}
+use Rattle.std.proofs.Common.{◌≡◌, ◌⊎◌, inl, inr, ⊎_elim, ℕ, ◌+◌, ◌≤◌, ◌<◌, true, false, cond, List, [], ◌∷◌, Option, Some, None, refl, sym, ap, subst, ◌∙◌, arith}
+use Rattle.std.specs.Prelude.{◌*◌, ◌%◌, ◌&&◌, nat_eq, nat_lt}
 use Rattle.std.specs.List.{AllByRecursion, IsDistinct, cons_option}
 use Rattle.std.proofs.lemmas.Bool.{ne_eqb}
 use Rattle.std.proofs.lemmas.Option.{none-some, same_Some, cond_some}
 use Rattle.std.proofs.lemmas.Map.Keys.{IsDistinct-cons}
-use Rattle.suite_prefix.specs.SettingsRules.{Opening, IsAccepted}
+use Rattle.suite_prefix.specs.SettingsRules.{Opening}
 use Rattle.rep_core.specs.declared.request.Request.{Request}
 use Rattle.rep_core.specs.declared.request.Request.TheVariants as request
-use Rattle.rep_core.specs.declared.stamped.Stamped.{Stamped}
 use Rattle.rep_core.specs.declared.stamped.Lack.{Lack as Why}
 use Rattle.rep_core.specs.declared.stamped.Lack.TheVariants as lack
 use Rattle.rep_core.specs.State.{State}
-use Rattle.rep_core.specs.Serving.{is_full, answer_of}
 use Rattle.rep_core.proofs.Members.{Has, contains_from}
 use Rattle.txn_core.specs.declared.ending.Ending.TheVariants.{Answered}
 use Rattle.txn_core.specs.declared.job.Job.{Job}
 use Rattle.txn_core.specs.declared.word.Word.{Word}
 use Rattle.txn_core.specs.declared.word.Word.TheVariants.{Replied, Lacked}
-use Rattle.txn_core.specs.Doing.{Fixed, Task, Course, Round, Doing, Running, Rounding, home_of}
-use Rattle.txn_core.specs.Laws.{is_decide}
+use Rattle.txn_core.specs.Doing.{Fixed, Doing, Running, Rounding}
 use Rattle.txn_core.specs.Agents.{Agent, next_in, next_of, take, begin, started, forget, fixed_of, is_idle, has_sense, most_jobs}
 use Rattle.txn_core.proofs.Asks.{asks_same}
 use Rattle.run_core.specs.declared.event.Event.{Event}
@@ -28,15 +25,15 @@ use Rattle.run_core.specs.declared.done.Served.{Served}
 use Rattle.run_core.specs.declared.done.Outcome.{Outcome}
 use Rattle.run_core.specs.Worlds.{Actor, World, server_at, actor_at, with_actor, opening, serve, after_serving, moved, becomes, answered, asks_at, asks, steps_once, lacks_for, lacks, operated, operates, step}
 use Rattle.run_core.specs.Runs.{run}
-use Rattle.run_core.specs.Decisions.{Decided, decisions, decisions_from, decided, task_of}
-use Rattle.run_laws.specs.Naming.{names, may_sweep}
+use Rattle.run_core.specs.Decisions.{Decided, decisions, task_of}
+use Rattle.run_laws.specs.Naming.{may_sweep}
 use Rattle.run_laws.specs.Numbers.{begins_now, begins_at, begun_from, begun, EachIsBegunOnce, AgentsAskForThemselves, AsksForItself, AsksToSweep}
-use Rattle.run_laws.specs.Claims.{ended, ChangesAreMet}
-use Rattle.run_laws.proofs.Places.{Puts, Here, Elsewhere, same_or}
+use Rattle.run_laws.specs.Claims.{ChangesAreMet}
+use Rattle.run_laws.proofs.Places.{Puts, same_or}
 use Rattle.run_laws.proofs.Asking.{asks_in_its_name, asks_to_sweep, decides}
-use Rattle.run_laws.proofs.Agents.{same_place, IsAt, take_keeps, Begun, AreAt, not_begun}
+use Rattle.run_laws.proofs.Agents.{same_place, IsAt, take_keeps, Begun, not_begun}
 use Rattle.run_laws.proofs.Worlds.{agent_of, agent_at, puts_agent, Holds, event_holds}
-use Rattle.run_laws.proofs.Standing.{NotIn, In}
+use Rattle.run_laws.proofs.Standing.{NotIn}
 use Rattle.run_laws.proofs.Order.{stands_first}
 use Rattle.run_laws.proofs.Conclusions.{holds_of, holds_at_first, rest_of, ends_as, later_decisions, decisions_go_on}
 
@@ -52,8 +49,8 @@ put_rises : (f g : ℕ → Option Agent) (i : ℕ) (old new : Agent) → Puts f 
 put_rises f g i old new puts more j a is =
     ⊎_elim
     (λ at.
-        let same : old.count ≡ a.count = ap (λ (a : Agent). a.count) (same_Some old a (sym puts.was ∙ ap f (sym at) ∙ is)) in
-        (new, ap g at ∙ puts.here, omega (arith, same, more)))
+    let same : old.count ≡ a.count = ap (λ (a : Agent). a.count) (same_Some old a (sym puts.was ∙ ap f (sym at) ∙ is)) in
+    (new, ap g at ∙ puts.here, omega (arith, same, more)))
     (λ apart. (a, puts.apart j apart ∙ is, omega arith))
     (same_or j i)
 
@@ -182,7 +179,7 @@ all_new given [] world ds past holds t has was = has
 all_new given (event ∷ events) world ds past holds t has was =
     new_here given world event ds past holds t (begun_from given (step (fixed_of given) world event).world events)
     (λ rest. all_new given events (step (fixed_of given) world event).world _ _ (event_holds (fixed_of given) world event ds past holds) t rest
-        (still_begun (agent_at world) (agent_at (step (fixed_of given) world event).world) t (counts_rise (fixed_of given) world event) was))
+    (still_begun (agent_at world) (agent_at (step (fixed_of given) world event).world) t (counts_rise (fixed_of given) world event) was))
     was (begins_at given world event) refl has
 
 none_equal : (t : ℕ) (ts : List ℕ) → (Has ts t → ⊥) → AllByRecursion (λ other. nat_eq t other ≡ false) ts

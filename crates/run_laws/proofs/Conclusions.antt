@@ -1,5 +1,5 @@
 -- The laws of all runs, from what every event keeps.
-use Rattle.std.proofs.Common.{◌≡◌, ◌≢◌, ◌⊎◌, inl, inr, ⊎_elim, ℕ, zero, suc, ◌+◌, ◌≤◌, ◌<◌, Bool, true, false, cond, List, [], ◌∷◌, ◌++◌, Option, Some, None, refl, sym, ap, subst, ◌∙◌, arith}
+use Rattle.std.proofs.Common.{◌≡◌, inl, inr, ℕ, zero, suc, ◌+◌, ◌<◌, true, false, cond, List, [], ◌∷◌, ◌++◌, Option, Some, None, refl, sym, ap, subst, ◌∙◌, arith}
 use Rattle.std.specs.Prelude.{◌*◌, ◌%◌, ◌/◌, ◌==◌, nat_lt, slice_get, Contains, Ok, Err}
 use Rattle.std.proofs.lemmas.Bool.{false≢true}
 use Rattle.std.proofs.lemmas.Bool.Decides.{nat_tests}
@@ -7,29 +7,25 @@ use Rattle.std.proofs.lemmas.Option.{none-some, same_Some}
 use Rattle.std.specs.Ordering.{nat_cmp}
 use Rattle.sorted_map.specs.SortedMap.{get}
 use Rattle.suite_prefix.specs.SettingsRules.{Opening, IsAccepted}
-use Rattle.file_ops.specs.declared.answer.Answer.{Answer}
-use Rattle.file_ops.specs.declared.audit.AuditItem.{AuditItem}
 use Rattle.rep_core.specs.State as state
 use Rattle.rep_core.specs.State.{State, record_of}
 use Rattle.rep_core.proofs.Members.{Has, has_from, contains_from}
 use Rattle.txn_core.specs.declared.ending.Ending.{Ending}
 use Rattle.txn_core.specs.declared.ending.Ending.TheVariants.{Answered, Refused, Swept, Undecided}
-use Rattle.txn_core.specs.Doing.{Fixed, home_of}
+use Rattle.txn_core.specs.Doing.{home_of}
 use Rattle.txn_core.specs.Agents as agent
 use Rattle.txn_core.specs.Agents.{Agent, fixed_of}
 use Rattle.run_core.specs.declared.event.Event.{Event}
 use Rattle.run_core.specs.declared.done.Outcome.{Outcome}
-use Rattle.run_core.specs.Worlds.{Actor, World, opening, servers_from, actors_from, server_at, actor_at, recorded_by, audit_of}
+use Rattle.run_core.specs.Worlds.{Actor, World, opening, servers_from, actors_from, server_at, actor_at, recorded_by}
 use Rattle.run_core.specs.Runs.{after, dones, outcomes, run, done_in}
 use Rattle.run_core.specs.Decisions.{Decided, decisions, decisions_from}
-use Rattle.run_core.proofs.Appending.{after-append, dones-append, outcomes-append, decisions_from-append}
+use Rattle.run_core.proofs.Appending.{dones-append, outcomes-append, decisions_from-append}
 use Rattle.run_laws.specs.Numbers.{number_of, has_begun, was_begun}
-use Rattle.run_laws.specs.Claims.{ended, IsDecidedAs, IsNotDecided, IsDecidedOnce, DecidedOnce, denials_of, denials_at, AuditIsTheDenials, AnsweredBefore}
+use Rattle.run_laws.specs.Claims.{ended, IsDecidedAs, DecidedOnce, denials_of, denials_at, AuditIsTheDenials, AnsweredBefore}
 use Rattle.run_laws.proofs.Standing.{Answer', In, NotIn, append_has_left}
-use Rattle.run_laws.proofs.Servers.{Kept, AreKept}
-use Rattle.run_laws.proofs.Agents.{IsAt, EndStands, Begun, AreAt}
-use Rattle.run_laws.proofs.Past.{IsOver, AreOver}
-use Rattle.run_laws.proofs.Worlds.{agent_of, agent_at, AreApart, Holds, run_holds}
+use Rattle.run_laws.proofs.Agents.{IsAt, EndStands, AreAt}
+use Rattle.run_laws.proofs.Worlds.{agent_of, agent_at, Holds, run_holds}
 use Rattle.run_laws.proofs.Order.{stands_first, same_decision, apart_distinct}
 
 -- ---- the opening
@@ -177,8 +173,8 @@ decided_by_then given accepted events later job first there same has = of job.en
     found answer is =
         subst (Has (decisions given events))
         (same_decision (decisions given (events ++ later)) is.decision first (holds_of given accepted (events ++ later)).once
-            (subst (λ ds. Has ds is.decision) (sym (decisions_go_on given events later)) (append_has_left (decisions given events) (later_decisions given events later) is.decision is.there))
-            has (is.of_it ∙ same))
+        (subst (λ ds. Has ds is.decision) (sym (decisions_go_on given events later)) (append_has_left (decisions given events) (later_decisions given events later) is.decision is.there))
+        has (is.of_it ∙ same))
         is.there
 
     over : (ending : Ending) → job.ending ≡ ending → EndStands (decisions given (events ++ later)) (number_of job) ending
@@ -193,6 +189,6 @@ decided_by_then given accepted events later job first there same has = of job.en
 pub answered_before : AnsweredBefore
 answered_before given accepted events later job first second there same new stands before after is =
     contains_from before first (stands_first (decisions given events) (later_decisions given events later) before after first second
-        (decided_by_then given accepted events later job first there same (has_from (decisions given (events ++ later)) first stands))
-        (not_begun_not_in given (run given events) (decisions given events) second.t (holds_of given accepted events).agents new)
-        (sym (decisions_go_on given events later) ∙ is))
+    (decided_by_then given accepted events later job first there same (has_from (decisions given (events ++ later)) first stands))
+    (not_begun_not_in given (run given events) (decisions given events) second.t (holds_of given accepted events).agents new)
+    (sym (decisions_go_on given events later) ∙ is))

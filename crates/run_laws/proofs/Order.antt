@@ -1,12 +1,12 @@
 -- Decisions in their order: what was decided so far stands before what is decided later.
-use Rattle.std.proofs.Common.{◌≡◌, ◌≢◌, ◌⊎◌, inl, inr, ⊎_elim, ℕ, Bool, true, false, List, [], ◌∷◌, ◌++◌, refl, sym, ap, subst, ◌∙◌}
+use Rattle.std.proofs.Common.{◌≡◌, inl, inr, ⊎_elim, ℕ, false, List, [], ◌∷◌, ◌++◌, refl, sym, ap, ◌∙◌}
 use Rattle.std.specs.Prelude.{nat_eq, map}
 use Rattle.std.specs.List.{AllByRecursion, IsDistinct}
 use Rattle.std.proofs.lemmas.Bool.{ne_eqb}
 use Rattle.std.proofs.lemmas.Map.Keys.{IsDistinct-cons}
 use Rattle.rep_core.proofs.Members.{Has}
 use Rattle.run_core.specs.Decisions.{Decided}
-use Rattle.run_laws.proofs.Standing.{NotIn, has_append}
+use Rattle.run_laws.proofs.Standing.{NotIn}
 use Rattle.run_laws.proofs.Worlds.{AreApart}
 
 head_of : Decided → List Decided → Decided

@@ -1,5 +1,5 @@
 -- What jobs that ended say of the decisions, and go on to say.
-use Rattle.std.proofs.Common.{◌≡◌, ◌≢◌, ◌⊎◌, inl, inr, ⊎_elim, ℕ, ◌+◌, ◌≤◌, ◌<◌, List, [], ◌∷◌, ◌++◌, Option, Some, None, refl, sym, ap, subst, ◌∙◌, arith}
+use Rattle.std.proofs.Common.{◌≡◌, ⊎_elim, ℕ, ◌+◌, ◌≤◌, ◌<◌, List, ◌++◌, Option, Some, None, sym, ap, subst, ◌∙◌, arith}
 use Rattle.std.specs.Prelude.{◌*◌}
 use Rattle.std.proofs.lemmas.Option.{same_Some}
 use Rattle.rep_core.proofs.Members.{Has}
@@ -7,8 +7,8 @@ use Rattle.txn_core.specs.Agents.{Agent}
 use Rattle.run_core.specs.Decisions.{Decided}
 use Rattle.run_core.specs.declared.done.Outcome.{Outcome}
 use Rattle.run_laws.proofs.Standing.{NotIn, has_append}
-use Rattle.run_laws.proofs.Places.{Puts, Here, Elsewhere, at_puts, same_or}
-use Rattle.run_laws.proofs.Agents.{same_place, IsOf, AreOf, EndStands, EndsAt, EndsIf, end_more, AreAt}
+use Rattle.run_laws.proofs.Places.{Puts, same_or}
+use Rattle.run_laws.proofs.Agents.{same_place, AreOf, EndStands, EndsAt, end_more, AreAt}
 
 -- the job is over: its agent began more since, or is idle; and its ending stands among the decisions
 pub record IsOver (h : ℕ → Option Agent) (ds : List Decided) (outcome : Outcome) : Type 0 where
@@ -36,18 +36,18 @@ module _ (h g : ℕ → Option Agent) (i : ℕ) (old new : Agent) (ds more : Lis
       let stands : EndStands (ds ++ more) (64 * outcome.count + outcome.agent) outcome.ending = end_more ds more (64 * outcome.count + outcome.agent) outcome.ending (apart_over outcome over) over.stands in
       ⊎_elim
       (λ at.
-          let agents : old ≡ over.agent = same_Some old over.agent (sym puts.was ∙ ap h (sym at) ∙ over.at) in
-          let same : old.count ≡ over.agent.count = ap (λ (agent : Agent). agent.count) agents in
-          let before = over.before in
-          record {
-            agent = new;
-            at = ap g at ∙ puts.here;
-            before = omega (arith, same, before, counts);
-            idle = λ now.
-                let unchanged : new.count ≡ old.count = omega (arith, same, before, counts, now) in
-                rests unchanged (ap (λ (agent : Agent). agent.doing) agents ∙ over.idle (now ∙ unchanged ∙ same));
-            stands = stands;
-          })
+      let agents : old ≡ over.agent = same_Some old over.agent (sym puts.was ∙ ap h (sym at) ∙ over.at) in
+      let same : old.count ≡ over.agent.count = ap (λ (agent : Agent). agent.count) agents in
+      let before = over.before in
+      record {
+        agent = new;
+        at = ap g at ∙ puts.here;
+        before = omega (arith, same, before, counts);
+        idle = λ now.
+            let unchanged : new.count ≡ old.count = omega (arith, same, before, counts, now) in
+            rests unchanged (ap (λ (agent : Agent). agent.doing) agents ∙ over.idle (now ∙ unchanged ∙ same));
+        stands = stands;
+      })
       (λ apart. record { agent = over.agent; at = puts.apart outcome.agent apart ∙ over.at; before = over.before; idle = over.idle; stands = stands })
       (same_or outcome.agent i)
 

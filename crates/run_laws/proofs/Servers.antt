@@ -1,8 +1,8 @@
 -- What servers have recorded of the decisions so far, and what a served request adds.
-use Rattle.std.proofs.Common.{◌≡◌, ◌≢◌, ◌⊎◌, inl, inr, ⊎_elim, ℕ, Bool, true, false, cond, List, [], ◌∷◌, ◌++◌, append_assoc, Option, Some, None, refl, sym, ap, subst, ◌∙◌, arith}
+use Rattle.std.proofs.Common.{◌≡◌, ◌≢◌, ◌⊎◌, ⊎_elim, ℕ, true, false, cond, List, [], ◌∷◌, ◌++◌, append_assoc, Option, Some, None, refl, sym, ap, subst, ◌∙◌, arith}
 use Rattle.std.specs.Prelude.{◌==◌}
 use Rattle.std.proofs.lemmas.Bool.Decides.{nat_tests}
-use Rattle.std.proofs.lemmas.Option.{none-some, same_Some}
+use Rattle.std.proofs.lemmas.Option.{same_Some}
 use Rattle.rep_core.specs.declared.reply.Verdict.{Verdict}
 use Rattle.rep_core.specs.declared.reply.Verdict.TheVariants as verdict
 use Rattle.rep_core.specs.State.{State, record_of}
@@ -11,7 +11,7 @@ use Rattle.txn_core.specs.Doing.{Fixed, home_of}
 use Rattle.run_core.specs.Decisions.{Decided}
 use Rattle.run_laws.specs.Claims.{denials_of, denials_at}
 use Rattle.run_laws.proofs.Standing.{Recorded, recorded_more, recorded_last, verdict_as, has_append}
-use Rattle.run_laws.proofs.Places.{Puts, Here, Elsewhere, at_puts, same_or}
+use Rattle.run_laws.proofs.Places.{Puts, at_puts, same_or}
 
 -- ---- denials of more decisions
 
@@ -85,9 +85,9 @@ module _ (fixed : Fixed) (f g : ℕ → Option State) (s : ℕ) (st new : State)
     kept = kept_old;
     recorded = λ at st' t v is has. ⊎_elim
         (λ here. ⊎_elim
-            (λ old. holds.recorded s st t v puts.was old)
-            (λ aborted. subst (Recorded ds t) (sym aborted) tt)
-            (quiet.old t v (ap (λ (st : State). record_of st t) (sym here.is) ∙ has)))
+        (λ old. holds.recorded s st t v puts.was old)
+        (λ aborted. subst (Recorded ds t) (sym aborted) tt)
+        (quiet.old t v (ap (λ (st : State). record_of st t) (sym here.is) ∙ has)))
         (λ there. holds.recorded at st' t v there.was has)
         (at_puts f g s st new puts at st' is);
     audited = λ at st' is. ⊎_elim
@@ -104,24 +104,24 @@ module _ (fixed : Fixed) (f g : ℕ → Option State) (s : ℕ) (st new : State)
         (has_append ds (does.decision ∷ []) d has);
     recorded = λ at st' t v is has. ⊎_elim
         (λ here. ⊎_elim
-            (λ same. subst (λ t. Recorded (ds ++ does.decision ∷ []) t v) (sym same) (subst (Recorded (ds ++ does.decision ∷ []) does.decision.t)
-                (same_Some (verdict_as does.decision.answer) v (sym does.here ∙ ap (record_of new) (sym same) ∙ ap (λ (st : State). record_of st t) (sym here.is) ∙ has))
-                (recorded_last ds does.decision does.decision.answer refl)))
-            (λ apart. recorded_more ds (does.decision ∷ []) t v (holds.recorded s st t v puts.was (sym (does.apart t apart) ∙ ap (λ (st : State). record_of st t) (sym here.is) ∙ has)))
-            (same_or t does.decision.t))
+        (λ same. subst (λ t. Recorded (ds ++ does.decision ∷ []) t v) (sym same) (subst (Recorded (ds ++ does.decision ∷ []) does.decision.t)
+        (same_Some (verdict_as does.decision.answer) v (sym does.here ∙ ap (record_of new) (sym same) ∙ ap (λ (st : State). record_of st t) (sym here.is) ∙ has))
+        (recorded_last ds does.decision does.decision.answer refl)))
+        (λ apart. recorded_more ds (does.decision ∷ []) t v (holds.recorded s st t v puts.was (sym (does.apart t apart) ∙ ap (λ (st : State). record_of st t) (sym here.is) ∙ has)))
+        (same_or t does.decision.t))
         (λ there. recorded_more ds (does.decision ∷ []) t v (holds.recorded at st' t v there.was has))
         (at_puts f g s st new puts at st' is);
     audited = λ at st' is. ⊎_elim
         (λ here.
-            ap (λ (st : State). st.audit) here.is ∙ does.audit ∙ ap (λ audit. audit ++ denials_of does.decision) (holds.audited s st puts.was)
-            ∙ ap (λ more. denials_at fixed.service s ds ++ more) (sym (denials_here fixed s does.decision does.home))
-            ∙ sym (denials_more fixed s ds (does.decision ∷ []))
-            ∙ ap (λ s. denials_at fixed.service s (ds ++ does.decision ∷ [])) (sym here.at))
+        ap (λ (st : State). st.audit) here.is ∙ does.audit ∙ ap (λ audit. audit ++ denials_of does.decision) (holds.audited s st puts.was)
+        ∙ ap (λ more. denials_at fixed.service s ds ++ more) (sym (denials_here fixed s does.decision does.home))
+        ∙ sym (denials_more fixed s ds (does.decision ∷ []))
+        ∙ ap (λ s. denials_at fixed.service s (ds ++ does.decision ∷ [])) (sym here.at))
         (λ there.
-            holds.audited at st' there.was
-            ∙ sym (append_none (denials_at fixed.service at ds))
-            ∙ ap (λ more. denials_at fixed.service at ds ++ more) (sym (denials_there fixed at does.decision (λ same. there.apart (sym same ∙ does.home))))
-            ∙ sym (denials_more fixed at ds (does.decision ∷ [])))
+        holds.audited at st' there.was
+        ∙ sym (append_none (denials_at fixed.service at ds))
+        ∙ ap (λ more. denials_at fixed.service at ds ++ more) (sym (denials_there fixed at does.decision (λ same. there.apart (sym same ∙ does.home))))
+        ∙ sym (denials_more fixed at ds (does.decision ∷ [])))
         (at_puts f g s st new puts at st' is);
   })
 

@@ -1,14 +1,13 @@
 -- A request that an agent's transaction makes of a server: what it decides, and what it says.
-use Rattle.std.proofs.Common.{◌≡◌, ◌≢◌, ◌⊎◌, inl, inr, ⊎_elim, ℕ, ◌+◌, Bool, true, false, cond, List, [], ◌∷◌, ◌++◌, Option, Some, None, refl, sym, ap, subst, ◌∙◌, arith}
-use Rattle.std.specs.Prelude.{◌*◌, ◌&&◌, not, is_some, option_to_list, Result, Ok, Err}
-use Rattle.std.proofs.lemmas.Bool.{false≢true, cases_Bool}
-use Rattle.std.proofs.lemmas.Option.{none-some, same_Some}
+use Rattle.std.proofs.Common.{◌≡◌, ◌⊎◌, inl, inr, ⊎_elim, ℕ, Bool, true, false, cond, List, [], ◌∷◌, ◌++◌, Option, Some, None, refl, sym, ap, subst, ◌∙◌}
+use Rattle.std.specs.Prelude.{is_some, option_to_list, Ok, Err}
+use Rattle.std.proofs.lemmas.Bool.{false≢true}
+use Rattle.std.proofs.lemmas.Option.{same_Some}
 use Rattle.file_ops.specs.declared.audit.AuditItem.{AuditItem}
 use Rattle.file_ops.specs.declared.refusal.Refusal.{Refusal}
 use Rattle.file_ops.specs.declared.refusal.Why.{Why}
 use Rattle.file_ops.specs.declared.refusal.Why.TheVariants as why
 use Rattle.file_ops.specs.Transactions.{denials}
-use Rattle.rep_core.specs.declared.request.Decision.{Decision}
 use Rattle.rep_core.specs.declared.request.Request.{Request}
 use Rattle.rep_core.specs.declared.request.Request.TheVariants as request
 use Rattle.rep_core.specs.declared.reply.Reply.{Reply}
@@ -21,24 +20,19 @@ use Rattle.rep_core.specs.Service.{reply_of, after, after_record, recorded, verd
 use Rattle.rep_core.specs.Serving.{is_full, served, step}
 use Rattle.rep_core.proofs.Records.{record_here, record_apart, record_step}
 use Rattle.rep_core.proofs.Ways.{recording}
-use Rattle.rep_core.proofs.Members.{Has}
-use Rattle.txn_core.specs.declared.word.Word.{Word}
-use Rattle.txn_core.specs.declared.word.Word.TheVariants.{Replied, Lacked}
-use Rattle.txn_core.specs.Doing.{Fixed, Task, Phase, Deciding, Outcome, Course, Round, Doing, Running, Rounding, home_of}
-use Rattle.txn_core.specs.Transactions.{decision_of, request_in}
-use Rattle.txn_core.specs.Sweeps.{asked_now}
+use Rattle.txn_core.specs.declared.word.Word.TheVariants.{Replied}
+use Rattle.txn_core.specs.Doing.{Fixed, Task, Phase, Deciding, Outcome, home_of}
+use Rattle.txn_core.specs.Transactions.{decision_of}
 use Rattle.txn_core.specs.Laws.{is_decide, said_by}
-use Rattle.txn_core.specs.Agents.{Agent, next_in}
-use Rattle.run_core.specs.Decisions.{Decided, to_decide, answer_in, answer_of, decided_as, first_at, decided_at, task_of}
-use Rattle.run_laws.specs.Claims.{denied_in, denials_of, denials_at}
-use Rattle.run_laws.proofs.Standing.{Answer', In, NotIn, Stands, Recorded, none_in, other_in, stands_more, stands_last, stands_if, recorded_more, verdict_as}
+use Rattle.txn_core.specs.Agents.{Agent}
+use Rattle.run_core.specs.Decisions.{Decided, to_decide, answer_in, answer_of, decided_as, decided_at}
+use Rattle.run_laws.proofs.Standing.{Stands, Recorded, none_in, stands_more, stands_last, stands_if}
 use Rattle.run_laws.proofs.Records as records
 use Rattle.run_laws.proofs.Records.{Records, Same, Decided as Decided', Aborted}
-use Rattle.run_laws.proofs.Servers.{Kept, AreKept, Quiet, Deciding as DecidingAt, append_none}
-use Rattle.run_laws.proofs.Asking.{asks_in_its_name, sweep_decides_none, Decides, decides}
+use Rattle.run_laws.proofs.Servers.{Quiet, Deciding as DecidingAt, append_none}
 use Rattle.run_laws.proofs.Places.{same_or}
 use Rattle.run_laws.proofs.Words.{Tells}
-use Rattle.run_laws.proofs.Agents.{IsAt, Runs, Sweeps, Says, IsOf, AreOf, none_of, same_place}
+use Rattle.run_laws.proofs.Agents.{IsOf, AreOf, none_of}
 
 -- What comes of a request that a transaction makes of a server: at most the transaction is decided, and what is said of it stands.
 pub record Turn (fixed : Fixed) (agent : Agent) (i : ℕ) (task : Task) (phase : Phase) (ds : List Decided) (s : ℕ) (st new : State) (asked : Request) (said : Reply) (d : Option Decided) : Type 0 where
@@ -162,7 +156,7 @@ module _ (fixed : Fixed) (agent : Agent) (i : ℕ) (task : Task) (ds : List Deci
 
   by_record : (outcome : Outcome) (old : Option Verdict) → record_of st task.t ≡ old
       → Turn fixed agent i task (Deciding outcome) ds s st (stamped stamp (after_record old task.t (verdict_of (decision_of task outcome)) (audit_of task.t (decision_of task outcome)) st)) (asked_by outcome) (reply.Verdict (recorded old (verdict_of (decision_of task outcome))))
-          (decides_at st task (asked_by outcome) (reply.Verdict (recorded old (verdict_of (decision_of task outcome)))))
+      (decides_at st task (asked_by outcome) (reply.Verdict (recorded old (verdict_of (decision_of task outcome)))))
   by_record outcome (Some old) has =
       subst (Turn fixed agent i task (Deciding outcome) ds s st (stamped stamp st) (asked_by outcome) (reply.Verdict old))
       (ap (λ r. cond (is_some r) None (decided_as (Some task) (answer_of old))) (sym has))
@@ -185,9 +179,9 @@ module _ (fixed : Fixed) (agent : Agent) (i : ℕ) (task : Task) (ds : List Deci
   pub decide_turn : (outcome : Outcome) → Turn fixed agent i task (Deciding outcome) ds s st (stamped stamp (after st (asked_by outcome))) (asked_by outcome) (reply_of st (asked_by outcome)) (decides_at st task (asked_by outcome) (reply_of st (asked_by outcome)))
   decide_turn outcome =
       elim (st.up) as (λ b. Turn fixed agent i task (Deciding outcome) ds s st
-          (stamped stamp (cond b (after_record (record_of st task.t) task.t (verdict_of (decision_of task outcome)) (audit_of task.t (decision_of task outcome)) st) st)) (asked_by outcome)
-          (cond b (reply.Verdict (recorded (record_of st task.t) (verdict_of (decision_of task outcome)))) reply.Down)
-          (decides_at st task (asked_by outcome) (cond b (reply.Verdict (recorded (record_of st task.t) (verdict_of (decision_of task outcome)))) reply.Down))) [
+      (stamped stamp (cond b (after_record (record_of st task.t) task.t (verdict_of (decision_of task outcome)) (audit_of task.t (decision_of task outcome)) st) st)) (asked_by outcome)
+      (cond b (reply.Verdict (recorded (record_of st task.t) (verdict_of (decision_of task outcome)))) reply.Down)
+      (decides_at st task (asked_by outcome) (cond b (reply.Verdict (recorded (record_of st task.t) (verdict_of (decision_of task outcome)))) reply.Down))) [
         | true ↦ by_record outcome (record_of st task.t) refl
         | false ↦ down outcome
       ]

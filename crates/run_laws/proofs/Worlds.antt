@@ -1,44 +1,39 @@
 -- What holds of the decisions and the jobs that ended in every run: one event after the other.
-use Rattle.std.proofs.Common.{◌≡◌, ◌≢◌, ◌⊎◌, inl, inr, ⊎_elim, ℕ, zero, suc, ◌+◌, ◌-◌, ◌≤◌, ◌<◌, Bool, true, false, cond, List, [], ◌∷◌, ◌++◌, append_assoc, Option, Some, None, refl, sym, ap, subst, ◌∙◌, arith}
+use Rattle.std.proofs.Common.{◌≡◌, ◌≢◌, ◌⊎◌, inl, inr, ⊎_elim, ℕ, zero, suc, ◌+◌, ◌≤◌, Bool, true, false, cond, List, [], ◌∷◌, ◌++◌, append_assoc, Option, Some, None, refl, sym, ap, subst, ◌∙◌, arith}
 use Rattle.std.specs.Prelude.{◌*◌, slice_get, slice_set, option_map, option_to_list}
 use Rattle.std.specs.List.{cons_option}
-use Rattle.std.proofs.lemmas.Bool.{false≢true}
 use Rattle.std.proofs.lemmas.Option.{none-some, same_Some}
-use Rattle.suite_prefix.specs.SettingsRules.{Opening}
 use Rattle.rep_core.specs.declared.request.Request.{Request}
 use Rattle.rep_core.specs.declared.request.Request.TheVariants as request
 use Rattle.rep_core.specs.declared.reply.Reply.{Reply}
 use Rattle.rep_core.specs.declared.reply.Verdict.{Verdict}
-use Rattle.rep_core.specs.declared.reply.Verdict.TheVariants as verdict
 use Rattle.rep_core.specs.declared.stamped.Stamped.{Stamped}
 use Rattle.rep_core.specs.declared.stamped.Lack.{Lack as Why}
 use Rattle.rep_core.specs.declared.stamped.Lack.TheVariants as lack
 use Rattle.rep_core.specs.State.{State, record_of}
 use Rattle.rep_core.specs.Service.{reply_of, after as after_request}
 use Rattle.rep_core.specs.Serving.{is_full, served, answer_of, next_stamp}
-use Rattle.rep_core.proofs.Members.{Has}
 use Rattle.txn_core.specs.declared.ending.Ending.{Ending}
 use Rattle.txn_core.specs.declared.job.Job.{Job}
 use Rattle.txn_core.specs.declared.word.Word.{Word}
 use Rattle.txn_core.specs.declared.word.Word.TheVariants.{Replied, Lacked}
 use Rattle.txn_core.specs.Doing.{Fixed, Task, Course, Round, Doing, Running, Rounding, home_of, Deciding as Deciding'}
 use Rattle.txn_core.specs.Laws.{is_decide, said_by}
-use Rattle.txn_core.specs.Agents.{Agent, next_in, next_of, take_in, take, begin, forget, fixed_of}
+use Rattle.txn_core.specs.Agents.{Agent, next_in, next_of, take_in, take, begin, forget}
 use Rattle.run_core.specs.declared.event.Event.{Event}
 use Rattle.run_core.specs.declared.event.Event.TheVariants.{Begin, Step, Crash, Return, Forget, Lack}
 use Rattle.run_core.specs.declared.done.Served.{Served}
 use Rattle.run_core.specs.declared.done.Outcome.{Outcome}
-use Rattle.run_core.specs.Worlds.{Actor, World, server_at, actor_at, with_actor, opening, Stepped, quiet, serve, after_serving, moved, outcome_of, took, lacked, answered, becomes, asks_at, asks, steps_once, lacks_for, lacks, operated, operates, step}
+use Rattle.run_core.specs.Worlds.{Actor, World, server_at, actor_at, with_actor, Stepped, serve, after_serving, moved, outcome_of, lacked, answered, becomes, asks_at, asks, steps_once, lacks_for, lacks, operated, operates, step}
 use Rattle.run_core.specs.Runs.{after, dones, outcomes}
 use Rattle.run_core.specs.Decisions.{Decided, task_of, task_at, task_in, decided_by, decided, decisions_from, decided_at, to_decide, decided_as, answer_in}
-use Rattle.run_core.proofs.Appending.{cons_option-append}
 use Rattle.txn_core.proofs.Asks.{asks_same}
 use Rattle.run_laws.proofs.Standing.{NotIn, Stands, Recorded, none_in, stands_more, has_append}
-use Rattle.run_laws.proofs.Places.{Puts, same_or}
-use Rattle.run_laws.proofs.Servers.{Kept, AreKept, Quiet, Deciding, append_none, kept_quietly, kept_deciding, kept_none}
-use Rattle.run_laws.proofs.Asking.{asks_in_its_name, sweep_decides_none, Decides, decides}
+use Rattle.run_laws.proofs.Places.{Puts}
+use Rattle.run_laws.proofs.Servers.{AreKept, Quiet, Deciding, append_none, kept_quietly, kept_deciding, kept_none}
+use Rattle.run_laws.proofs.Asking.{sweep_decides_none, decides}
 use Rattle.run_laws.proofs.Words.{Tells}
-use Rattle.run_laws.proofs.Agents.{IsAt, Runs, Sweeps, IsAfter, Says, after_take, take_keeps, Begins, begins, EndsAt, EndsIf, IsOf, AreOf, none_of, AreAt, agents_put, not_begun}
+use Rattle.run_laws.proofs.Agents.{IsAt, IsAfter, Says, after_take, take_keeps, Begins, begins, AreOf, none_of, AreAt, agents_put, not_begun}
 use Rattle.run_laws.proofs.Past.{IsOver, AreOver, over_put, over_last, over_more}
 use Rattle.run_laws.proofs.Turns.{Turn, no_decide, decides_at, other_turn, decide_turn, quiet_served, stays_served}
 
@@ -74,9 +69,10 @@ AreApart (d ∷ ds) = NotIn ds d.t × AreApart ds
 
 apart_more : (ds : List Decided) (d : Decided) → AreApart ds → NotIn ds d.t → AreApart (ds ++ d ∷ [])
 apart_more [] d apart new = (λ e has same. absurd has, tt)
-apart_more (e ∷ ds) d apart new =
-    (λ f has same. ⊎_elim (λ left. apart.0 f left same) (λ right. ⊎_elim (λ is. new e (inl refl) (sym same ∙ ap (λ (d : Decided). d.t) (sym is))) (λ none. absurd none) right) (has_append ds (d ∷ []) f has),
-    apart_more ds d apart.1 (λ f has same. new f (inr has) same))
+apart_more (e ∷ ds) d apart new = (
+  λ f has same. ⊎_elim (λ left. apart.0 f left same) (λ right. ⊎_elim (λ is. new e (inl refl) (sym same ∙ ap (λ (d : Decided). d.t) (sym is))) (λ none. absurd none) right) (has_append ds (d ∷ []) f has),
+  apart_more ds d apart.1 (λ f has same. new f (inr has) same),
+)
 
 -- The servers have recorded the decisions so far, the agents stand among them as they were told, and so do the jobs that ended.
 pub record Holds (fixed : Fixed) (world : World) (ds : List Decided) (past : List Outcome) : Type 0 where
@@ -160,11 +156,11 @@ operator_holds fixed world server asked ds past holds other none (Some st) is =
     elim (is_full st stamped) as (λ b. is_full st stamped ≡ b → HoldsAfter fixed world None ds past (operated world st (cond b None (Some what)))) [
       | true ↦ λ _. with_none fixed world ds past holds
       | false ↦ λ room. subst (λ d. Holds fixed (after_serving st what world) (ds ++ option_to_list d) (past ++ [])) (ap (λ t. decided_at (server_at world server) t (decided_as None (answer_in (reply_of st asked)))) (sym none)) (record {
-          servers = kept_quietly fixed (server_at world) (server_at (after_serving st what world)) server st (served st stamped) ds (puts_in world.servers server st (served st stamped) is) (stays_served st stamped room) holds.servers [] (quiet_served st stamped room other);
-          agents = subst (AreAt (agent_at world)) (sym (append_none ds)) holds.agents;
-          over = subst (AreOver (agent_at world) (ds ++ [])) (sym (append_none past)) (subst (λ ds. AreOver (agent_at world) ds past) (sym (append_none ds)) holds.over);
-          once = subst AreApart (sym (append_none ds)) holds.once;
-        })
+        servers = kept_quietly fixed (server_at world) (server_at (after_serving st what world)) server st (served st stamped) ds (puts_in world.servers server st (served st stamped) is) (stays_served st stamped room) holds.servers [] (quiet_served st stamped room other);
+        agents = subst (AreAt (agent_at world)) (sym (append_none ds)) holds.agents;
+        over = subst (AreOver (agent_at world) (ds ++ [])) (sym (append_none past)) (subst (λ ds. AreOver (agent_at world) ds past) (sym (append_none ds)) holds.over);
+        once = subst AreApart (sym (append_none ds)) holds.once;
+      })
     ] refl
   where
     stamped : Stamped Request
@@ -249,8 +245,8 @@ turn_of fixed agent i course ds s st asked doing at next room recorded_so true d
     subst (λ phase. Turn fixed agent i course.task phase ds s st (served st asked) asked.value (reply_of st asked.value) (decides_at st course.task asked.value (reply_of st asked.value))) (sym does.deciding)
     (subst (λ (value : Request). Turn fixed agent i course.task (Deciding' does.outcome) ds s st (record (after_request st value) { stamp = stamp }) value (reply_of st value) (decides_at st course.task value (reply_of st value))) (sym does.decide)
     (decide_turn fixed agent i course.task ds s st stamp (sym does.at_home)
-        (λ d same. record { place = at.place; numbered = same ∙ at.numbered; last = at.last; busy = λ idle. none-some (Running course) (sym idle ∙ doing) })
-        (recorded_so course.task.t) does.outcome))
+    (λ d same. record { place = at.place; numbered = same ∙ at.numbered; last = at.last; busy = λ idle. none-some (Running course) (sym idle ∙ doing) })
+    (recorded_so course.task.t) does.outcome))
 
 goes : (fixed : Fixed) (agent : Agent) (i : ℕ) (ds : List Decided) (s : ℕ) (st : State) (asked : Stamped Request) (doing : Option Doing) → agent.doing ≡ doing → IsAt ds i agent.count doing
     → next_in fixed doing ≡ Some (s, asked.value) → is_full st asked ≡ false → ((t : ℕ) (v : Verdict) → record_of st t ≡ Some v → Recorded ds t v)
@@ -302,9 +298,9 @@ apart_served fixed f s st new ds more at kept apart served =
     ⊎_elim
     (λ quiet. subst (λ more. AreApart (ds ++ more)) (sym quiet.none) (subst AreApart (sym (append_none ds)) apart))
     (λ does. subst (λ more. AreApart (ds ++ more)) (sym does.one) (apart_more ds does.decision apart (λ e has same.
-        let old = kept.kept e has in
-        let home : home_of fixed.service e.t ≡ s = ap (home_of fixed.service) same ∙ does.home in
-        none-some _ (sym does.free ∙ ap (λ (st : State). record_of st does.decision.t) (same_Some st old.st (sym at ∙ ap f (sym home) ∙ old.at)) ∙ ap (record_of old.st) (sym same) ∙ old.is))))
+    let old = kept.kept e has in
+    let home : home_of fixed.service e.t ≡ s = ap (home_of fixed.service) same ∙ does.home in
+    none-some _ (sym does.free ∙ ap (λ (st : State). record_of st does.decision.t) (same_Some st old.st (sym at ∙ ap f (sym home) ∙ old.at)) ∙ ap (record_of old.st) (sym same) ∙ old.is))))
     served
 
 kept_served : (fixed : Fixed) (f g : ℕ → Option State) (s : ℕ) (st new : State) (ds more : List Decided) → Puts f g s st new → ((t : ℕ) (v : Verdict) → record_of st t ≡ Some v → record_of new t ≡ Some v) → AreKept fixed f ds → Quiet st new more ⊎ Deciding fixed s st new more
@@ -322,9 +318,9 @@ served_holds fixed world i actor asked st ds past holds is next at =
           subst (λ d. Holds fixed (with_actor i (moved actor (answer_of st stamped).stamp (take fixed actor.agent (Replied (reply_of st asked.1)))) (after_serving st what world)) (ds ++ option_to_list d) (past ++ option_to_list (outcome_of i actor (take fixed actor.agent (Replied (reply_of st asked.1))).ending)))
           (ap (λ found. decided_at found (to_decide asked.1) (decided_as (task_of actor.agent.doing) (answer_in (reply_of st asked.1)))) (sym at))
           (took_holds fixed world (slice_set world.servers asked.0 (served st stamped)) i actor asked (Replied (reply_of st asked.1)) (answer_of st stamped).stamp ds (option_to_list (decides_by st (task_of actor.agent.doing) asked.1 (reply_of st asked.1))) past holds is next
-              (kept_served fixed (server_at world) (slice_get (slice_set world.servers asked.0 (served st stamped))) asked.0 st (served st stamped) ds _ (puts_in world.servers asked.0 st (served st stamped) at) (stays_served st stamped room) holds.servers come.served)
-              come.of come.says
-              (apart_served fixed (server_at world) asked.0 st (served st stamped) ds _ at holds.servers holds.once come.served))
+          (kept_served fixed (server_at world) (slice_get (slice_set world.servers asked.0 (served st stamped))) asked.0 st (served st stamped) ds _ (puts_in world.servers asked.0 st (served st stamped) at) (stays_served st stamped room) holds.servers come.served)
+          come.of come.says
+          (apart_served fixed (server_at world) asked.0 st (served st stamped) ds _ at holds.servers holds.once come.served))
     ] refl
   where
     stamped : Stamped Request

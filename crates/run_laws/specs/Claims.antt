@@ -1,5 +1,5 @@
 -- What holds of the decisions of every run.
-use Rattle.std.specs.Prelude.{◌≡◌, ◌≢◌, ℕ, ◌+◌, ◌*◌, ◌%◌, ◌/◌, ◌==◌, nat_eq, nat_lt, Bool, false, if◌then◌else◌, List, [], ◌∷◌, ◌++◌, map, Contains, Option, Some, None, Result, Ok, Err}
+use Rattle.std.specs.Prelude.{◌≡◌, ◌≢◌, ℕ, ◌==◌, nat_eq, false, if◌then◌else◌, List, [], ◌∷◌, ◌++◌, map, Contains, Some, Result, Ok, Err}
 use Rattle.std.specs.List.{IsDistinct}
 use Rattle.suite_prefix.specs.SettingsRules.{Opening, IsAccepted}
 use Rattle.acl_core.specs.Identity.{Identity}
@@ -16,10 +16,10 @@ use Rattle.txn_core.specs.Agents.{fixed_of}
 use Rattle.run_core.specs.declared.event.Event.{Event}
 use Rattle.run_core.specs.declared.event.Event.TheVariants.{Begin}
 use Rattle.run_core.specs.declared.done.Outcome.{Outcome}
-use Rattle.run_core.specs.Worlds.{World, audit_of}
+use Rattle.run_core.specs.Worlds.{audit_of}
 use Rattle.run_core.specs.Runs.{run, done_in, outcomes}
 use Rattle.run_core.specs.Decisions.{Decided, decisions}
-use Rattle.run_laws.specs.Numbers.{number_of, was_begun, begins_at, begun}
+use Rattle.run_laws.specs.Numbers.{number_of, was_begun, begins_at}
 
 -- the jobs that ended in a run
 abbrev pub ended : Opening → List Event → List Outcome

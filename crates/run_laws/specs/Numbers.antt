@@ -1,9 +1,8 @@
 -- The numbers of transactions, and who asks in their names.
-use Rattle.std.specs.Prelude.{◌≡◌, ℕ, ◌+◌, ◌*◌, ◌%◌, ◌/◌, ◌==◌, ◌⊎◌, nat_eq, nat_lt, Bool, true, false, ◌&&◌, if◌then◌else◌, List, [], ◌∷◌, Option, Some, None}
+use Rattle.std.specs.Prelude.{◌≡◌, ℕ, ◌+◌, ◌*◌, ◌%◌, ◌/◌, ◌⊎◌, nat_eq, nat_lt, Bool, true, false, ◌&&◌, if◌then◌else◌, List, [], ◌∷◌, Option, Some, None}
 use Rattle.std.specs.List.{IsDistinct, cons_option}
 use Rattle.suite_prefix.specs.SettingsRules.{Opening, IsAccepted}
 use Rattle.rep_core.specs.declared.request.Request.{Request}
-use Rattle.rep_core.specs.declared.request.Request.TheVariants as request
 use Rattle.txn_core.specs.declared.job.Job.{Job}
 use Rattle.txn_core.specs.Doing.{Fixed, Task, home_of}
 use Rattle.txn_core.specs.Laws.{is_decide}
@@ -13,7 +12,7 @@ use Rattle.run_core.specs.declared.event.Event.TheVariants.{Begin}
 use Rattle.run_core.specs.declared.done.Outcome.{Outcome}
 use Rattle.run_core.specs.Worlds.{Actor, World, actor_at, opening, step}
 use Rattle.run_core.specs.Runs.{run}
-use Rattle.run_core.specs.Decisions.{Decided, decisions, task_of}
+use Rattle.run_core.specs.Decisions.{task_of}
 use Rattle.run_laws.specs.Naming.{names, may_sweep}
 
 -- ---- numbers
