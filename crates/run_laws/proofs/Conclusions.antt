@@ -51,7 +51,7 @@ pub agent_in : (found : Option Actor) (a : Agent) → agent_of found ≡ Some a 
 agent_in None a is = absurd (none-some a is)
 agent_in (Some actor) a is = (actor, refl, same_Some actor.agent a is)
 
-fresh_agents : (given : Opening) (i : ℕ) (a : Agent) → agent_at (opening given) i ≡ Some a → (a ≡ agent.opening i) × (i < given.agents)
+pub fresh_agents : (given : Opening) (i : ℕ) (a : Agent) → agent_at (opening given) i ≡ Some a → (a ≡ agent.opening i) × (i < given.agents)
 fresh_agents given i a is =
     let found = agent_in (actor_at (opening given) i) a is in
     let fresh = fresh_actors 0 given.agents i found.0 found.1 in

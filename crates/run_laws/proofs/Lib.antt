@@ -12,3 +12,6 @@ pub mod Order
 pub mod Conclusions
 pub mod Begun
 pub mod Worked
+pub mod Knowing
+pub mod Executed
+pub mod Answering

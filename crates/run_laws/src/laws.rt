@@ -2,6 +2,7 @@
 
 ghost use Rattle.run_laws.specs.Claims.{DecidedOnce, AuditIsTheDenials, AnsweredBefore, ChangesAreMet};
 ghost use Rattle.run_laws.specs.Numbers.{EachIsBegunOnce, AgentsAskForThemselves};
+ghost use Rattle.run_laws.specs.Answers.{AnswersFollowKnowledge};
 ghost use Rattle.run_laws.specs.Worked.{SomeRunsDecide};
 
 /// A law: each transaction stands among the decisions of a run once at most. A job that ended answered or
@@ -39,6 +40,12 @@ pub fn each_is_begun_once()
 /// does nothing.
 pub fn agents_ask_for_themselves()
     ensures { AgentsAskForThemselves }
+{}
+
+/// A law: a transaction is decided in a step of its own agent, which asks for it; and its answer is the
+/// plain transaction's on all rows with which what its agent then knows agrees. It does nothing.
+pub fn answers_follow_knowledge()
+    ensures { AnswersFollowKnowledge }
 {}
 
 /// A law: a run in which a transaction is answered, one is overruled, one takes a permission away, and one

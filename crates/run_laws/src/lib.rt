@@ -7,6 +7,6 @@
 mod laws;
 
 pub use laws::{
-    agents_ask_for_themselves, answered_before_decided_before, audit_is_the_denials,
-    changes_are_met, decided_once, each_is_begun_once, some_runs_decide,
+    agents_ask_for_themselves, answered_before_decided_before, answers_follow_knowledge,
+    audit_is_the_denials, changes_are_met, decided_once, each_is_begun_once, some_runs_decide,
 };
