@@ -15,3 +15,4 @@ pub mod Worked
 pub mod Knowing
 pub mod Executed
 pub mod Answering
+pub mod Table

@@ -2,7 +2,7 @@
 
 ghost use Rattle.run_laws.specs.Claims.{DecidedOnce, AuditIsTheDenials, AnsweredBefore, ChangesAreMet};
 ghost use Rattle.run_laws.specs.Numbers.{EachIsBegunOnce, AgentsAskForThemselves};
-ghost use Rattle.run_laws.specs.Answers.{AnswersFollowKnowledge};
+ghost use Rattle.run_laws.specs.Answers.{AnswersFollowKnowledge, KnownAnswersAreTheTables, TablesAuditIsTheDenials};
 ghost use Rattle.run_laws.specs.Worked.{SomeRunsDecide};
 
 /// A law: each transaction stands among the decisions of a run once at most. A job that ended answered or
@@ -46,6 +46,18 @@ pub fn agents_ask_for_themselves()
 /// plain transaction's on all rows with which what its agent then knows agrees. It does nothing.
 pub fn answers_follow_knowledge()
     ensures { AnswersFollowKnowledge }
+{}
+
+/// A law: where agents, whenever their transactions are decided, know of the table of the run so far what
+/// they know, every run is answered as one plain table answers it. It does nothing.
+pub fn known_answers_are_the_tables()
+    ensures { KnownAnswersAreTheTables }
+{}
+
+/// A law: where a run is answered as the plain table answers it, the audit of that table is the denials of
+/// all decisions. It does nothing.
+pub fn tables_audit_is_the_denials()
+    ensures { TablesAuditIsTheDenials }
 {}
 
 /// A law: a run in which a transaction is answered, one is overruled, one takes a permission away, and one
