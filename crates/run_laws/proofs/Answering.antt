@@ -1,48 +1,43 @@
 -- A decision is what its transaction comes to on what its agent knows.
-use Rattle.std.proofs.Common.{◌≡◌, ⊎_elim, ℕ, ◌+◌, Bool, true, false, cond, List, [], ◌∷◌, Option, Some, None, refl, sym, ap, subst, ◌∙◌}
+use Rattle.std.proofs.Common.{◌≡◌, ℕ, ◌+◌, Bool, true, false, cond, List, [], ◌∷◌, Option, Some, None, refl, sym, ap, subst, ◌∙◌}
 use Rattle.std.specs.Prelude.{◌*◌, ◌&&◌, nat_lt, is_some, Result, Ok, Err}
-use Rattle.std.proofs.lemmas.Bool.{false≢true}
 use Rattle.std.proofs.lemmas.Option.{none-some, same_Some}
 use Rattle.suite_prefix.specs.SettingsRules.{Opening}
 use Rattle.file_ops.specs.declared.answer.Answer.{Answer}
 use Rattle.file_ops.specs.declared.refusal.Refusal.{Refusal}
-use Rattle.file_ops.specs.Rows.{Rows, row_of}
-use Rattle.file_ops.specs.Transactions.{transaction, replies}
+use Rattle.file_ops.specs.Rows.{Rows}
+use Rattle.file_ops.specs.Transactions.{replies}
 use Rattle.rep_core.specs.declared.request.Request.{Request}
 use Rattle.rep_core.specs.declared.request.Request.TheVariants as request
 use Rattle.rep_core.specs.declared.reply.Reply.TheVariants as reply
 use Rattle.rep_core.specs.declared.reply.Verdict.{Verdict}
-use Rattle.rep_core.specs.declared.stamped.Stamped.{Stamped}
-use Rattle.rep_core.specs.declared.stamped.Lack.{Lack as Why}
-use Rattle.rep_core.specs.declared.stamped.Lack.TheVariants as lack
 use Rattle.rep_core.specs.State.{State, record_of}
 use Rattle.rep_core.specs.Service.{reply_of, recorded, verdict_of}
 use Rattle.rep_core.specs.Serving.{is_full, answer_of}
 use Rattle.file_exec.specs.Following.{Ended}
-use Rattle.file_exec.specs.Known.{AgreesWith, on_table}
+use Rattle.file_exec.specs.Known.{on_table}
 use Rattle.file_exec.proofs.More.{done_is_the_tables}
 use Rattle.txn_core.specs.declared.job.Job.{Job}
 use Rattle.txn_core.specs.declared.job.Job.TheVariants.{Transaction, Sweep}
 use Rattle.txn_core.specs.declared.word.Word.{Word}
-use Rattle.txn_core.specs.declared.word.Word.TheVariants.{Replied, Lacked}
 use Rattle.txn_core.specs.Suites.{known_of}
-use Rattle.txn_core.specs.Doing.{Fixed, Task, Outcome, Course, Round, Doing, Running, Rounding, Deciding, After, GoesOn, Ends}
-use Rattle.txn_core.specs.Transactions.{decision_of, request_in}
+use Rattle.txn_core.specs.Doing.{Fixed, Task, Outcome, Course, Round, Doing, Running, Rounding, After, GoesOn, Ends}
+use Rattle.txn_core.specs.Transactions.{decision_of}
 use Rattle.txn_core.specs.Sweeps as sweep
 use Rattle.txn_core.specs.Laws.{is_decide}
-use Rattle.txn_core.specs.Agents.{Agent, next_in, next_of, left, take_in, take, begin, started, forget, fixed_of, is_idle, has_sense, most_jobs}
+use Rattle.txn_core.specs.Agents.{Agent, next_in, next_of, left, take_in, begin, started, fixed_of, is_idle, has_sense, most_jobs}
 use Rattle.run_core.specs.declared.event.Event.{Event}
 use Rattle.run_core.specs.declared.event.Event.TheVariants.{Begin, Step, Crash, Return, Forget, Lack}
 use Rattle.run_core.specs.declared.done.Served.{Served}
-use Rattle.run_core.specs.Worlds.{Actor, World, server_at, actor_at, with_actor, opening, serve, after_serving, moved, becomes, answered, asks_at, asks, steps_once, lacks_for, lacks, operated, operates, step}
+use Rattle.run_core.specs.Worlds.{Actor, World, server_at, actor_at, opening, answered, asks_at, asks, steps_once, step}
 use Rattle.run_core.specs.Runs.{after, run}
 use Rattle.run_core.specs.Decisions.{Decided, to_decide, answer_in, decided_as, decided_at, decided_by, decided, task_of, task_at}
 use Rattle.run_core.specs.Decisions as decisions
 use Rattle.run_laws.specs.Answers.{IsAnsweredAsKnown, AnswersFollowKnowledge}
-use Rattle.run_laws.proofs.Places.{Puts, Here, Elsewhere, at_puts}
-use Rattle.run_laws.proofs.Asking.{Decides, decides}
+use Rattle.run_laws.proofs.Asking.{decides}
 use Rattle.run_laws.proofs.Turns.{decides_at, no_decide}
-use Rattle.run_laws.proofs.Worlds.{agent_of, agent_at, puts_agent}
+use Rattle.run_laws.proofs.Worlds.{agent_of, agent_at}
+use Rattle.run_laws.proofs.Each.{old_of, each_event}
 use Rattle.run_laws.proofs.Conclusions.{fresh_agents}
 use Rattle.run_laws.proofs.Knowing.{none_fit}
 use Rattle.run_laws.proofs.Executed.{given_by, Came, answer_as, Keeps, Left, left_execute, left_word}
@@ -88,64 +83,14 @@ begin_knows fixed agent job knows =
 abbrev pub AllKnow : Fixed → (ℕ → Option Agent) → Type 0
 AllKnow fixed h = (i : ℕ) (agent : Agent) → h i ≡ Some agent → Knows fixed agent.doing
 
-put_knows : (fixed : Fixed) (h g : ℕ → Option Agent) (i : ℕ) (old new : Agent) → Puts h g i old new → Knows fixed new.doing → AllKnow fixed h → AllKnow fixed g
-put_knows fixed h g i old new puts knows all j agent is =
-    ⊎_elim
-    (λ here. subst (λ (agent : Agent). Knows fixed agent.doing) (sym here.is) knows)
-    (λ there. all j agent there.was)
-    (at_puts h g i old new puts j agent is)
-
-took_knows : (fixed : Fixed) (world : World) (i : ℕ) (actor : Actor) (stamp : ℕ) (word : Word) (servers : List State) → actor_at world i ≡ Some actor → AllKnow fixed (agent_at world)
-    → AllKnow fixed (agent_at (with_actor i (moved actor stamp (take fixed actor.agent word)) (record world { servers = servers })))
-took_knows fixed world i actor stamp word servers is all =
-    put_knows fixed (agent_at world) (agent_at (with_actor i (moved actor stamp (take fixed actor.agent word)) world)) i actor.agent (take fixed actor.agent word).agent (puts_agent world i actor (moved actor stamp (take fixed actor.agent word)) is)
-    (take_knows fixed actor.agent word actor.agent.doing (next_of fixed actor.agent) refl (all i actor.agent (ap agent_of is))) all
-
-becomes_knows : (fixed : Fixed) (world : World) (i : ℕ) (change : Agent → Agent) → ((agent : Agent) → Knows fixed agent.doing → Knows fixed (change agent).doing) → (found : Option Actor) → actor_at world i ≡ found → AllKnow fixed (agent_at world) → AllKnow fixed (agent_at (becomes world i change found).world)
-becomes_knows fixed world i change keeps None is all = all
-becomes_knows fixed world i change keeps (Some actor) is all =
-    put_knows fixed (agent_at world) (agent_at (with_actor i (record actor { agent = change actor.agent }) world)) i actor.agent (change actor.agent) (puts_agent world i actor (record actor { agent = change actor.agent }) is)
-    (keeps actor.agent (all i actor.agent (ap agent_of is))) all
-
-answered_knows : (fixed : Fixed) (world : World) (i : ℕ) (actor : Actor) (st : State) (what : Option Served) → actor_at world i ≡ Some actor → AllKnow fixed (agent_at world) → AllKnow fixed (agent_at (answered fixed world i actor st what).world)
-answered_knows fixed world i actor st (Some what) is all = took_knows fixed world i actor what.reply.stamp (Replied what.reply.value) (after_serving st what world).servers is all
-answered_knows fixed world i actor st None is all = took_knows fixed world i actor actor.stamp (Lacked lack.Full) world.servers is all
-
-step_knows : (fixed : Fixed) (world : World) (i : ℕ) (found : Option Actor) → actor_at world i ≡ found → AllKnow fixed (agent_at world) → AllKnow fixed (agent_at (steps_once fixed world i found).world)
-step_knows fixed world i None is all = all
-step_knows fixed world i (Some actor) is all = of (next_of fixed actor.agent)
-  where
-    at : (asked : ℕ × Request) (st : Option State) → AllKnow fixed (agent_at (asks_at fixed world i actor asked st).world)
-    at asked None = all
-    at asked (Some st) = answered_knows fixed world i actor st (serve asked.0 st (record { stamp = actor.stamp; value = asked.1 })) is all
-
-    of : (asked : Option (ℕ × Request)) → AllKnow fixed (agent_at (asks fixed world i actor asked).world)
-    of None = all
-    of (Some asked) = at asked (server_at world asked.0)
-
-lack_knows : (fixed : Fixed) (world : World) (i : ℕ) (why : Why) (found : Option Actor) → actor_at world i ≡ found → AllKnow fixed (agent_at world) → AllKnow fixed (agent_at (lacks fixed world i (Lacked why) found).world)
-lack_knows fixed world i why None is all = all
-lack_knows fixed world i why (Some actor) is all = of (next_of fixed actor.agent)
-  where
-    of : (asked : Option (ℕ × Request)) → AllKnow fixed (agent_at (lacks_for fixed world i actor (Lacked why) asked).world)
-    of None = all
-    of (Some asked) = took_knows fixed world i actor actor.stamp (Lacked why) world.servers is all
-
-operator_knows : (fixed : Fixed) (world : World) (server : ℕ) (asked : Request) (found : Option State) → AllKnow fixed (agent_at world) → AllKnow fixed (agent_at (operates world server asked found).world)
-operator_knows fixed world server asked None all = all
-operator_knows fixed world server asked (Some st) all = of (serve server st (record { stamp = 0; value = asked }))
-  where
-    of : (what : Option Served) → AllKnow fixed (agent_at (operated world st what).world)
-    of (Some what) = all
-    of None = all
+abbrev KnowsStill : Fixed → Agent → Agent → Type 0
+KnowsStill fixed old new = Knows fixed old.doing → Knows fixed new.doing
 
 event_knows : (fixed : Fixed) (world : World) (event : Event) → AllKnow fixed (agent_at world) → AllKnow fixed (agent_at (step fixed world event).world)
-event_knows fixed world (Begin i job) all = becomes_knows fixed world i (λ agent. begin fixed agent job) (λ agent knows. begin_knows fixed agent job knows) (actor_at world i) refl all
-event_knows fixed world (Step i) all = step_knows fixed world i (actor_at world i) refl all
-event_knows fixed world (Crash server) all = operator_knows fixed world server request.Crash (server_at world server) all
-event_knows fixed world (Return server) all = operator_knows fixed world server request.Return (server_at world server) all
-event_knows fixed world (Forget i site) all = becomes_knows fixed world i (λ agent. forget agent site) (λ agent knows. knows) (actor_at world i) refl all
-event_knows fixed world (Lack i why) all = lack_knows fixed world i why (actor_at world i) refl all
+event_knows fixed world event all i agent is =
+    let old = old_of (KnowsStill fixed) agent (agent_at world i) (agent_at (step fixed world event).world i) is
+    (each_event fixed (KnowsStill fixed) (λ agent knows. knows) (begin_knows fixed) (λ agent site knows. knows) (λ agent word. take_knows fixed agent word agent.doing (next_of fixed agent) refl) world event i) in
+    old.2 (all i old.0 old.1)
 
 run_knows : (fixed : Fixed) (events : List Event) (world : World) → AllKnow fixed (agent_at world) → AllKnow fixed (agent_at (after fixed world events))
 run_knows fixed [] world all = all

@@ -7,52 +7,34 @@ use Rattle.std.proofs.lemmas.Option.{none-some, same_Some, cond_some}
 use Rattle.std.proofs.lemmas.Map.Keys.{IsDistinct-cons}
 use Rattle.suite_prefix.specs.SettingsRules.{Opening}
 use Rattle.rep_core.specs.declared.request.Request.{Request}
-use Rattle.rep_core.specs.declared.request.Request.TheVariants as request
-use Rattle.rep_core.specs.declared.stamped.Lack.{Lack as Why}
-use Rattle.rep_core.specs.declared.stamped.Lack.TheVariants as lack
-use Rattle.rep_core.specs.State.{State}
 use Rattle.rep_core.proofs.Members.{Has, contains_from}
 use Rattle.txn_core.specs.declared.ending.Ending.TheVariants.{Answered}
 use Rattle.txn_core.specs.declared.job.Job.{Job}
 use Rattle.txn_core.specs.declared.word.Word.{Word}
-use Rattle.txn_core.specs.declared.word.Word.TheVariants.{Replied, Lacked}
 use Rattle.txn_core.specs.Doing.{Fixed, Doing, Running, Rounding}
-use Rattle.txn_core.specs.Agents.{Agent, next_in, next_of, take, begin, started, forget, fixed_of, is_idle, has_sense, most_jobs}
+use Rattle.txn_core.specs.Agents.{Agent, next_in, next_of, take, begin, started, fixed_of, is_idle, has_sense, most_jobs}
 use Rattle.txn_core.proofs.Asks.{asks_same}
 use Rattle.run_core.specs.declared.event.Event.{Event}
 use Rattle.run_core.specs.declared.event.Event.TheVariants.{Begin, Step, Crash, Return, Forget, Lack}
-use Rattle.run_core.specs.declared.done.Served.{Served}
 use Rattle.run_core.specs.declared.done.Outcome.{Outcome}
-use Rattle.run_core.specs.Worlds.{Actor, World, server_at, actor_at, with_actor, opening, serve, after_serving, moved, becomes, answered, asks_at, asks, steps_once, lacks_for, lacks, operated, operates, step}
+use Rattle.run_core.specs.Worlds.{Actor, World, actor_at, opening, becomes, step}
 use Rattle.run_core.specs.Runs.{run}
 use Rattle.run_core.specs.Decisions.{Decided, decisions, task_of}
 use Rattle.run_laws.specs.Naming.{may_sweep}
 use Rattle.run_laws.specs.Numbers.{begins_now, begins_at, begun_from, begun, EachIsBegunOnce, AgentsAskForThemselves, AsksForItself, AsksToSweep}
 use Rattle.run_laws.specs.Claims.{ChangesAreMet}
-use Rattle.run_laws.proofs.Places.{Puts, same_or}
 use Rattle.run_laws.proofs.Asking.{asks_in_its_name, asks_to_sweep, decides}
 use Rattle.run_laws.proofs.Agents.{same_place, IsAt, take_keeps, Begun, not_begun}
 use Rattle.run_laws.proofs.Worlds.{agent_of, agent_at, puts_agent, Holds, event_holds}
 use Rattle.run_laws.proofs.Standing.{NotIn}
 use Rattle.run_laws.proofs.Order.{stands_first}
+use Rattle.run_laws.proofs.Each.{new_of, each_event}
 use Rattle.run_laws.proofs.Conclusions.{holds_of, holds_at_first, rest_of, ends_as, later_decisions, decisions_go_on}
 
 -- ---- counts never fall
 
 abbrev pub Rises : (ℕ → Option Agent) → (ℕ → Option Agent) → Type 0
 Rises f g = (i : ℕ) (a : Agent) → f i ≡ Some a → (b : Agent) × (g i ≡ Some b) × (a.count ≤ b.count)
-
-rests : (f : ℕ → Option Agent) → Rises f f
-rests f i a is = (a, is, omega arith)
-
-put_rises : (f g : ℕ → Option Agent) (i : ℕ) (old new : Agent) → Puts f g i old new → old.count ≤ new.count → Rises f g
-put_rises f g i old new puts more j a is =
-    ⊎_elim
-    (λ at.
-    let same : old.count ≡ a.count = ap (λ (a : Agent). a.count) (same_Some old a (sym puts.was ∙ ap f (sym at) ∙ is)) in
-    (new, ap g at ∙ puts.here, omega (arith, same, more)))
-    (λ apart. (a, puts.apart j apart ∙ is, omega arith))
-    (same_or j i)
 
 begin_more : (fixed : Fixed) (agent : Agent) (job : Job) → agent.count ≤ (begin fixed agent job).count
 begin_more fixed agent job =
@@ -61,55 +43,16 @@ begin_more fixed agent job =
       | false ↦ omega arith
     ]
 
-took_rises : (fixed : Fixed) (world : World) (i : ℕ) (actor : Actor) (stamp : ℕ) (word : Word) (servers : List State) → actor_at world i ≡ Some actor → Rises (agent_at world) (agent_at (with_actor i (moved actor stamp (take fixed actor.agent word)) (record world { servers = servers })))
-took_rises fixed world i actor stamp word servers is =
-    let count : (take fixed actor.agent word).agent.count ≡ actor.agent.count = (take_keeps fixed actor.agent word actor.agent.doing (next_of fixed actor.agent)).1 in
-    put_rises (agent_at world) (agent_at (with_actor i (moved actor stamp (take fixed actor.agent word)) world)) i actor.agent (take fixed actor.agent word).agent (puts_agent world i actor (moved actor stamp (take fixed actor.agent word)) is) (omega (arith, count))
+take_count : (fixed : Fixed) (agent : Agent) (word : Word) → agent.count ≤ (take fixed agent word).agent.count
+take_count fixed agent word = let same : (take fixed agent word).agent.count ≡ agent.count = (take_keeps fixed agent word agent.doing (next_of fixed agent)).1 in omega (arith, same)
 
-becomes_rises : (world : World) (i : ℕ) (change : Agent → Agent) → ((agent : Agent) → agent.count ≤ (change agent).count) → (found : Option Actor) → actor_at world i ≡ found → Rises (agent_at world) (agent_at (becomes world i change found).world)
-becomes_rises world i change more None is = rests (agent_at world)
-becomes_rises world i change more (Some actor) is =
-    put_rises (agent_at world) (agent_at (with_actor i (record actor { agent = change actor.agent }) world)) i actor.agent (change actor.agent) (puts_agent world i actor (record actor { agent = change actor.agent }) is) (more actor.agent)
-
-answered_rises : (fixed : Fixed) (world : World) (i : ℕ) (actor : Actor) (st : State) (what : Option Served) → actor_at world i ≡ Some actor → Rises (agent_at world) (agent_at (answered fixed world i actor st what).world)
-answered_rises fixed world i actor st (Some what) is = took_rises fixed world i actor what.reply.stamp (Replied what.reply.value) (after_serving st what world).servers is
-answered_rises fixed world i actor st None is = took_rises fixed world i actor actor.stamp (Lacked lack.Full) world.servers is
-
-step_rises : (fixed : Fixed) (world : World) (i : ℕ) (found : Option Actor) → actor_at world i ≡ found → Rises (agent_at world) (agent_at (steps_once fixed world i found).world)
-step_rises fixed world i None is = rests (agent_at world)
-step_rises fixed world i (Some actor) is = of (next_of fixed actor.agent)
-  where
-    at : (asked : ℕ × Request) (st : Option State) → Rises (agent_at world) (agent_at (asks_at fixed world i actor asked st).world)
-    at asked None = rests (agent_at world)
-    at asked (Some st) = answered_rises fixed world i actor st (serve asked.0 st (record { stamp = actor.stamp; value = asked.1 })) is
-
-    of : (asked : Option (ℕ × Request)) → Rises (agent_at world) (agent_at (asks fixed world i actor asked).world)
-    of None = rests (agent_at world)
-    of (Some asked) = at asked (server_at world asked.0)
-
-lack_rises : (fixed : Fixed) (world : World) (i : ℕ) (why : Why) (found : Option Actor) → actor_at world i ≡ found → Rises (agent_at world) (agent_at (lacks fixed world i (Lacked why) found).world)
-lack_rises fixed world i why None is = rests (agent_at world)
-lack_rises fixed world i why (Some actor) is = of (next_of fixed actor.agent)
-  where
-    of : (asked : Option (ℕ × Request)) → Rises (agent_at world) (agent_at (lacks_for fixed world i actor (Lacked why) asked).world)
-    of None = rests (agent_at world)
-    of (Some asked) = took_rises fixed world i actor actor.stamp (Lacked why) world.servers is
-
-operator_rises : (world : World) (server : ℕ) (asked : Request) (found : Option State) → Rises (agent_at world) (agent_at (operates world server asked found).world)
-operator_rises world server asked None = rests (agent_at world)
-operator_rises world server asked (Some st) = of (serve server st (record { stamp = 0; value = asked }))
-  where
-    of : (what : Option Served) → Rises (agent_at world) (agent_at (operated world st what).world)
-    of (Some what) = rests (agent_at world)
-    of None = rests (agent_at world)
+abbrev AtMost : Agent → Agent → Type 0
+AtMost old new = old.count ≤ new.count
 
 pub counts_rise : (fixed : Fixed) (world : World) (event : Event) → Rises (agent_at world) (agent_at (step fixed world event).world)
-counts_rise fixed world (Begin i job) = becomes_rises world i (λ agent. begin fixed agent job) (λ agent. begin_more fixed agent job) (actor_at world i) refl
-counts_rise fixed world (Step i) = step_rises fixed world i (actor_at world i) refl
-counts_rise fixed world (Crash server) = operator_rises world server request.Crash (server_at world server)
-counts_rise fixed world (Return server) = operator_rises world server request.Return (server_at world server)
-counts_rise fixed world (Forget i site) = becomes_rises world i (λ agent. forget agent site) (λ agent. omega arith) (actor_at world i) refl
-counts_rise fixed world (Lack i why) = lack_rises fixed world i why (actor_at world i) refl
+counts_rise fixed world event i agent is =
+    new_of AtMost agent (agent_at world i) (agent_at (step fixed world event).world i) is
+    (each_event fixed AtMost (λ agent. omega arith) (begin_more fixed) (λ agent site. omega arith) (take_count fixed) world event i)
 
 still_begun : (f g : ℕ → Option Agent) (t : ℕ) → Rises f g → Begun f t → Begun g t
 still_begun f g t rises begun =

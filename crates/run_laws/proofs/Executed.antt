@@ -1,6 +1,6 @@
 -- What a transaction is to be decided with is what the executor came to on what is known.
-use Rattle.std.proofs.Common.{◌≡◌, ⊎_elim, ℕ, zero, suc, Bool, true, false, cond, List, [], ◌∷◌, Option, Some, None, refl, sym, ap, subst, ◌∙◌}
-use Rattle.std.specs.Prelude.{length, ◌==◌, ◌&&◌, nat_lt, ◌+◌, ◌*◌, Result, Ok, Err}
+use Rattle.std.proofs.Common.{◌≡◌, ℕ, zero, suc, true, false, cond, List, [], ◌∷◌, Option, Some, None, refl, sym, ap, subst}
+use Rattle.std.specs.Prelude.{length, Result, Ok, Err}
 use Rattle.suite_content.specs.declared.content.Content.{Content}
 use Rattle.suite_prefix.specs.declared.copies.Prefix.{Prefix}
 use Rattle.suite_prefix.specs.declared.lock_mode.LockMode.{LockMode}
@@ -18,13 +18,12 @@ use Rattle.file_exec.specs.declared.executor.Outcome.{Outcome as Executed}
 use Rattle.file_exec.specs.declared.executor.Outcome.TheVariants as exec
 use Rattle.file_exec.specs.Changes as changes
 use Rattle.file_exec.specs.Following.{Ended}
-use Rattle.file_exec.specs.Known as known
 use Rattle.file_exec.specs.Known.{Heard, Needs, Done, exec_of}
 use Rattle.file_exec.specs.Laws.{MoreKnown}
 use Rattle.file_exec.proofs.More.{more_known_changes_nothing}
 use Rattle.suite_collect.specs.declared.told.Told.{Told}
 use Rattle.suite_collect.specs.declared.told.Said.{Said}
-use Rattle.suite_collect.specs.Collecting.{Collector, Widening as Wider, collect, raise, raised, tell, tell_at, mode_of, Next, Ask, Current, Short, next}
+use Rattle.suite_collect.specs.Collecting.{Collector, Widening as Wider, raised, tell, tell_at, mode_of, Next, Ask, Current, Short, next}
 use Rattle.weak_cache.specs.Entries.{Cache}
 use Rattle.txn_core.specs.Suites.{First, Suite, Suites, suite_of, with_suite, known_of, settled, first_or}
 use Rattle.txn_core.specs.declared.word.Word.{Word}
@@ -34,9 +33,9 @@ use Rattle.txn_core.specs.declared.ending.Cause.TheVariants.{Lost}
 use Rattle.txn_core.specs.declared.ending.Ending.{Ending}
 use Rattle.txn_core.specs.declared.ending.Ending.TheVariants.{Undecided}
 use Rattle.txn_core.specs.Doing.{Changes, Granted, Fixed, Task, Outcome, Phase, Gathering, Fetching, Widening, Preparing, Deciding, Finishing, Course, After, GoesOn, Ends}
-use Rattle.txn_core.specs.Transactions.{Step, Gathered, on_with, tell_end, give_up, prepare, locked_at, short_cause, gather_by, widen_by, widen_one, widened, widen_all, to_widen, opened, or_all, open_needed, open_suite, open_first, opened_with, free_content, heard_on, raised_or_new, start_from, keep_content, heard_of, said_to, proceed, execute, collected, hear, fetched, prepared, decided, after_word, given_in, lack_cause, verdict_in, ending_by, cause_of_abort}
+use Rattle.txn_core.specs.Transactions.{Step, Gathered, tell_end, give_up, prepare, locked_at, short_cause, gather_by, widen_by, widen_one, widened, widen_all, to_widen, opened, or_all, open_needed, open_suite, open_first, opened_with, free_content, heard_on, raised_or_new, keep_content, heard_of, said_to, proceed, execute, collected, hear, fetched, prepared, after_word, given_in, lack_cause, verdict_in, ending_by, cause_of_abort}
 use Rattle.run_laws.proofs.Standing.{Answer'}
-use Rattle.run_laws.proofs.Knowing.{AreFit, with_fit, none_fit, GoesOnFrom, more_known, serves_itself}
+use Rattle.run_laws.proofs.Knowing.{AreFit, with_fit, more_known, serves_itself}
 
 -- ---- what the executor came to
 

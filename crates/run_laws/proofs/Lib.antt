@@ -16,3 +16,4 @@ pub mod Knowing
 pub mod Executed
 pub mod Answering
 pub mod Table
+pub mod Each
