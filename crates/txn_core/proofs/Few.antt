@@ -145,7 +145,7 @@ at_server now server question asked is = ap (λ (pair : ℕ × Request). pair.0)
 calm : (who : ℕ) (fixed : Fixed) (task : Task) (cache : Cache) (suites : Suites) (phase : Phase) (server : ℕ) (asked : Request) (word : Word) → IsEarly phase → tells asked ≡ false → now_told who server asked + then_may who fixed task cache suites phase server asked word ≤ 2
 calm who fixed task cache suites phase server asked word is other =
     let none = none_now who server asked other in
-    let few = goes_word (IsFew who) (few_early who) (few_given_up who) (few_prepares who) fixed task cache suites phase server asked word is in omega (arith, none, few)
+    let few = goes_word task (IsFew who) (few_early who task) (few_given_up who task) (few_prepares who task) fixed cache suites phase server asked word is in omega (arith, none, few)
 
 few_word : (who : ℕ) (fixed : Fixed) (task : Task) (cache : Cache) (suites : Suites) (phase : Phase) (server : ℕ) (asked : Request) (word : Word) → request_in fixed task suites phase ≡ Some (server, asked)
     → now_told who server asked + then_may who fixed task cache suites phase server asked word ≤ may_in who phase
@@ -222,7 +222,7 @@ begin_few who fixed agent caller site ops idle =
     elim (is_idle agent.doing && has_sense fixed (Transaction caller site ops) && nat_lt agent.count most_jobs) as (λ b.
     IsNoRound (cond b (record (started fixed agent (Transaction caller site ops)) { count = agent.count + 1 }) agent).doing
     × (may who (cond b (record (started fixed agent (Transaction caller site ops)) { count = agent.count + 1 }) agent).doing ≤ 2)) [
-      | true ↦ (no_round _, goes_execute (IsFew who) (few_early who) (few_given_up who) (few_prepares who) fixed (record { t = 64 * agent.count + agent.index; caller = caller; site = site; ops = ops }) (record { suites = []; cache = agent.cache }))
+      | true ↦ let task : Task = record { t = 64 * agent.count + agent.index; caller = caller; site = site; ops = ops } in (no_round _, goes_execute task (IsFew who) (few_early who task) (few_given_up who task) (few_prepares who task) fixed (record { suites = []; cache = agent.cache }))
       | false ↦ at agent.doing idle
     ]
   where

@@ -61,7 +61,7 @@ mild_prepares : (task : Task) (cache : Cache) (suites : Suites) (outcome : Outco
 mild_prepares task cache suites outcome = mild_prepare task cache suites outcome (locked_at suites)
 
 mild_word : (fixed : Fixed) (task : Task) (cache : Cache) (suites : Suites) (phase : Phase) (server : ℕ) (asked : Request) (word : Word) → IsEarly phase → IsMild (after_word fixed (record { task = task; suites = suites; phase = phase }) cache server asked word)
-mild_word fixed task cache suites phase server asked word is = goes_word (LeftTells verdict.Aborted) mild_early mild_give_up mild_prepares fixed task cache suites phase server asked word is
+mild_word fixed task cache suites phase server asked word is = goes_word task (LeftTells verdict.Aborted) (mild_early task) (mild_give_up task) (mild_prepares task) fixed cache suites phase server asked word is
 
 mild_prepared : (task : Task) (cache : Cache) (suites : Suites) (outcome : Outcome) (server : ℕ) (left : List ℕ) (said : Reply) → IsMild (prepared task cache suites outcome server left said)
 mild_prepared task cache suites outcome server left said =
@@ -169,7 +169,7 @@ begin_tells fixed agent job idle =
     at (Some doing) idle = cc
 
     of : (job : Job) → Tells verdict.Aborted (started fixed agent job).doing
-    of (Transaction caller site ops) = left_tells verdict.Aborted _ (goes_execute (LeftTells verdict.Aborted) mild_early mild_give_up mild_prepares fixed (record { t = 64 * agent.count + agent.index; caller = caller; site = site; ops = ops }) (record { suites = []; cache = agent.cache }))
+    of (Transaction caller site ops) = let task : Task = record { t = 64 * agent.count + agent.index; caller = caller; site = site; ops = ops } in left_tells verdict.Aborted _ (goes_execute task (LeftTells verdict.Aborted) (mild_early task) (mild_give_up task) (mild_prepares task) fixed (record { suites = []; cache = agent.cache }))
     of (Sweep server) = tt
 
 pub finish_carries_the_verdict : FinishCarriesTheVerdict

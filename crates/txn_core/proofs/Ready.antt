@@ -117,7 +117,7 @@ plus done server asked word who = done who || adds server asked word who
 
 early_ready : (done : ℕ → Bool) (fixed : Fixed) (task : Task) (cache : Cache) (suites : Suites) (phase : Phase) (server : ℕ) (asked : Request) (word : Word) → IsEarly phase
     → LeftReady done (after_word fixed (record { task = task; suites = suites; phase = phase }) cache server asked word).after
-early_ready done fixed task cache suites phase server asked word is = goes_word (LeftReady done) (ready_early done) (ready_give_up done) (ready_all done) fixed task cache suites phase server asked word is
+early_ready done fixed task cache suites phase server asked word is = goes_word task (LeftReady done) (ready_early done task) (ready_give_up done task) (ready_all done task) fixed cache suites phase server asked word is
 
 ready_word : (done : ℕ → Bool) (fixed : Fixed) (task : Task) (cache : Cache) (suites : Suites) (phase : Phase) (server : ℕ) (asked : Request) (word : Word) → PhaseReady done suites phase
     → request_in fixed task suites phase ≡ Some (server, asked) → LeftReady (plus done server asked word) (after_word fixed (record { task = task; suites = suites; phase = phase }) cache server asked word).after
@@ -230,7 +230,7 @@ begin_ready fixed agent job idle =
     at (Some doing) idle = cc
 
     of : (job : Job) → DoingReady nobody (started fixed agent job).doing
-    of (Transaction caller site ops) = left_ready nobody _ (goes_execute (LeftReady nobody) (ready_early nobody) (ready_give_up nobody) (ready_all nobody) fixed (record { t = 64 * agent.count + agent.index; caller = caller; site = site; ops = ops }) (record { suites = []; cache = agent.cache }))
+    of (Transaction caller site ops) = let task : Task = record { t = 64 * agent.count + agent.index; caller = caller; site = site; ops = ops } in left_ready nobody _ (goes_execute task (LeftReady nobody) (ready_early nobody task) (ready_give_up nobody task) (ready_all nobody task) fixed (record { suites = []; cache = agent.cache }))
     of (Sweep server) = tt
 
 -- ---- a Decide

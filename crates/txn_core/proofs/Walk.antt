@@ -25,81 +25,81 @@ IsEarly (Fetching number) = Unit {0}
 IsEarly (Widening left granted) = Unit {0}
 IsEarly _ = ⊥
 
--- what holds of every early phase, wherever it is given up, and where the servers begin to prepare, holds after every step of an early phase
-module _ (Left : After Course → Type 0)
-    (early : (task : Task) (suites : Suites) (phase : Phase) → IsEarly phase → Left (GoesOn (record { task = task; suites = suites; phase = phase })))
-    (given_up : (task : Task) (cache : Cache) (suites : Suites) (cause : Cause) → Left (give_up task cache suites cause).after)
-    (prepares : (task : Task) (cache : Cache) (suites : Suites) (outcome : Outcome) → Left (prepare task cache suites outcome (locked_at suites)).after) where
-  goes_gather : (task : Task) (cache : Cache) (suites : Suites) (number : ℕ) (next : Next) → Left (gather_by task cache suites number next).after
-  goes_gather task cache suites number (Short got needed busy) = given_up task cache suites (short_cause number got needed busy)
-  goes_gather task cache suites number (Ask server asked) = early task suites (Gathering number) tt
-  goes_gather task cache suites number (Current prefix dver members) = early task suites (Gathering number) tt
+-- what holds of every early phase of a task, wherever it is given up, and where the servers begin to prepare, holds after every step of an early phase
+module _ (task : Task) (Left : After Course → Type 0)
+    (early : (suites : Suites) (phase : Phase) → IsEarly phase → Left (GoesOn (record { task = task; suites = suites; phase = phase })))
+    (given_up : (cache : Cache) (suites : Suites) (cause : Cause) → Left (give_up task cache suites cause).after)
+    (prepares : (cache : Cache) (suites : Suites) (outcome : Outcome) → Left (prepare task cache suites outcome (locked_at suites)).after) where
+  goes_gather : (cache : Cache) (suites : Suites) (number : ℕ) (next : Next) → Left (gather_by task cache suites number next).after
+  goes_gather cache suites number (Short got needed busy) = given_up cache suites (short_cause number got needed busy)
+  goes_gather cache suites number (Ask server asked) = early suites (Gathering number) tt
+  goes_gather cache suites number (Current prefix dver members) = early suites (Gathering number) tt
 
-  goes_widen_by : (task : Task) (cache : Cache) (suites : Suites) (left : List ℕ) (granted : Granted) (number : ℕ) (next : Next) (go_on : Suites → Step) → ((suites : Suites) → Left (go_on suites).after)
+  goes_widen_by : (cache : Cache) (suites : Suites) (left : List ℕ) (granted : Granted) (number : ℕ) (next : Next) (go_on : Suites → Step) → ((suites : Suites) → Left (go_on suites).after)
       → Left (widen_by task cache suites (Widening left granted) number next go_on).after
-  goes_widen_by task cache suites left granted number (Current prefix dver members) go_on more = more suites
-  goes_widen_by task cache suites left granted number (Ask server asked) go_on more = early task suites (Widening left granted) tt
-  goes_widen_by task cache suites left granted number (Short got needed busy) go_on more = given_up task cache suites (short_cause number got needed busy)
+  goes_widen_by cache suites left granted number (Current prefix dver members) go_on more = more suites
+  goes_widen_by cache suites left granted number (Ask server asked) go_on more = early suites (Widening left granted) tt
+  goes_widen_by cache suites left granted number (Short got needed busy) go_on more = given_up cache suites (short_cause number got needed busy)
 
-  goes_widen_one : (task : Task) (cache : Cache) (suites : Suites) (left : List ℕ) (granted : Granted) (number : ℕ) (found : Option Suite) (go_on : Suites → Step) → ((suites : Suites) → Left (go_on suites).after)
+  goes_widen_one : (cache : Cache) (suites : Suites) (left : List ℕ) (granted : Granted) (number : ℕ) (found : Option Suite) (go_on : Suites → Step) → ((suites : Suites) → Left (go_on suites).after)
       → Left (widen_one task cache suites (Widening left granted) granted.changes number found go_on).after
-  goes_widen_one task cache suites left granted number (Some suite) go_on more =
-      goes_widen_by task cache (with_suite number (widened granted.changes number suite) suites) left granted number (next (widened granted.changes number suite).collector) go_on more
-  goes_widen_one task cache suites left granted number None go_on more = more suites
+  goes_widen_one cache suites left granted number (Some suite) go_on more =
+      goes_widen_by cache (with_suite number (widened granted.changes number suite) suites) left granted number (next (widened granted.changes number suite).collector) go_on more
+  goes_widen_one cache suites left granted number None go_on more = more suites
 
-  pub goes_widen : (task : Task) (cache : Cache) (suites : Suites) (granted : Granted) (left : List ℕ) → Left (widen_all task cache suites granted left).after
-  goes_widen task cache suites granted [] = prepares task cache suites (Ok granted)
-  goes_widen task cache suites granted (number ∷ left) = goes_widen_one task cache suites (number ∷ left) granted number (suite_of suites number) _ (λ suites. goes_widen task cache suites granted left)
+  pub goes_widen : (cache : Cache) (suites : Suites) (granted : Granted) (left : List ℕ) → Left (widen_all task cache suites granted left).after
+  goes_widen cache suites granted [] = prepares cache suites (Ok granted)
+  goes_widen cache suites granted (number ∷ left) = goes_widen_one cache suites (number ∷ left) granted number (suite_of suites number) _ (λ suites. goes_widen cache suites granted left)
 
-  goes_proceed : (fixed : Fixed) (task : Task) (cache : Cache) (suites : Suites) (heard : Executed) → Left (proceed fixed task cache suites heard).after
-  goes_proceed fixed task cache suites (exec.Need (Hold number mode)) =
-      let suite = raised_or_new fixed task cache number mode (suite_of suites number) in goes_gather task cache (with_suite number suite suites) number (next suite.collector)
-  goes_proceed fixed task cache suites (exec.Need (Know number)) = early task suites (Fetching number) tt
-  goes_proceed fixed task cache suites (exec.Done answers changes) = goes_widen task cache suites (record { answers = answers; changes = changes }) _
-  goes_proceed fixed task cache suites (exec.Refused refusal) = prepares task cache suites (Err refusal)
+  goes_proceed : (fixed : Fixed) (cache : Cache) (suites : Suites) (heard : Executed) → Left (proceed fixed task cache suites heard).after
+  goes_proceed fixed cache suites (exec.Need (Hold number mode)) =
+      let suite = raised_or_new fixed task cache number mode (suite_of suites number) in goes_gather cache (with_suite number suite suites) number (next suite.collector)
+  goes_proceed fixed cache suites (exec.Need (Know number)) = early suites (Fetching number) tt
+  goes_proceed fixed cache suites (exec.Done answers changes) = goes_widen cache suites (record { answers = answers; changes = changes }) _
+  goes_proceed fixed cache suites (exec.Refused refusal) = prepares cache suites (Err refusal)
 
-  pub goes_execute : (fixed : Fixed) (task : Task) (all : Gathered) → Left (execute fixed task all).after
-  goes_execute fixed task all = let open' = opened (length all.suites) fixed task all in goes_proceed fixed task open'.cache open'.suites (heard_on fixed task open'.suites)
+  pub goes_execute : (fixed : Fixed) (all : Gathered) → Left (execute fixed task all).after
+  goes_execute fixed all = let open' = opened (length all.suites) fixed task all in goes_proceed fixed open'.cache open'.suites (heard_on fixed task open'.suites)
 
-  goes_collected : (task : Task) (cache : Cache) (suites : Suites) (phase : Phase) (number : ℕ) (suite : Suite) (next : Next) (go_on : Suite → Step) → IsEarly phase → ((suite : Suite) → Left (go_on suite).after)
+  goes_collected : (cache : Cache) (suites : Suites) (phase : Phase) (number : ℕ) (suite : Suite) (next : Next) (go_on : Suite → Step) → IsEarly phase → ((suite : Suite) → Left (go_on suite).after)
       → Left (collected task cache suites phase number suite next go_on).after
-  goes_collected task cache suites phase number suite (Ask server asked) go_on is more = early task (with_suite number suite suites) phase is
-  goes_collected task cache suites phase number suite (Short got needed busy) go_on is more = given_up task cache (with_suite number suite suites) (short_cause number got needed busy)
-  goes_collected task cache suites phase number suite (Current prefix dver members) go_on is more = more (settled prefix dver members suite)
+  goes_collected cache suites phase number suite (Ask server asked) go_on is more = early (with_suite number suite suites) phase is
+  goes_collected cache suites phase number suite (Short got needed busy) go_on is more = given_up cache (with_suite number suite suites) (short_cause number got needed busy)
+  goes_collected cache suites phase number suite (Current prefix dver members) go_on is more = more (settled prefix dver members suite)
 
-  goes_hear : (task : Task) (cache : Cache) (suites : Suites) (phase : Phase) (number : ℕ) (suite : Suite) (server : ℕ) (asked : Request) (heard : Option Said) (go_on : Suite → Step) → IsEarly phase → ((suite : Suite) → Left (go_on suite).after)
+  goes_hear : (cache : Cache) (suites : Suites) (phase : Phase) (number : ℕ) (suite : Suite) (server : ℕ) (asked : Request) (heard : Option Said) (go_on : Suite → Step) → IsEarly phase → ((suite : Suite) → Left (go_on suite).after)
       → Left (hear task cache suites phase number suite server asked heard go_on).after
-  goes_hear task cache suites phase number suite server asked (Some heard) go_on is more =
-      let now : Suite = record suite { collector = tell (record { server = server; mode = mode_of asked; said = heard }) suite.collector } in goes_collected task cache suites phase number now (next now.collector) go_on is more
-  goes_hear task cache suites phase number suite server asked None go_on is more = given_up task cache suites (Lost server)
+  goes_hear cache suites phase number suite server asked (Some heard) go_on is more =
+      let now : Suite = record suite { collector = tell (record { server = server; mode = mode_of asked; said = heard }) suite.collector } in goes_collected cache suites phase number now (next now.collector) go_on is more
+  goes_hear cache suites phase number suite server asked None go_on is more = given_up cache suites (Lost server)
 
-  pub goes_heard : (task : Task) (cache : Cache) (suites : Suites) (phase : Phase) (number : ℕ) (found : Option Suite) (server : ℕ) (asked : Request) (said : Reply) (go_on : Suites → Step) → IsEarly phase → ((suites : Suites) → Left (go_on suites).after)
+  pub goes_heard : (cache : Cache) (suites : Suites) (phase : Phase) (number : ℕ) (found : Option Suite) (server : ℕ) (asked : Request) (said : Reply) (go_on : Suites → Step) → IsEarly phase → ((suites : Suites) → Left (go_on suites).after)
       → Left (heard_of task cache suites phase number found server asked said go_on).after
-  goes_heard task cache suites phase number (Some suite) server asked said go_on is more = goes_hear task cache suites phase number suite server asked (said_to asked said) _ is (λ suite. more (with_suite number suite suites))
-  goes_heard task cache suites phase number None server asked said go_on is more = given_up task cache suites (Lost server)
+  goes_heard cache suites phase number (Some suite) server asked said go_on is more = goes_hear cache suites phase number suite server asked (said_to asked said) _ is (λ suite. more (with_suite number suite suites))
+  goes_heard cache suites phase number None server asked said go_on is more = given_up cache suites (Lost server)
 
-  pub goes_fetched : (fixed : Fixed) (task : Task) (cache : Cache) (suites : Suites) (number : ℕ) (found : Option Suite) (server : ℕ) (given : Option Content) → Left (fetched fixed task cache suites number found server given).after
-  goes_fetched fixed task cache suites number None server (Some content) = given_up task cache suites (Lost server)
-  goes_fetched fixed task cache suites number None server None = given_up task cache suites (Lost server)
-  goes_fetched fixed task cache suites number (Some suite) server None = given_up task cache suites (Lost server)
-  goes_fetched fixed task cache suites number (Some suite) server (Some content) = of suite.first
+  pub goes_fetched : (fixed : Fixed) (cache : Cache) (suites : Suites) (number : ℕ) (found : Option Suite) (server : ℕ) (given : Option Content) → Left (fetched fixed task cache suites number found server given).after
+  goes_fetched fixed cache suites number None server (Some content) = given_up cache suites (Lost server)
+  goes_fetched fixed cache suites number None server None = given_up cache suites (Lost server)
+  goes_fetched fixed cache suites number (Some suite) server None = given_up cache suites (Lost server)
+  goes_fetched fixed cache suites number (Some suite) server (Some content) = of suite.first
     where
       of : (first : Option First) → Left (keep_content fixed task cache suites number suite content first server).after
-      of None = given_up task cache suites (Lost server)
-      of (Some first) = goes_execute fixed task _
+      of None = given_up cache suites (Lost server)
+      of (Some first) = goes_execute fixed _
 
   -- a word in an early phase
-  pub goes_word : (fixed : Fixed) (task : Task) (cache : Cache) (suites : Suites) (phase : Phase) (server : ℕ) (asked : Request) (word : Word) → IsEarly phase
+  pub goes_word : (fixed : Fixed) (cache : Cache) (suites : Suites) (phase : Phase) (server : ℕ) (asked : Request) (word : Word) → IsEarly phase
       → Left (after_word fixed (record { task = task; suites = suites; phase = phase }) cache server asked word).after
-  goes_word fixed task cache suites (Gathering number) server asked (Lacked lacked) is = given_up task cache suites (lack_cause server lacked)
-  goes_word fixed task cache suites (Fetching number) server asked (Lacked lacked) is = given_up task cache suites (lack_cause server lacked)
-  goes_word fixed task cache suites (Widening left granted) server asked (Lacked lacked) is = given_up task cache suites (lack_cause server lacked)
-  goes_word fixed task cache suites (Preparing left outcome) server asked word is = absurd is
-  goes_word fixed task cache suites (Deciding outcome) server asked word is = absurd is
-  goes_word fixed task cache suites (Finishing servers v ending) server asked word is = absurd is
-  goes_word fixed task cache suites (Gathering number) server asked (Replied said) is =
-      goes_heard task cache suites (Gathering number) number (suite_of suites number) server asked said _ tt (λ suites. goes_execute fixed task (record { suites = suites; cache = cache }))
-  goes_word fixed task cache suites (Fetching number) server asked (Replied said) is = goes_fetched fixed task cache suites number (suite_of suites number) server (given_in said)
-  goes_word fixed task cache suites (Widening [] granted) server asked (Replied said) is = given_up task cache suites (Lost server)
-  goes_word fixed task cache suites (Widening (number ∷ left) granted) server asked (Replied said) is =
-      goes_heard task cache suites (Widening (number ∷ left) granted) number (suite_of suites number) server asked said _ tt (λ suites. goes_widen task cache suites granted left)
+  goes_word fixed cache suites (Gathering number) server asked (Lacked lacked) is = given_up cache suites (lack_cause server lacked)
+  goes_word fixed cache suites (Fetching number) server asked (Lacked lacked) is = given_up cache suites (lack_cause server lacked)
+  goes_word fixed cache suites (Widening left granted) server asked (Lacked lacked) is = given_up cache suites (lack_cause server lacked)
+  goes_word fixed cache suites (Preparing left outcome) server asked word is = absurd is
+  goes_word fixed cache suites (Deciding outcome) server asked word is = absurd is
+  goes_word fixed cache suites (Finishing servers v ending) server asked word is = absurd is
+  goes_word fixed cache suites (Gathering number) server asked (Replied said) is =
+      goes_heard cache suites (Gathering number) number (suite_of suites number) server asked said _ tt (λ suites. goes_execute fixed (record { suites = suites; cache = cache }))
+  goes_word fixed cache suites (Fetching number) server asked (Replied said) is = goes_fetched fixed cache suites number (suite_of suites number) server (given_in said)
+  goes_word fixed cache suites (Widening [] granted) server asked (Replied said) is = given_up cache suites (Lost server)
+  goes_word fixed cache suites (Widening (number ∷ left) granted) server asked (Replied said) is =
+      goes_heard cache suites (Widening (number ∷ left) granted) number (suite_of suites number) server asked said _ tt (λ suites. goes_widen cache suites granted left)

@@ -1,0 +1,290 @@
+-- What a transaction is to be decided with is what the executor came to on what is known.
+use Rattle.std.proofs.Common.{◌≡◌, ℕ, zero, suc, true, false, cond, List, [], ◌∷◌, Option, Some, None, refl, sym, ap, subst}
+use Rattle.std.specs.Prelude.{length, Result, Ok, Err}
+use Rattle.suite_content.specs.declared.content.Content.{Content}
+use Rattle.suite_prefix.specs.declared.copies.Prefix.{Prefix}
+use Rattle.suite_prefix.specs.declared.lock_mode.LockMode.{LockMode}
+use Rattle.suite_prefix.specs.declared.lock_mode.LockMode.TheVariants.{Shared, Exclusive}
+use Rattle.suite_prefix.specs.LockModes.{serves}
+use Rattle.file_ops.specs.declared.answer.Answer.{Answer}
+use Rattle.file_ops.specs.declared.refusal.Refusal.{Refusal}
+use Rattle.rep_core.specs.declared.request.Request.{Request}
+use Rattle.rep_core.specs.declared.reply.Reply.{Reply}
+use Rattle.rep_core.specs.declared.reply.Verdict.{Verdict}
+use Rattle.rep_core.specs.declared.reply.Verdict.TheVariants as verdict
+use Rattle.rep_core.specs.Fits.{is_prepared}
+use Rattle.file_exec.specs.declared.need.Need.TheVariants.{Hold, Know}
+use Rattle.file_exec.specs.declared.executor.Outcome.{Outcome as Executed}
+use Rattle.file_exec.specs.declared.executor.Outcome.TheVariants as exec
+use Rattle.file_exec.specs.Changes as changes
+use Rattle.file_exec.specs.Following.{Ended}
+use Rattle.file_exec.specs.Known.{Heard, Needs, Done, exec_of}
+use Rattle.file_exec.specs.Laws.{MoreKnown}
+use Rattle.file_exec.proofs.More.{more_known_changes_nothing}
+use Rattle.suite_collect.specs.declared.told.Told.{Told}
+use Rattle.suite_collect.specs.declared.told.Said.{Said}
+use Rattle.suite_collect.specs.Collecting.{Collector, Widening as Wider, raised, tell, tell_at, mode_of, Next, Ask, Current, Short, next}
+use Rattle.weak_cache.specs.Entries.{Cache}
+use Rattle.txn_core.specs.Suites.{First, Suite, Suites, suite_of, with_suite, known_of, settled, first_or}
+use Rattle.txn_core.specs.declared.word.Word.{Word}
+use Rattle.txn_core.specs.declared.word.Word.TheVariants.{Replied, Lacked}
+use Rattle.txn_core.specs.declared.ending.Cause.{Cause}
+use Rattle.txn_core.specs.declared.ending.Cause.TheVariants.{Lost}
+use Rattle.txn_core.specs.declared.ending.Ending.{Ending}
+use Rattle.txn_core.specs.declared.ending.Ending.TheVariants.{Undecided}
+use Rattle.txn_core.specs.Doing.{Changes, Granted, Fixed, Task, Outcome, Phase, Gathering, Fetching, Widening, Preparing, Deciding, Finishing, Course, After, GoesOn, Ends}
+use Rattle.txn_core.specs.Transactions.{Step, Gathered, tell_end, give_up, prepare, locked_at, short_cause, gather_by, widen_by, widen_one, widened, widen_all, to_widen, opened, or_all, open_needed, open_suite, open_first, opened_with, free_content, heard_on, raised_or_new, keep_content, heard_of, said_to, proceed, execute, collected, hear, fetched, prepared, after_word, given_in, lack_cause, verdict_in, ending_by, cause_of_abort}
+use Rattle.run_laws.proofs.Standing.{Answer'}
+use Rattle.run_laws.proofs.Knowing.{AreFit, with_fit, more_known, serves_itself}
+
+-- ---- what the executor came to
+
+abbrev pub given_by : Result (Ended (List Answer)) Refusal → Answer'
+given_by (Ok ended) = Ok ended.given
+given_by (Err refusal) = Err refusal
+
+-- on what is known of these suites the executor is done, with this answer
+pub record Came (fixed : Fixed) (task : Task) (suites : Suites) (answer : Answer') : Type 0 where
+  pub result : Result (Ended (List Answer)) Refusal
+  pub is : exec_of fixed.service (known_of suites) task.t task.caller task.ops ≡ Done result
+  pub answered : answer ≡ given_by result
+
+came_more : (fixed : Fixed) (task : Task) (less more : Suites) (answer : Answer') → MoreKnown (known_of less) (known_of more) → Came fixed task less answer → Came fixed task more answer
+came_more fixed task less more answer goes came = record {
+  result = came.result;
+  is = more_known_changes_nothing fixed.service (known_of less) (known_of more) task.t task.caller task.ops came.result goes came.is;
+  answered = came.answered;
+}
+
+answers_in : List Answer → Executed → List Answer
+answers_in before (exec.Done answers changes) = answers
+answers_in before (exec.Need need) = before
+answers_in before (exec.Refused refusal) = before
+
+refusal_in : Refusal → Executed → Refusal
+refusal_in before (exec.Refused refusal) = refusal
+refusal_in before (exec.Done answers changes) = before
+refusal_in before (exec.Need need) = before
+
+came_done : (fixed : Fixed) (task : Task) (suites : Suites) (answers : List Answer) (set : Changes) → heard_on fixed task suites ≡ exec.Done answers set → Came fixed task suites (Ok answers)
+unfolding answers_in
+came_done fixed task suites answers set = of (exec_of fixed.service (known_of suites) task.t task.caller task.ops) refl
+  where
+    of : (heard : Heard (List Answer) Refusal) → exec_of fixed.service (known_of suites) task.t task.caller task.ops ≡ heard → changes.answered (known_of suites) heard ≡ exec.Done answers set → Came fixed task suites (Ok answers)
+    of (Needs need) is told = cc
+    of (Done (Ok ended)) is told = record { result = Ok ended; is = is; answered = ap Ok (sym (ap (answers_in answers) told)) }
+    of (Done (Err refusal)) is told = cc
+
+came_refused : (fixed : Fixed) (task : Task) (suites : Suites) (why : Refusal) → heard_on fixed task suites ≡ exec.Refused why → Came fixed task suites (Err why)
+unfolding refusal_in
+came_refused fixed task suites why = of (exec_of fixed.service (known_of suites) task.t task.caller task.ops) refl
+  where
+    of : (heard : Heard (List Answer) Refusal) → exec_of fixed.service (known_of suites) task.t task.caller task.ops ≡ heard → changes.answered (known_of suites) heard ≡ exec.Refused why → Came fixed task suites (Err why)
+    of (Needs need) is told = cc
+    of (Done (Ok ended)) is told = cc
+    of (Done (Err refusal)) is told = record { result = Err refusal; is = is; answered = ap Err (sym (ap (refusal_in why) told)) }
+
+-- ---- what a phase keeps
+
+abbrev pub answer_as : Outcome → Answer'
+answer_as (Ok granted) = Ok granted.answers
+answer_as (Err refusal) = Err refusal
+
+abbrev pub Keeps : Fixed → Task → Suites → Phase → Type 0
+Keeps fixed task suites (Gathering number) = AreFit suites
+Keeps fixed task suites (Fetching number) = AreFit suites
+Keeps fixed task suites (Widening left granted) = AreFit suites × Came fixed task suites (Ok granted.answers)
+Keeps fixed task suites (Preparing left outcome) = Came fixed task suites (answer_as outcome)
+Keeps fixed task suites (Deciding outcome) = Came fixed task suites (answer_as outcome)
+Keeps fixed task suites (Finishing servers v ending) = Unit {0}
+
+abbrev pub Left : Fixed → After Course → Type 0
+Left fixed (GoesOn course) = Keeps fixed course.task course.suites course.phase
+Left fixed (Ends ending) = Unit {0}
+
+left_end : (fixed : Fixed) (task : Task) (cache : Cache) (suites : Suites) (v : Verdict) (ending : Ending) (servers : List ℕ) → Left fixed (tell_end task cache suites v ending servers).after
+left_end fixed task cache suites v ending [] = tt
+left_end fixed task cache suites v ending (server ∷ servers) = tt
+
+left_give_up : (fixed : Fixed) (task : Task) (cache : Cache) (suites : Suites) (cause : Cause) → Left fixed (give_up task cache suites cause).after
+left_give_up fixed task cache suites cause = left_end fixed task cache suites verdict.Aborted (Undecided cause) (locked_at suites)
+
+left_prepare : (fixed : Fixed) (task : Task) (cache : Cache) (suites : Suites) (outcome : Outcome) (servers : List ℕ) → Came fixed task suites (answer_as outcome) → Left fixed (prepare task cache suites outcome servers).after
+left_prepare fixed task cache suites outcome [] came = came
+left_prepare fixed task cache suites outcome (server ∷ servers) came = came
+
+-- ---- widening
+
+left_widen_by : (fixed : Fixed) (task : Task) (cache : Cache) (suites : Suites) (left : List ℕ) (granted : Granted) (number : ℕ) (next : Next) (go_on : Suites → Step) → AreFit suites → Came fixed task suites (Ok granted.answers)
+    → ((suites : Suites) → AreFit suites → Came fixed task suites (Ok granted.answers) → Left fixed (go_on suites).after) → Left fixed (widen_by task cache suites (Widening left granted) number next go_on).after
+left_widen_by fixed task cache suites left granted number (Current prefix dver members) go_on fit came more = more suites fit came
+left_widen_by fixed task cache suites left granted number (Ask server asked) go_on fit came more = (fit, came)
+left_widen_by fixed task cache suites left granted number (Short got needed busy) go_on fit came more = left_give_up fixed task cache suites (short_cause number got needed busy)
+
+left_widen_one : (fixed : Fixed) (task : Task) (cache : Cache) (suites : Suites) (left : List ℕ) (granted : Granted) (number : ℕ) (found : Option Suite) → suite_of suites number ≡ found → (go_on : Suites → Step) → AreFit suites → Came fixed task suites (Ok granted.answers)
+    → ((suites : Suites) → AreFit suites → Came fixed task suites (Ok granted.answers) → Left fixed (go_on suites).after) → Left fixed (widen_one task cache suites (Widening left granted) granted.changes number found go_on).after
+left_widen_one fixed task cache suites left granted number (Some suite) there go_on fit came more =
+    let wider = widened granted.changes number suite in
+    left_widen_by fixed task cache (with_suite number wider suites) left granted number (next wider.collector) go_on
+    (with_fit suites number wider fit (fit.modes number suite there))
+    (came_more fixed task suites (with_suite number wider suites) (Ok granted.answers) (more_known suites number suite wider fit.ordered there (record { first = λ first was. was; content = refl; mode = serves_itself suite.mode })) came)
+    more
+left_widen_one fixed task cache suites left granted number None there go_on fit came more = more suites fit came
+
+left_widen : (fixed : Fixed) (task : Task) (cache : Cache) (granted : Granted) (left : List ℕ) (suites : Suites) → AreFit suites → Came fixed task suites (Ok granted.answers) → Left fixed (widen_all task cache suites granted left).after
+left_widen fixed task cache granted [] suites fit came = left_prepare fixed task cache suites (Ok granted) (locked_at suites) came
+left_widen fixed task cache granted (number ∷ left) suites fit came =
+    left_widen_one fixed task cache suites (number ∷ left) granted number (suite_of suites number) refl _ fit came (λ suites fit came. left_widen fixed task cache granted left suites fit came)
+
+-- ---- executing
+
+left_gather : (fixed : Fixed) (task : Task) (cache : Cache) (suites : Suites) (number : ℕ) (next : Next) → AreFit suites → Left fixed (gather_by task cache suites number next).after
+left_gather fixed task cache suites number (Short got needed busy) fit = left_give_up fixed task cache suites (short_cause number got needed busy)
+left_gather fixed task cache suites number (Ask server asked) fit = fit
+left_gather fixed task cache suites number (Current prefix dver members) fit = fit
+
+raised_serves : (widening : Option Wider) (mode before : LockMode) → serves mode before ≡ true → serves (raised widening mode) before ≡ true
+raised_serves (Some wider) mode before is = is
+raised_serves None mode before is = refl
+
+any_serves : (mode : LockMode) → serves mode Shared ≡ true
+any_serves Shared = refl
+any_serves Exclusive = refl
+
+new_mode : (fixed : Fixed) (task : Task) (cache : Cache) (suites : Suites) (number : ℕ) (mode : LockMode) (found : Option Suite) → suite_of suites number ≡ found → AreFit suites
+    → serves (raised_or_new fixed task cache number mode found).collector.mode (raised_or_new fixed task cache number mode found).mode ≡ true
+new_mode fixed task cache suites number mode (Some suite) there fit = raised_serves suite.collector.widening suite.collector.mode suite.mode (fit.modes number suite there)
+new_mode fixed task cache suites number mode None there fit = any_serves mode
+
+left_proceed : (fixed : Fixed) (task : Task) (cache : Cache) (suites : Suites) (heard : Executed) → heard_on fixed task suites ≡ heard → AreFit suites → Left fixed (proceed fixed task cache suites heard).after
+left_proceed fixed task cache suites (exec.Need (Hold number mode)) is fit =
+    let suite = raised_or_new fixed task cache number mode (suite_of suites number) in
+    left_gather fixed task cache (with_suite number suite suites) number (next suite.collector) (with_fit suites number suite fit (new_mode fixed task cache suites number mode (suite_of suites number) refl fit))
+left_proceed fixed task cache suites (exec.Need (Know number)) is fit = fit
+left_proceed fixed task cache suites (exec.Done answers set) is fit = left_widen fixed task cache (record { answers = answers; changes = set }) (to_widen set) suites fit (came_done fixed task suites answers set is)
+left_proceed fixed task cache suites (exec.Refused refusal) is fit = left_prepare fixed task cache suites (Err refusal) (locked_at suites) (came_refused fixed task suites refusal is)
+
+-- what is to be had without asking
+abbrev FitIf : Option Gathered → Type 0
+FitIf (Some all) = AreFit all.suites
+FitIf None = Unit {0}
+
+fit_opened_with : (task : Task) (all : Gathered) (number : ℕ) (suite : Suite) (first : First) (content : Option Content) → suite_of all.suites number ≡ Some suite → AreFit all.suites → FitIf (opened_with task all number suite first content)
+fit_opened_with task all number suite first (Some content) there fit = with_fit all.suites number (record suite { content = Some content }) fit (fit.modes number suite there)
+fit_opened_with task all number suite first None there fit = tt
+
+fit_first : (task : Task) (all : Gathered) (number : ℕ) (suite : Suite) (first : Option First) → suite_of all.suites number ≡ Some suite → AreFit all.suites → FitIf (open_first task all number suite first)
+fit_first task all number suite (Some first) there fit = fit_opened_with task all number suite first (free_content task all.cache number first) there fit
+fit_first task all number suite None there fit = tt
+
+fit_suite : (task : Task) (all : Gathered) (number : ℕ) (found : Option Suite) → suite_of all.suites number ≡ found → AreFit all.suites → FitIf (open_suite task all number found)
+fit_suite task all number (Some suite) there fit = fit_first task all number suite suite.first there fit
+fit_suite task all number None there fit = tt
+
+fit_needed : (task : Task) (all : Gathered) (heard : Executed) → AreFit all.suites → FitIf (open_needed task all heard)
+fit_needed task all (exec.Need (Know number)) fit = fit_suite task all number (suite_of all.suites number) refl fit
+fit_needed task all (exec.Need (Hold number mode)) fit = tt
+fit_needed task all (exec.Done answers set) fit = tt
+fit_needed task all (exec.Refused refusal) fit = tt
+
+fit_or : (all : Gathered) (more : Option Gathered) (go_on : Gathered → Gathered) → AreFit all.suites → FitIf more → ((all : Gathered) → AreFit all.suites → AreFit (go_on all).suites) → AreFit (or_all all more go_on).suites
+fit_or all (Some more) go_on fit fits goes = goes more fits
+fit_or all None go_on fit fits goes = fit
+
+fit_opened : (n : ℕ) (fixed : Fixed) (task : Task) (all : Gathered) → AreFit all.suites → AreFit (opened n fixed task all).suites
+fit_opened zero fixed task all fit = fit
+fit_opened (suc n) fixed task all fit =
+    fit_or all (open_needed task all (heard_on fixed task all.suites)) _ fit (fit_needed task all (heard_on fixed task all.suites) fit) (λ all fit. fit_opened n fixed task all fit)
+
+pub left_execute : (fixed : Fixed) (task : Task) (all : Gathered) → AreFit all.suites → Left fixed (execute fixed task all).after
+left_execute fixed task all fit =
+    let open' = opened (length all.suites) fixed task all in
+    left_proceed fixed task open'.cache open'.suites (heard_on fixed task open'.suites) refl (fit_opened (length all.suites) fixed task all fit)
+
+-- ---- a word
+
+-- a suite of which something was told
+abbrev told_of : Told → Suite → Suite
+told_of told suite = record suite { collector = tell told suite.collector }
+
+tell_mode : (told : Told) (widening : Option Wider) (c : Collector) → (tell_at widening told c).mode ≡ c.mode
+tell_mode told None c = refl
+tell_mode told (Some wider) c = refl
+
+left_collected : (fixed : Fixed) (task : Task) (cache : Cache) (suites : Suites) (phase : Phase) (number : ℕ) (suite : Suite) (next : Next) (go_on : Suite → Step)
+    → Keeps fixed task (with_suite number suite suites) phase → ((prefix : Prefix) (dver : ℕ) (members : List ℕ) → Left fixed (go_on (settled prefix dver members suite)).after) → Left fixed (collected task cache suites phase number suite next go_on).after
+left_collected fixed task cache suites phase number suite (Ask server asked) go_on keeps more = keeps
+left_collected fixed task cache suites phase number suite (Short got needed busy) go_on keeps more = left_give_up fixed task cache (with_suite number suite suites) (short_cause number got needed busy)
+left_collected fixed task cache suites phase number suite (Current prefix dver members) go_on keeps more = more prefix dver members
+
+left_hear : (fixed : Fixed) (task : Task) (cache : Cache) (suites : Suites) (phase : Phase) (number : ℕ) (suite : Suite) (server : ℕ) (asked : Request) (heard : Option Said) (go_on : Suite → Step)
+    → ((told : Told) → Keeps fixed task (with_suite number (told_of told suite) suites) phase) → ((told : Told) (prefix : Prefix) (dver : ℕ) (members : List ℕ) → Left fixed (go_on (settled prefix dver members (told_of told suite))).after)
+    → Left fixed (hear task cache suites phase number suite server asked heard go_on).after
+left_hear fixed task cache suites phase number suite server asked (Some heard) go_on keeps more =
+    let told : Told = record { server = server; mode = mode_of asked; said = heard } in
+    left_collected fixed task cache suites phase number (told_of told suite) (next (told_of told suite).collector) go_on (keeps told) (more told)
+left_hear fixed task cache suites phase number suite server asked None go_on keeps more = left_give_up fixed task cache suites (Lost server)
+
+told_mode : (suites : Suites) (number : ℕ) (suite : Suite) (told : Told) → AreFit suites → suite_of suites number ≡ Some suite → serves (tell told suite.collector).mode suite.mode ≡ true
+told_mode suites number suite told fit there = subst (λ mode. serves mode suite.mode ≡ true) (sym (tell_mode told suite.collector.widening suite.collector)) (fit.modes number suite there)
+
+first_stays : (found : Option First) (first new : First) → found ≡ Some first → first_or found new ≡ Some first
+first_stays (Some other) first new is = is
+first_stays None first new is = cc
+
+left_gathering : (fixed : Fixed) (task : Task) (cache : Cache) (suites : Suites) (number : ℕ) (found : Option Suite) (server : ℕ) (asked : Request) (said : Reply) → suite_of suites number ≡ found → AreFit suites
+    → Left fixed (heard_of task cache suites (Gathering number) number found server asked said (λ suites. execute fixed task (record { suites = suites; cache = cache }))).after
+left_gathering fixed task cache suites number (Some suite) server asked said there fit =
+    left_hear fixed task cache suites (Gathering number) number suite server asked (said_to asked said) _
+    (λ told. with_fit suites number (told_of told suite) fit (told_mode suites number suite told fit there))
+    (λ told prefix dver members. left_execute fixed task (record { suites = with_suite number (settled prefix dver members (told_of told suite)) suites; cache = cache }) (with_fit suites number (settled prefix dver members (told_of told suite)) fit (serves_itself (tell told suite.collector).mode)))
+left_gathering fixed task cache suites number None server asked said there fit = left_give_up fixed task cache suites (Lost server)
+
+left_widening : (fixed : Fixed) (task : Task) (cache : Cache) (suites : Suites) (number : ℕ) (left : List ℕ) (granted : Granted) (found : Option Suite) (server : ℕ) (asked : Request) (said : Reply) → suite_of suites number ≡ found → AreFit suites → Came fixed task suites (Ok granted.answers)
+    → Left fixed (heard_of task cache suites (Widening (number ∷ left) granted) number found server asked said (λ suites. widen_all task cache suites granted left)).after
+left_widening fixed task cache suites number left granted (Some suite) server asked said there fit came =
+    left_hear fixed task cache suites (Widening (number ∷ left) granted) number suite server asked (said_to asked said) _
+    (λ told. (
+      with_fit suites number (told_of told suite) fit (told_mode suites number suite told fit there),
+      came_more fixed task suites (with_suite number (told_of told suite) suites) (Ok granted.answers) (more_known suites number suite (told_of told suite) fit.ordered there (record { first = λ first was. was; content = refl; mode = serves_itself suite.mode })) came,
+    ))
+    (λ told prefix dver members.
+    let now = settled prefix dver members (told_of told suite) in
+    left_widen fixed task cache granted left (with_suite number now suites) (with_fit suites number now fit (serves_itself (tell told suite.collector).mode))
+    (came_more fixed task suites (with_suite number now suites) (Ok granted.answers) (more_known suites number suite now fit.ordered there (record { first = λ first was. first_stays suite.first first _ was; content = refl; mode = told_mode suites number suite told fit there })) came))
+left_widening fixed task cache suites number left granted None server asked said there fit came = left_give_up fixed task cache suites (Lost server)
+
+left_keep : (fixed : Fixed) (task : Task) (cache : Cache) (suites : Suites) (number : ℕ) (suite : Suite) (content : Content) (first : Option First) (server : ℕ) → suite_of suites number ≡ Some suite → AreFit suites → Left fixed (keep_content fixed task cache suites number suite content first server).after
+left_keep fixed task cache suites number suite content (Some first) server there fit = left_execute fixed task _ (with_fit suites number (record suite { content = Some content }) fit (fit.modes number suite there))
+left_keep fixed task cache suites number suite content None server there fit = left_give_up fixed task cache suites (Lost server)
+
+left_fetched : (fixed : Fixed) (task : Task) (cache : Cache) (suites : Suites) (number : ℕ) (found : Option Suite) (server : ℕ) (given : Option Content) → suite_of suites number ≡ found → AreFit suites → Left fixed (fetched fixed task cache suites number found server given).after
+left_fetched fixed task cache suites number (Some suite) server (Some content) there fit = left_keep fixed task cache suites number suite content suite.first server there fit
+left_fetched fixed task cache suites number (Some suite) server None there fit = left_give_up fixed task cache suites (Lost server)
+left_fetched fixed task cache suites number None server (Some content) there fit = left_give_up fixed task cache suites (Lost server)
+left_fetched fixed task cache suites number None server None there fit = left_give_up fixed task cache suites (Lost server)
+
+left_prepared : (fixed : Fixed) (task : Task) (cache : Cache) (suites : Suites) (outcome : Outcome) (server : ℕ) (left : List ℕ) (said : Reply) → Came fixed task suites (answer_as outcome) → Left fixed (prepared task cache suites outcome server left said).after
+left_prepared fixed task cache suites outcome server left said came =
+    elim (is_prepared said) as (λ b. Left fixed (cond b (prepare task cache suites outcome left) (give_up task cache suites (Lost server))).after) [
+      | true ↦ left_prepare fixed task cache suites outcome left came
+      | false ↦ left_give_up fixed task cache suites (Lost server)
+    ]
+
+pub left_word : (fixed : Fixed) (task : Task) (cache : Cache) (suites : Suites) (phase : Phase) (server : ℕ) (asked : Request) (word : Word) → Keeps fixed task suites phase → Left fixed (after_word fixed (record { task = task; suites = suites; phase = phase }) cache server asked word).after
+left_word fixed task cache suites (Gathering number) server asked (Lacked lacked) keeps = left_give_up fixed task cache suites (lack_cause server lacked)
+left_word fixed task cache suites (Fetching number) server asked (Lacked lacked) keeps = left_give_up fixed task cache suites (lack_cause server lacked)
+left_word fixed task cache suites (Widening left granted) server asked (Lacked lacked) keeps = left_give_up fixed task cache suites (lack_cause server lacked)
+left_word fixed task cache suites (Preparing left outcome) server asked (Lacked lacked) keeps = left_give_up fixed task cache suites (lack_cause server lacked)
+left_word fixed task cache suites (Deciding outcome) server asked (Lacked lacked) keeps = left_give_up fixed task cache suites (lack_cause server lacked)
+left_word fixed task cache suites (Finishing [] v ending) server asked (Lacked lacked) keeps = tt
+left_word fixed task cache suites (Finishing (now ∷ left) v ending) server asked (Lacked lacked) keeps = left_end fixed task cache suites v ending left
+left_word fixed task cache suites (Gathering number) server asked (Replied said) keeps = left_gathering fixed task cache suites number (suite_of suites number) server asked said refl keeps
+left_word fixed task cache suites (Fetching number) server asked (Replied said) keeps = left_fetched fixed task cache suites number (suite_of suites number) server (given_in said) refl keeps
+left_word fixed task cache suites (Widening [] granted) server asked (Replied said) keeps = left_give_up fixed task cache suites (Lost server)
+left_word fixed task cache suites (Widening (number ∷ left) granted) server asked (Replied said) keeps = left_widening fixed task cache suites number left granted (suite_of suites number) server asked said refl keeps.0 keeps.1
+left_word fixed task cache suites (Preparing [] outcome) server asked (Replied said) keeps = left_give_up fixed task cache suites (Lost server)
+left_word fixed task cache suites (Preparing (now ∷ left) outcome) server asked (Replied said) keeps = left_prepared fixed task cache suites outcome server left said keeps
+left_word fixed task cache suites (Deciding outcome) server asked (Replied said) keeps = left_end fixed task cache suites (verdict_in said verdict.Aborted) (ending_by (verdict_in said verdict.Aborted) (cause_of_abort said)) (locked_at suites)
+left_word fixed task cache suites (Finishing [] v ending) server asked (Replied said) keeps = tt
+left_word fixed task cache suites (Finishing (now ∷ left) v ending) server asked (Replied said) keeps = left_end fixed task cache suites v ending left

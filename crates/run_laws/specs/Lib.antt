@@ -1,0 +1,5 @@
+pub mod Naming
+pub mod Numbers
+pub mod Claims
+pub mod Answers
+pub mod Worked
