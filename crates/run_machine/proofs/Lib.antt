@@ -1,0 +1,5 @@
+pub mod Servers
+pub mod Consistent
+pub mod Joining
+pub mod Own
+pub mod Following

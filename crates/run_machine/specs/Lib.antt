@@ -1,0 +1,4 @@
+pub mod Deciding
+pub mod Machines
+pub mod Sides
+pub mod Laws
