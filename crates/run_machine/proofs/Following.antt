@@ -16,8 +16,9 @@ use Rattle.rep_core.specs.Serving.{answer_of, is_full, served}
 use Rattle.rep_core.specs.Serving as serving
 use Rattle.txn_core.specs.declared.word.Word.{Word}
 use Rattle.txn_core.specs.declared.word.Word.TheVariants.{Replied, Lacked}
+use Rattle.txn_core.specs.declared.job.Job.{Job}
 use Rattle.txn_core.specs.Doing.{Fixed, Doing}
-use Rattle.txn_core.specs.Agents.{Agent, fixed_of, next_of, take}
+use Rattle.txn_core.specs.Agents.{Agent, fixed_of, next_of, take, begin}
 use Rattle.run_core.specs.declared.event.Event as happening
 use Rattle.run_core.specs.declared.event.Event.TheVariants.{Begin, Step, Crash, Return, Forget, Lack}
 use Rattle.run_core.specs.declared.done.Served.{Served}
@@ -40,13 +41,13 @@ use Rattle.server_moves.specs.Laws.{beginning}
 use Rattle.server_moves.proofs.Steps.{each_step_moves}
 use Rattle.server_moves.proofs.Opening.{opening_shows}
 use Rattle.run_machine.specs.Deciding.{decision_by, own_events}
-use Rattle.run_machine.specs.Machines.{servers_of, home_in, served_events, word_events, answered_events, asked_at_events, asked_events, step_events, lacks_for_events, lack_events, operated_events, operator_events, events_of, moved, machine_from, history_from, machine_of, history_of}
+use Rattle.run_machine.specs.Machines.{servers_of, home_in, served_events, word_events, begin_events, answered_events, asked_at_events, asked_events, step_events, lacks_for_events, lack_events, operated_events, operator_events, events_of, moved, machine_from, history_from, machine_of, history_of}
 use Rattle.run_machine.specs.Sides.{AskedWell, DoesWell, AnsweredWell, AsksAtWell, AsksWell, StepsWell, LacksForWell, LacksWell, KeepsSide, KeepSides, AgentsKeepSides}
 use Rattle.run_machine.specs.Laws.{Follows, MachinesFollow}
 use Rattle.run_machine.proofs.Servers.{servers_set, server_there, servers_open}
 use Rattle.run_machine.proofs.Consistent.{AllConsistent, served_is, consistent_serving, opening_consistent}
 use Rattle.run_machine.proofs.Joining.{run-append, obeys-append}
-use Rattle.run_machine.proofs.Own.{own_shows}
+use Rattle.run_machine.proofs.Own.{own_shows, begun_shows}
 
 -- ---- one event
 
@@ -61,28 +62,28 @@ module _ (given : Opening) (z : ℕ) (w : World) (world : worlds.World) (inv : I
   nothing = record { obeys = tt; shows = shows; consistent = all }
 
   -- a request that is served
-  serves : (doing : Option Doing) (i : ℕ) (st : State) (asked : Stamped Request) → server_at world i ≡ Some st → is_full st asked ≡ false
+  pub serves : (doing : Option Doing) (i : ℕ) (st : State) (asked : Stamped Request) → server_at world i ≡ Some st → is_full st asked ≡ false
       → AgentSide (beginning z given) z (home_in given) (decision_by z w doing) i st.locks w asked.value
       → steps.Follows (beginning z given) z (home_in given) (servers_of given (with_server i (served st asked) world)) w (moves z (home_in given) (decision_by z w doing) i w asked.value (reply_of st asked.value))
   serves doing i st asked there none agent =
       let here = server_there given world i st there in
       subst (λ servers. steps.Follows (beginning z given) z (home_in given) servers w (moves z (home_in given) (decision_by z w doing) i w asked.value (reply_of st asked.value))) (servers_set given world i st (served st asked) there)
-        (subst (λ new. steps.Follows (beginning z given) z (home_in given) (set1 (servers_of given world) i new) w (moves z (home_in given) (decision_by z w doing) i w asked.value (reply_of st asked.value))) (served_is st asked none)
-          (at_state st here agent none))
+      (subst (λ new. steps.Follows (beginning z given) z (home_in given) (set1 (servers_of given world) i new) w (moves z (home_in given) (decision_by z w doing) i w asked.value (reply_of st asked.value))) (served_is st asked none)
+      (at_state st here agent none))
     where
       at_state : (st : State) → servers_of given world i ≡ st → AgentSide (beginning z given) z (home_in given) (decision_by z w doing) i st.locks w asked.value → is_full st asked ≡ false
           → steps.Follows (beginning z given) z (home_in given) (set1 (servers_of given world) i (serving.step st asked)) w (moves z (home_in given) (decision_by z w doing) i w asked.value (reply_of st asked.value))
       at_state st here agent none =
           subst (λ st. AgentSide (beginning z given) z (home_in given) (decision_by z w doing) i st.locks w asked.value → is_full st asked ≡ false → steps.Follows (beginning z given) z (home_in given) (set1 (servers_of given world) i (serving.step st asked)) w (moves z (home_in given) (decision_by z w doing) i w asked.value (reply_of st asked.value))) here
-            (λ agent none. each_step_moves (beginning z given) z (home_in given) (servers_of given world) i w (decision_by z w doing) asked shows (all i) (λ t untold. inv.sound.asked i t untold) agent none)
-            agent none
+          (λ agent none. each_step_moves (beginning z given) z (home_in given) (servers_of given world) i w (decision_by z w doing) asked shows (all i) (λ t untold. inv.sound.asked i t untold) agent none)
+          agent none
 
   -- ---- a step of an agent
 
   answered_comes : (number : ℕ) (actor : Actor) (i : ℕ) (asked : Request) (st : State) → server_at world i ≡ Some st → (b : Bool) → is_full st (record { stamp = actor.stamp; value = asked }) ≡ b
       → AnsweredWell given z w actor st (cond b None (Some (record { server = i; request = record { stamp = actor.stamp; value = asked }; reply = answer_of st (record { stamp = actor.stamp; value = asked }) })))
       → Comes given z w (answered_events given z w actor (cond b None (Some (record { server = i; request = record { stamp = actor.stamp; value = asked }; reply = answer_of st (record { stamp = actor.stamp; value = asked }) }))))
-        (answered (fixed_of given) world number actor st (cond b None (Some (record { server = i; request = record { stamp = actor.stamp; value = asked }; reply = answer_of st (record { stamp = actor.stamp; value = asked }) })))).world
+      (answered (fixed_of given) world number actor st (cond b None (Some (record { server = i; request = record { stamp = actor.stamp; value = asked }; reply = answer_of st (record { stamp = actor.stamp; value = asked }) })))).world
   answered_comes number actor i asked st there true is well = record {
     obeys = well;
     shows = own_shows (beginning z given) z (home_in given) (servers_of given world) actor.agent.doing (take (fixed_of given) actor.agent (Lacked lack.Full)) w shows;
@@ -130,7 +131,7 @@ module _ (given : Opening) (z : ℕ) (w : World) (world : worlds.World) (inv : I
 
   operated_comes : (i : ℕ) (asked : Request) (st : State) → server_at world i ≡ Some st → AgentSide (beginning z given) z (home_in given) (decision_by z w None) i st.locks w asked → (b : Bool) → is_full st (record { stamp = 0; value = asked }) ≡ b
       → Comes given z w (operated_events given z w (cond b None (Some (record { server = i; request = record { stamp = 0; value = asked }; reply = answer_of st (record { stamp = 0; value = asked }) }))))
-        (operated world st (cond b None (Some (record { server = i; request = record { stamp = 0; value = asked }; reply = answer_of st (record { stamp = 0; value = asked }) })))).world
+      (operated world st (cond b None (Some (record { server = i; request = record { stamp = 0; value = asked }; reply = answer_of st (record { stamp = 0; value = asked }) })))).world
   operated_comes i asked st there agent true is = nothing
   operated_comes i asked st there agent false is =
       let moved = serves None i st (record { stamp = 0; value = asked }) there is agent in
@@ -150,8 +151,16 @@ module _ (given : Opening) (z : ℕ) (w : World) (world : worlds.World) (inv : I
   becomes_comes number change (Some actor) = record { obeys = tt; shows = shows; consistent = all }
   becomes_comes number change None = nothing
 
+  begin_comes : (number : ℕ) (job : Job) (o : Option Actor) → Obeys (beginning z given) w (begin_events given z job o) → Comes given z w (begin_events given z job o) (becomes world number (λ agent. begin (fixed_of given) agent job) o).world
+  begin_comes number job (Some actor) well = record {
+    obeys = well;
+    shows = begun_shows (beginning z given) z (home_in given) (servers_of given world) actor.agent.doing (begin (fixed_of given) actor.agent job).doing w shows;
+    consistent = all;
+  }
+  begin_comes number job None well = nothing
+
   pub event_comes : (event : happening.Event) → KeepsSide given z w world event → Comes given z w (events_of given z w world event) (step (fixed_of given) world event).world
-  event_comes (Begin number job) well = becomes_comes number _ (actor_at world number)
+  event_comes (Begin number job) well = begin_comes number job (actor_at world number) well
   event_comes (Step number) well = step_comes number (actor_at world number) well
   event_comes (Crash server) well = crash_comes server (server_at world server) refl
   event_comes (Return server) well = return_comes server (server_at world server) refl
@@ -182,6 +191,6 @@ pub machines_follow : MachinesFollow
 machines_follow given z events valid keep =
     let opens = opening_shows z (home_in given) given valid in
     let all = all_come given z (begun (beginning z given)) (worlds.opening given) events (begins (beginning z given) opens.0)
-        (subst (λ servers. Shows z (home_in given) servers (begun (beginning z given))) (sym (servers_open given)) opens.1)
-        (opening_consistent given) keep in
+    (subst (λ servers. Shows z (home_in given) servers (begun (beginning z given))) (sym (servers_open given)) opens.1)
+    (opening_consistent given) keep in
     record { begins = opens.0; obeys = all.obeys; is = all.is; shows = all.shows }

@@ -3,3 +3,11 @@ pub mod Consistent
 pub mod Joining
 pub mod Own
 pub mod Following
+pub mod Quiet
+pub mod Asked
+pub mod Stages
+pub mod Sending
+pub mod Linked
+pub mod Turns
+pub mod Turned
+pub mod Kept

@@ -16,8 +16,8 @@ use Rattle.run_machine.specs.Machines.{servers_of}
 pub at_set : {X : Type 0} (xs : List X) (i : ℕ) (old new d : X) → slice_get xs i ≡ Some old → (j : ℕ) → set1 (λ j. unwrap_or (slice_get xs j) d) i new j ≡ unwrap_or (slice_get (slice_set xs i new) j) d
 at_set xs i old new d is j =
     at1 (λ x. x ≡ unwrap_or (slice_get (slice_set xs i new) j) d) (λ j. unwrap_or (slice_get xs j) d) i new j
-      (λ same. sym (unwrap_or-slice_get (slice_set xs i new) j d ∙ ap (λ j. get_or (slice_set xs i new) j d) same ∙ get_or-set_same xs i new d (slice_get_within xs i old is)))
-      (λ apart. unwrap_or-slice_get xs j d ∙ sym (unwrap_or-slice_get (slice_set xs i new) j d ∙ get_or-set_other xs i j new d apart))
+    (λ same. sym (unwrap_or-slice_get (slice_set xs i new) j d ∙ ap (λ j. get_or (slice_set xs i new) j d) same ∙ get_or-set_same xs i new d (slice_get_within xs i old is)))
+    (λ apart. unwrap_or-slice_get xs j d ∙ sym (unwrap_or-slice_get (slice_set xs i new) j d ∙ get_or-set_other xs i j new d apart))
 
 -- the servers once one of them has changed
 pub servers_set : (given : Opening) (world : worlds.World) (i : ℕ) (old new : State) → server_at world i ≡ Some old → set1 (servers_of given world) i new ≡ servers_of given (with_server i new world)

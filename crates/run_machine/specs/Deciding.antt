@@ -98,9 +98,9 @@ abbrev pub aims_once : ℕ → ℕ → Suites → Option Outcome → Option Outc
 aims_once z t suites None (Some outcome) = aim_of t (to_write z suites outcome)
 aims_once z t suites before after = []
 
-abbrev pub aims : ℕ → Course → Option Doing → List Event
-aims z before (Some (Running course)) = aims_once z before.task.t course.suites (fixed_in before.phase) (fixed_in course.phase)
-aims z before other = []
+abbrev pub aims : ℕ → ℕ → Option Outcome → Option Doing → List Event
+aims z t before (Some (Running course)) = aims_once z t course.suites before (fixed_in course.phase)
+aims z t before other = []
 
 -- whether it tells servers how it ended
 abbrev pub is_finishing : Phase → Bool
@@ -125,10 +125,15 @@ is_at_an_end (Some (Running course)) ending = tells_aborted course.phase
 is_at_an_end other ending = ended_undecided ending
 
 -- where it comes to an end without a verdict; it does so before it tells servers
-abbrev pub gives_up : Course → Taken → List Event
-gives_up before taken = if is_finishing before.phase then [] else if is_at_an_end taken.agent.doing taken.ending then GiveUp before.task.t ∷ [] else []
+abbrev pub gives_up : ℕ → Bool → Taken → List Event
+gives_up t finishing taken = if finishing then [] else if is_at_an_end taken.agent.doing taken.ending then GiveUp t ∷ [] else []
+
+-- what an agent does to the suite by itself where it begins a job
+abbrev pub begun_events : ℕ → Option Doing → Option Doing → List Event
+begun_events z None (Some (Running course)) = aims z course.task.t None (Some (Running course)) ++ (if tells_aborted course.phase then GiveUp course.task.t ∷ [] else [])
+begun_events z before after = []
 
 -- what an agent does to the suite by itself once it took a word: a sweep does nothing
 abbrev pub own_events : ℕ → Option Doing → Taken → List Event
-own_events z (Some (Running before)) taken = aims z before taken.agent.doing ++ gives_up before taken
+own_events z (Some (Running before)) taken = aims z before.task.t (fixed_in before.phase) taken.agent.doing ++ gives_up before.task.t (is_finishing before.phase) taken
 own_events z other taken = []

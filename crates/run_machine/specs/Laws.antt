@@ -1,5 +1,5 @@
 -- The laws of this crate.
-use Rattle.std.specs.Prelude.{◌≡◌, ℕ, List}
+use Rattle.std.specs.Prelude.{◌≡◌, ℕ, ◌≤◌, List}
 use Rattle.suite_prefix.specs.SettingsRules.{Opening}
 use Rattle.vote_core.specs.Validity.{IsValid}
 use Rattle.rep_core.specs.Consistency.{IsConsistent}
@@ -14,6 +14,7 @@ use Rattle.server_moves.specs.Views.{Shows}
 use Rattle.server_moves.specs.Laws.{beginning}
 use Rattle.run_machine.specs.Machines.{servers_of, home_in, machine_of, history_of}
 use Rattle.run_machine.specs.Sides.{AgentsKeepSides}
+use Rattle.run_machine.specs.Owed.{AgentsOwe}
 
 -- the suite begins as one does, all that happens to it may happen, the machine is what that leaves, and it shows the servers
 pub record Follows (given : Opening) (z : ℕ) (events : List Event) : Type 0 where
@@ -29,3 +30,9 @@ MachinesFollow = (given : Opening) (z : ℕ) (events : List Event) → IsValid g
 -- every server of a run is consistent
 abbrev pub ServersAreConsistent : Type 0
 ServersAreConsistent = (given : Opening) (events : List Event) (i : ℕ) → IsConsistent (servers_of given (runs.run given events) i)
+
+-- Agents keep to their side in every run, but for what is left in `Owed`: each polls a server for a suite once, fixes what it is to write once and
+-- sends that, tells servers how its transaction ended and nothing else, gives up only what was not decided, and its transactions are numbered
+-- apart from all others.
+abbrev pub SidesAreKept : Type 0
+SidesAreKept = (given : Opening) (z : ℕ) (events : List Event) → IsValid given.c0 → given.agents ≤ 64 → AgentsOwe given z events → AgentsKeepSides given z events

@@ -8,8 +8,9 @@ use Rattle.rep_core.specs.State as state
 use Rattle.rep_core.specs.State.{State}
 use Rattle.txn_core.specs.declared.word.Word.{Word}
 use Rattle.txn_core.specs.declared.word.Word.TheVariants.{Replied, Lacked}
-use Rattle.txn_core.specs.Doing.{Fixed, Doing, home_of}
-use Rattle.txn_core.specs.Agents.{fixed_of, next_of, take}
+use Rattle.txn_core.specs.declared.job.Job.{Job}
+use Rattle.txn_core.specs.Doing.{Doing, home_of}
+use Rattle.txn_core.specs.Agents.{fixed_of, next_of, take, begin}
 use Rattle.run_core.specs.declared.event.Event.{Event}
 use Rattle.run_core.specs.declared.event.Event.TheVariants.{Begin, Step, Crash, Return, Forget, Lack}
 use Rattle.run_core.specs.declared.done.Served.{Served}
@@ -20,7 +21,7 @@ use Rattle.suite_machine.specs.Events as machine
 use Rattle.suite_machine.specs.Events.{run}
 use Rattle.server_moves.specs.Moves.{moves}
 use Rattle.server_moves.specs.Laws.{beginning}
-use Rattle.run_machine.specs.Deciding.{decision_by, own_events}
+use Rattle.run_machine.specs.Deciding.{decision_by, begun_events, own_events}
 
 -- the servers of a world, by their numbers; those that are not there stay as they would open
 abbrev pub servers_of : Opening → worlds.World → ℕ → State
@@ -39,6 +40,11 @@ served_events given z w doing what = moves z (home_in given) (decision_by z w do
 -- what an agent does by itself once it took a word
 abbrev pub word_events : Opening → ℕ → Actor → Word → List machine.Event
 word_events given z actor word = own_events z actor.agent.doing (take (fixed_of given) actor.agent word)
+
+-- what it does by itself where it begins a job
+abbrev pub begin_events : Opening → ℕ → Job → Option Actor → List machine.Event
+begin_events given z job (Some actor) = begun_events z actor.agent.doing (begin (fixed_of given) actor.agent job).doing
+begin_events given z job None = []
 
 -- the request was served, or the server is full
 abbrev pub answered_events : Opening → ℕ → World → Actor → Option Served → List machine.Event
@@ -76,7 +82,7 @@ operator_events given z w server asked None = []
 -- what an event of a world is to the machine of the suite z, which is w so far: what the server does that served a request, and then what the agent
 -- does that took the reply
 abbrev pub events_of : Opening → ℕ → World → worlds.World → Event → List machine.Event
-events_of given z w world (Begin number job) = []
+events_of given z w world (Begin number job) = begin_events given z job (actor_at world number)
 events_of given z w world (Step number) = step_events given z w world (actor_at world number)
 events_of given z w world (Crash server) = operator_events given z w server request.Crash (server_at world server)
 events_of given z w world (Return server) = operator_events given z w server request.Return (server_at world server)

@@ -19,7 +19,7 @@ use Rattle.suite_machine.specs.Conditions.{Obeys}
 use Rattle.server_moves.specs.Agents.{AgentSide}
 use Rattle.server_moves.specs.Laws.{beginning}
 use Rattle.run_machine.specs.Deciding.{decision_by}
-use Rattle.run_machine.specs.Machines.{home_in, served_events, word_events, moved}
+use Rattle.run_machine.specs.Machines.{home_in, served_events, word_events, begin_events, moved}
 
 -- its request was served: it was one that it may make, and after the reply it does what it may
 pub record AskedWell (given : Opening) (z : ℕ) (w : World) (actor : Actor) (locks : List Lock) (what : Served) : Type 0 where
@@ -54,9 +54,9 @@ abbrev pub LacksWell : Opening → ℕ → World → Word → Option Actor → T
 LacksWell given z w word (Some actor) = LacksForWell given z w actor word (next_of (fixed_of given) actor.agent)
 LacksWell given z w word None = Unit {0}
 
--- one event; a job that begins, what is forgotten, and the operator owe nothing
+-- one event; what is forgotten, and the operator, owe nothing
 abbrev pub KeepsSide : Opening → ℕ → World → worlds.World → Event → Type 0
-KeepsSide given z w world (Begin number job) = Unit {0}
+KeepsSide given z w world (Begin number job) = Obeys (beginning z given) w (begin_events given z job (actor_at world number))
 KeepsSide given z w world (Step number) = StepsWell given z w world (actor_at world number)
 KeepsSide given z w world (Crash server) = Unit {0}
 KeepsSide given z w world (Return server) = Unit {0}

@@ -4,7 +4,7 @@
 //! world is to the machine of a suite in `specs/Machines`, what agents keep to in `specs/Sides`, and the laws in `specs/Laws`.
 #![tactic(auto)]
 
-ghost use Rattle.run_machine.specs.Laws.{MachinesFollow, ServersAreConsistent};
+ghost use Rattle.run_machine.specs.Laws.{MachinesFollow, ServersAreConsistent, SidesAreKept};
 
 /// A law: in every run in which agents keep to their side, all that happens to a suite may happen to its machine, and
 /// the machine shows the servers. It does nothing.
@@ -15,4 +15,9 @@ pub fn machines_follow()
 /// A law: every server of a run is consistent. It does nothing.
 pub fn servers_are_consistent()
     ensures { ServersAreConsistent }
+{}
+
+/// A law: in every run agents keep to their side, but for what is left in `specs/Owed`. It does nothing.
+pub fn sides_are_kept()
+    ensures { SidesAreKept }
 {}
