@@ -11,6 +11,7 @@ use Rattle.rep_core.specs.declared.reply.Reply.TheVariants as reply
 use Rattle.rep_core.specs.declared.stamped.Lack.TheVariants as lack
 use Rattle.rep_core.specs.declared.stamped.Stamped.{Stamped}
 use Rattle.rep_core.specs.Locks.{has_prepared}
+use Rattle.rep_core.specs.State as state
 use Rattle.rep_core.specs.State.{State}
 use Rattle.rep_core.specs.Service.{reply_of}
 use Rattle.rep_core.specs.Serving.{answer_of, is_full, served}
@@ -48,6 +49,8 @@ use Rattle.run_machine.proofs.Quiet.{AreOf, quiet_all}
 use Rattle.run_machine.proofs.Stages.{Going}
 use Rattle.run_machine.proofs.Linked.{Untouched, Linked, AllLinked, linked_later}
 use Rattle.run_machine.proofs.Turns.{Turn, turn}
+use Rattle.run_machine.proofs.Waiting.{Waiting}
+use Rattle.run_machine.proofs.Waited.{AllWaiting, waits_first, waits_next}
 use Rattle.run_machine.proofs.Turned.{served_at, served_concerns, lacked_concerns, asks_well, Stays, Others, all_linked, turned, others_turned, Begun, begun_so}
 
 next_number : (u : ℕ) → u ≡ u + 1 → ⊥
@@ -63,7 +66,7 @@ returned_of : (t z : ℕ) (home : ℕ → ℕ) (decision : Event) (i : ℕ) (w :
 returned_of t z home decision i w reply.Done = tt
 returned_of t z home decision i w _ = tt
 
-module _ (given : Opening) (z : ℕ) (w : World) (world : worlds.World) (inv : Inv (beginning z given) w) (shows : Shows z (home_in given) (servers_of given world) w) (all : AllConsistent (servers_of given world)) (linked : AllLinked z w world) (owed : Owed given z w world) where
+module _ (given : Opening) (z : ℕ) (w : World) (world : worlds.World) (inv : Inv (beginning z given) w) (shows : Shows z (home_in given) (servers_of given world) w) (all : AllConsistent (servers_of given world)) (linked : AllLinked z w world) (owed : Owed given z w world) (waiting : AllWaiting given world) where
   abbrev first : Beginning
   first = beginning z given
 
@@ -99,7 +102,7 @@ module _ (given : Opening) (z : ℕ) (w : World) (world : worlds.World) (inv : I
       let side = asks_well given z w world inv shows all number actor.agent.count actor.agent.doing asked st.locks next was.1.doing
       (λ course outcome doing phase. owed.decides number actor course outcome there doing phase)
       (λ course now left outcome doing phase same.
-      subst (λ (st : State). has_prepared course.task.t st.locks ≡ false) (ap (servers_of given world) same ∙ server_there given world asked.0 st at) (owed.prepares number actor course now left outcome there doing phase)) in
+      subst (λ (st : State). has_prepared course.task.t st.locks ≡ false) (ap (servers_of given world) same ∙ server_there given world asked.0 st at) (waits_first (servers_of given world) actor.agent.doing (waiting number actor there).now course doing now left outcome phase)) in
       let follows = serves given z w world inv shows all actor.agent.doing asked.0 st (record { stamp = actor.stamp; value = asked.1 }) at is side in
       let later = run first w events in
       let concerns = served_concerns given z w world inv shows all number actor.agent.count actor.agent.doing asked actor.stamp st next was.1.doing at is follows.obeys follows.shows in
@@ -200,12 +203,12 @@ module _ (given : Opening) (z : ℕ) (w : World) (world : worlds.World) (inv : I
 
 -- ---- all events
 
-sides_from : (given : Opening) (z : ℕ) (w : World) (world : worlds.World) (events : List happening.Event) → Inv (beginning z given) w → Shows z (home_in given) (servers_of given world) w → AllConsistent (servers_of given world) → AllLinked z w world → AreOwed given z w world events → KeepSides given z w world events
-sides_from given z w world [] inv shows all linked owed = tt
-sides_from given z w world (event ∷ events) inv shows all linked owed =
-    let one = next given z w world inv shows all linked owed.0 event in
+sides_from : (given : Opening) (z : ℕ) (w : World) (world : worlds.World) (events : List happening.Event) → Inv (beginning z given) w → Shows z (home_in given) (servers_of given world) w → AllConsistent (servers_of given world) → AllLinked z w world → AllWaiting given world → AreOwed given z w world events → KeepSides given z w world events
+sides_from given z w world [] inv shows all linked waiting owed = tt
+sides_from given z w world (event ∷ events) inv shows all linked waiting owed =
+    let one = next given z w world inv shows all linked owed.0 waiting event in
     let comes = event_comes given z w world inv shows all event one.0 in
-    (one.0, sides_from given z (moved given z w world event) (step (fixed_of given) world event).world events (all_steps (beginning z given) w inv (events_of given z w world event) comes.obeys) comes.shows comes.consistent one.1 owed.1)
+    (one.0, sides_from given z (moved given z w world event) (step (fixed_of given) world event).world events (all_steps (beginning z given) w inv (events_of given z w world event) comes.obeys) comes.shows comes.consistent one.1 (waits_next given z w world linked waiting event) owed.1)
 
 -- ---- at the opening
 
@@ -239,9 +242,14 @@ opens_linked z given few n actor there =
     plus : (n : ℕ) → 0 + n ≡ n
     plus n = omega arith
 
+opens_waiting : (given : Opening) → AllWaiting given (worlds.opening given)
+opens_waiting given n actor there =
+    let is = actor_opens 0 given.agents n actor there in
+    subst (λ servers. Waiting servers n actor.agent) (sym (servers_open given)) (subst (Waiting (λ i. state.opening i given) n) (sym is.1) (record { fresh = λ place past j. refl; now = tt }))
+
 pub sides_are_kept : SidesAreKept
 sides_are_kept given z events valid few owed =
     let opens = opening_shows z (home_in given) given valid in
     sides_from given z (begun (beginning z given)) (worlds.opening given) events (begins (beginning z given) opens.0)
     (subst (λ servers. Shows z (home_in given) servers (begun (beginning z given))) (sym (servers_open given)) opens.1)
-    (opening_consistent given) (opens_linked z given few) owed
+    (opening_consistent given) (opens_linked z given few) (opens_waiting given) owed

@@ -10,4 +10,6 @@ pub mod Sending
 pub mod Linked
 pub mod Turns
 pub mod Turned
+pub mod Waiting
+pub mod Waited
 pub mod Kept

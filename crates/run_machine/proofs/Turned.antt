@@ -121,7 +121,7 @@ decision_of-task z w task suites (Widening left granted) = refl
 decision_of-task z w task suites (Preparing left outcome) = refl
 decision_of-task z w task suites (Finishing servers v ending) = refl
 
-only : (before : Course) (P : Course → Type 0) → P before → (other : Course) → ◌≡◌ {A = Option Doing} (Some (Running before)) (Some (Running other)) → P other
+pub only : (before : Course) (P : Course → Type 0) → P before → (other : Course) → ◌≡◌ {A = Option Doing} (Some (Running before)) (Some (Running other)) → P other
 only before P is other same = subst P (let e : before ≡ other = cc in e) is
 
 only_round : (round : Round) (P : Round → Type 0) → P round → (other : Round) → ◌≡◌ {A = Option Doing} (Some (Rounding round)) (Some (Rounding other)) → P other
@@ -240,7 +240,7 @@ set_apart (x ∷ xs) zero (suc j) new apart = refl
 set_apart (x ∷ xs) (suc i) zero new apart = refl
 set_apart (x ∷ xs) (suc i) (suc j) new apart = set_apart xs i j new (λ same. apart (ap suc same))
 
-same_or : (P : Type 0) (a b : ℕ) → (a ≡ b → P) → ((a ≡ b → ⊥) → P) → P
+pub same_or : (P : Type 0) (a b : ℕ) → (a ≡ b → P) → ((a ≡ b → ⊥) → P) → P
 same_or P a b here there = elim (a == b) as (λ c. (a == b) ≡ c → P) [ true ↦ λ e. here (one_is b a e) | false ↦ λ e. there (one_not b a e) ] refl
 
 -- ---- all agents, once one of them has changed
@@ -265,14 +265,14 @@ all_linked z w later world n old new there small linked now stays others m x is 
 
 -- ---- the agent whose turn it was
 
-take_same : (fixed : Fixed) (agent : Agent) (word : Word) (doing : Option Doing) (asked : Option (ℕ × Request)) → ((take_in fixed agent word doing asked).agent.index ≡ agent.index) × ((take_in fixed agent word doing asked).agent.count ≡ agent.count)
+pub take_same : (fixed : Fixed) (agent : Agent) (word : Word) (doing : Option Doing) (asked : Option (ℕ × Request)) → ((take_in fixed agent word doing asked).agent.index ≡ agent.index) × ((take_in fixed agent word doing asked).agent.count ≡ agent.count)
 take_same fixed agent word (Some (Running course)) (Some asked) = (refl, refl)
 take_same fixed agent word (Some (Running course)) None = (refl, refl)
 take_same fixed agent word (Some (Rounding round)) (Some asked) = (refl, refl)
 take_same fixed agent word (Some (Rounding round)) None = (refl, refl)
 take_same fixed agent word None asked = (refl, refl)
 
-numbered_of : (z : ℕ) (w : World) (n count : ℕ) (doing : Option Doing) → IsDoing z w n count doing → (course : Course) → doing ≡ Some (Running course) → course.task.t + 64 ≡ 64 * count + n
+pub numbered_of : (z : ℕ) (w : World) (n count : ℕ) (doing : Option Doing) → IsDoing z w n count doing → (course : Course) → doing ≡ Some (Running course) → course.task.t + 64 ≡ 64 * count + n
 numbered_of z w n count (Some (Running before)) is course same = only before (λ course. course.task.t + 64 ≡ 64 * count + n) is.numbered course same
 numbered_of z w n count (Some (Rounding round)) is course same = absurd cc
 numbered_of z w n count None is course same = absurd cc
