@@ -49,6 +49,7 @@ use Rattle.run_machine.proofs.Quiet.{AreOf, quiet_all}
 use Rattle.run_machine.proofs.Stages.{Going}
 use Rattle.run_machine.proofs.Linked.{Untouched, Linked, AllLinked, linked_later}
 use Rattle.run_machine.proofs.Turns.{Turn, turn}
+use Rattle.run_machine.proofs.Decided.{may_of}
 use Rattle.run_machine.proofs.Waiting.{Waiting}
 use Rattle.run_machine.proofs.Waited.{AllWaiting, waits_first, waits_next}
 use Rattle.run_machine.proofs.Turned.{served_at, served_concerns, lacked_concerns, asks_well, Stays, Others, all_linked, turned, others_turned, Begun, begun_so}
@@ -100,7 +101,7 @@ module _ (given : Opening) (z : ℕ) (w : World) (world : worlds.World) (inv : I
       let said = reply_of st asked.1 in
       let events = served_at given z w world inv shows all number actor.agent.count actor.agent.doing asked st in
       let side = asks_well given z w world inv shows all number actor.agent.count actor.agent.doing asked st.locks next was.1.doing
-      (λ course outcome doing phase. owed.decides number actor course outcome there doing phase)
+      (λ course outcome doing phase undecided. may_of first z w number actor.agent.count actor.agent.doing was.1.doing course outcome doing phase undecided (owed.decides number actor course outcome there doing phase undecided))
       (λ course now left outcome doing phase same.
       subst (λ (st : State). has_prepared course.task.t st.locks ≡ false) (ap (servers_of given world) same ∙ server_there given world asked.0 st at) (waits_first (servers_of given world) actor.agent.doing (waiting number actor there).now course doing now left outcome phase)) in
       let follows = serves given z w world inv shows all actor.agent.doing asked.0 st (record { stamp = actor.stamp; value = asked.1 }) at is side in

@@ -12,4 +12,5 @@ pub mod Turns
 pub mod Turned
 pub mod Waiting
 pub mod Waited
+pub mod Decided
 pub mod Kept

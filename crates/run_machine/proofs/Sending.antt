@@ -100,7 +100,7 @@ asks_for task suites number server asked (Some suite) there is = by (next suite.
 abbrev pub ToldAs : ℕ → World → ℕ → Suites → Type 0
 ToldAs z w t suites = (i : ℕ) → is_some (w.told i t) ≡ holds Shared (told_at suites z) i
 
-told_none : (o : Option Told) → is_some o ≡ false → o ≡ None
+pub told_none : (o : Option Told) → is_some o ≡ false → o ≡ None
 told_none None e = refl
 told_none (Some told) e = absurd (false≢true (sym e))
 
