@@ -13,4 +13,5 @@ pub mod Turned
 pub mod Waiting
 pub mod Waited
 pub mod Decided
+pub mod Readying
 pub mod Kept
