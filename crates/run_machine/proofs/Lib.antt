@@ -1,0 +1,17 @@
+pub mod Servers
+pub mod Consistent
+pub mod Joining
+pub mod Own
+pub mod Following
+pub mod Quiet
+pub mod Asked
+pub mod Stages
+pub mod Sending
+pub mod Linked
+pub mod Turns
+pub mod Turned
+pub mod Waiting
+pub mod Waited
+pub mod Decided
+pub mod Readying
+pub mod Kept

@@ -1,0 +1,38 @@
+-- The laws of this crate.
+use Rattle.std.specs.Prelude.{◌≡◌, ℕ, ◌≤◌, List}
+use Rattle.suite_prefix.specs.SettingsRules.{Opening}
+use Rattle.vote_core.specs.Validity.{IsValid}
+use Rattle.rep_core.specs.Consistency.{IsConsistent}
+use Rattle.run_core.specs.declared.event.Event.{Event}
+use Rattle.run_core.specs.Runs as runs
+use Rattle.suite_machine.specs.Registers.{Beginning, IsBeginning}
+use Rattle.suite_machine.specs.Machine.{World, begun}
+use Rattle.suite_machine.specs.Events as machine
+use Rattle.suite_machine.specs.Events.{run}
+use Rattle.suite_machine.specs.Conditions.{Obeys}
+use Rattle.server_moves.specs.Views.{Shows}
+use Rattle.server_moves.specs.Laws.{beginning}
+use Rattle.run_machine.specs.Machines.{servers_of, home_in, machine_of, history_of}
+use Rattle.run_machine.specs.Sides.{AgentsKeepSides}
+use Rattle.run_machine.specs.Owed.{AgentsOwe}
+
+-- the suite begins as one does, all that happens to it may happen, the machine is what that leaves, and it shows the servers
+pub record Follows (given : Opening) (z : ℕ) (events : List Event) : Type 0 where
+  pub begins : IsBeginning (beginning z given)
+  pub obeys : Obeys (beginning z given) (begun (beginning z given)) (history_of given z events)
+  pub is : machine_of given z events ≡ run (beginning z given) (begun (beginning z given)) (history_of given z events)
+  pub shows : Shows z (home_in given) (servers_of given (runs.run given events)) (machine_of given z events)
+
+-- in every run in which agents keep to their side, the machine of each suite follows the world
+abbrev pub MachinesFollow : Type 0
+MachinesFollow = (given : Opening) (z : ℕ) (events : List Event) → IsValid given.c0 → AgentsKeepSides given z events → Follows given z events
+
+-- every server of a run is consistent
+abbrev pub ServersAreConsistent : Type 0
+ServersAreConsistent = (given : Opening) (events : List Event) (i : ℕ) → IsConsistent (servers_of given (runs.run given events) i)
+
+-- Agents keep to their side in every run, but for what is left in `Owed`: each polls a server for a suite once, fixes what it is to write once and sends that,
+-- prepares at a server once, tells servers how its transaction ended and nothing else, and gives up only what was not decided; and its transactions are
+-- numbered apart from all others.
+abbrev pub SidesAreKept : Type 0
+SidesAreKept = (given : Opening) (z : ℕ) (events : List Event) → IsValid given.c0 → given.agents ≤ 64 → AgentsOwe given z events → AgentsKeepSides given z events

@@ -1,0 +1,5 @@
+pub mod Deciding
+pub mod Machines
+pub mod Sides
+pub mod Owed
+pub mod Laws

@@ -1,0 +1,5 @@
+pub mod Views
+pub mod Preparing
+pub mod Moves
+pub mod Agents
+pub mod Laws
