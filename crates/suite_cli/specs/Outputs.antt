@@ -12,11 +12,11 @@ use Rattle.file_ops.specs.Transactions.{transaction, replies, table_after}
 use Rattle.suite_prefix.specs.SettingsRules.{Opening}
 use Rattle.vote_core.specs.Quorums.{Configuration}
 use Rattle.vote_core.specs.declared.TheConstants.{MAX_SERVERS}
-use Rattle.suite_cli.specs.declared.fault.ScriptFault.{ScriptFault}
+use Rattle.suite_script.specs.declared.fault.ScriptFault.{ScriptFault}
 use Rattle.suite_cli.specs.declared.root.Root.{Root}
-use Rattle.suite_cli.specs.Faults.{fault_line, line_feed, text_code}
-use Rattle.suite_cli.specs.Scripts.{Job, Script, script_in}
-use Rattle.suite_cli.specs.Texts.{outcome_line}
+use Rattle.suite_script.specs.Faults.{fault_line, line_feed, text_code}
+use Rattle.suite_script.specs.Scripts.{Job, Script, script_in}
+use Rattle.suite_script.specs.Texts.{outcome_line}
 
 -- all that a command writes, and whether it tells a fault
 pub data Output : Type 0 where

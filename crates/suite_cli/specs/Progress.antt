@@ -1,16 +1,16 @@
 -- What reading a script line by line comes to.
 use Rattle.std.specs.Prelude.{◌≡◌, ℕ, List, [], Option, Some, None, Result, Ok, Err}
 use Rattle.acl_text.specs.Tables.{Tables}
-use Rattle.suite_cli.specs.declared.fault.LineFault.{LineFault}
-use Rattle.suite_cli.specs.declared.fault.LineError.{LineError}
-use Rattle.suite_cli.specs.declared.fault.LineError.TheVariants.{Faulty, Memory}
-use Rattle.suite_cli.specs.declared.fault.ScriptFault.{ScriptFault}
-use Rattle.suite_cli.specs.declared.fault.ScriptError.{ScriptError}
-use Rattle.suite_cli.specs.declared.fault.ScriptError.TheVariants as script
+use Rattle.suite_script.specs.declared.fault.LineFault.{LineFault}
+use Rattle.suite_script.specs.declared.fault.LineError.{LineError}
+use Rattle.suite_script.specs.declared.fault.LineError.TheVariants.{Faulty, Memory}
+use Rattle.suite_script.specs.declared.fault.ScriptFault.{ScriptFault}
+use Rattle.suite_script.specs.declared.fault.ScriptError.{ScriptError}
+use Rattle.suite_script.specs.declared.fault.ScriptError.TheVariants as script
 use Rattle.suite_cli.specs.declared.script.ScriptReader.{ScriptReader}
 use Rattle.suite_cli.specs.declared.root.Root.{Root}
-use Rattle.suite_cli.specs.Scripts.{Job, Said, Script, jobs_from, scripted, with_job}
-use Rattle.suite_cli.specs.Scripts.Said.{Named, Asked}
+use Rattle.suite_script.specs.Scripts.{Job, Said, Script, jobs_from, scripted, with_job}
+use Rattle.suite_script.specs.Scripts.Said.{Named, Asked}
 
 -- a line said a transaction, or a name that is now known
 abbrev pub SaysLine : Result (Option Job) LineError → Tables → Result Said LineFault → Type 0

@@ -12,13 +12,13 @@ use Rattle.file_ops.specs.declared.operation.Op.{Op}
 use Rattle.file_ops.specs.Lists.{list_of}
 use Rattle.file_ops.specs.Steps.{◌>>=◌, ◌>>◌}
 use Rattle.script_text.specs.Words.{words}
-use Rattle.suite_cli.specs.declared.fault.LineFault.{LineFault}
-use Rattle.suite_cli.specs.declared.fault.ScriptFault.{ScriptFault}
+use Rattle.suite_script.specs.declared.fault.LineFault.{LineFault}
+use Rattle.suite_script.specs.declared.fault.ScriptFault.{ScriptFault}
 use Rattle.suite_cli.specs.declared.root.Root.{Root}
-use Rattle.suite_cli.specs.declared.fault.LineFault.TheVariants.{Form, Order, BadName, NameTwice}
-use Rattle.suite_cli.specs.Words.{Word, word, id, at_end, caller}
-use Rattle.suite_cli.specs.Lists.{init}
-use Rattle.suite_cli.specs.Operations.{kept, operations}
+use Rattle.suite_script.specs.declared.fault.LineFault.TheVariants.{Form, Order, BadName, NameTwice}
+use Rattle.suite_script.specs.Words.{Word, word, id, at_end, caller}
+use Rattle.suite_script.specs.Lists.{init}
+use Rattle.suite_script.specs.Operations.{kept, operations}
 
 -- a line that says nothing
 abbrev pub is_skipped : List ℕ → Bool

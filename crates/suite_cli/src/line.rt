@@ -3,9 +3,9 @@
 ghost use Rattle.std.specs.Prelude.{◌≡◌, IfOk, OnSome};
 ghost use Rattle.file_ops.specs.Lists.{list_of};
 ghost use Rattle.script_text.specs.Words.{words};
-ghost use Rattle.suite_cli.specs.Scripts.{is_skipped, misplaced, no_names, root_in, root_line, job_in, named_in, later_line};
-ghost use Rattle.suite_cli.specs.Readings.{Gives};
-ghost use Rattle.suite_cli.specs.Progress.{SaysLine, GivesUsers, GivesGroups};
+ghost use Rattle.suite_script.specs.Scripts.{is_skipped, misplaced, no_names, root_in, root_line, job_in, named_in, later_line};
+ghost use Rattle.suite_script.specs.Readings.{Gives};
+ghost use Rattle.suite_script.specs.Progress.{SaysLine, GivesUsers, GivesGroups};
 
 use crate::fault::{LineError, LineFault};
 use crate::job::Job;

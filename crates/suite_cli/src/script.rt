@@ -1,8 +1,8 @@
 //! A script, read line by line.
 
 ghost use Rattle.std.specs.Prelude.{◌≡◌, ◌<◌, ◌≤◌, ◌+◌, ◌^◌, IfOk, OnSome, length};
-ghost use Rattle.suite_cli.specs.Progress.{GivesJob, Opens, jobs_left};
-ghost use Rattle.suite_cli.specs.Scripts.{script_in};
+ghost use Rattle.suite_script.specs.Progress.{GivesJob, Opens, jobs_left};
+ghost use Rattle.suite_script.specs.Scripts.{script_in};
 
 use crate::fault::{LineFault, ScriptError, ScriptFault};
 use crate::job::Job;

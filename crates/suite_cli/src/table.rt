@@ -3,8 +3,8 @@
 ghost use Rattle.std.specs.Prelude.{◌≡◌, ◌<◌, ◌≤◌, ◌^◌, ◌++◌, [], true, is_ok, length, OnOk};
 ghost use Rattle.file_ops.specs.Transactions.{replies, table_after, transaction};
 ghost use Rattle.suite_cli.specs.Outputs.{settings_of};
-ghost use Rattle.suite_cli.specs.Scripts.{script_in};
-ghost use Rattle.suite_cli.specs.Texts.{outcome_line};
+ghost use Rattle.suite_script.specs.Scripts.{script_in};
+ghost use Rattle.suite_script.specs.Texts.{outcome_line};
 ghost use Rattle.suite_cli.specs.Runs.{Checks, Moves, Plays, fault_of, script_lines};
 
 use crate::fault::ScriptError;
@@ -124,31 +124,5 @@ fn push_outcome(
         Ok(answers) => push_answered(alloc, text, number, answers.as_slice()),
         Err(ApplyError::Refused(refusal)) => push_refused(text, number, refusal),
         Err(ApplyError::Memory) => Err(AllocError),
-    }
-}
-
-/// Writes the text that is gathered where it is long enough.
-fn write_if_full<O: ByteOut>(writer: &mut O, text: &mut Vec<u8>) -> Result<(), PlayError>
-    ensures { Moves result text.old.items text.new.items (O.written writer.old) (O.written writer.new)
-        (O.failed_writes writer.old) (O.failed_writes writer.new) }
-{
-    if text.len() >= GATHERED {
-        write_gathered(writer, text)?;
-    }
-    Ok(())
-}
-
-/// Writes the text that is gathered, and begins anew.
-fn write_gathered<O: ByteOut>(writer: &mut O, text: &mut Vec<u8>) -> Result<(), PlayError>
-    ensures plays { Plays result text.old.items (O.written writer.old) (O.written writer.new)
-        (O.failed_writes writer.old) (O.failed_writes writer.new) }
-    ensures empty { OnOk result (text.new.items ≡ []) }
-{
-    match write_all(writer, text) {
-        Ok(()) => {
-            text.clear();
-            Ok(())
-        }
-        Err(_) => Err(PlayError::WriteFailed),
     }
 }

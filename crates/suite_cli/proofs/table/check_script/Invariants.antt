@@ -1,7 +1,7 @@
 use Rattle.std.proofs.Common.{◌≡◌, ◌+◌, ◌<◌, ◌^◌, length}
-use Rattle.suite_cli.specs.Progress.{jobs_left}
+use Rattle.suite_script.specs.Progress.{jobs_left}
 use Rattle.suite_cli.specs.Runs.{fault_of}
-use Rattle.suite_cli.specs.Scripts.{script_in}
+use Rattle.suite_script.specs.Scripts.{script_in}
 use Rattle.suite_cli.proofs.table.check_script.Given as goal
 
 abbrev pub invariant-loop-script : goal.invariant-loop-script

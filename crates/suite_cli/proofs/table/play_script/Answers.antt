@@ -1,7 +1,7 @@
 use Rattle.std.proofs.Common.{◌≡◌, ◌∙◌, ◌+◌, ◌<◌, length, arith}
-use Rattle.suite_cli.specs.Progress.{jobs_left}
+use Rattle.suite_script.specs.Progress.{jobs_left}
 use Rattle.suite_cli.specs.Runs.{lines_of, script_lines}
-use Rattle.suite_cli.specs.Scripts.{script_in, with_job}
+use Rattle.suite_script.specs.Scripts.{script_in, with_job}
 use Rattle.suite_cli.proofs.Playing.{after_job, line_of, more_lines, more_ok, opened_lines, opened_ok, wrote_line, wrote_moved, wrote_nothing}
 use Rattle.suite_cli.proofs.table.play_script.Goals as goal
 

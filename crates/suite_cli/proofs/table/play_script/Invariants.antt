@@ -1,7 +1,7 @@
 use Rattle.std.proofs.Common.{◌≡◌, ◌+◌, ◌<◌, ◌^◌, ◌++◌, true, is_ok, length}
-use Rattle.suite_cli.specs.Progress.{jobs_left}
+use Rattle.suite_script.specs.Progress.{jobs_left}
 use Rattle.suite_cli.specs.Runs.{WroteSoFar, lines_of, script_lines}
-use Rattle.suite_cli.specs.Scripts.{script_in}
+use Rattle.suite_script.specs.Scripts.{script_in}
 use Rattle.suite_cli.proofs.table.play_script.Given as goal
 
 abbrev pub invariant-loop-job : goal.invariant-loop-job

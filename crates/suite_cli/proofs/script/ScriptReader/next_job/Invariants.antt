@@ -1,5 +1,5 @@
 use Rattle.std.proofs.Common.{◌≡◌, ◌+◌, ◌≤◌, length}
-use Rattle.suite_cli.specs.Progress.{jobs_left}
+use Rattle.suite_script.specs.Progress.{jobs_left}
 use Rattle.suite_cli.proofs.script.ScriptReader.next_job.Given as goal
 
 abbrev pub invariant-loop-line : goal.invariant-loop-line

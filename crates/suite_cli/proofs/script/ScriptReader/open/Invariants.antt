@@ -1,5 +1,5 @@
 use Rattle.std.proofs.Common.{◌≡◌, ◌+◌, ◌≤◌, length}
-use Rattle.suite_cli.specs.Scripts.{no_names, script_from, script_in}
+use Rattle.suite_script.specs.Scripts.{no_names, script_from, script_in}
 use Rattle.suite_cli.proofs.script.ScriptReader.open.Given as goal
 
 abbrev pub invariant-loop-line : goal.invariant-loop-line

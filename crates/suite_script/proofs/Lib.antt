@@ -1,0 +1,4 @@
+pub mod Ids
+pub mod Steps
+pub mod Fields
+pub mod Gathering
