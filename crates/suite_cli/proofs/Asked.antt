@@ -5,7 +5,8 @@ use Rattle.suite_args.specs.Answering.{Answers}
 use Rattle.suite_args.specs.CommandLine.{Asked, acl, help, nothing, table, topic}
 use Rattle.suite_args.specs.declared.request.Request.TheVariants.{Acl, Help}
 use Rattle.suite_cli.specs.Names.{names_from}
-use Rattle.suite_cli.specs.Outputs.{Output, acl_output, table_output}
+use Rattle.suite_cli.specs.Outputs.{acl_output, table_output}
+use Rattle.suite_script.specs.Outputs.{Output}
 use Rattle.suite_cli.specs.Runs.{Does, Finishes, Helps, IsUnread, LacksMemory, RunsAcl, RunsOn, Streams, done, no_memory}
 use Rattle.suite_script.specs.Scripts.{no_names}
 

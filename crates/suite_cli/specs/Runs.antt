@@ -1,16 +1,12 @@
 -- What a command that ended has done.
-use Rattle.std.specs.Prelude.{◌≡◌, Bool, true, false, alloc_error, Vec, ℕ, ◌<◌, ◌≤◌, ◌⊎◌, List, [], ◌++◌, length, Option, Some, None, Result, Ok, Err}
+use Rattle.std.specs.Prelude.{◌≡◌, Bool, true, false, alloc_error, Vec, ℕ, ◌<◌, ◌≤◌, ◌⊎◌, List, length, Option, Some, None, Result, Ok, Err}
 use Rattle.byte_streams.specs.Streams.{Adds, one_more}
-use Rattle.suite_script.specs.declared.fault.ScriptFault.{ScriptFault}
-use Rattle.suite_script.specs.declared.fault.ScriptError.{ScriptError}
-use Rattle.suite_script.specs.declared.fault.ScriptError.TheVariants as script
-use Rattle.suite_cli.specs.declared.table.PlayError.{PlayError}
-use Rattle.suite_cli.specs.declared.table.PlayError.TheVariants.{WriteFailed, Memory}
 use Rattle.suite_args.specs.CommandLine.{Asked}
 use Rattle.suite_args.specs.CommandLine as asked
+use Rattle.suite_script.specs.Outputs.{Output, Done, Faulty}
+use Rattle.suite_script.specs.Scripts.{no_names}
 use Rattle.suite_cli.specs.Names.{names_from}
-use Rattle.suite_script.specs.Scripts.{Job, Script, no_names}
-use Rattle.suite_cli.specs.Outputs.{Output, acl_output, command_line_fault, memory_line, settings_of, table_lines, table_output, word_fault_line}
+use Rattle.suite_cli.specs.Outputs.{acl_output, command_line_fault, memory_line, table_output, word_fault_line}
 use Rattle.suite_cli.specs.declared.acl.NamesError.{NamesError}
 use Rattle.suite_cli.specs.declared.acl.NamesError.TheVariants as names
 use Rattle.std.specs.declared.alloc.AllocError.{AllocError}
@@ -20,8 +16,6 @@ use Rattle.suite_cli.specs.declared.acl.ListError.TheVariants as list
 use Rattle.acl_text.specs.declared.names.NameError.{NameError}
 use Rattle.acl_text.specs.declared.names.NameError.TheVariants as name
 use Rattle.acl_text.specs.Tables.{Tables}
-use Rattle.suite_cli.specs.Outputs.Output.{Done, Faulty}
-use Rattle.file_ops.specs.Rows.{PlainTable, opening}
 
 -- the statuses
 abbrev pub done : ℕ

@@ -7,10 +7,10 @@ ghost use Rattle.suite_cli.specs.Outputs.{acl_output, word_fault_line};
 ghost use Rattle.suite_cli.specs.Runs.{GivesList, GivesName, GivesNames, is_added};
 ghost use Rattle.suite_script.specs.Scripts.{no_names};
 
-use crate::code::push_text_code;
 use acl_text::{NameError, Names, TextFault, append_acl, read_acl};
 use script_text::{push_number, read_number};
 use std::alloc::{AllocError, Global};
+use suite_script::push_text_code;
 
 /// Why the words after `acl` give no names.
 #[derive(Clone, Copy, Debug)]

@@ -1,5 +1,7 @@
 -- What a command writes, as a function of what it reads.
-use Rattle.std.specs.Prelude.{ℕ, List, [], Result, Ok, Err}
+use Rattle.std.specs.Prelude.{◌≡◌, ℕ, Bool, true, false, List, Result, Ok, Err}
+use Rattle.suite_script.specs.declared.fault.ScriptError.{ScriptError}
+use Rattle.suite_script.specs.declared.fault.ScriptError.TheVariants as script
 use Rattle.suite_script.specs.declared.fault.ScriptFault.{ScriptFault}
 use Rattle.suite_script.specs.Faults.{fault_line}
 
@@ -13,7 +15,16 @@ abbrev pub script_output : {Script : Type 0} → (Script → List ℕ) → Resul
 script_output printed (Ok script) = Done (printed script)
 script_output printed (Err fault) = Faulty (fault_line fault)
 
--- the lines of a script that has no fault
-abbrev pub script_lines : {Script : Type 0} → (Script → List ℕ) → Result Script ScriptFault → List ℕ
-script_lines printed (Ok script) = printed script
-script_lines printed (Err fault) = []
+abbrev pub is_done : Output → Bool
+is_done (Done text) = true
+is_done (Faulty line) = false
+
+abbrev pub text_of : Output → List ℕ
+text_of (Done text) = text
+text_of (Faulty line) = line
+
+-- a script was looked through: it has no fault, or this is its first
+abbrev pub Finds : Result (Unit {0}) ScriptError → Output → Type 0
+Finds (Ok nothing) output = is_done output ≡ true
+Finds (Err (script.Faulty fault)) output = output ≡ Faulty (fault_line fault)
+Finds (Err script.Memory) output = Unit {0}

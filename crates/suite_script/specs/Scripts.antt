@@ -154,6 +154,9 @@ pub record Language (A : Type 0) : Type 0 where
   pub begins : Word → Bool
   pub own : Tables → Word → List Word → Result A LineFault
 
+abbrev pub language_of : {A : Type 0} → (Word → Bool) → (Word → Bool) → (Tables → Word → List Word → Result A LineFault) → Language A
+language_of is_known begins own = record { is_known = is_known; begins = begins; own = own }
+
 abbrev pub own_line : {A : Type 0} → Result A LineFault → Result (Said A) LineFault
 own_line (Ok own) = Ok (Own own)
 own_line (Err fault) = Err fault
@@ -183,3 +186,17 @@ owns_in language begun names (line ∷ more) =
 -- what the lines that are left say beside names; or the first faulty one
 abbrev pub owns : {A : Type 0} → Language A → Pending → Result (List A) ScriptFault
 owns language script = owns_in language script.begun script.names script.lines
+
+-- a script: what its header says, and the lines of the command's own
+pub record Script (Header Own : Type 0) : Type 0 where
+  pub header : Header
+  pub owns : List Own
+
+abbrev pub scripted : {Header Own : Type 0} → Header → Result (List Own) ScriptFault → Result (Script Header Own) ScriptFault
+scripted header (Ok owns) = Ok (record { header = header; owns = owns })
+scripted header (Err fault) = Err fault
+
+-- a script whose header was read, and then the lines in the command's language
+abbrev pub script_of : {Header Own : Type 0} → (Header → Language Own) → Result (Headed Header) ScriptFault → Result (Script Header Own) ScriptFault
+script_of language (Ok headed) = scripted headed.value (owns (language headed.value) headed.rest)
+script_of language (Err fault) = Err fault

@@ -1,11 +1,11 @@
 //! A script, read line by line.
 
-ghost use Rattle.std.specs.Prelude.{◌≡◌, ◌∷◌, [], ◌<◌, ◌≤◌, ◌+◌, ◌-◌, ◌^◌, Ok, Err, MatchOption, MatchResult, IfOk, OnSome, length};
+ghost use Rattle.std.specs.Prelude.{◌≡◌, ◌∷◌, [], ◌<◌, ◌≤◌, ◌+◌, ◌^◌, Ok, Err, MatchOption, MatchResult, IfOk, OnSome, length};
 ghost use Rattle.script_text.specs.Words.{words};
 ghost use Rattle.suite_script.specs.Progress.{Checks, GivesOwn, Heads, SaysLine, fault_of};
-ghost use Rattle.suite_script.specs.Scripts.{header_line, is_skipped, later_line, lines_from, owns, whole, words_after};
+ghost use Rattle.suite_script.specs.Scripts.{header_line, is_skipped, language_of, later_line, lines_from, owns, whole, words_after};
 
-use crate::fault::{LineError, LineFault, ScriptError, ScriptFault};
+use crate::fault::{LineError, LineFault, ScriptError};
 use crate::language::Language;
 use crate::line::Line;
 use crate::names::{misplaced, read_name};
@@ -47,17 +47,18 @@ fn is_skipped(line: &[u8]) -> bool
     matches!(line, [] | [b'#', ..])
 }
 
-/// The next line that says something; after it the number is the next one's.
-fn next_said<'a>(lines: &mut Lines<'a>, number: &mut u64) -> Option<&'a [u8]>
+/// The next line that says something, with its number; after it the number is the next one's.
+fn next_said<'a>(lines: &mut Lines<'a>, number: &mut u64) -> Option<(u64, &'a [u8])>
     requires { number.old + length lines.old < 2 ^ 63 }
-    ensures line { MatchOption result (lines_from number.old lines.old ≡ [])
-        (λ line. lines_from number.old lines.old ≡ record { number = number.new - 1; words = words line.now } ∷ lines_from number.new lines.new) }
+    ensures line { MatchOption result ((lines_from number.old lines.old ≡ []) × (length lines.new ≡ 0))
+        (λ said. lines_from number.old lines.old ≡ record { number = said.0; words = words said.1.now } ∷ lines_from number.new lines.new) }
     ensures room { number.new + length lines.new ≡ number.old + length lines.old }
 {
     while let Some(line) = lines.next() {
+        let place = *number;
         *number += 1;
         if !is_skipped(line) {
-            return Some(line);
+            return Some((place, line));
         }
     }
     None
@@ -78,34 +79,31 @@ impl<'a> ScriptReader<'a> {
         }
     }
 
-    /// The next line that says something, if there is one.
-    fn next_line(&mut self) -> Option<Line<'a>>
-        ensures line { MatchOption result (self.old.lines ≡ []) (λ line. self.old.lines ≡ line ∷ self.new.lines) }
+    /// The next line that says something; or the number of the line after the last one.
+    fn next_line(&mut self) -> Result<Line<'a>, u64>
+        ensures line { MatchResult result (λ line. self.old.lines ≡ line ∷ self.new.lines) (λ end. (self.old.lines ≡ []) × (end ≡ self.old.end)) }
         ensures same { self.new ≡ record self.old { lines = self.new.lines } }
     {
-        let line = next_said(&mut self.left, &mut self.number)?;
-        Some(Line {
-            number: self.number - 1,
-            words: Words::new(line),
-        })
+        match next_said(&mut self.left, &mut self.number) {
+            Some((number, line)) => Ok(Line {
+                number,
+                words: Words::new(line),
+            }),
+            None => Err(self.number),
+        }
     }
 
     /// The next line, which has to begin with this word: its number, and the words after it.
     pub fn header_line<L: Language>(&mut self, word: &[u8]) -> Result<Line<'a>, ScriptError>
         ensures { Heads result self.new (header_line L.is_known word.now self.old) }
     {
-        let Some(mut line) = self.next_line() else {
-            return Err(ScriptError::Faulty(ScriptFault {
-                line: self.number,
-                fault: LineFault::Order,
-            }));
+        let mut line = match self.next_line() {
+            Ok(line) => line,
+            Err(end) => return Err(LineError::Faulty(LineFault::Order).at(end)),
         };
         match words_after::<L>(word, &mut line.words) {
             Ok(()) => Ok(line),
-            Err(fault) => Err(ScriptError::Faulty(ScriptFault {
-                line: line.number,
-                fault,
-            })),
+            Err(fault) => Err(LineError::Faulty(fault).at(line.number)),
         }
     }
 
@@ -115,11 +113,11 @@ impl<'a> ScriptReader<'a> {
         alloc: Global,
         language: &L,
     ) -> Result<Option<L::Own>, ScriptError>
-        ensures own { let of = record { is_known = L.is_known; begins = L.begins; own = L.own language.now } in
+        ensures own { let of = language_of L.is_known L.begins (L.own language.now) in
             GivesOwn result (owns of self.old) (owns of self.new) }
         ensures fewer { IfOk result (λ own. OnSome own (length self.new.lines < length self.old.lines)) }
     {
-        while let Some(line) = self.next_line() {
+        while let Ok(line) = self.next_line() {
             if let Some(own) = self.read_line(alloc, language, line)? {
                 return Ok(Some(own));
             }
@@ -129,8 +127,7 @@ impl<'a> ScriptReader<'a> {
 
     /// Looks through what is left for its first fault.
     pub fn check<L: Language>(&mut self, alloc: Global, language: &L) -> Result<(), ScriptError>
-        ensures { let of = record { is_known = L.is_known; begins = L.begins; own = L.own language.now } in
-            Checks result (fault_of (owns of self.old)) }
+        ensures { Checks result (fault_of (owns (language_of L.is_known L.begins (L.own language.now)) self.old)) }
     {
         while self.next_own(alloc, language)?.is_some() {}
         Ok(())
@@ -144,7 +141,7 @@ impl<'a> ScriptReader<'a> {
         line: Line<'_>,
     ) -> Result<Option<L::Own>, ScriptError>
         ensures { SaysLine result line.entry.number self.old self.new
-            (later_line (record { is_known = L.is_known; begins = L.begins; own = L.own language.now }) self.old.begun self.old.names line.entry.words) }
+            (later_line (language_of L.is_known L.begins (L.own language.now)) self.old.begun self.old.names line.entry.words) }
     {
         let number = line.number;
         let mut words = line.words;

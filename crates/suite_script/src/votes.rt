@@ -1,6 +1,6 @@
 //! Votes as words, and as they are printed.
 
-ghost use Rattle.std.specs.Prelude.{◌≡◌, ◌+◌, ◌<◌, ◌==◌, ◌++◌, ◌∷◌, [], codes, None, All, MatchResult, OnOk};
+ghost use Rattle.std.specs.Prelude.{◌≡◌, ◌+◌, ◌<◌, ◌==◌, ◌++◌, ◌∷◌, [], codes, None, All, IfOk, MatchResult, OnOk};
 ghost use Rattle.std.specs.List.{flat_map, range_with_len, slice_split};
 ghost use Rattle.suite_script.specs.Votes.{configuration_of, field_text, fields_text, judged, last_server, listed_votes, reps_from, votes_in, votes_text};
 
@@ -45,7 +45,8 @@ impl Listed {
 
 /// Votes as a word, where there are so many servers.
 pub fn read_votes(servers: usize, word: &[u8]) -> Result<Votes, LineFault>
-    ensures { result ≡ votes_in servers word.now }
+    ensures votes { result ≡ votes_in servers word.now }
+    ensures known { IfOk result (λ votes. All (λ rep. rep.0 < servers) votes.reps) }
 {
     let (fields, r, w) = split_word(word)?;
     let Some(listed) = read_fields(fields) else {
@@ -98,7 +99,8 @@ fn read_fields(fields: &[u8]) -> Option<Listed>
 
 /// Votes that are valid, or their first fault.
 fn judge(servers: usize, reps: &[(u8, u8)], r: u16, w: u16) -> Result<Votes, LineFault>
-    ensures { result ≡ judged servers (record { reps = reps.now; r = r; w = w }) }
+    ensures votes { result ≡ judged servers (record { reps = reps.now; r = r; w = w }) }
+    ensures known { IfOk result (λ votes. All (λ rep. rep.0 < servers) votes.reps) }
 {
     match Votes::new(servers, reps, r, w) {
         Ok(votes) => Ok(votes),

@@ -1,10 +1,10 @@
 use Rattle.std.proofs.Common.{◌≡◌, ◌≤◌, length}
-use Rattle.suite_script.specs.Scripts.{owns}
+use Rattle.suite_script.specs.Scripts.{language_of, owns}
 use Rattle.suite_script.proofs.script.ScriptReader.next_own.Given as goal
 
 abbrev pub invariant-loop-line : goal.invariant-loop-line
 invariant-loop-line g l =
-    let of = record { is_known = g.L.Language.is_known; begins = g.L.Language.begins; own = g.L.Language.own l.language } in
+    let of = language_of g.L.Language.is_known g.L.Language.begins (g.L.Language.own l.language) in
     record {
       same : owns of l.self ≡ owns of l.fn.self;
       fewer : length l.self.lines ≤ length l.fn.self.lines;

@@ -1,0 +1,22 @@
+-- Steps of an agent that has no job change nothing.
+use Rattle.std.proofs.Common.{◌≡◌, ℕ, zero, suc, Bool, true, false, List, [], ◌++◌, Option, Some, None, refl, ◌∙◌, ap}
+use Rattle.rep_core.specs.declared.request.Request.{Request}
+use Rattle.txn_core.specs.Doing.{Doing, Fixed}
+use Rattle.txn_core.specs.Agents.{Agent, is_idle, next_in, next_of}
+use Rattle.run_core.specs.Worlds.{Actor, World, actor_at, asks, has_no_job, quiet, step, steps_once}
+use Rattle.run_core.specs.declared.event.Event.TheVariants.{Step}
+use Rattle.suite_play.specs.Playing.{before, of_event, steps}
+
+asks_nothing : (fixed : Fixed) (doing : Option Doing) → is_idle doing ≡ true → next_in fixed doing ≡ None
+asks_nothing fixed None idle = refl
+asks_nothing fixed (Some doing) idle = cc
+
+steps_quietly : (fixed : Fixed) (world : World) (number : ℕ) (actor : Option Actor) → has_no_job actor ≡ true → steps_once fixed world number actor ≡ quiet world
+steps_quietly fixed world number (Some actor) idle = ap (asks fixed world number actor) (asks_nothing fixed actor.agent.doing idle)
+steps_quietly fixed world number None idle = refl
+
+pub steps_idle : (fixed : Fixed) (world : World) (agent count : ℕ) → has_no_job (actor_at world agent) ≡ true → steps fixed world agent count ≡ record { text = []; world = world }
+steps_idle fixed world agent zero idle = refl
+steps_idle fixed world agent (suc more) idle =
+    ap (λ once. before (of_event once) (λ next. steps fixed next agent more)) (steps_quietly fixed world agent (actor_at world agent) idle)
+    ∙ ap (λ later. before (of_event (quiet world)) (λ _. later)) (steps_idle fixed world agent more idle)

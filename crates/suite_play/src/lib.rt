@@ -1,0 +1,10 @@
+//! The command `play`: a script of events, played on a world of servers and agents.
+#![tactic(auto)]
+
+mod caches;
+mod command;
+mod header;
+mod language;
+mod outcome;
+mod places;
+mod verb;
