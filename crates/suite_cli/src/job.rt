@@ -12,7 +12,7 @@ pub(crate) struct Job {
 }
 
 impl Model for Job {
-    ghost use Rattle.suite_script.specs.Scripts as scripts;
+    ghost use Rattle.suite_cli.specs.Scripts as scripts;
 
     ghost Value = { scripts.Job };
 

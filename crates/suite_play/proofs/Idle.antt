@@ -1,5 +1,5 @@
 -- Steps of an agent that has no job change nothing.
-use Rattle.std.proofs.Common.{◌≡◌, ℕ, zero, suc, Bool, true, false, List, [], ◌++◌, Option, Some, None, refl, ◌∙◌, ap}
+use Rattle.std.proofs.Common.{◌≡◌, ℕ, zero, suc, ◌-◌, ◌<◌, Bool, true, false, List, [], ◌++◌, Option, Some, None, refl, ◌∙◌, ap, arith}
 use Rattle.rep_core.specs.declared.request.Request.{Request}
 use Rattle.txn_core.specs.Doing.{Doing, Fixed}
 use Rattle.txn_core.specs.Agents.{Agent, is_idle, next_in, next_of}
@@ -16,7 +16,20 @@ steps_quietly fixed world number (Some actor) idle = ap (asks fixed world number
 steps_quietly fixed world number None idle = refl
 
 pub steps_idle : (fixed : Fixed) (world : World) (agent count : ℕ) → has_no_job (actor_at world agent) ≡ true → steps fixed world agent count ≡ record { text = []; world = world }
+unfolding steps
 steps_idle fixed world agent zero idle = refl
 steps_idle fixed world agent (suc more) idle =
     ap (λ once. before (of_event once) (λ next. steps fixed next agent more)) (steps_quietly fixed world agent (actor_at world agent) idle)
     ∙ ap (λ later. before (of_event (quiet world)) (λ _. later)) (steps_idle fixed world agent more idle)
+
+-- one step, and the others
+pub more_steps : (fixed : Fixed) (world : World) (agent count : ℕ) → 0 < count → steps fixed world agent count ≡ before (of_event (step fixed world (Step agent))) (λ next. steps fixed next agent (count - 1))
+unfolding steps
+more_steps fixed world agent zero some = absurd (omega arith)
+more_steps fixed world agent (suc more) some =
+    let is : suc more - 1 ≡ more = omega arith in
+    rw is refl
+
+pub no_steps : (fixed : Fixed) (world : World) (agent : ℕ) → steps fixed world agent 0 ≡ record { text = []; world = world }
+unfolding steps
+no_steps fixed world agent = refl

@@ -1,7 +1,6 @@
 -- The header of a script of events: how many servers and agents there are, the opening votes, the root folder, and the
 -- limits of each agent's cache. Each number is judged where it stands.
-use Rattle.std.specs.Prelude.{ℕ, ◌-◌, ◌==◌, ◌^◌, nat_lt, Bool, ◌||◌, if◌then◌else◌, List, [], ◌∷◌, codes, Result, Ok, Err}
-use Rattle.std.specs.List.{list_any}
+use Rattle.std.specs.Prelude.{ℕ, ◌-◌, ◌==◌, ◌^◌, nat_lt, Bool, ◌||◌, if◌then◌else◌, List, codes, Result, Ok, Err}
 use Rattle.std.specs.Str.{bytes_eq}
 use Rattle.file_ops.specs.Steps.{◌>>=◌, ◌>>◌, found_or}
 use Rattle.suite_prefix.specs.SettingsRules.{Opening, largest_cache, most_agents, most_servers, most_slots}
@@ -67,7 +66,8 @@ caches_in words = do
 
 -- the words that begin the lines of a script of events
 abbrev pub is_header : Word → Bool
-is_header text = list_any (λ known. bytes_eq text known) (codes "servers" ∷ codes "agents" ∷ codes "votes" ∷ codes "root" ∷ codes "cache" ∷ [])
+is_header text =
+    bytes_eq text (codes "servers") || bytes_eq text (codes "agents") || bytes_eq text (codes "votes") || bytes_eq text (codes "root") || bytes_eq text (codes "cache")
 
 abbrev pub is_known : Word → Bool
 is_known text = is_header text || is_command text

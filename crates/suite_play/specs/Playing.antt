@@ -22,12 +22,12 @@ abbrev pub before : Printed → (World → Printed) → Printed
 before first later = record { text = first.text ++ (later first.world).text; world = (later first.world).world }
 
 -- so many steps of an agent; once it has no job they change nothing
-abbrev pub steps : Fixed → World → ℕ → ℕ → Printed
+unfoldable pub steps : Fixed → World → ℕ → ℕ → Printed
 steps fixed world agent zero = record { text = []; world = world }
 steps fixed world agent (suc more) = before (of_event (step fixed world (Step agent))) (λ next. steps fixed next agent more)
 
 -- Steps until an agent has no job: as many as a count of steps can tell, which no job comes to.
-unfoldable pub endless : ℕ
+abbrev pub endless : ℕ
 endless = last_number
 
 abbrev pub played : Fixed → World → Command → Printed

@@ -63,7 +63,11 @@ impl Language for Places {
 fn is_header(word: &[u8]) -> bool
     ensures { result ≡ is_header word.now }
 {
-    matches!(word, b"servers" | b"agents" | b"votes" | b"root" | b"cache")
+    word == b"servers".as_slice()
+        || word == b"agents".as_slice()
+        || word == b"votes".as_slice()
+        || word == b"root".as_slice()
+        || word == b"cache".as_slice()
 }
 
 /// What the words after a verb say.

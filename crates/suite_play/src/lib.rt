@@ -7,4 +7,7 @@ mod header;
 mod language;
 mod outcome;
 mod places;
+mod player;
 mod verb;
+
+pub use player::{check_events, play_events};

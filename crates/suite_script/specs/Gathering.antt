@@ -18,9 +18,7 @@ Plays (Err Memory) lines before after failures failures_after = Unit {0}
 
 -- text that was gathered is written, or is gathered still
 abbrev pub IsMoved : List ℕ → List ℕ → Option (List ℕ) → Option (List ℕ) → Type 0
-IsMoved gathered left None after = Unit {0}
-IsMoved gathered left (Some written) None = ⊥
-IsMoved gathered left (Some written) (Some all) = all ++ left ≡ written ++ gathered
+IsMoved gathered left before after = WroteSoFar before gathered left after
 
 abbrev pub Moves : Result (Unit {0}) PlayError → List ℕ → List ℕ → Option (List ℕ) → Option (List ℕ) → ℕ → ℕ → Type 0
 Moves (Ok nothing) gathered left before after failures failures_after = IsMoved gathered left before after × (failures_after ≡ failures)

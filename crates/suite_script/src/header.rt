@@ -1,6 +1,6 @@
 //! Lines of headers.
 
-ghost use Rattle.std.specs.Prelude.{◌≡◌, IfOk, codes};
+ghost use Rattle.std.specs.Prelude.{◌≡◌, ◌≤◌, IfOk, codes, length};
 ghost use Rattle.file_ops.specs.Lists.{list_of};
 ghost use Rattle.suite_script.specs.Progress.{Heads};
 ghost use Rattle.suite_script.specs.Readings.{Gives};
@@ -22,7 +22,8 @@ pub fn read_root<L: Language>(
     alloc: Global,
     script: &mut ScriptReader<'_>,
 ) -> Result<Root, ScriptError>
-    ensures { Heads result script.new (headed L.is_known (codes "root") root_in script.old) }
+    ensures root { Heads result script.new (headed L.is_known (codes "root") root_in script.old) }
+    ensures fewer { length script.new.lines ≤ length script.old.lines }
 {
     let mut line = script.header_line::<L>(b"root")?;
     let names = Names::new(alloc);

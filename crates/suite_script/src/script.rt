@@ -83,6 +83,7 @@ impl<'a> ScriptReader<'a> {
     fn next_line(&mut self) -> Result<Line<'a>, u64>
         ensures line { MatchResult result (λ line. self.old.lines ≡ line ∷ self.new.lines) (λ end. (self.old.lines ≡ []) × (end ≡ self.old.end)) }
         ensures same { self.new ≡ record self.old { lines = self.new.lines } }
+        ensures fewer { length self.new.lines ≤ length self.old.lines }
     {
         match next_said(&mut self.left, &mut self.number) {
             Some((number, line)) => Ok(Line {
@@ -95,7 +96,8 @@ impl<'a> ScriptReader<'a> {
 
     /// The next line, which has to begin with this word: its number, and the words after it.
     pub fn header_line<L: Language>(&mut self, word: &[u8]) -> Result<Line<'a>, ScriptError>
-        ensures { Heads result self.new (header_line L.is_known word.now self.old) }
+        ensures line { Heads result self.new (header_line L.is_known word.now self.old) }
+        ensures fewer { length self.new.lines ≤ length self.old.lines }
     {
         let mut line = match self.next_line() {
             Ok(line) => line,
