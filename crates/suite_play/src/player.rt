@@ -5,7 +5,8 @@ ghost use Rattle.std.specs.List.{flat_map};
 ghost use Rattle.suite_play.specs.Outputs.{places_of, play_output};
 ghost use Rattle.suite_play.specs.Playing.{endless, of_event, played, steps};
 ghost use Rattle.suite_play.specs.Texts.{audit_lines, item_line};
-ghost use Rattle.run_core.specs.Worlds.{audit_of, step};
+ghost use Rattle.run_core.specs.Worlds.{step};
+ghost use Rattle.txn_core.specs.Agents.{fixed_of};
 ghost use Rattle.suite_script.specs.Gathering.{Moves, Plays};
 ghost use Rattle.suite_script.specs.Outputs.{Finds, is_done, text_of};
 
@@ -81,9 +82,9 @@ fn play_command<O: ByteOut>(
     text: &mut Vec<u8>,
     writer: &mut O,
 ) -> Result<(), PlayError>
-    ensures printed { Moves result (text.old.items ++ (played world.old.fixed world.old.world command.now).text) text.new.items
+    ensures printed { Moves result (text.old.items ++ (played (fixed_of world.old.given) world.old.world command.now).text) text.new.items
         (O.written writer.old) (O.written writer.new) (O.failed_writes writer.old) (O.failed_writes writer.new) }
-    ensures world { OnOk result (world.new ≡ record world.old { world = (played world.old.fixed world.old.world command.now).world }) }
+    ensures world { OnOk result (world.new ≡ record world.old { world = (played (fixed_of world.old.given) world.old.world command.now).world }) }
 {
     match command {
         Command::Event(event) => push_event(alloc, world, event, text)?,
@@ -103,8 +104,8 @@ fn push_event(
     event: &Event,
     text: &mut Vec<u8>,
 ) -> Result<(), AllocError>
-    ensures printed { OnOk result (text.new.items ≡ text.old.items ++ (of_event (step world.old.fixed world.old.world event.now)).text) }
-    ensures world { OnOk result (world.new ≡ record world.old { world = (of_event (step world.old.fixed world.old.world event.now)).world }) }
+    ensures printed { OnOk result (text.new.items ≡ text.old.items ++ (of_event (step (fixed_of world.old.given) world.old.world event.now)).text) }
+    ensures world { OnOk result (world.new ≡ record world.old { world = (of_event (step (fixed_of world.old.given) world.old.world event.now)).world }) }
 {
     let done = world.step(event)?;
     match &done.outcome {
@@ -121,13 +122,12 @@ fn push_steps(
     count: u64,
     text: &mut Vec<u8>,
 ) -> Result<(), AllocError>
-    ensures printed { OnOk result (text.new.items ≡ text.old.items ++ (steps world.old.fixed world.old.world agent count).text) }
-    ensures world { OnOk result (world.new ≡ record world.old { world = (steps world.old.fixed world.old.world agent count).world }) }
+    ensures printed { OnOk result (text.new.items ≡ text.old.items ++ (steps (fixed_of world.old.given) world.old.world agent count).text) }
+    ensures world { OnOk result (world.new ≡ record world.old { world = (steps (fixed_of world.old.given) world.old.world agent count).world }) }
 {
-    let step = Event::Step { agent };
     let mut left = count;
-    while left > 0 && !world.is_idle(agent) {
-        push_event(alloc, world, &step, text)?;
+    while left > 0 && !world.idle(agent) {
+        push_event(alloc, world, &Event::Step { agent }, text)?;
         left -= 1;
     }
     Ok(())

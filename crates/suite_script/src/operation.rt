@@ -65,11 +65,7 @@ impl Verb {
 
 /// The operations of the words that are left, with a semicolon between each two. No more are kept than
 /// tell what their transaction answers, and all are read for their faults.
-pub fn read_operations(
-    alloc: Global,
-    names: &Names,
-    words: Words<'_>,
-) -> Result<Vec<Op>, LineError>
+pub fn read_operations(alloc: Global, names: &Names, words: Words<'_>) -> Result<Vec<Op>, LineError>
     ensures kept { Gives (result_map_both (λ ops. ops.items) (λ e. e) result) (ok_map kept (operations names.now words.entry)) }
     ensures enough { KeptAreEnough }
 {

@@ -1,6 +1,7 @@
 use Rattle.std.proofs.Common.{◌≡◌, ◌∙◌, ◌<◌, ◌++◌, length, ap, refl, sym}
 use Rattle.suite_play.specs.Headers.{header}
 use Rattle.suite_play.specs.Outputs.{language, lines_of, play_output}
+use Rattle.txn_core.specs.Agents.{fixed_of}
 use Rattle.suite_play.specs.Playing.{all_lines, played}
 use Rattle.suite_play.proofs.Lines.{commands}
 use Rattle.suite_script.proofs.Gathering.{plays_all, wrote_line, wrote_moved, wrote_nothing}
@@ -27,7 +28,7 @@ loop-command-preserved g c =
     let before = owns language c.loop-command.script in
     let after = owns language c.next_own.new.self in
     let command = c.in-Ok-Some.command in
-    let fixed = c.loop-command.world.fixed in
+    let fixed = fixed_of c.loop-command.world.given in
     let world = c.loop-command.world.world in
     let printed = played fixed world command in
     let given : before ≡ with_own command after = rw c.in-Ok-Some.field-0-is at c.in-Ok-Some.ensures.own in
@@ -49,6 +50,6 @@ returns g c =
     let language = commands c.places_of-places.result in
     let world = c.loop-command.world in
     plays_all c.write_gathered.result (g.O.ByteOut.written c.args.writer.now) (g.O.ByteOut.written c.loop-command.writer) (g.O.ByteOut.written c.write_gathered.new.writer) (text_of (play_output c.args.text.now))
-    c.loop-command.gathered.items (left_lines (all_lines world.fixed world.world) (owns language c.loop-command.script))
+    c.loop-command.gathered.items (left_lines (all_lines (fixed_of world.given) world.world) (owns language c.loop-command.script))
     (g.O.ByteOut.failed_writes c.args.writer.now) (g.O.ByteOut.failed_writes c.loop-command.writer) (g.O.ByteOut.failed_writes c.write_gathered.new.writer)
-    c.loop-command.invariant.written (ap (left_lines (all_lines world.fixed world.world)) none) c.loop-command.invariant.failures c.write_gathered.ensures.plays
+    c.loop-command.invariant.written (ap (left_lines (all_lines (fixed_of world.given) world.world)) none) c.loop-command.invariant.failures c.write_gathered.ensures.plays
