@@ -37,8 +37,15 @@ fn settings_of(servers: usize, agents: usize, c0: Votes, root: Root, caches: Cac
     requires known { All (λ rep. rep.0 < servers) c0.reps }
     requires caches { (caches.budget ≤ LARGEST_CACHE) × (caches.quota ≤ LARGEST_CACHE) × (caches.slots ≤ MOST_SLOTS) }
     ensures { result ≡ record {
-      servers = servers; agents = agents; c0 = c0; root_owner = root.owner; root_group = root.group; root_acl = root.acl;
-      budget = caches.budget; quota = caches.quota; slots = caches.slots;
+      servers = servers;
+      agents = agents;
+      c0 = c0;
+      root_owner = root.owner;
+      root_group = root.group;
+      root_acl = root.acl;
+      budget = caches.budget;
+      quota = caches.quota;
+      slots = caches.slots;
     } }
 {
     Settings::new(
@@ -56,11 +63,7 @@ fn settings_of(servers: usize, agents: usize, c0: Votes, root: Root, caches: Cac
 }
 
 /// The next line, which begins with this word and tells how many there are.
-fn read_count(
-    script: &mut ScriptReader<'_>,
-    word: &[u8],
-    most: usize,
-) -> Result<usize, ScriptError>
+fn read_count(script: &mut ScriptReader<'_>, word: &[u8], most: usize) -> Result<usize, ScriptError>
     ensures count { Heads result script.new (headed is_known word.now (count_in most) script.old) }
     ensures range { IfOk result (λ count. (1 ≤ count) × (count ≤ most)) }
 {
@@ -147,9 +150,7 @@ fn limit_of(word: &[u8], most: usize) -> Result<usize, LineFault>
     ensures range { IfOk result (λ given. given ≤ most) }
 {
     match read_number(word, u64::MAX) {
-        Some(given) if given > most as u64 => {
-            Err(LineFault::Settings(SettingsFault::BadCache))
-        }
+        Some(given) if given > most as u64 => { Err(LineFault::Settings(SettingsFault::BadCache)) }
         Some(given) => Ok(given as usize),
         None => Err(LineFault::Form),
     }

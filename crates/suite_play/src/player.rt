@@ -43,11 +43,7 @@ fn places_of(settings: &Settings) -> Places
 }
 
 /// Plays a script of events that has no fault, and writes what it prints.
-pub fn play_events<O: ByteOut>(
-    alloc: Global,
-    text: &[u8],
-    writer: &mut O,
-) -> Result<(), PlayError>
+pub fn play_events<O: ByteOut>(alloc: Global, text: &[u8], writer: &mut O) -> Result<(), PlayError>
     requires short { length text.now < 2 ^ 60 }
     requires faultless { is_done (play_output text.now) ≡ true }
     ensures { Plays result (text_of (play_output text.now)) (O.written writer.old) (O.written writer.new)

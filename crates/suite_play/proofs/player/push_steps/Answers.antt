@@ -1,12 +1,10 @@
-use Rattle.std.proofs.Common.{◌≡◌, ◌∙◌, ◌-◌, true, [], ◌++◌, ap, sym, append_assoc, arith, rules}
-use Rattle.std.proofs.lemmas.List.{append-nil}
-use Rattle.run_core.specs.Worlds.{actor_at, has_no_job, step}
+use Rattle.std.proofs.Common.{◌≡◌, ◌∙◌, ◌-◌, ◌++◌, ap, sym, append_assoc, arith}
+use Rattle.run_core.specs.Worlds.{step}
 use Rattle.run_core.specs.declared.event.Event.TheVariants.{Step}
 use Rattle.txn_core.specs.Agents.{fixed_of}
 use Rattle.suite_play.specs.Playing.{of_event, steps}
-use Rattle.suite_play.proofs.Idle.{more_steps, no_steps, steps_idle}
+use Rattle.suite_play.proofs.Idle.{ended_text, ended_world, more_steps, no_steps, steps_idle}
 use Rattle.suite_play.proofs.player.push_steps.Goals as goal
-use Rattle.suite_play.proofs.player.push_steps.Goals.{then-loop-left-test+else-not-idle, else-loop-left-test}
 
 pub loop-left-preserved : goal.loop-left-preserved
 loop-left-preserved c =
@@ -31,34 +29,30 @@ loop-left-preserved c =
           ∙ c.loop-left.invariant.world;
     }
 
-pub returns-clause-printed : goal.returns-clause-printed
-returns-clause-printed c =
+pub returns-else-not-idle-clause-printed : goal.returns-else-not-idle-clause-printed
+returns-else-not-idle-clause-printed c =
     let here = c.loop-left.world in
-    let fixed = fixed_of here.given in
-    let text = c.loop-left.text.items in
-    let nothing : steps fixed here.world c.args.agent c.loop-left.left ≡ record { text = []; world = here.world } =
-    elim c.loop-left-test.branch [
-      | then-loop-left-test+else-not-idle w ↦
-          let idle : has_no_job (actor_at here.world c.args.agent) ≡ true = search rules in
-          steps_idle fixed here.world c.args.agent c.loop-left.left idle
-      | else-loop-left-test w ↦
-          let none : c.loop-left.left ≡ 0 = omega arith in
-          rw none (no_steps fixed here.world c.args.agent)
-    ] in
-    sym (append-nil text) ∙ ap (λ all. text ++ all.text) (sym nothing) ∙ c.loop-left.invariant.printed
+    let idle = sym c.idle.ensures ∙ c.if-not-idle.false in
+    ended_text (steps (fixed_of here.given) here.world c.args.agent c.loop-left.left) (steps (fixed_of c.args.world.now.given) c.args.world.now.world c.args.agent c.args.count) here.world
+    c.loop-left.text.items c.args.text.now.items (steps_idle (fixed_of here.given) here.world c.args.agent c.loop-left.left idle) c.loop-left.invariant.printed
 
-pub returns-clause-world : goal.returns-clause-world
-returns-clause-world c =
+pub returns-else-not-idle-clause-world : goal.returns-else-not-idle-clause-world
+returns-else-not-idle-clause-world c =
     let here = c.loop-left.world in
-    let fixed = fixed_of here.given in
-    let nothing : steps fixed here.world c.args.agent c.loop-left.left ≡ record { text = []; world = here.world } =
-    elim c.loop-left-test.branch [
-      | then-loop-left-test+else-not-idle w ↦
-          let idle : has_no_job (actor_at here.world c.args.agent) ≡ true = search rules in
-          steps_idle fixed here.world c.args.agent c.loop-left.left idle
-      | else-loop-left-test w ↦
-          let none : c.loop-left.left ≡ 0 = omega arith in
-          rw none (no_steps fixed here.world c.args.agent)
-    ] in
-    let same = sym (ap (λ all. all.world) nothing) ∙ c.loop-left.invariant.world in
-    λ i. record { given = c.loop-left.invariant.given i; world = same i }
+    let idle = sym c.idle.ensures ∙ c.if-not-idle.false in
+    ended_world here c.args.world.now (steps (fixed_of here.given) here.world c.args.agent c.loop-left.left) (steps (fixed_of c.args.world.now.given) c.args.world.now.world c.args.agent c.args.count)
+    (steps_idle (fixed_of here.given) here.world c.args.agent c.loop-left.left idle) c.loop-left.invariant.given c.loop-left.invariant.world
+
+pub returns-after-loop-left-clause-printed : goal.returns-after-loop-left-clause-printed
+returns-after-loop-left-clause-printed c =
+    let here = c.loop-left.world in
+    let none : c.loop-left.left ≡ 0 = omega arith in
+    ended_text (steps (fixed_of here.given) here.world c.args.agent c.loop-left.left) (steps (fixed_of c.args.world.now.given) c.args.world.now.world c.args.agent c.args.count) here.world
+    c.loop-left.text.items c.args.text.now.items (ap (steps (fixed_of here.given) here.world c.args.agent) none ∙ no_steps (fixed_of here.given) here.world c.args.agent) c.loop-left.invariant.printed
+
+pub returns-after-loop-left-clause-world : goal.returns-after-loop-left-clause-world
+returns-after-loop-left-clause-world c =
+    let here = c.loop-left.world in
+    let none : c.loop-left.left ≡ 0 = omega arith in
+    ended_world here c.args.world.now (steps (fixed_of here.given) here.world c.args.agent c.loop-left.left) (steps (fixed_of c.args.world.now.given) c.args.world.now.world c.args.agent c.args.count)
+    (ap (steps (fixed_of here.given) here.world c.args.agent) none ∙ no_steps (fixed_of here.given) here.world c.args.agent) c.loop-left.invariant.given c.loop-left.invariant.world
