@@ -5,9 +5,10 @@ use Rattle.suite_args.specs.Answering.{Answers}
 use Rattle.suite_args.specs.CommandLine.{Asked, acl, help, nothing, table, topic}
 use Rattle.suite_args.specs.declared.request.Request.TheVariants.{Acl, Help}
 use Rattle.suite_cli.specs.Names.{names_from}
-use Rattle.suite_cli.specs.Outputs.{Output, acl_output, table_output}
+use Rattle.suite_cli.specs.Outputs.{acl_output, table_output}
+use Rattle.suite_script.specs.Outputs.{Output}
 use Rattle.suite_cli.specs.Runs.{Does, Finishes, Helps, IsUnread, LacksMemory, RunsAcl, RunsOn, Streams, done, no_memory}
-use Rattle.suite_cli.specs.Scripts.{no_names}
+use Rattle.suite_script.specs.Scripts.{no_names}
 
 pub acl_done : (asked : Asked) (streams : Streams) (status : ℕ) (given : List (List ℕ)) → Answers asked (Ok (Acl given)) → RunsAcl (names_from 1 no_names given) streams status → Does asked streams status
 acl_done table streams status given answers runs = absurd answers

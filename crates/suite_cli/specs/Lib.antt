@@ -1,12 +1,4 @@
-pub mod Faults
-pub mod Words
-pub mod Readings
-pub mod Votes
-pub mod Lists
-pub mod Operations
 pub mod Scripts
-pub mod Texts
-pub mod Progress
 pub mod Outputs
 pub mod Names
 pub mod Runs

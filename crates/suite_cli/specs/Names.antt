@@ -4,7 +4,7 @@ use Rattle.std.specs.List.{starts_with, before_last, after_last}
 use Rattle.acl_text.specs.Tables.{Tables, name_fault}
 use Rattle.acl_text.specs.declared.names.NameError.{NameError}
 use Rattle.script_text.specs.Numbers.{number_up_to}
-use Rattle.suite_cli.specs.Words.{Word, most_id}
+use Rattle.suite_script.specs.Words.{Word, most_id}
 
 -- a name with its number
 abbrev pub Given : Type 0

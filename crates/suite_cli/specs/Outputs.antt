@@ -12,16 +12,14 @@ use Rattle.file_ops.specs.Transactions.{transaction, replies, table_after}
 use Rattle.suite_prefix.specs.SettingsRules.{Opening}
 use Rattle.vote_core.specs.Quorums.{Configuration}
 use Rattle.vote_core.specs.declared.TheConstants.{MAX_SERVERS}
-use Rattle.suite_cli.specs.declared.fault.ScriptFault.{ScriptFault}
-use Rattle.suite_cli.specs.declared.root.Root.{Root}
-use Rattle.suite_cli.specs.Faults.{fault_line, line_feed, text_code}
-use Rattle.suite_cli.specs.Scripts.{Job, Script, script_in}
-use Rattle.suite_cli.specs.Texts.{outcome_line}
-
--- all that a command writes, and whether it tells a fault
-pub data Output : Type 0 where
-  Done : List ℕ → Output
-  Faulty : List ℕ → Output
+use Rattle.file_ops.specs.declared.answer.Answer.{Answer}
+use Rattle.file_ops.specs.declared.refusal.Refusal.{Refusal}
+use Rattle.suite_script.specs.declared.root.Root.{Root}
+use Rattle.suite_script.specs.Faults.{line_feed, text_code}
+use Rattle.suite_script.specs.Outputs.{Output, Done, Faulty, script_output}
+use Rattle.suite_script.specs.Scripts as scripts
+use Rattle.suite_cli.specs.Scripts.{Job, script_in}
+use Rattle.suite_script.specs.Texts.{outcome_text}
 
 -- the opening votes of a script's table: one vote, of server 0
 abbrev pub c0 : Configuration
@@ -41,6 +39,10 @@ settings_of root = record {
   slots = 0;
 }
 
+-- the line of a transaction
+abbrev pub outcome_line : ℕ → Result (List Answer) Refusal → List ℕ
+outcome_line number outcome = decimal number ++ codes " " ++ outcome_text outcome ++ line_feed
+
 -- the lines of some transactions on a table, one after the other, numbered from a number on
 abbrev pub table_lines : PlainTable → ℕ → List Job → List ℕ
 table_lines table number [] = []
@@ -48,13 +50,13 @@ table_lines table number (job ∷ jobs) =
     outcome_line number (replies (transaction table.service table.rows number job.caller job.ops))
     ++ table_lines (table_after table number job.caller (transaction table.service table.rows number job.caller job.ops)) (number + 1) jobs
 
-abbrev pub script_output : Result Script ScriptFault → Output
-script_output (Ok script) = Done (table_lines (opening (settings_of script.root)) 0 script.jobs)
-script_output (Err fault) = Faulty (fault_line fault.line fault.fault)
+-- what a script prints
+abbrev pub lines_of : scripts.Script Root Job → List ℕ
+lines_of script = table_lines (opening (settings_of script.header)) 0 script.owns
 
 -- what `table` writes for a script
 abbrev pub table_output : List ℕ → Output
-table_output text = script_output (script_in text)
+table_output text = script_output lines_of (script_in text)
 
 -- the line of a list's text that has a fault
 abbrev pub text_fault_line : TextFault → List ℕ

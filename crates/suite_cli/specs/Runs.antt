@@ -1,16 +1,12 @@
 -- What a command that ended has done.
-use Rattle.std.specs.Prelude.{◌≡◌, Bool, true, false, alloc_error, Vec, ℕ, ◌<◌, ◌≤◌, ◌⊎◌, List, [], ◌++◌, length, Option, Some, None, Result, Ok, Err}
+use Rattle.std.specs.Prelude.{◌≡◌, Bool, true, false, alloc_error, Vec, ℕ, ◌<◌, ◌≤◌, ◌⊎◌, List, length, Option, Some, None, Result, Ok, Err}
 use Rattle.byte_streams.specs.Streams.{Adds, one_more}
-use Rattle.suite_cli.specs.declared.fault.ScriptFault.{ScriptFault}
-use Rattle.suite_cli.specs.declared.fault.ScriptError.{ScriptError}
-use Rattle.suite_cli.specs.declared.fault.ScriptError.TheVariants as script
-use Rattle.suite_cli.specs.declared.table.PlayError.{PlayError}
-use Rattle.suite_cli.specs.declared.table.PlayError.TheVariants.{WriteFailed, Memory}
 use Rattle.suite_args.specs.CommandLine.{Asked}
 use Rattle.suite_args.specs.CommandLine as asked
+use Rattle.suite_script.specs.Outputs.{Output, Done, Faulty}
+use Rattle.suite_script.specs.Scripts.{no_names}
 use Rattle.suite_cli.specs.Names.{names_from}
-use Rattle.suite_cli.specs.Scripts.{Job, Script, no_names}
-use Rattle.suite_cli.specs.Outputs.{Output, acl_output, command_line_fault, memory_line, settings_of, table_lines, table_output, word_fault_line}
+use Rattle.suite_cli.specs.Outputs.{acl_output, command_line_fault, memory_line, table_output, word_fault_line}
 use Rattle.suite_cli.specs.declared.acl.NamesError.{NamesError}
 use Rattle.suite_cli.specs.declared.acl.NamesError.TheVariants as names
 use Rattle.std.specs.declared.alloc.AllocError.{AllocError}
@@ -20,52 +16,6 @@ use Rattle.suite_cli.specs.declared.acl.ListError.TheVariants as list
 use Rattle.acl_text.specs.declared.names.NameError.{NameError}
 use Rattle.acl_text.specs.declared.names.NameError.TheVariants as name
 use Rattle.acl_text.specs.Tables.{Tables}
-use Rattle.suite_cli.specs.Outputs.Output.{Done, Faulty}
-use Rattle.file_ops.specs.Rows.{PlainTable, opening}
-
--- the first fault of a reading, if there is one
-abbrev pub fault_of : {A : Type 0} → Result A ScriptFault → Option ScriptFault
-fault_of (Ok given) = None
-fault_of (Err fault) = Some fault
-
--- a script was looked through for its first fault
-abbrev pub Checks : Result (Unit {0}) ScriptError → Option ScriptFault → Type 0
-Checks (Ok nothing) fault = fault ≡ None
-Checks (Err (script.Faulty given)) fault = fault ≡ Some given
-Checks (Err script.Memory) fault = Unit {0}
-
--- the lines of the transactions of a script that has no fault
-abbrev pub lines_of : PlainTable → ℕ → Result (List Job) ScriptFault → List ℕ
-lines_of table number (Ok jobs) = table_lines table number jobs
-lines_of table number (Err fault) = []
-
--- the lines of a script that has no fault
-abbrev pub script_lines : Result Script ScriptFault → List ℕ
-script_lines (Ok script) = table_lines (opening (settings_of script.root)) 0 script.jobs
-script_lines (Err fault) = []
-
--- the text is written but for a rest
-abbrev pub WroteSoFar : Option (List ℕ) → List ℕ → List ℕ → Option (List ℕ) → Type 0
-WroteSoFar None text rest written = Unit {0}
-WroteSoFar (Some before) text rest None = ⊥
-WroteSoFar (Some before) text rest (Some written) = written ++ rest ≡ before ++ text
-
--- a script was played: its lines are written; where a write failed it was counted
-abbrev pub Plays : Result (Unit {0}) PlayError → List ℕ → Option (List ℕ) → Option (List ℕ) → ℕ → ℕ → Type 0
-Plays (Ok nothing) lines before after failures failures_after = Adds before lines after × (failures_after ≡ failures)
-Plays (Err WriteFailed) lines before after failures failures_after = failures_after ≡ one_more failures
-Plays (Err Memory) lines before after failures failures_after = Unit {0}
-
--- text that was gathered is written, or is gathered still
-abbrev pub IsMoved : List ℕ → List ℕ → Option (List ℕ) → Option (List ℕ) → Type 0
-IsMoved gathered left None after = Unit {0}
-IsMoved gathered left (Some written) None = ⊥
-IsMoved gathered left (Some written) (Some all) = all ++ left ≡ written ++ gathered
-
-abbrev pub Moves : Result (Unit {0}) PlayError → List ℕ → List ℕ → Option (List ℕ) → Option (List ℕ) → ℕ → ℕ → Type 0
-Moves (Ok nothing) gathered left before after failures failures_after = IsMoved gathered left before after × (failures_after ≡ failures)
-Moves (Err WriteFailed) gathered left before after failures failures_after = failures_after ≡ one_more failures
-Moves (Err Memory) gathered left before after failures failures_after = Unit {0}
 
 -- the statuses
 abbrev pub done : ℕ

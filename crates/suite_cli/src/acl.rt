@@ -5,12 +5,12 @@ ghost use Rattle.std.specs.List.{suffix_len};
 ghost use Rattle.suite_cli.specs.Names.{given_in, name_in, names_from};
 ghost use Rattle.suite_cli.specs.Outputs.{acl_output, word_fault_line};
 ghost use Rattle.suite_cli.specs.Runs.{GivesList, GivesName, GivesNames, is_added};
-ghost use Rattle.suite_cli.specs.Scripts.{no_names};
+ghost use Rattle.suite_script.specs.Scripts.{no_names};
 
-use crate::code::push_text_code;
 use acl_text::{NameError, Names, TextFault, append_acl, read_acl};
 use script_text::{push_number, read_number};
 use std::alloc::{AllocError, Global};
+use suite_script::push_text_code;
 
 /// Why the words after `acl` give no names.
 #[derive(Clone, Copy, Debug)]

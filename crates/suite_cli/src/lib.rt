@@ -2,18 +2,10 @@
 #![tactic(auto)]
 
 mod acl;
-mod code;
 mod commands;
-mod fault;
 mod job;
-mod line;
-mod operation;
-mod outcome;
-mod root;
-mod script;
+mod language;
 mod table;
-mod votes;
-mod word;
 
 pub use byte_streams::{ByteIn, ByteOut};
 pub use commands::{lack_memory, run};

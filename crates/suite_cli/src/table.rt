@@ -1,71 +1,48 @@
 //! The command `table`: a script, played on one plain table.
 
-ghost use Rattle.std.specs.Prelude.{◌≡◌, ◌<◌, ◌≤◌, ◌^◌, ◌++◌, [], true, is_ok, length, OnOk};
+ghost use Rattle.std.specs.Prelude.{◌≡◌, ◌<◌, ◌^◌, ◌++◌, true, length, OnOk};
 ghost use Rattle.file_ops.specs.Transactions.{replies, table_after, transaction};
-ghost use Rattle.suite_cli.specs.Outputs.{settings_of};
-ghost use Rattle.suite_cli.specs.Scripts.{script_in};
-ghost use Rattle.suite_cli.specs.Texts.{outcome_line};
-ghost use Rattle.suite_cli.specs.Runs.{Checks, Moves, Plays, fault_of, script_lines};
+ghost use Rattle.suite_cli.specs.Outputs.{outcome_line, settings_of, table_output};
+ghost use Rattle.suite_script.specs.Gathering.{Plays};
+ghost use Rattle.suite_script.specs.Outputs.{Finds, is_done, text_of};
 
-use crate::fault::ScriptError;
 use crate::job::Job;
-use crate::outcome::{push_answered, push_refused};
-use crate::root::Root;
-use crate::script::ScriptReader;
-use byte_streams::{ByteOut, write_all};
+use crate::language::TableLanguage;
+use byte_streams::ByteOut;
 use file_ops::{ApplyError, Table};
+use script_text::push_number;
 use std::alloc::{AllocError, Global};
 use suite_prefix::Settings;
+use suite_script::{
+    PlayError, Root, ScriptError, ScriptReader, push_answered, push_refused, read_root,
+    write_gathered, write_if_full,
+};
 use vote_core::{MAX_SERVERS, Votes};
 
-/// Why a script was not played to its end.
-#[derive(Clone, Copy, Debug)]
-pub(crate) enum PlayError {
-    /// A write failed.
-    WriteFailed,
-    /// Memory ran out.
-    Memory,
-}
-
-impl From<AllocError> for PlayError {
-    ghost use Rattle.suite_cli.specs.declared.table.PlayError.TheVariants.{Memory};
-
-    ghost from_gives = { λ _ e. e ≡ Memory };
-
-    fn from(_error: AllocError) -> PlayError {
-        PlayError::Memory
-    }
-}
-
-/// The most bytes of an input.
-pub(crate) const INPUT_LIMIT: usize = 16_777_216;
-
-/// How much text is gathered before it is written.
-const GATHERED: usize = 65_536;
-
 /// Looks through a script for its first fault.
-pub(crate) fn check_script(alloc: Global, text: &[u8]) -> Result<(), ScriptError>
-    requires { length text.now ≤ INPUT_LIMIT }
-    ensures { Checks result (fault_of (script_in text.now)) }
+pub(crate) fn check_table(alloc: Global, text: &[u8]) -> Result<(), ScriptError>
+    requires { length text.now < 2 ^ 60 }
+    ensures { Finds result (table_output text.now) }
 {
-    let (_, mut script) = ScriptReader::open(alloc, text)?;
-    while script.next_job(alloc)?.is_some() {}
-    Ok(())
+    let mut script = ScriptReader::new(alloc, text);
+    let _root = read_root::<TableLanguage>(alloc, &mut script)?;
+    script.check(alloc, &TableLanguage)
 }
 
 /// Plays a script that has no fault, and writes a line an outcome.
-pub(crate) fn play_script<O: ByteOut>(
+pub(crate) fn play_table<O: ByteOut>(
     alloc: Global,
     text: &[u8],
     writer: &mut O,
 ) -> Result<(), PlayError>
-    requires short { length text.now ≤ INPUT_LIMIT }
-    requires faultless { is_ok (script_in text.now) ≡ true }
-    ensures { Plays result (script_lines (script_in text.now)) (O.written writer.old) (O.written writer.new)
+    requires short { length text.now < 2 ^ 60 }
+    requires faultless { is_done (table_output text.now) ≡ true }
+    ensures { Plays result (text_of (table_output text.now)) (O.written writer.old) (O.written writer.new)
         (O.failed_writes writer.old) (O.failed_writes writer.new) }
 {
-    let (root, mut script) = match ScriptReader::open(alloc, text) {
-        Ok(opened) => opened,
+    let mut script = ScriptReader::new(alloc, text);
+    let root = match read_root::<TableLanguage>(alloc, &mut script) {
+        Ok(root) => root,
         Err(ScriptError::Memory) => return Err(PlayError::Memory),
         Err(ScriptError::Faulty(_)) => unreachable!(),
     };
@@ -74,7 +51,7 @@ pub(crate) fn play_script<O: ByteOut>(
     let mut gathered = Vec::new(alloc);
     let mut number = 0;
     loop {
-        let job = match script.next_job(alloc) {
+        let job = match script.next_own(alloc, &TableLanguage) {
             Ok(Some(job)) => job,
             Ok(None) => break,
             Err(ScriptError::Memory) => return Err(PlayError::Memory),
@@ -120,35 +97,12 @@ fn push_outcome(
     ensures after { OnOk result (table.new ≡ table_after table.old number job.now.caller
         (transaction table.old.service table.old.rows number job.now.caller job.now.ops)) }
 {
+    push_number(text, number)?;
+    text.extend_from_slice(b" ")?;
     match table.apply(number, job.caller(), job.ops()) {
-        Ok(answers) => push_answered(alloc, text, number, answers.as_slice()),
-        Err(ApplyError::Refused(refusal)) => push_refused(text, number, refusal),
-        Err(ApplyError::Memory) => Err(AllocError),
+        Ok(answers) => push_answered(alloc, text, answers.as_slice())?,
+        Err(ApplyError::Refused(refusal)) => push_refused(text, refusal)?,
+        Err(ApplyError::Memory) => return Err(AllocError),
     }
-}
-
-/// Writes the text that is gathered where it is long enough.
-fn write_if_full<O: ByteOut>(writer: &mut O, text: &mut Vec<u8>) -> Result<(), PlayError>
-    ensures { Moves result text.old.items text.new.items (O.written writer.old) (O.written writer.new)
-        (O.failed_writes writer.old) (O.failed_writes writer.new) }
-{
-    if text.len() >= GATHERED {
-        write_gathered(writer, text)?;
-    }
-    Ok(())
-}
-
-/// Writes the text that is gathered, and begins anew.
-fn write_gathered<O: ByteOut>(writer: &mut O, text: &mut Vec<u8>) -> Result<(), PlayError>
-    ensures plays { Plays result text.old.items (O.written writer.old) (O.written writer.new)
-        (O.failed_writes writer.old) (O.failed_writes writer.new) }
-    ensures empty { OnOk result (text.new.items ≡ []) }
-{
-    match write_all(writer, text) {
-        Ok(()) => {
-            text.clear();
-            Ok(())
-        }
-        Err(_) => Err(PlayError::WriteFailed),
-    }
+    text.extend_from_slice(b"\n")
 }

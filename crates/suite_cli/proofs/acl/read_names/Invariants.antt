@@ -1,6 +1,6 @@
 use Rattle.std.proofs.Common.{◌≡◌, ◌+◌, drop, map}
 use Rattle.suite_cli.specs.Names.{names_from}
-use Rattle.suite_cli.specs.Scripts.{no_names}
+use Rattle.suite_script.specs.Scripts.{no_names}
 use Rattle.suite_cli.proofs.acl.read_names.Given as goal
 
 abbrev pub invariant-loop-word : goal.invariant-loop-word

@@ -1,0 +1,47 @@
+-- Steps of an agent that has no job change nothing.
+use Rattle.std.proofs.Common.{◌≡◌, ℕ, zero, suc, ◌-◌, ◌<◌, Bool, true, false, List, [], ◌++◌, Option, Some, None, refl, ◌∙◌, ap, sym, arith}
+use Rattle.std.proofs.lemmas.List.{append-nil}
+use Rattle.rep_core.specs.declared.request.Request.{Request}
+use Rattle.txn_core.specs.Doing.{Doing, Fixed}
+use Rattle.txn_core.specs.Agents.{Agent, is_idle, next_in, next_of}
+use Rattle.run_core.specs.Worlds.{Actor, World, actor_at, asks, has_no_job, quiet, step, steps_once}
+use Rattle.run_core.specs.declared.event.Event.TheVariants.{Step}
+use Rattle.run_core.specs.Opened.{Opened}
+use Rattle.suite_play.specs.Playing.{Printed, before, of_event, steps}
+
+asks_nothing : (fixed : Fixed) (doing : Option Doing) → is_idle doing ≡ true → next_in fixed doing ≡ None
+asks_nothing fixed None idle = refl
+asks_nothing fixed (Some doing) idle = cc
+
+steps_quietly : (fixed : Fixed) (world : World) (number : ℕ) (actor : Option Actor) → has_no_job actor ≡ true → steps_once fixed world number actor ≡ quiet world
+steps_quietly fixed world number (Some actor) idle = ap (asks fixed world number actor) (asks_nothing fixed actor.agent.doing idle)
+steps_quietly fixed world number None idle = refl
+
+pub steps_idle : (fixed : Fixed) (world : World) (agent count : ℕ) → has_no_job (actor_at world agent) ≡ true → steps fixed world agent count ≡ record { text = []; world = world }
+unfolding steps
+steps_idle fixed world agent zero idle = refl
+steps_idle fixed world agent (suc more) idle =
+    ap (λ once. before (of_event once) (λ next. steps fixed next agent more)) (steps_quietly fixed world agent (actor_at world agent) idle)
+    ∙ ap (λ later. before (of_event (quiet world)) (λ _. later)) (steps_idle fixed world agent more idle)
+
+-- one step, and the others
+pub more_steps : (fixed : Fixed) (world : World) (agent count : ℕ) → 0 < count → steps fixed world agent count ≡ before (of_event (step fixed world (Step agent))) (λ next. steps fixed next agent (count - 1))
+unfolding steps
+more_steps fixed world agent zero some = absurd (omega arith)
+more_steps fixed world agent (suc more) some =
+    let is : suc more - 1 ≡ more = omega arith in
+    rw is refl
+
+pub no_steps : (fixed : Fixed) (world : World) (agent : ℕ) → steps fixed world agent 0 ≡ record { text = []; world = world }
+unfolding steps
+no_steps fixed world agent = refl
+
+-- ---- at the end of steps that are played one by one
+
+pub ended_text : (now whole : Printed) (world : World) (text start : List ℕ) → now ≡ record { text = []; world = world } → text ++ now.text ≡ start ++ whole.text → text ≡ start ++ whole.text
+ended_text now whole world text start none same = sym (append-nil text) ∙ ap (λ all. text ++ all.text) (sym none) ∙ same
+
+pub ended_world : (opened start : Opened) (now whole : Printed) → now ≡ record { text = []; world = opened.world } → opened.given ≡ start.given → now.world ≡ whole.world → opened ≡ record { given = start.given; world = whole.world }
+ended_world opened start now whole none given same =
+    let world : opened.world ≡ whole.world = sym (ap (λ all. all.world) none) ∙ same in
+    λ i. record { given = given i; world = world i }

@@ -1,0 +1,95 @@
+-- The header of a script of events: how many servers and agents there are, the opening votes, the root folder, and the
+-- limits of each agent's cache. Each number is judged where it stands.
+use Rattle.std.specs.Prelude.{ℕ, ◌-◌, ◌==◌, ◌^◌, nat_lt, Bool, ◌||◌, if◌then◌else◌, List, codes, Result, Ok, Err}
+use Rattle.std.specs.Str.{bytes_eq}
+use Rattle.file_ops.specs.Steps.{◌>>=◌, ◌>>◌, found_or}
+use Rattle.suite_prefix.specs.SettingsRules.{Opening, largest_cache, most_agents, most_servers, most_slots}
+use Rattle.suite_prefix.specs.declared.settings.SettingsFault.{SettingsFault}
+use Rattle.suite_prefix.specs.declared.settings.SettingsFault.TheVariants.{BadCount, BadCache}
+use Rattle.vote_core.specs.Quorums.{Configuration}
+use Rattle.suite_script.specs.declared.fault.LineFault.{LineFault}
+use Rattle.suite_script.specs.declared.fault.LineFault.TheVariants.{Form, Settings}
+use Rattle.suite_script.specs.declared.fault.ScriptFault.{ScriptFault}
+use Rattle.suite_script.specs.Scripts.{Headed, Pending, headed, root_in}
+use Rattle.script_text.specs.Numbers.{number_up_to}
+use Rattle.suite_script.specs.Votes.{votes_in}
+use Rattle.suite_script.specs.Words.{Word, at_end, word}
+use Rattle.suite_play.specs.declared.caches.Caches.{Caches}
+use Rattle.suite_play.specs.Commands.{is_command}
+
+-- the largest number that is judged; a larger one is none
+abbrev pub largest_number : ℕ
+largest_number = 2 ^ 64 - 1
+
+-- a number that keeps to its limits, or the fault of one that does not
+abbrev pub judged : (ℕ → Bool) → SettingsFault → Word → Result ℕ LineFault
+judged is_wrong fault text = do
+  given ← found_or (number_up_to largest_number text) Form
+  if is_wrong given then Err (Settings fault) else Ok given
+
+-- how many there are: at least one
+abbrev pub count : ℕ → Word → Result ℕ LineFault
+count most text = judged (λ given. (given == 0) || nat_lt most given) BadCount text
+
+-- a limit of the caches
+abbrev pub limit : ℕ → Word → Result ℕ LineFault
+limit most text = judged (λ given. nat_lt most given) BadCache text
+
+-- ---- what follows the first word of each line
+
+abbrev pub count_in : ℕ → List Word → Result ℕ LineFault
+count_in most words = do
+  next ← word words
+  given ← count most next.value
+  at_end next.rest
+  Ok given
+
+abbrev pub opening_votes : ℕ → List Word → Result Configuration LineFault
+opening_votes servers words = do
+  next ← word words
+  votes ← votes_in servers next.value
+  at_end next.rest
+  Ok votes
+
+abbrev pub caches_in : List Word → Result Caches LineFault
+caches_in words = do
+  first ← word words
+  budget ← limit largest_cache first.value
+  second ← word first.rest
+  quota ← limit largest_cache second.value
+  third ← word second.rest
+  slots ← limit most_slots third.value
+  at_end third.rest
+  Ok (record { budget = budget; quota = quota; slots = slots })
+
+-- ---- the header
+
+-- the words that begin the lines of a script of events
+abbrev pub is_header : Word → Bool
+is_header text =
+    bytes_eq text (codes "servers") || bytes_eq text (codes "agents") || bytes_eq text (codes "votes") || bytes_eq text (codes "root") || bytes_eq text (codes "cache")
+
+abbrev pub is_known : Word → Bool
+is_known text = is_header text || is_command text
+
+abbrev pub header : Pending → Result (Headed Opening) ScriptFault
+header script = do
+  servers ← headed is_known (codes "servers") (count_in most_servers) script
+  agents ← headed is_known (codes "agents") (count_in most_agents) servers.rest
+  votes ← headed is_known (codes "votes") (opening_votes servers.value) agents.rest
+  root ← headed is_known (codes "root") root_in votes.rest
+  caches ← headed is_known (codes "cache") caches_in root.rest
+  Ok (record {
+    value = record {
+      servers = servers.value;
+      agents = agents.value;
+      c0 = votes.value;
+      root_owner = root.value.owner;
+      root_group = root.value.group;
+      root_acl = root.value.acl;
+      budget = caches.value.budget;
+      quota = caches.value.quota;
+      slots = caches.value.slots;
+    };
+    rest = caches.rest;
+  })

@@ -1,0 +1,5 @@
+pub mod Headers
+pub mod Commands
+pub mod Texts
+pub mod Playing
+pub mod Outputs

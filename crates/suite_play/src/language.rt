@@ -1,0 +1,191 @@
+//! The lines of a script of events after its header and names.
+
+ghost use Rattle.std.specs.Prelude.{◌≡◌};
+ghost use Rattle.file_ops.specs.Steps.{found_or};
+ghost use Rattle.script_text.specs.Numbers.{number_up_to};
+ghost use Rattle.suite_play.specs.Commands.{audit_in, begin_in, crash_in, forget_in, most_steps, return_in, run_in, said_by, server_in, step_in, sweep_in};
+ghost use Rattle.suite_play.specs.Headers.{is_header};
+ghost use Rattle.suite_script.specs.Readings.{Gives};
+
+use crate::command::Command;
+use crate::places::Places;
+use crate::verb::Verb;
+use acl_text::Names;
+use run_core::Event;
+use script_text::{Words, read_number};
+use std::alloc::Global;
+use suite_script::{
+    Language, LineError, LineFault, at_end, next_word, read_caller, read_id, read_operations,
+};
+use txn_core::{Job, Ops};
+
+/// The last site of an agent.
+const LAST_SITE: u8 = 15;
+
+/// The most steps of a line.
+const MOST_STEPS: u64 = 1_000_000;
+
+impl Language for Places {
+    ghost use Rattle.suite_play.specs.Commands.{command_in, is_command};
+    ghost use Rattle.suite_play.specs.Headers.{is_known};
+
+    type Own = Command;
+
+    ghost is_known = { is_known };
+
+    ghost begins = { is_command };
+
+    ghost own = { λ places names first words. command_in places names first words };
+
+    fn is_known(word: &[u8]) -> bool {
+        is_header(word) || Verb::of(word).is_some()
+    }
+
+    fn begins(word: &[u8]) -> bool {
+        Verb::of(word).is_some()
+    }
+
+    fn read(
+        &self,
+        alloc: Global,
+        names: &Names,
+        first: &[u8],
+        words: Words<'_>,
+    ) -> Result<Command, LineError> {
+        match Verb::of(first) {
+            Some(verb) => read_command(alloc, *self, names, verb, words),
+            None => Err(LineError::Faulty(LineFault::Form)),
+        }
+    }
+}
+
+/// Whether a line of a header begins with this word.
+fn is_header(word: &[u8]) -> bool
+    ensures { result ≡ is_header word.now }
+{
+    word == b"servers".as_slice()
+        || word == b"agents".as_slice()
+        || word == b"votes".as_slice()
+        || word == b"root".as_slice()
+        || word == b"cache".as_slice()
+}
+
+/// What the words after a verb say.
+fn read_command(
+    alloc: Global,
+    places: Places,
+    names: &Names,
+    verb: Verb,
+    mut words: Words<'_>,
+) -> Result<Command, LineError>
+    ensures { Gives result (said_by places names.now verb words.entry) }
+{
+    match verb {
+        Verb::Begin => read_begin(alloc, places, names, words),
+        Verb::Sweep => read_sweep(places, &mut words),
+        Verb::Step => read_step(places, &mut words),
+        Verb::Run => read_run(places, &mut words),
+        Verb::Crash => {
+            let server = read_server(places, &mut words)?;
+            Ok(Command::Event(Event::Crash { server }))
+        }
+        Verb::Return => {
+            let server = read_server(places, &mut words)?;
+            Ok(Command::Event(Event::Return { server }))
+        }
+        Verb::Forget => read_forget(places, &mut words),
+        Verb::Audit => {
+            let server = read_server(places, &mut words)?;
+            Ok(Command::Audit { server })
+        }
+    }
+}
+
+/// The number of one of those that are numbered from 0 to a last one.
+fn read_place(word: &[u8], last: u8) -> Result<u8, LineFault>
+    ensures { result ≡ found_or (number_up_to last word.now) LineFault.Form }
+{
+    match read_number(word, u64::from(last)) {
+        Some(number) => Ok(number as u8),
+        None => Err(LineFault::Form),
+    }
+}
+
+/// A transaction that an agent begins, for a caller, at a site.
+fn read_begin(
+    alloc: Global,
+    places: Places,
+    names: &Names,
+    mut words: Words<'_>,
+) -> Result<Command, LineError>
+    ensures { Gives result (begin_in places names.now words.entry) }
+{
+    let agent = read_place(next_word(&mut words)?, places.last_agent)?;
+    let uid = read_id(next_word(&mut words)?)?;
+    let caller = read_caller(uid, next_word(&mut words)?)?;
+    let site = read_place(next_word(&mut words)?, LAST_SITE)?;
+    let ops = Ops::from_vec(read_operations(alloc, names, words)?);
+    let job = Job::Transaction { caller, site, ops };
+    Ok(Command::Event(Event::Begin { agent, job }))
+}
+
+/// A sweep of a server that an agent begins.
+fn read_sweep(places: Places, words: &mut Words<'_>) -> Result<Command, LineError>
+    ensures { Gives result (sweep_in places words.old) }
+{
+    let agent = read_place(next_word(words)?, places.last_agent)?;
+    let server = read_place(next_word(words)?, places.last_server)?;
+    at_end(words)?;
+    let job = Job::Sweep { server };
+    Ok(Command::Event(Event::Begin { agent, job }))
+}
+
+/// Steps of an agent: one, where no number is left.
+fn read_step(places: Places, words: &mut Words<'_>) -> Result<Command, LineError>
+    ensures { Gives result (step_in places words.old) }
+{
+    let agent = read_place(next_word(words)?, places.last_agent)?;
+    let Some(word) = words.next() else {
+        return Ok(Command::Steps { agent, count: 1 });
+    };
+    let count = read_steps(word)?;
+    at_end(words)?;
+    Ok(Command::Steps { agent, count })
+}
+
+fn read_steps(word: &[u8]) -> Result<u64, LineFault>
+    ensures { result ≡ found_or (number_up_to most_steps word.now) LineFault.Form }
+{
+    match read_number(word, MOST_STEPS) {
+        Some(number) => Ok(number),
+        None => Err(LineFault::Form),
+    }
+}
+
+/// Steps of an agent until it has no job.
+fn read_run(places: Places, words: &mut Words<'_>) -> Result<Command, LineError>
+    ensures { Gives result (run_in places words.old) }
+{
+    let agent = read_place(next_word(words)?, places.last_agent)?;
+    at_end(words)?;
+    Ok(Command::Run { agent })
+}
+
+/// The number of a server, which is all that is left.
+fn read_server(places: Places, words: &mut Words<'_>) -> Result<u8, LineFault>
+    ensures { result ≡ server_in places words.old }
+{
+    let server = read_place(next_word(words)?, places.last_server)?;
+    at_end(words)?;
+    Ok(server)
+}
+
+/// An agent and one of its sites.
+fn read_forget(places: Places, words: &mut Words<'_>) -> Result<Command, LineError>
+    ensures { Gives result (forget_in places words.old) }
+{
+    let agent = read_place(next_word(words)?, places.last_agent)?;
+    let site = read_place(next_word(words)?, LAST_SITE)?;
+    at_end(words)?;
+    Ok(Command::Event(Event::Forget { agent, site }))
+}

@@ -1,0 +1,13 @@
+//! The command `play`: a script of events, played on a world of servers and agents.
+#![tactic(auto)]
+
+mod caches;
+mod command;
+mod header;
+mod language;
+mod outcome;
+mod places;
+mod player;
+mod verb;
+
+pub use player::{check_events, play_events};

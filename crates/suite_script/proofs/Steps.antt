@@ -1,0 +1,81 @@
+-- Readings step by step.
+use Rattle.std.proofs.Common.{◌≡◌, ℕ, zero, suc, ◌+◌, ◌<◌, ◌≤◌, nat_le, true, List, [], ◌∷◌, ◌++◌, length, take, Result, Ok, Err, refl, ◌∙◌, ap, sym, inl, inr, append_assoc, arith}
+use Rattle.std.proofs.lemmas.Bool.{cases_Bool}
+use Rattle.std.proofs.lemmas.Bool.Decides.{nat_tests}
+use Rattle.std.proofs.lemmas.List.{length-take-le, take-append-le, take_all}
+use Rattle.acl_core.specs.Identity.{Identity}
+use Rattle.file_ops.specs.Rows.{Rows}
+use Rattle.file_ops.specs.Transactions.{is_miscounted, most_operations, transaction}
+use Rattle.file_ops.specs.declared.service.Service.{Service}
+use Rattle.file_ops.specs.declared.refusal.Why.TheVariants.{OpCount}
+use Rattle.acl_text.specs.Tables.{Tables}
+use Rattle.file_ops.specs.Steps.{◌>>=◌, ok_map}
+use Rattle.file_ops.specs.declared.operation.Op.{Op}
+use Rattle.suite_script.specs.Operations.{KeptAreEnough, kept, operation, operations_in}
+use Rattle.suite_script.specs.declared.fault.LineFault.{LineFault}
+
+-- operations, where some were read already
+abbrev pub ops_after : List Op → Result (List Op) LineFault → Result (List Op) LineFault
+ops_after front (Ok ops) = Ok (front ++ ops)
+ops_after front (Err fault) = Err fault
+
+-- an operation before others
+abbrev with_op : Op → Result (List Op) LineFault → Result (List Op) LineFault
+with_op op (Ok ops) = Ok (op ∷ ops)
+with_op op (Err fault) = Err fault
+
+-- one operation more was read
+one_more : (front : List Op) (op : Op) (rest : Result (List Op) LineFault) → ops_after (front ++ op ∷ []) rest ≡ ops_after front (with_op op rest)
+one_more front op (Ok ops) = ap Ok (append_assoc front (op ∷ []) ops)
+one_more front op (Err fault) = refl
+
+added : (op : Op) (rest : Result (List Op) LineFault) → ◌>>=◌ rest (λ ops. Ok (op ∷ ops)) ≡ with_op op rest
+added op (Ok ops) = refl
+added op (Err fault) = refl
+
+joined : (names : Tables) (phrase : List (List ℕ)) (phrases : List (List (List ℕ))) (op : Op) → operation names phrase ≡ Ok op → operations_in names (phrase ∷ phrases) ≡ with_op op (operations_in names phrases)
+joined names phrase phrases op read =
+    ap (λ first. ◌>>=◌ first (λ o. ◌>>=◌ (operations_in names phrases) (λ ops. Ok (o ∷ ops)))) read ∙ added op (operations_in names phrases)
+
+ops_more : (names : Tables) (front : List Op) (phrase : List (List ℕ)) (phrases : List (List (List ℕ))) (op : Op) → operation names phrase ≡ Ok op
+    → ops_after (front ++ op ∷ []) (operations_in names phrases) ≡ ops_after front (operations_in names (phrase ∷ phrases))
+ops_more names front phrase phrases op read =
+    one_more front op (operations_in names phrases) ∙ ap (ops_after front) (sym (joined names phrase phrases op read))
+
+take_front : (n : ℕ) (front ops : List Op) → take n (take n front ++ ops) ≡ take n (front ++ ops)
+take_front zero front ops = refl
+take_front (suc n) [] ops = refl
+take_front (suc n) (op ∷ front) ops = ap (λ more. op ∷ more) (take_front n front ops)
+
+-- what is kept of some operations is kept of them with those after them
+kept_before : (front : List Op) (ops : Result (List Op) LineFault) → ok_map kept (ops_after (kept front) ops) ≡ ok_map kept (ops_after front ops)
+kept_before front (Ok ops) = ap Ok (take_front (most_operations + 1) front ops)
+kept_before front (Err fault) = refl
+
+-- where enough are kept, one more is not kept
+pub kept_full : (ops : List Op) (op : Op) → length ops ≡ most_operations + 1 → ops ≡ kept (ops ++ op ∷ [])
+kept_full ops op full =
+    sym (take-append-le (most_operations + 1) ops (op ∷ []) (omega (arith, full)) ∙ take_all (most_operations + 1) ops (omega (arith, full)))
+
+too_many : (service : Service) (rows : Rows) (t : ℕ) (caller : Identity) (ops : List Op) → most_operations < length ops → transaction service rows t caller ops ≡ Err (record { op = 0; why = OpCount })
+too_many service rows t caller ops many =
+    let counted : is_miscounted ops ≡ true = grind (arith, nat_tests) in
+    rw counted refl
+
+-- one operation more was read, and is kept where it matters
+pub kept_more : (names : Tables) (front : List Op) (phrase : List (List ℕ)) (phrases : List (List (List ℕ))) (op : Op) → operation names phrase ≡ Ok op
+    → ok_map kept (ops_after (kept (front ++ op ∷ [])) (operations_in names phrases)) ≡ ok_map kept (ops_after front (operations_in names (phrase ∷ phrases)))
+kept_more names front phrase phrases op read =
+    kept_before (front ++ op ∷ []) (operations_in names phrases) ∙ ap (ok_map kept) (ops_more names front phrase phrases op read)
+
+pub kept_enough : KeptAreEnough
+kept_enough service rows t caller ops =
+    elim (cases_Bool (nat_le (length ops) (most_operations + 1))) [
+      | inl few ↦
+          let fits : length ops ≤ most_operations + 1 = grind (arith, nat_tests) in
+          ap (transaction service rows t caller) (take_all (most_operations + 1) ops fits)
+      | inr many ↦
+          let above : most_operations + 1 < length ops = grind (arith, nat_tests) in
+          let nine : length (kept ops) ≡ most_operations + 1 = length-take-le (most_operations + 1) ops (omega arith) in
+          too_many service rows t caller (kept ops) (omega (arith, nine)) ∙ sym (too_many service rows t caller ops (omega arith))
+    ]

@@ -1,0 +1,7 @@
+use Rattle.std.proofs.Common.{◌≡◌, ◌++◌}
+use Rattle.suite_script.specs.Votes.{fields_text}
+use Rattle.suite_script.proofs.Fields.{fields_from}
+use Rattle.suite_script.proofs.votes.push_fields.Given as goal
+
+abbrev pub invariant-loop-server : goal.invariant-loop-server
+invariant-loop-server l = l.text.items ++ fields_from l.reps l.server l.end ≡ l.fn.text.items ++ fields_text l.reps

@@ -1,0 +1,13 @@
+use Rattle.std.proofs.Common.{◌≡◌, ◌≤◌, ℕ, length, take, eqb}
+use Rattle.std.specs.List.{slice_split}
+use Rattle.suite_script.specs.Votes.{reps_from}
+use Rattle.suite_script.proofs.Fields.{reps_after}
+use Rattle.suite_script.proofs.votes.read_fields.Given as goal
+
+abbrev pub invariant-loop-field : goal.invariant-loop-field
+invariant-loop-field l = record {
+  places : length l.reps ≡ 16;
+  few : l.count ≤ l.server;
+  servers : l.server ≤ 16;
+  read : reps_after (take l.count l.reps) (reps_from l.server l.field-iterator) ≡ reps_from 0 (slice_split (λ (byte : ℕ). eqb byte 44) l.fields);
+}

@@ -1,0 +1,11 @@
+pub mod Faults
+pub mod Words
+pub mod Readings
+pub mod Votes
+pub mod Lists
+pub mod Operations
+pub mod Scripts
+pub mod Progress
+pub mod Texts
+pub mod Outputs
+pub mod Gathering

@@ -1,0 +1,177 @@
+//! Operations as words.
+
+ghost use Rattle.std.specs.Prelude.{◌≡◌, ◌+◌, ◌≤◌, ◌∷◌, ◌++◌, [], vec_len, MatchResult, OnOk};
+ghost use Rattle.file_ops.specs.Steps.{ok_map};
+ghost use Rattle.file_ops.specs.Transactions.{most_operations};
+ghost use Rattle.std.specs.Result.{result_map_both};
+ghost use Rattle.suite_script.specs.Words.{at_end};
+ghost use Rattle.suite_script.specs.Operations.{KeptAreEnough, act, kept, make, operation, operations, verb_in};
+ghost use Rattle.suite_script.specs.Readings.{Gives, Reads};
+
+use crate::fault::{LineError, LineFault};
+use crate::votes::read_votes;
+use crate::word::{read_bytes, read_init, read_list};
+use acl_text::Names;
+use file_ops::{Action, MOST_OPERATIONS, Op, PathText};
+use script_text::{Phrases, Words};
+use std::alloc::{AllocError, Global};
+use suite_content::Kind;
+use vote_core::MAX_SERVERS;
+
+/// The words that begin an operation.
+#[derive(Clone, Copy, PartialEq, Eq, Debug)]
+pub(crate) enum Verb {
+    Read,
+    Write,
+    List,
+    File,
+    Folder,
+    Drop,
+    GetAcl,
+    SetAcl,
+    GetVotes,
+    SetVotes,
+}
+
+impl Verb {
+    fn of(word: &[u8]) -> Option<Verb>
+        ensures { result ≡ verb_in word.now }
+    {
+        if word == b"read".as_slice() {
+            Some(Verb::Read)
+        } else if word == b"write".as_slice() {
+            Some(Verb::Write)
+        } else if word == b"list".as_slice() {
+            Some(Verb::List)
+        } else if word == b"file".as_slice() {
+            Some(Verb::File)
+        } else if word == b"folder".as_slice() {
+            Some(Verb::Folder)
+        } else if word == b"drop".as_slice() {
+            Some(Verb::Drop)
+        } else if word == b"getacl".as_slice() {
+            Some(Verb::GetAcl)
+        } else if word == b"setacl".as_slice() {
+            Some(Verb::SetAcl)
+        } else if word == b"getvotes".as_slice() {
+            Some(Verb::GetVotes)
+        } else if word == b"setvotes".as_slice() {
+            Some(Verb::SetVotes)
+        } else {
+            None
+        }
+    }
+}
+
+/// The operations of the words that are left, with a semicolon between each two. No more are kept than
+/// tell what their transaction answers, and all are read for their faults.
+pub fn read_operations(alloc: Global, names: &Names, words: Words<'_>) -> Result<Vec<Op>, LineError>
+    ensures kept { Gives (result_map_both (λ ops. ops.items) (λ e. e) result) (ok_map kept (operations names.now words.entry)) }
+    ensures enough { KeptAreEnough }
+{
+    let mut phrases = Phrases::new(words);
+    let mut ops = Vec::new(alloc);
+    loop {
+        keep(&mut ops, read_operation(alloc, names, &mut phrases)?)?;
+        if !phrases.next_phrase() {
+            return Ok(ops);
+        }
+    }
+}
+
+/// Keeps an operation, where there are not too many already.
+fn keep(ops: &mut Vec<Op>, op: Op) -> Result<(), AllocError>
+    requires { vec_len ops.old ≤ most_operations + 1 }
+    ensures ok { OnOk result (ops.new.items ≡ kept (ops.old.items ++ op ∷ [])) }
+    ensures few { OnOk result (vec_len ops.new ≤ most_operations + 1) }
+{
+    if ops.len() <= MOST_OPERATIONS {
+        ops.push(op)?;
+    }
+    Ok(())
+}
+
+/// An operation, which is all that is left of its phrase.
+fn read_operation(alloc: Global, names: &Names, phrases: &mut Phrases<'_>) -> Result<Op, LineError>
+    ensures operation { Gives result (operation names.now phrases.old.here) }
+    ensures whole { OnOk result (phrases.new.here ≡ []) }
+    ensures later { phrases.new.later ≡ phrases.old.later }
+{
+    let Some(verb) = Verb::of(phrase_word(phrases)?) else {
+        return Err(LineError::Faulty(LineFault::Form));
+    };
+    let path = phrase_word(phrases)?;
+    let action = read_action(alloc, names, verb, phrases)?;
+    phrase_end(phrases)?;
+    let path = PathText::new(alloc, path)?;
+    Ok(Op { path, action })
+}
+
+/// What a verb does, with what it wants besides the path.
+fn read_action(
+    alloc: Global,
+    names: &Names,
+    verb: Verb,
+    phrases: &mut Phrases<'_>,
+) -> Result<Action, LineError>
+    ensures action { Reads result phrases.new.here (act names.now verb phrases.old.here) }
+    ensures later { phrases.new.later ≡ phrases.old.later }
+{
+    match verb {
+        Verb::Read => Ok(Action::Read),
+        Verb::Write => Ok(Action::Write(read_bytes(alloc, phrase_word(phrases)?)?)),
+        Verb::List => Ok(Action::List),
+        Verb::File => read_make(alloc, names, Kind::File, phrases),
+        Verb::Folder => read_make(alloc, names, Kind::Folder, phrases),
+        Verb::Drop => Ok(Action::Drop),
+        Verb::GetAcl => Ok(Action::GetAcl),
+        Verb::SetAcl => {
+            let acl = read_list(alloc, names, phrase_word(phrases)?)?;
+            Ok(Action::SetAcl(acl))
+        }
+        Verb::GetVotes => Ok(Action::GetVotes),
+        Verb::SetVotes => Ok(Action::SetVotes(read_votes(MAX_SERVERS, phrase_word(phrases)?)?)),
+    }
+}
+
+/// What a new file or folder gets: its list, and perhaps votes.
+fn read_make(
+    alloc: Global,
+    names: &Names,
+    kind: Kind,
+    phrases: &mut Phrases<'_>,
+) -> Result<Action, LineError>
+    ensures action { Reads result phrases.new.here (make names.now kind phrases.old.here) }
+    ensures later { phrases.new.later ≡ phrases.old.later }
+{
+    let init = read_init(alloc, names, phrase_word(phrases)?)?;
+    let votes = match phrases.next_word() {
+        Some(word) => Some(read_votes(MAX_SERVERS, word)?),
+        None => None,
+    };
+    Ok(Action::Make(kind, init, votes))
+}
+
+/// The next word of a phrase.
+fn phrase_word<'a>(phrases: &mut Phrases<'a>) -> Result<&'a [u8], LineFault>
+    ensures word { MatchResult result (λ word. phrases.old.here ≡ word.now ∷ phrases.new.here)
+        (λ fault. (fault ≡ LineFault.Form) × (phrases.old.here ≡ [])) }
+    ensures later { phrases.new.later ≡ phrases.old.later }
+{
+    match phrases.next_word() {
+        Some(word) => Ok(word),
+        None => Err(LineFault::Form),
+    }
+}
+
+/// Nothing more in a phrase.
+fn phrase_end(phrases: &mut Phrases<'_>) -> Result<(), LineFault>
+    ensures end { result ≡ at_end phrases.old.here }
+    ensures whole { OnOk result (phrases.new.here ≡ []) }
+    ensures later { phrases.new.later ≡ phrases.old.later }
+{
+    match phrases.next_word() {
+        Some(_) => Err(LineFault::Form),
+        None => Ok(()),
+    }
+}
