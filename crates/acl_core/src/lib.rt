@@ -24,5 +24,3 @@ pub use fault::{AclError, AclFault};
 pub use mode::Mode;
 pub use perms::Perms;
 
-#[cfg(test)]
-mod tests;

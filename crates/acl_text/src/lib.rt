@@ -22,5 +22,3 @@ pub use names::{MAX_NAME, NameError, Names};
 pub use read::{TextFault, read_acl};
 pub use write::{append_acl, append_short, append_tag, permission_text, write_acl, write_short};
 
-#[cfg(test)]
-mod tests;

@@ -4,9 +4,9 @@
 ghost use Rattle.std.specs.Prelude.{◌≡◌, ℕ, ◌≢◌, ◌+◌, ◌-◌, ◌<◌, ◌^◌, [], IfSome, OnOk, OnErr, Some, None, is_some, sum_by};
 ghost use Rattle.std.specs.Ordering.{nat_cmp};
 ghost use Rattle.sorted_map.specs.SortedMap as map;
-ghost use Rattle.sorted_map.specs.declared.uses.Row.{Row};
+ghost use Rattle.library_tests.specs.declared.maps.uses.Row.{Row};
 
-use crate::{RoomyMap, SortedMap};
+use sorted_map::{RoomyMap, SortedMap};
 use std::alloc::{AllocError, Global};
 use std::marker::Model;
 
@@ -33,7 +33,7 @@ impl Table {
         }
     }
 
-    #[tactic(auto, using(crate::specs::Numbers::numbers))]
+    #[tactic(auto, using(sorted_map::specs::Numbers::numbers))]
     pub fn put(&mut self, number: u64, row: Row) -> Result<(), AllocError>
         ensures ok { OnOk result (self.new ≡ record self.old { rows = map.insert nat_cmp self.old.rows number row }) }
         ensures there { OnOk result (map.get nat_cmp self.new.rows number ≡ Some row) }
@@ -58,7 +58,7 @@ impl Table {
         }
     }
 
-    #[tactic(auto, using(crate::specs::Numbers::numbers))]
+    #[tactic(auto, using(sorted_map::specs::Numbers::numbers))]
     pub fn take(&mut self, number: u64) -> Option<Row>
         ensures before { result ≡ map.get nat_cmp self.old.rows number }
         ensures gone { map.get nat_cmp self.new.rows number ≡ None }
@@ -84,7 +84,7 @@ pub struct Planned {
 
 impl Model for Planned {
     ghost use Rattle.std.specs.Prelude.{ℕ, List, ◌≤◌};
-    ghost use Rattle.sorted_map.specs.declared.uses.Row.{Row};
+    ghost use Rattle.library_tests.specs.declared.maps.uses.Row.{Row};
 
     ghost Value = { List (ℕ × Row) × ℕ };
 

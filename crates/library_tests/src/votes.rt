@@ -1,6 +1,6 @@
 //! Worked examples, and each public call once.
 
-use crate::{MAX_SERVERS, ServerSet, Votes, VotesFault};
+use vote_core::{MAX_SERVERS, ServerSet, Votes, VotesFault};
 use std::process::Abort;
 
 /// The set of these servers.

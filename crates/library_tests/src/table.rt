@@ -1,7 +1,9 @@
 //! What no row of `crates/rows` can say: the denials that a table keeps, paths of no byte, transactions
 //! of no operation, the limits, servers that are not there, and that replies are shared.
 
-use crate::{
+mod uses;
+
+use file_ops::{
     Action, Answer, Answers, ApplyError, AuditItem, Denial, Init, Op, PathText, Refusal, Table, Why,
 };
 use acl_core::{Acl, Caller, Decider, Mode, Perms};

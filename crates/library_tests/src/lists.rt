@@ -1,6 +1,6 @@
 //! Worked examples, and each public call once.
 
-use crate::{
+use acl_core::{
     Acl, AclError, AclFault, Caller, Check, Decider, Entry, Mode, Perms, Tag, TooManyGroups,
 };
 use bitflags::Flags;

@@ -5,9 +5,10 @@
 //! What a test itself lacks stops it.
 
 mod asking;
+mod uses;
 
 use self::asking::{Ask, What, add, file, request, server};
-use crate::{
+use rep_core::{
     Lack, Part, Parts, Reply, Request, Server, Stamped, Take, busy_names_the_least,
     consistency_is_kept, copies_are_valid, exclusive_stands_alone, finish_keeps_effect,
     intentions_have_locks, locks_rise, prepared_by_prepare, prepared_stands,

@@ -2,7 +2,7 @@
 
 ghost use Rattle.std.specs.Prelude.{◌<◌};
 
-use crate::{
+use suite_prefix::{
     Content, CopyFault, DecodeError, LockMode, Prefix, PrefixKind, Replica, Settings,
     SettingsFault, decode, encode, faults_tell_apart, fronts_are_short, no_bytes_begin_others,
     tests_are_exact,

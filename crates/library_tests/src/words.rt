@@ -1,4 +1,4 @@
-use crate::{ArgsError, Request, read_words};
+use suite_args::{ArgsError, Request, read_words};
 use std::alloc::{AllocError, Global};
 use std::test::Fail;
 

@@ -1,6 +1,6 @@
 //! Worked examples, and each public call once.
 
-use crate::{
+use acl_text::{
     NameError, Names, TextFault, append_acl, append_short, append_tag, permission_text, read_acl,
     write_acl, write_short,
 };

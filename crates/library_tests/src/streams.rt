@@ -1,6 +1,6 @@
 //! Texts of many pieces, their limits, and a failure in mid-stream.
 
-use crate::{
+use byte_streams::{
     ByteIn, ByteOut, MemoryIn, MemoryOut, ReadError, SystemIn, SystemOut, read_all, write_all,
 };
 use std::process::Abort;

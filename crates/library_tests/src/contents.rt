@@ -1,7 +1,9 @@
 //! Each public call once, the bytes of a name, and what a change leaves to those that share.
 
-use crate::uses::{Row, change_and_back, has, lengths, link, put_and_take, take_and_put, unlink};
-use crate::{
+mod uses;
+
+use self::uses::{Row, change_and_back, has, lengths, link, put_and_take, take_and_put, unlink};
+use suite_content::{
     Content, FileBytes, FolderNames, Kind, LONGEST_CONTENT, LONGEST_NAME, MOST_NAMES, Name,
     NameList,
 };

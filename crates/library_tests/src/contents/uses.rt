@@ -7,7 +7,7 @@ ghost use Rattle.std.specs.Str.{bytes_eq};
 ghost use Rattle.suite_content.specs.Folders.{number_of};
 ghost use Rattle.suite_content.specs.Contents.{empty_content};
 
-use crate::{Content, FileBytes, FolderNames, Kind, Name, NameList};
+use suite_content::{Content, FileBytes, FolderNames, Kind, Name, NameList};
 use std::alloc::{AllocError, Global};
 
 /// A file or a folder with its owner. In a contract it is plain data.
@@ -37,7 +37,7 @@ impl Row {
     }
 
     /// Whether it holds this already.
-    #[tactic(auto, using(crate::specs::ContentEquality::same_content_decides))]
+    #[tactic(auto, using(suite_content::specs::ContentEquality::same_content_decides))]
     pub fn holds(&self, other: &Content) -> bool
         ensures { IsTrue result ↔ (self.now.content ≡ other.now) }
     {
@@ -46,7 +46,7 @@ impl Row {
 }
 
 /// Gives a name a number.
-#[tactic(auto, using(crate::specs::FolderLaws::folder_lookups))]
+#[tactic(auto, using(suite_content::specs::FolderLaws::folder_lookups))]
 pub fn link(folder: &mut FolderNames, name: Name, number: u64) -> Result<(), AllocError>
     ensures there { OnOk result (number_of folder.new name ≡ Some number) }
     ensures others { OnOk result ((q : List ℕ) → q ≢ name → number_of folder.new q ≡ number_of folder.old q) }
@@ -56,7 +56,7 @@ pub fn link(folder: &mut FolderNames, name: Name, number: u64) -> Result<(), All
 }
 
 /// Takes a name's number away.
-#[tactic(auto, using(crate::specs::FolderLaws::folder_lookups))]
+#[tactic(auto, using(suite_content::specs::FolderLaws::folder_lookups))]
 pub fn unlink(folder: &mut FolderNames, name: &Name) -> Result<(), AllocError>
     ensures gone { OnOk result (number_of folder.new name.now ≡ None) }
     ensures others { OnOk result ((q : List ℕ) → q ≢ name.now → number_of folder.new q ≡ number_of folder.old q) }
@@ -66,7 +66,7 @@ pub fn unlink(folder: &mut FolderNames, name: &Name) -> Result<(), AllocError>
 }
 
 /// Puts a new name in and takes it out again.
-#[tactic(auto, using(crate::specs::FolderLaws::folder_undoing))]
+#[tactic(auto, using(suite_content::specs::FolderLaws::folder_undoing))]
 pub fn put_and_take(folder: &mut FolderNames, name: Name, number: u64) -> Result<(), AllocError>
     requires { number_of folder.old name ≡ None }
     ensures { OnOk result (folder.new ≡ folder.old) }
@@ -77,7 +77,7 @@ pub fn put_and_take(folder: &mut FolderNames, name: Name, number: u64) -> Result
 }
 
 /// Gives a name another number and then the one before.
-#[tactic(auto, using(crate::specs::FolderLaws::folder_undoing))]
+#[tactic(auto, using(suite_content::specs::FolderLaws::folder_undoing))]
 pub fn change_and_back(folder: &mut FolderNames, name: Name, number: u64) -> Result<(), AllocError>
     ensures { OnOk result (folder.new ≡ folder.old) }
 {
@@ -90,7 +90,7 @@ pub fn change_and_back(folder: &mut FolderNames, name: Name, number: u64) -> Res
 }
 
 /// Takes a name out and puts it back.
-#[tactic(auto, using(crate::specs::FolderLaws::folder_undoing))]
+#[tactic(auto, using(suite_content::specs::FolderLaws::folder_undoing))]
 pub fn take_and_put(folder: &mut FolderNames, name: &Name) -> Result<(), AllocError>
     ensures { OnOk result (folder.new ≡ folder.old) }
 {

@@ -5,7 +5,7 @@ ghost use Rattle.std.specs.Prelude.{◌≡◌, ◌↔◌, ℕ, IsTrue, ◌∷◌
 ghost use Rattle.rep_core.specs.Laws.{reached};
 ghost use Rattle.rep_core.specs.ValidCopies.{HasValidCopies};
 
-use crate::{Reply, Request, Stamped, copies_are_valid, settings_fit};
+use rep_core::{Reply, Request, Stamped, copies_are_valid, settings_fit};
 use suite_prefix::Settings;
 
 /// Whether two requests are the same, with their stamps.

@@ -1,6 +1,6 @@
 //! What a server is asked, in a word each.
 
-use crate::{Decision, Part, Parts, Request, Server, Take, Verdict};
+use rep_core::{Decision, Part, Parts, Request, Server, Take, Verdict};
 use acl_core::{Acl, Decider, Perms};
 use file_ops::{Answers, Denial, Refusal, Why};
 use std::process::Abort;

@@ -1,6 +1,6 @@
 //! Lines and words at their edges, and each public call once.
 
-use crate::{Lines, Parts, Phrases, Words, push_number, read_number};
+use script_text::{Lines, Parts, Phrases, Words, push_number, read_number};
 use std::process::Abort;
 
 /// Appends a piece, and a byte after it.

@@ -1,7 +1,9 @@
 //! Each public call once.
 
-use crate::uses::{Planned, Row, Table};
-use crate::{RoomyMap, SortedMap};
+mod uses;
+
+use self::uses::{Planned, Row, Table};
+use sorted_map::{RoomyMap, SortedMap};
 use std::process::Abort;
 
 /// Compares two lists of pairs.
