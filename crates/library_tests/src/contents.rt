@@ -3,12 +3,12 @@
 mod uses;
 
 use self::uses::{Row, change_and_back, has, lengths, link, put_and_take, take_and_put, unlink};
+use sorted_map::RoomyMap;
+use std::process::Abort;
 use suite_content::{
     Content, FileBytes, FolderNames, Kind, LONGEST_CONTENT, LONGEST_NAME, MOST_NAMES, Name,
     NameList,
 };
-use sorted_map::RoomyMap;
-use std::process::Abort;
 
 fn name(rt: &impl Abort, text: &str) -> Name {
     Name::new(text.as_bytes()).expect(rt, "a name")

@@ -2,14 +2,14 @@
 
 ghost use Rattle.std.specs.Prelude.{◌<◌};
 
+use acl_core::{Acl, Entry, Mode, Tag};
+use std::process::Abort;
+use suite_content::{FileBytes, FolderNames, Kind, Name};
 use suite_prefix::{
     Content, CopyFault, DecodeError, LockMode, Prefix, PrefixKind, Replica, Settings,
     SettingsFault, decode, encode, faults_tell_apart, fronts_are_short, no_bytes_begin_others,
     tests_are_exact,
 };
-use acl_core::{Acl, Entry, Mode, Tag};
-use std::process::Abort;
-use suite_content::{FileBytes, FolderNames, Kind, Name};
 use vote_core::Votes;
 
 /// A file of version 1 of user 1000 and group 100, list of mode 644, three votes, content `hi`.

@@ -1,10 +1,10 @@
 //! Worked examples, and each public call once.
 
+use acl_core::{Acl, AclFault, Mode, Perms, Tag};
 use acl_text::{
     NameError, Names, TextFault, append_acl, append_short, append_tag, permission_text, read_acl,
     write_acl, write_short,
 };
-use acl_core::{Acl, AclFault, Mode, Perms, Tag};
 use std::process::Abort;
 
 /// A name of 64 bytes.

@@ -3,10 +3,10 @@
 
 mod uses;
 
+use acl_core::{Acl, Caller, Decider, Mode, Perms};
 use file_ops::{
     Action, Answer, Answers, ApplyError, AuditItem, Denial, Init, Op, PathText, Refusal, Table, Why,
 };
-use acl_core::{Acl, Caller, Decider, Mode, Perms};
 use std::process::Abort;
 use suite_content::{FileBytes, Kind};
 use suite_prefix::Settings;

@@ -1,7 +1,7 @@
 //! Worked examples, and each public call once.
 
-use vote_core::{MAX_SERVERS, ServerSet, Votes, VotesFault};
 use std::process::Abort;
+use vote_core::{MAX_SERVERS, ServerSet, Votes, VotesFault};
 
 /// The set of these servers.
 fn set_of(servers: &[u8]) -> ServerSet {

@@ -1,6 +1,6 @@
-use suite_args::{ArgsError, Request, read_words};
 use std::alloc::{AllocError, Global};
 use std::test::Fail;
+use suite_args::{ArgsError, Request, read_words};
 
 /// What the words ask for, in a line.
 fn told(alloc: Global, words: &[&str]) -> Result<String, AllocError> {

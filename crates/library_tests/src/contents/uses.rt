@@ -7,8 +7,8 @@ ghost use Rattle.std.specs.Str.{bytes_eq};
 ghost use Rattle.suite_content.specs.Folders.{number_of};
 ghost use Rattle.suite_content.specs.Contents.{empty_content};
 
-use suite_content::{Content, FileBytes, FolderNames, Kind, Name, NameList};
 use std::alloc::{AllocError, Global};
+use suite_content::{Content, FileBytes, FolderNames, Kind, Name, NameList};
 
 /// A file or a folder with its owner. In a contract it is plain data.
 #[derive(Debug, Drop)]

@@ -1,8 +1,8 @@
 //! What a server is asked, in a word each.
 
-use rep_core::{Decision, Part, Parts, Request, Server, Take, Verdict};
 use acl_core::{Acl, Decider, Perms};
 use file_ops::{Answers, Denial, Refusal, Why};
+use rep_core::{Decision, Part, Parts, Request, Server, Take, Verdict};
 use std::process::Abort;
 use suite_content::{Content, FileBytes};
 use suite_prefix::{LockMode, Prefix, PrefixKind, Replica, Settings};
