@@ -7,3 +7,4 @@ pub mod Answering
 pub mod EntryEquality
 pub mod Doubles
 pub mod OneOrder
+pub mod Reordered

@@ -8,7 +8,7 @@ ghost use Rattle.acl_core.specs.Modes.{minimal_list};
 use crate::entry::{Entry, Tag};
 use crate::fault::AclError;
 use crate::mode::Mode;
-use crate::search::{first_fault_of, sorted_copy};
+use crate::search::{first_fault_of, into_sorted};
 use std::alloc::{AllocError, Global};
 use std::marker::Model;
 use std::sync::ArcSlice;
@@ -74,13 +74,26 @@ impl Acl {
         ensures same_entries { IfOk result (IsPermutation entries.now) }
         ensures acl { IfOk result IsAcl }
     {
-        let Ok(sorted) = sorted_copy(alloc, entries) else {
+        let Ok(copy) = Vec::from_slice(alloc, entries) else {
             return Err(match first_fault_of(entries, None) {
                 Some(fault) => AclError::Invalid(fault),
                 None => AclError::Memory,
             });
         };
-        if let Some(fault) = first_fault_of(entries, Some(&sorted)) {
+        Acl::from_vec(copy)
+    }
+
+    /// The list of these entries, which may come in any order and are sorted where they stand. What is
+    /// wrong with them is answered by the first of its names, also where memory would not have sufficed.
+    pub fn from_vec(entries: Vec<Entry>) -> Result<Acl, AclError>
+        ensures fault { fault_in result ≡ first_fault entries.items }
+        ensures accepted { (first_fault entries.items ≡ None) ↔ IsAccepted entries.items }
+        ensures value { IfOk result (λ acl. acl ≡ in_order entries.items) }
+        ensures same_entries { IfOk result (IsPermutation entries.items) }
+        ensures acl { IfOk result IsAcl }
+    {
+        let sorted = into_sorted(entries);
+        if let Some(fault) = first_fault_of(&sorted, Some(&sorted)) {
             return Err(AclError::Invalid(fault));
         }
         let entries = ArcSlice::from_vec(sorted)?;

@@ -23,6 +23,3 @@ pub use entry::{Entry, Tag};
 pub use fault::{AclError, AclFault};
 pub use mode::Mode;
 pub use perms::Perms;
-
-#[cfg(test)]
-mod tests;

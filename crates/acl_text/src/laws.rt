@@ -1,6 +1,11 @@
 //! Laws of what is read and written, which calls of this crate rest on.
 
-ghost use Rattle.acl_text.specs.Laws.{LongTextSpells, ShortTextSpells, SpelledIsRead};
+ghost use Rattle.std.specs.Prelude.{◌≤◌};
+ghost use Rattle.acl_core.specs.Tags.{qualifier};
+ghost use Rattle.acl_text.specs.Laws.{LongTextSpells, NumbersFit, ShortTextSpells, SpelledIsRead};
+ghost use Rattle.acl_text.specs.Qualifiers.{most_id};
+
+use acl_core::{Entry, Tag};
 
 /// The long text of a list spells that list, whatever names are known.
 pub fn long_text_spells_its_list()
@@ -16,3 +21,18 @@ pub fn short_text_spells_its_list()
 pub fn what_is_spelled_is_read()
     ensures { SpelledIsRead }
 {}
+
+/// The users and groups of entries are numbers that users and groups can have. It does nothing.
+pub(crate) fn numbers_fit(entries: &[Entry])
+    ensures { NumbersFit entries.now }
+{
+    for entry in entries {
+        number_fits(entry.tag);
+    }
+}
+
+fn number_fits(tag: Tag)
+    ensures { qualifier tag ≤ most_id }
+{
+    if let Tag::User(_number) | Tag::Group(_number) = tag {}
+}

@@ -21,6 +21,3 @@ pub use laws::{long_text_spells_its_list, short_text_spells_its_list, what_is_sp
 pub use names::{MAX_NAME, NameError, Names};
 pub use read::{TextFault, read_acl};
 pub use write::{append_acl, append_short, append_tag, permission_text, write_acl, write_short};
-
-#[cfg(test)]
-mod tests;

@@ -1,6 +1,6 @@
 //! Lists read from their text.
 
-ghost use Rattle.std.specs.Prelude.{◌≡◌, ◌≢◌, None, Some, IfOk, IfErr, OnOk};
+ghost use Rattle.std.specs.Prelude.{◌≡◌, ◌≢◌, [], None, Some, Err, IfOk, IfErr, OnOk};
 ghost use Rattle.std.specs.List.{filter_map};
 ghost use Rattle.acl_core.specs.InOrder.{in_order};
 ghost use Rattle.acl_text.specs.Faults.{fault_at, fault_of_list};
@@ -71,12 +71,13 @@ impl ItemFault {
 }
 
 /// The list that a text spells. A growth that is refused is answered at once, and nothing is then said
-/// of the rest of the text.
+/// of the rest of the text. A text whose items say no entry takes no memory, and so has its fault.
 pub fn read_acl(alloc: Global, text: &[u8], names: &Names) -> Result<Acl, TextFault>
     ensures spelled { IfOk result (SpellsList text.now names.now) }
     ensures value { IfOk result (λ list. list ≡ in_order (filter_map entry_said (readings text.now names.now))) }
     ensures faultless { OnOk result (fault text.now names.now ≡ None) }
     ensures refused { IfErr result (λ e. e ≢ TextFault.Memory → fault text.now names.now ≡ Some e) }
+    ensures memory { result ≡ Err TextFault.Memory → filter_map entry_said (readings text.now names.now) ≢ [] }
 {
     let mut entries = Vec::new(alloc);
     let mut number = 0;
@@ -88,6 +89,6 @@ pub fn read_acl(alloc: Global, text: &[u8], names: &Names) -> Result<Acl, TextFa
             Err(fault) => return Err(fault.at(number)),
         }
     }
-    let acl = Acl::from_entries(alloc, &entries)?;
+    let acl = Acl::from_vec(entries)?;
     Ok(acl)
 }

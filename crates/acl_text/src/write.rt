@@ -3,7 +3,10 @@
 ghost use Rattle.std.specs.Prelude.{◌≡◌, ◌==◌, ◌++◌, codes, decimal, ◌∷◌, [], List, ℕ, take, IfOk, OnOk, OnErr, if◌then◌else◌};
 ghost use Rattle.acl_core.specs.Permissions.{has};
 ghost use Rattle.acl_text.specs.Writing.{canonical, common_text, entry_text, is_limited, line_text, mask_of, permission_text, remark, short_text, tag_text};
+ghost use Rattle.acl_text.specs.Tables.{Tables};
+ghost use Rattle.acl_text.specs.Texts.{Spells};
 
+use crate::laws::{long_text_spells_its_list, numbers_fit, short_text_spells_its_list};
 use acl_core::{Acl, Entry, Perms, Tag};
 use itoa::Buffer;
 use std::alloc::{AllocError, Global};
@@ -186,40 +189,52 @@ pub fn append_tag(text: &mut Vec<u8>, tag: Tag) -> Result<(), AllocError>
     or_truncated(text, begun, done)
 }
 
-/// Appends the long text of a list. Where memory runs out, the text stays as it was.
+/// Appends the long text of a list, which spells the list under all names. Where memory runs out, the
+/// text stays as it was.
 pub fn append_acl(text: &mut Vec<u8>, acl: &Acl) -> Result<(), AllocError>
     ensures appended { OnOk result (text.new.items ≡ text.old.items ++ canonical acl.now) }
+    ensures spells { (names : Tables) → Spells (canonical acl.now) names acl.now }
     ensures unchanged { OnErr result (text.new.items ≡ text.old.items) }
 {
+    numbers_fit(acl.entries());
+    long_text_spells_its_list();
     let begun = text.len();
     let done = append_lines(text, acl.entries());
     or_truncated(text, begun, done)
 }
 
-/// Appends the short text of a list. Where memory runs out, the text stays as it was.
+/// Appends the short text of a list, which spells the list under all names. Where memory runs out, the
+/// text stays as it was.
 pub fn append_short(text: &mut Vec<u8>, acl: &Acl) -> Result<(), AllocError>
     ensures appended { OnOk result (text.new.items ≡ text.old.items ++ short_text acl.now) }
+    ensures spells { (names : Tables) → Spells (short_text acl.now) names acl.now }
     ensures unchanged { OnErr result (text.new.items ≡ text.old.items) }
 {
+    numbers_fit(acl.entries());
+    short_text_spells_its_list();
     let begun = text.len();
     let done = append_joined(text, acl.entries());
     or_truncated(text, begun, done)
 }
 
-/// The long text of a list: numbers, one entry a line, in canonical order.
+/// The long text of a list: numbers, one entry a line, in canonical order. It spells the list under all
+/// names.
 pub fn write_acl(alloc: Global, acl: &Acl) -> Result<Vec<u8>, AllocError>
-    ensures { IfOk result (λ text. text.items ≡ canonical acl.now) }
+    ensures value { IfOk result (λ text. text.items ≡ canonical acl.now) }
+    ensures spells { IfOk result (λ text. (names : Tables) → Spells text.items names acl.now) }
 {
     let mut text = Vec::new(alloc);
-    append_lines(&mut text, acl.entries())?;
+    append_acl(&mut text, acl)?;
     Ok(text)
 }
 
-/// The short text of a list: the same entries, with commas between them.
+/// The short text of a list: the same entries, with commas between them. It spells the list under all
+/// names.
 pub fn write_short(alloc: Global, acl: &Acl) -> Result<Vec<u8>, AllocError>
-    ensures { IfOk result (λ text. text.items ≡ short_text acl.now) }
+    ensures value { IfOk result (λ text. text.items ≡ short_text acl.now) }
+    ensures spells { IfOk result (λ text. (names : Tables) → Spells text.items names acl.now) }
 {
     let mut text = Vec::new(alloc);
-    append_joined(&mut text, acl.entries())?;
+    append_short(&mut text, acl)?;
     Ok(text)
 }

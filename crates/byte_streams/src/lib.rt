@@ -17,5 +17,3 @@ pub use system::{SystemIn, SystemOut};
 pub use traits::{ByteIn, ByteOut, ReadFailed, WriteFailed};
 pub use writing::write_all;
 
-#[cfg(test)]
-mod tests;

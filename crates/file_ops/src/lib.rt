@@ -33,7 +33,3 @@ pub use service::Service;
 pub use table::Table;
 pub use walk::last_name;
 
-#[cfg(test)]
-mod tests;
-#[cfg(test)]
-mod uses;

@@ -22,7 +22,6 @@ pub mod FittingReplies
 pub mod Reached
 pub mod Validity
 mod Example
-pub mod Same
 pub mod Changes
 mod Searching
 mod Ranges

@@ -51,7 +51,3 @@ pub use stamped::{Lack, Stamped};
 pub use store::MOST_SUITES;
 pub use types_fit::settings_fit;
 
-#[cfg(test)]
-mod tests;
-#[cfg(test)]
-mod uses;

@@ -16,5 +16,3 @@ pub use parts::Parts;
 pub use phrases::Phrases;
 pub use words::Words;
 
-#[cfg(test)]
-mod tests;

@@ -18,7 +18,3 @@ mod roomy;
 pub use map::SortedMap;
 pub use roomy::RoomyMap;
 
-#[cfg(test)]
-mod tests;
-#[cfg(test)]
-mod uses;

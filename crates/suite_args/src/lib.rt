@@ -28,5 +28,3 @@ pub fn read_words<'a>(alloc: Global, words: &'a [&'a str]) -> Result<Request<'a>
     }
 }
 
-#[cfg(test)]
-mod tests;

@@ -1,6 +1,6 @@
 //! What a file holds.
 
-ghost use Rattle.std.specs.Prelude.{◌≡◌, ◌<◌, ◌↔◌, [], length, IfOk, IsTrue};
+ghost use Rattle.std.specs.Prelude.{◌≡◌, ◌<◌, ◌↔◌, [], length, IfOk, IsOk, IsTrue};
 ghost use Rattle.suite_content.specs.Limits.{longest_content};
 
 use std::alloc::{AllocError, Global};
@@ -71,9 +71,10 @@ impl FileBytes {
         FileBytes { shared: None }
     }
 
-    /// The bytes of a vector, which are not copied.
+    /// The bytes of a vector, which are not copied. No bytes take no memory.
     pub fn from_vec(bytes: Vec<u8>) -> Result<FileBytes, AllocError>
-        ensures { IfOk result (λ file. file ≡ bytes.items) }
+        ensures value { IfOk result (λ file. file ≡ bytes.items) }
+        ensures nothing { bytes.items ≡ [] → IsOk result }
     {
         if bytes.is_empty() {
             return Ok(FileBytes::empty());
@@ -84,10 +85,14 @@ impl FileBytes {
         })
     }
 
-    /// A copy of some bytes.
+    /// A copy of some bytes. No bytes take no memory.
     pub fn from_slice(alloc: Global, bytes: &[u8]) -> Result<FileBytes, AllocError>
-        ensures { IfOk result (λ file. file ≡ bytes.now) }
+        ensures value { IfOk result (λ file. file ≡ bytes.now) }
+        ensures nothing { bytes.now ≡ [] → IsOk result }
     {
+        if bytes.is_empty() {
+            return Ok(FileBytes::empty());
+        }
         let bytes = Vec::from_slice(alloc, bytes)?;
         FileBytes::from_vec(bytes)
     }

@@ -92,7 +92,8 @@ impl FolderNames {
 
     /// The names of a map, which are not copied.
     pub fn from_map(alloc: Global, names: RoomyMap<Name, u64>) -> Result<FolderNames, AllocError>
-        ensures { IfOk result (λ folder. folder ≡ names.pairs) }
+        ensures value { IfOk result (λ folder. folder ≡ names.pairs) }
+        ensures nothing { names.pairs ≡ [] → IsOk result }
     {
         if names.is_empty() {
             return Ok(FolderNames::new(alloc));

@@ -21,8 +21,3 @@ pub use file_bytes::{FileBytes, LONGEST_CONTENT};
 pub use folder_names::{FolderNames, MOST_NAMES};
 pub use name::{LONGEST_NAME, Name, is_name};
 pub use name_list::{NameIter, NameList};
-
-#[cfg(test)]
-mod tests;
-#[cfg(test)]
-mod uses;

@@ -1,7 +1,6 @@
 -- A shape judged part by part: what its numbers are by the places that they stand in, what is asked of its list, and what of the rest.
 use Rattle.std.specs.Prelude.{◌≡◌, ℕ, ◌<◌, ◌≤◌, ◌^◌, ◌↔◌, IsTrue, List, [], length, All}
 use Rattle.acl_core.specs.Tags.{qualifier}
-use Rattle.vote_core.specs.declared.TheConstants.{MAX_SERVERS}
 use Rattle.vote_core.specs.Validity as votes
 use Rattle.suite_content.specs.declared.content.Content.{Content}
 use Rattle.suite_content.specs.declared.content.Content.TheVariants.{Bytes, Names}
@@ -60,7 +59,7 @@ pub record KeepsRules (shape : Shape) : Type 0 where
 pub record IsSound (shape : Shape) : Type 0 where
   pub permissions_known : All (λ entry. entry.permissions < 8) shape.entries
   pub rules : KeepsRules shape
-  pub votes : votes.IsAccepted MAX_SERVERS shape.votes
+  pub votes : votes.IsAccepted votes.most_servers shape.votes
 
 -- a whole shape with nothing behind it, of a valid copy
 pub record IsWhole (shape : Shape) (rest : List ℕ) : Type 0 where

@@ -29,5 +29,3 @@ pub use suite_content::Content;
 pub use validity::tests_are_exact;
 pub use writing::{encode, no_bytes_begin_others};
 
-#[cfg(test)]
-mod tests;

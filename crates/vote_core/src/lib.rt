@@ -22,5 +22,3 @@ pub use votes::Votes;
 /// The most servers that there are: they are numbered from 0.
 pub const MAX_SERVERS: usize = 16;
 
-#[cfg(test)]
-mod tests;

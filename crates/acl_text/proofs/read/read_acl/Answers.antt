@@ -23,7 +23,7 @@ returns-clause-spelled c =
     let faultless : first_item_fault 1 (readings c.args.text.now c.args.names.now) ≡ None =
     sym c.loop-item.invariant.3 ∙ ap (first_item_fault (c.loop-item.number + 1)) nothing_left in
     let spelled = spelled_from_faultless c.args.text.now c.args.names.now faultless in
-    (entries, subst (Spells c.args.text.now c.args.names.now) (sym all) spelled, rw c.deref.ensures.value at c.in_ok-acl.ensures.same_entries)
+    (entries, subst (Spells c.args.text.now c.args.names.now) (sym all) spelled, c.in_ok-acl.ensures.same_entries)
 
 pub returns-clause-value : goal.returns-clause-value
 returns-clause-value c =
@@ -31,4 +31,4 @@ returns-clause-value c =
     let nothing_left : map (reading c.args.names.now) (items_left c.loop-item.item-iterator) ≡ [] = ap (map (reading c.args.names.now)) c.in-None.ensures.steps.0 in
     let all : entries ≡ filter_map entry_said (readings c.args.text.now c.args.names.now) =
     sym (append-nil entries) ∙ ap (λ left. entries ++ filter_map entry_said left) (sym nothing_left) ∙ c.loop-item.invariant.2 in
-    c.in_ok-acl.ensures.value ∙ ap in_order (c.deref.ensures.value ∙ all)
+    c.in_ok-acl.ensures.value ∙ ap in_order all

@@ -1,0 +1,38 @@
+-- Entries in another order have the same first fault.
+use Rattle.std.proofs.Common.{◌≡◌, Bool, eqb, ltb, ◌&&◌, ◌||◌, List, [], ◌∷◌, sym, ap, ◌∙◌, IsPermutation}
+use Rattle.std.specs.List.{list_any, find}
+use Rattle.std.proofs.lemmas.List.Sorted.{list_any-IsPermutation, length_permutation, IsPermutation-refl}
+use Rattle.acl_core.specs.declared.entry.Tag.{Tag}
+use Rattle.acl_core.specs.declared.entry.Tag.TheVariants.{UserObj, GroupObj, Mask, Other}
+use Rattle.acl_core.specs.declared.entry.Entry.{Entry}
+use Rattle.acl_core.specs.declared.fault.AclFault.{AclFault}
+use Rattle.acl_core.specs.declared.fault.AclFault.TheVariants.{NoUserObj, NoGroupObj, NoOther, TwiceSingle, UserTwice, GroupTwice, MaskMissing, TooMany}
+use Rattle.acl_core.specs.Tags.{is_user, is_group}
+use Rattle.acl_core.specs.AccessLists.{count_of, has_twice, has_fault, has_named, most_entries, faults, first_fault}
+use Rattle.acl_core.specs.Sorted.{IsSortedCopy}
+use Rattle.acl_core.proofs.Sorting.{count_of_permutation}
+
+twice_permutation : (kind : Tag → Bool) (xs ys : List Entry) → IsPermutation xs ys → has_twice kind ys ≡ has_twice kind xs
+twice_permutation kind xs ys h =
+    (λ i. list_any (λ e. kind e.tag && ltb 1 (count_of_permutation xs ys h e.tag i)) ys)
+    ∙ sym (list_any-IsPermutation (λ (e : Entry). kind e.tag && ltb 1 (count_of e.tag xs)) xs ys h)
+
+named_permutation : (xs ys : List Entry) → IsPermutation xs ys → has_named ys ≡ has_named xs
+named_permutation xs ys h = sym (list_any-IsPermutation (λ (e : Entry). is_user e.tag || is_group e.tag) xs ys h)
+
+fault_permutation : (fault : AclFault) (xs ys : List Entry) → IsPermutation xs ys → has_fault fault ys ≡ has_fault fault xs
+fault_permutation NoUserObj xs ys h = ap (λ n. eqb n 0) (count_of_permutation xs ys h UserObj)
+fault_permutation NoGroupObj xs ys h = ap (λ n. eqb n 0) (count_of_permutation xs ys h GroupObj)
+fault_permutation NoOther xs ys h = ap (λ n. eqb n 0) (count_of_permutation xs ys h Other)
+fault_permutation TwiceSingle xs ys h = λ i. list_any (λ tag. ltb 1 (count_of_permutation xs ys h tag i)) (UserObj ∷ GroupObj ∷ Mask ∷ Other ∷ [])
+fault_permutation UserTwice xs ys h = twice_permutation is_user xs ys h
+fault_permutation GroupTwice xs ys h = twice_permutation is_group xs ys h
+fault_permutation MaskMissing xs ys h = λ i. named_permutation xs ys h i && eqb (count_of_permutation xs ys h Mask i) 0
+fault_permutation TooMany xs ys h = ap (ltb most_entries) (length_permutation xs ys h)
+
+pub first_fault_permutation : (xs ys : List Entry) → IsPermutation xs ys → first_fault ys ≡ first_fault xs
+first_fault_permutation xs ys h = λ i. find (λ fault. fault_permutation fault xs ys h i) faults
+
+-- a sorted copy is a sorted copy of itself
+pub sorted_itself : (xs ys : List Entry) → IsSortedCopy xs ys → IsSortedCopy ys ys
+sorted_itself xs ys copy = record { moved = IsPermutation-refl ys; ordered = copy.ordered }

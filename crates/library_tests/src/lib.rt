@@ -1,0 +1,28 @@
+//! Tests of the libraries, a module for each, through what a library shows: that its calls succeed while
+//! there is memory, worked examples, printed text, and callers that are proved against its contracts.
+//!
+//! They stand here and not in their crates, since a crate with tests is proved a second time for them.
+#![tactic(auto)]
+
+#[cfg(test)]
+mod contents;
+#[cfg(test)]
+mod copies;
+#[cfg(test)]
+mod list_text;
+#[cfg(test)]
+mod lists;
+#[cfg(test)]
+mod maps;
+#[cfg(test)]
+mod scripts;
+#[cfg(test)]
+mod server;
+#[cfg(test)]
+mod streams;
+#[cfg(test)]
+mod table;
+#[cfg(test)]
+mod votes;
+#[cfg(test)]
+mod words;
