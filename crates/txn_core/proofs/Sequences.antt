@@ -1,5 +1,5 @@
 -- What a plan sets and what follows it is what an execution comes to.
-use Rattle.std.proofs.Common.{◌≡◌, ℕ, true, false, Option, Some, None, refl, sym, ap, subst, ◌∙◌}
+use Rattle.std.proofs.Common.{◌≡◌, ℕ, Option, Some, None, refl, sym, ap, subst, ◌∙◌}
 use Rattle.std.specs.Prelude.{is_some, unwrap_or}
 use Rattle.std.proofs.lemmas.Bool.{false≢true}
 use Rattle.std.proofs.lemmas.Option.{same_Some}
@@ -20,7 +20,7 @@ use Rattle.txn_core.specs.declared.sequel.Sequel.{Sequel}
 use Rattle.txn_core.specs.declared.shelf.Fetched.{Fetched}
 use Rattle.txn_core.specs.Suites.{First, Suite, Suites, suite_of, with_suite}
 use Rattle.txn_core.specs.Doing.{Fixed, Task}
-use Rattle.txn_core.specs.Transactions.{Step, Gathered, heard_on, gather, raised_or_new, proceed, execute, give_up, keep_content, fetched}
+use Rattle.txn_core.specs.Transactions.{Gathered, heard_on, gather, raised_or_new, proceed, execute, give_up, keep_content, fetched}
 use Rattle.txn_core.specs.Plans.{new_unless, new_for, asked_at, raised_at, asked_for, opened_all, carried_out, IsPlanOf, shelved, kept_of, fetched_first, fetched_of}
 use Rattle.txn_core.specs.Unused.{HasUnused}
 use Rattle.txn_core.specs.Sequels.{sequel_of, gather_again, follow}

@@ -76,7 +76,7 @@ impl<'a> Execution<'a> {
         ensures unused { HasUnused cache.new.entries }
         ensures err { OnErr result ((suites.new.pairs ≡ suites.old.pairs) × (cache.new ≡ cache.old)) }
     {
-        let Some((suite, fetched)) = self.fetch(suites, number, content)? else {
+        let Some((suite, fetched)) = self.fetched(suites, number, content)? else {
             return Ok(None);
         };
         let sequel = self.execute_in_place(suites, cache, number, suite, Some(fetched))?;
@@ -85,7 +85,7 @@ impl<'a> Execution<'a> {
 
     /// A suite with its content that was fetched, and the content as it is kept; nothing, where the
     /// suite had no quorum.
-    fn fetch(
+    fn fetched(
         self,
         suites: &RoomyMap<u64, Suite>,
         number: u64,

@@ -23,9 +23,7 @@ mod laws;
 mod list;
 
 pub use cache::{MAX_SITES, NewEntry, WeakCache};
-pub use laws::{
-    a_search_keeps_all, entries_come_from_puts, found_was_put, oldest_go, site_lists,
-};
+pub use laws::{a_search_keeps_all, entries_come_from_puts, found_was_put, oldest_go, site_lists};
 pub use list::Entries;
 
 #[cfg(test)]

@@ -1,7 +1,7 @@
 //! A cache as its users meet it: a table of calls with the entries that each leaves, memory that is
 //! refused, and the most entries that there may be, turned over.
 
-use crate::{MAX_SITES, WeakCache, found_was_put, oldest_go, site_lists};
+use crate::{MAX_SITES, NewEntry, WeakCache, found_was_put, oldest_go, site_lists};
 use acl_core::{Acl, Mode};
 use std::alloc::{AllocError, Global};
 use std::process::Abort;
@@ -25,6 +25,12 @@ fn prefix(rt: &impl Abort, alloc: Global, pver: u64) -> Result<Prefix, AllocErro
     })
 }
 
+/// A file of so many bytes.
+fn file(alloc: Global, length: usize) -> Result<Content, AllocError> {
+    let bytes = vec![in alloc; 7u8; length]?;
+    Ok(Content::Bytes(FileBytes::from_vec(bytes)?))
+}
+
 /// Puts a file of so many bytes. Its prefix and its content have the version.
 fn put(
     rt: &impl Abort,
@@ -35,8 +41,7 @@ fn put(
     length: usize,
 ) -> Result<(), AllocError> {
     assert!(rt; key.0 < MAX_SITES);
-    let bytes = vec![in alloc; 7u8; length]?;
-    let content = Content::Bytes(FileBytes::from_vec(bytes)?);
+    let content = file(alloc, length)?;
     let prefix = prefix(rt, alloc, version)?;
     cache.put(key.0, key.1, prefix, version, content)
 }
@@ -140,4 +145,32 @@ fn a_full_cache_is_turned_over(rt: HostRuntime) -> Result<(), Fail> {
     assert!(rt; cache.entries().next() == Some((3, 8191)));
     assert!(rt; cache.hint(3, 4095).is_none() && cache.hint(3, 4096).is_some());
     Ok(())
+}
+
+#[test]
+fn a_put_is_seen_before(rt: HostRuntime) -> Result<(), Fail> {
+    let alloc = rt.alloc();
+    let mut cache = WeakCache::new(alloc, 10, 6, 4)?;
+    put(&rt, alloc, &mut cache, (0, 2), 1, 4)?;
+    put(&rt, alloc, &mut cache, (1, 1), 1, 4)?;
+    let prefix = prefix(&rt, alloc, 3)?;
+    let content = file(alloc, 5)?;
+    let new = NewEntry {
+        site: 0,
+        suite: 3,
+        prefix: &prefix,
+        dver: 3,
+        content: &content,
+    };
+    assert!(rt;
+        cache
+            .hint_beside(new, 0, 3)
+            .is_some_and(|prefix| prefix.pver == 3)
+    );
+    assert!(rt; cache.hint_beside(new, 0, 2).is_none() && cache.hint_beside(new, 1, 1).is_some());
+    assert!(rt; cache.content_beside(new, 0, 3, 3).is_some());
+    assert!(rt; cache.content_beside(new, 0, 3, 2).is_none());
+    assert!(rt; cache.content_beside(new, 1, 1, 1).is_some());
+    assert!(rt; cache.content(0, 2, 1).is_some());
+    stand(&rt, alloc, &cache, "(1,1)(0,2)")
 }
