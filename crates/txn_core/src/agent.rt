@@ -1,6 +1,8 @@
 //! An agent.
 
-ghost use Rattle.std.specs.Prelude.{◌≡◌, ◌<◌, [], IfOk, OnOk, OnErr};
+ghost use Rattle.std.specs.Prelude.{◌≡◌, ◌<◌, ◌≤◌, [], IfOk, OnOk, OnErr, Some};
+ghost use Rattle.weak_cache.specs.Cache.{Limits};
+ghost use Rattle.txn_core.specs.AgentFields.{doing_of};
 ghost use Rattle.txn_core.specs.Agents as agents;
 ghost use Rattle.txn_core.specs.Standing.{FitsAsked, left_by};
 ghost use Rattle.txn_core.specs.Transactions as course;
@@ -16,6 +18,7 @@ use rep_core::Request;
 use std::alloc::{AllocError, Global};
 use std::marker::Model;
 use suite_prefix::Settings;
+use vote_core::MAX_SERVERS;
 use weak_cache::{MAX_SITES, WeakCache};
 
 /// After this many jobs none is begun.
@@ -129,8 +132,7 @@ impl Agent {
         ensures { IfOk result (λ asked. asked ≡ agents.next_of self.now.fixed self.now.state) }
     {
         match &self.doing {
-            Some(Doing::Running(course)) => course.next(self.alloc, &self.service),
-            Some(Doing::Rounding(round)) => round.next(&self.service).map(Some),
+            Some(doing) => doing.next(self.alloc, &self.service),
             None => Ok(None),
         }
     }
@@ -185,5 +187,25 @@ impl Agent {
         ensures { result ≡ self.now.state.count }
     {
         self.count
+    }
+}
+
+impl Doing {
+    /// What is asked next, and of which server.
+    fn next(
+        &self,
+        alloc: Global,
+        service: &Service,
+    ) -> Result<Option<(u8, Request)>, AllocError>
+        requires { (0 < service.now.servers) × (service.now.servers ≤ MAX_SERVERS) }
+        ensures { IfOk result (λ asked. (limits : Limits) → asked ≡ agents.next_in (record { service = service.now; limits = limits }) (Some (doing_of self.now))) }
+    {
+        match self {
+            Doing::Running(course) => course.next(alloc, service),
+            Doing::Rounding(round) => {
+                let asked = round.next(service)?;
+                Ok(Some(asked))
+            }
+        }
     }
 }

@@ -5,21 +5,14 @@ use Rattle.rep_core.specs.declared.request.Request.{Request}
 use Rattle.weak_cache.specs.Cache.{Limits}
 use Rattle.txn_core.specs.AgentFields.{doing_of, standing_of}
 use Rattle.txn_core.specs.Agents.{next_of, next_in}
-use Rattle.txn_core.specs.Doing.{Running}
-use Rattle.txn_core.specs.declared.agent.Doing.{Doing as Coded}
-use Rattle.txn_core.specs.declared.agent.Doing.TheVariants as coded
 use Rattle.txn_core.specs.Standing.{Standing}
-use Rattle.txn_core.specs.Transactions.{request_of}
 use Rattle.txn_core.proofs.agent.Agent.next.Goals as goal
 
-pub returns-in-Some-Running : goal.returns-in-Some-Running
-returns-in-Some-Running c =
-    let at = c.in-Some-Running in
+pub returns-in-Some : goal.returns-in-Some
+returns-in-Some c =
     let was : Standing = standing_of c.self.inside in
-    let some : c.self.inside.doing ≡ Some at.field-0 = at.is in
-    let runs : at.field-0 ≡ coded.Running at.course = at.field-0-is in
-    let doing : was.state.doing ≡ Some (Running at.course) = ap (option_map doing_of) (some ∙ ap (λ (doing : Coded). Some doing) runs) in
-    let Said : Option (ℕ × Request) → Type 0 = λ asked. (limits : Limits) → asked ≡ request_of (record { service = c.self.inside.service; limits = limits }) at.course in
+    let doing : was.state.doing ≡ Some (doing_of c.in-Some.doing) = ap (option_map doing_of) c.in-Some.is in
+    let Said : Option (ℕ × Request) → Type 0 = λ asked. (limits : Limits) → asked ≡ next_in (record { service = c.self.inside.service; limits = limits }) (Some (doing_of c.in-Some.doing)) in
     let Asked : Option (ℕ × Request) → Type 0 = λ asked. asked ≡ next_of c.args.self.now.fixed c.args.self.now.state in
     IfOk-weaker c.next.result Said Asked
     (λ asked same. same was.fixed.limits ∙ ap (next_in was.fixed) (sym doing) ∙ ap (λ (s : Standing). next_of s.fixed s.state) c.self.view_is) c.next.ensures
