@@ -1,5 +1,5 @@
 -- What one request of an agent to a server leaves of the two.
-use Rattle.std.proofs.Common.{◌≡◌, ℕ, zero, suc, Bool, true, false, cond, List, [], ◌∷◌, Option, Some, None, Result, Ok, refl, ap, ◌∙◌, sym}
+use Rattle.std.proofs.Common.{◌≡◌, ℕ, zero, suc, Bool, true, false, cond, List, [], ◌∷◌, Some, None, Result, Ok, refl, ap, ◌∙◌, sym}
 use Rattle.std.specs.Prelude.{slice_get, slice_set, OnOk}
 use Rattle.std.specs.declared.alloc.AllocError.{AllocError}
 use Rattle.rep_core.specs.declared.request.Request.{Request}
@@ -13,11 +13,10 @@ use Rattle.rep_core.specs.Serving.{answer_of, served, is_full}
 use Rattle.rep_core.proofs.FittingReplies.{reply_fits}
 use Rattle.txn_core.specs.declared.word.Word.TheVariants.{Replied, Lacked}
 use Rattle.txn_core.specs.Agents.{next_of, take}
-use Rattle.txn_core.specs.Standing.{FitsAsked}
 use Rattle.run_core.specs.declared.done.Done.{Done}
 use Rattle.run_core.specs.declared.done.Served.{Served}
 use Rattle.run_core.specs.declared.seat.Heard.{Heard}
-use Rattle.run_core.specs.Worlds.{World, server_at, with_server, with_actor, serve, answered, outcome_of}
+use Rattle.run_core.specs.Worlds.{with_actor, answered, outcome_of}
 use Rattle.run_core.specs.Seats.{Seated, Fits, after_word}
 use Rattle.run_core.specs.Exchanges.{Hears, IsExchange, IsUnserved}
 
@@ -46,7 +45,7 @@ of_it host seat server asked = record { server = server; request = stamped seat 
 
 pub was_served : (host : State) (seat : Seated) (server number : ℕ) (asked : Request) → is_full host (stamped seat asked) ≡ false
     → IsExchange host (served host (stamped seat asked)) seat (after_word seat (answer_of host (stamped seat asked)).stamp (Replied (reply_of host asked))) server number asked
-        (record { served = Some (of_it host seat server asked); outcome = outcome_of number seat.actor (take seat.fixed seat.actor.agent (Replied (reply_of host asked))).ending })
+    (record { served = Some (of_it host seat server asked); outcome = outcome_of number seat.actor (take seat.fixed seat.actor.agent (Replied (reply_of host asked))).ending })
 was_served host seat server number asked not_full = record {
   fixed = refl;
   step = λ world there. ap (λ (full : Bool). answered seat.fixed world number seat.actor host (cond full None (Some (of_it host seat server asked)))) not_full;
@@ -54,7 +53,7 @@ was_served host seat server number asked not_full = record {
 
 pub was_full : (host : State) (seat : Seated) (server number : ℕ) (asked : Request) → is_full host (stamped seat asked) ≡ true
     → IsExchange host host seat (after_word seat seat.actor.stamp (Lacked Full)) server number asked
-        (record { served = None; outcome = outcome_of number seat.actor (take seat.fixed seat.actor.agent (Lacked Full)).ending })
+    (record { served = None; outcome = outcome_of number seat.actor (take seat.fixed seat.actor.agent (Lacked Full)).ending })
 was_full host seat server number asked full = record {
   fixed = refl;
   step = λ world there.

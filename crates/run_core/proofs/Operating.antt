@@ -1,5 +1,5 @@
 -- What the operator asks of servers, and what stands at places.
-use Rattle.std.proofs.Common.{◌≡◌, ℕ, ◌<◌, length, Bool, true, false, cond, List, Option, Some, None, refl, ap, ◌∙◌, sym, ⊎_elim, arith}
+use Rattle.std.proofs.Common.{◌≡◌, ℕ, ◌<◌, length, Bool, true, false, cond, List, Some, None, refl, ap, ◌∙◌, sym, ⊎_elim}
 use Rattle.std.specs.Prelude.{slice_get, slice_set}
 use Rattle.std.proofs.lemmas.Option.{slice_get_cases}
 use Rattle.rep_core.specs.declared.reply.Reply.{Reply}
@@ -12,7 +12,7 @@ use Rattle.rep_core.specs.Serving.{answer_of, served, is_full, takes_no_memory}
 use Rattle.run_core.specs.declared.operator.Order.{Order}
 use Rattle.run_core.specs.declared.operator.Order.TheVariants as order
 use Rattle.run_core.specs.Orders.{request_of}
-use Rattle.run_core.specs.Worlds.{Actor, World, Stepped, operates, operated, quiet, server_at}
+use Rattle.run_core.specs.Worlds.{Actor, World, operates, operated, quiet}
 use Rattle.run_core.proofs.Exchanging.{set_there, not_true}
 
 -- nothing stands there
@@ -42,20 +42,20 @@ full_for_operator err servers server place host host' given sent lack agents pla
     let full' : is_full host (by_operator (request_of given)) ≡ true = only_full err lack (is_full host (by_operator (request_of given))) (rw sent_is at full) ((rw sent_is at memory) (no_memory given)) in
     let world : World = record { servers = servers; agents = agents } in
     rw (place_is, host'_is)
-        (ap (operates world server (request_of given)) there'
-        ∙ ap (λ (b : Bool). operated world host (cond b None (Some (record { server = server; request = by_operator (request_of given); reply = answer_of host (by_operator (request_of given)) })))) full'
-        ∙ ap (λ (left : List State). quiet (record { servers = left; agents = agents })) (sym (set_there servers server host there')))
+    (ap (operates world server (request_of given)) there'
+    ∙ ap (λ (b : Bool). operated world host (cond b None (Some (record { server = server; request = by_operator (request_of given); reply = answer_of host (by_operator (request_of given)) })))) full'
+    ∙ ap (λ (left : List State). quiet (record { servers = left; agents = agents })) (sym (set_there servers server host there')))
 
 pub served_for_operator : (servers : List State) (server place : ℕ) (host host' : State) (given : Order) (sent sent2 : Stamped Request) (reply : Stamped Reply) (agents : List Actor)
     → place ≡ server → slice_get servers place ≡ Some host → sent ≡ by_operator (request_of given) → sent2 ≡ by_operator (request_of given)
     → (is_full host sent ≡ true → ⊥) → host' ≡ served host sent → reply ≡ answer_of host sent
     → operates (record { servers = servers; agents = agents }) server (request_of given) (slice_get servers server)
-      ≡ record { world = record { servers = slice_set servers place host'; agents = agents }; done = record { served = Some (record { server = server; request = sent2; reply = reply }); outcome = None } }
+    ≡ record { world = record { servers = slice_set servers place host'; agents = agents }; done = record { served = Some (record { server = server; request = sent2; reply = reply }); outcome = None } }
 served_for_operator servers server place host host' given sent sent2 reply agents place_is there sent_is sent2_is not_full host'_is reply_is =
     let there' = rw place_is at there in
     let never = rw sent_is at not_full in
     let not' : is_full host (by_operator (request_of given)) ≡ false = not_true (is_full host (by_operator (request_of given))) never in
     let world : World = record { servers = servers; agents = agents } in
     rw (place_is, host'_is, reply_is, sent2_is, sent_is)
-        (ap (operates world server (request_of given)) there'
-        ∙ ap (λ (b : Bool). operated world host (cond b None (Some (record { server = server; request = by_operator (request_of given); reply = answer_of host (by_operator (request_of given)) })))) not')
+    (ap (operates world server (request_of given)) there'
+    ∙ ap (λ (b : Bool). operated world host (cond b None (Some (record { server = server; request = by_operator (request_of given); reply = answer_of host (by_operator (request_of given)) })))) not')

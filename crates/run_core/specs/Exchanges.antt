@@ -19,7 +19,7 @@ pub record IsExchange (host host' : State) (seat seat' : Seated) (server number 
   pub fixed : seat'.fixed ≡ seat.fixed
   pub step : (world : World) → server_at world server ≡ Some host
       → answered seat.fixed world number seat.actor host (serve server host (record { stamp = seat.actor.stamp; value = asked }))
-        ≡ record { world = with_actor number seat'.actor (with_server server host' world); done = done }
+      ≡ record { world = with_actor number seat'.actor (with_server server host' world); done = done }
 
 -- what an agent's hearing of a reply leaves of the agent
 abbrev pub Hears : ℕ → Seated → Stamped Reply → Result Heard AllocError → Seated → Type 0

@@ -30,12 +30,14 @@ pub(crate) fn exchange(
         value: request.clone()?,
     };
     host.copies_are_sound();
-    let told = host.serve_then(asked, seat, |seat: &mut Seat, reply: Stamped<Reply>|
-        requires { Fits seat.old (Replied reply.value) }
-        ensures { Hears number seat.old reply result seat.new }
-    {
-        seat.hear(number, reply)
-    });
+    let told = host.serve_then(
+        asked,
+        seat,
+        |seat: &mut Seat, reply: Stamped<Reply>|
+            requires { Fits seat.old (Replied reply.value) }
+            ensures { Hears number seat.old reply result seat.new }
+        { seat.hear(number, reply) },
+    );
     let heard = match told {
         Ok(heard) => heard?,
         Err(lack) => {

@@ -1,9 +1,7 @@
 //! An agent in a world.
 
 ghost use Rattle.std.specs.Prelude.{◌≡◌, ◌<◌, IfOk, OnOk, OnErr};
-ghost use Rattle.rep_core.specs.Fits.{fits};
 ghost use Rattle.txn_core.specs.Agents as agents;
-ghost use Rattle.txn_core.specs.Laws.{fits_word};
 ghost use Rattle.txn_core.specs.declared.word.Word.TheVariants.{Replied};
 ghost use Rattle.run_core.specs.Worlds.{outcome_of};
 ghost use Rattle.run_core.specs.Seats as seats;
@@ -39,7 +37,11 @@ impl Seat {
         ensures { IfOk result (λ seat. seat ≡ seats.opening settings.now index) }
     {
         let agent = Agent::new(alloc, index, settings)?;
-        Ok(Seat { agent, stamp: 0, steps: 0 })
+        Ok(Seat {
+            agent,
+            stamp: 0,
+            steps: 0,
+        })
     }
 
     /// The last stamp that it was told.
@@ -91,13 +93,13 @@ impl Seat {
         ensures err { OnErr result (self.new ≡ self.old) }
     {
         let count = self.agent.count().saturating_sub(1);
-        let Some(ending) = self.agent.take(word)? else {
-            self.stamp = stamp;
-            self.steps = self.steps.saturating_add(1);
-            return Ok(None);
-        };
+        let ended = self.agent.take(word)?;
         let steps = self.steps.saturating_add(1);
         self.stamp = stamp;
+        let Some(ending) = ended else {
+            self.steps = steps;
+            return Ok(None);
+        };
         self.steps = 0;
         Ok(Some(Outcome {
             agent: number,
@@ -108,11 +110,7 @@ impl Seat {
     }
 
     /// Takes a reply, and hands it back.
-    pub(crate) fn hear(
-        &mut self,
-        number: u8,
-        reply: Stamped<Reply>,
-    ) -> Result<Heard, AllocError>
+    pub(crate) fn hear(&mut self, number: u8, reply: Stamped<Reply>) -> Result<Heard, AllocError>
         requires { seats.Fits self.old (Replied reply.value) }
         ensures reply { IfOk result (λ heard. heard.reply ≡ reply) }
         ensures outcome { IfOk result (λ heard. heard.outcome ≡ outcome_of number self.old.actor (agents.take self.old.fixed self.old.actor.agent (Replied reply.value)).ending) }
@@ -123,7 +121,10 @@ impl Seat {
         let word = Word::Replied(value);
         let outcome = self.take(number, stamp, &word)?;
         match word {
-            Word::Replied(value) => Ok(Heard { reply: Stamped { stamp, value }, outcome }),
+            Word::Replied(value) => Ok(Heard {
+                reply: Stamped { stamp, value },
+                outcome,
+            }),
             Word::Lacked(_) => unreachable!(),
         }
     }

@@ -1,4 +1,4 @@
-use Rattle.std.proofs.Common.{◌≡◌, refl, sym, ◌∙◌, vec_len}
+use Rattle.std.proofs.Common.{refl, sym, ◌∙◌, vec_len}
 use Rattle.std.proofs.lemmas.Option.{slice_get_read}
 use Rattle.run_core.proofs.Moving.{ask_nothing, ask_nowhere, ask_there}
 use Rattle.run_core.proofs.Operating.{none_there}
@@ -11,7 +11,7 @@ returns-in_default-2-clause-ok c =
     let there = rw c.from.ensures at found in
     let next = c.in_ok-asked.ensures in
     λ fixed all. rw (c.from.ensures, c.nothing-in_default-2.ensures)
-        (ask_nothing fixed c.args.servers.now.items c.args.seats.now.items c.args.number c.in-Some.seat.now all there (sym next ∙ c.in_default-2.is))
+    (ask_nothing fixed c.args.servers.now.items c.args.seats.now.items c.args.number c.in-Some.seat.now all there (sym next ∙ c.in_default-2.is))
 
 pub returns-in_default-get_mut-clause-ok : goal.returns-in_default-get_mut-clause-ok
 returns-in_default-get_mut-clause-ok c =
@@ -23,7 +23,7 @@ returns-in_default-get_mut-clause-ok c =
     let none = none_there c.args.servers.now.items (vec_len c.args.servers.now) c.from-2.result c.args.servers.now.ok.0 left.variant.1 in
     let nowhere = rw c.from-2.ensures at none in
     λ fixed all. rw (c.from.ensures, c.nothing-in_default-get_mut.ensures)
-        (ask_nowhere fixed c.args.servers.now.items c.args.seats.now.items c.args.number c.in-Some.seat.now c.in-Some-2.asked.0 c.in-Some-2.asked.1 all there (sym next ∙ c.in-Some-2.is) nowhere)
+    (ask_nowhere fixed c.args.servers.now.items c.args.seats.now.items c.args.number c.in-Some.seat.now c.in-Some-2.asked.0 c.in-Some-2.asked.1 all there (sym next ∙ c.in-Some-2.is) nowhere)
 
 pub returns-clause-ok : goal.returns-clause-ok
 returns-clause-ok c =
@@ -36,5 +36,5 @@ returns-clause-ok c =
     let host_there = rw c.from-2.ensures at host_found in
     let left = c.in_ok-done.ensures in
     λ fixed all. rw (c.from.ensures, c.from-2.ensures)
-        (ask_there fixed c.args.servers.now.items c.args.seats.now.items c.args.number c.in-Some-2.asked.0 c.in-Some.seat.now c.exchange.new.seat c.in-Some-get_mut.host.now c.exchange.new.host c.in-Some-2.asked.1 c.in_ok-done.done
-            all there (sym next ∙ c.in-Some-2.is) host_there left.ok)
+    (ask_there fixed c.args.servers.now.items c.args.seats.now.items c.args.number c.in-Some-2.asked.0 c.in-Some.seat.now c.exchange.new.seat c.in-Some-get_mut.host.now c.exchange.new.host c.in-Some-2.asked.1 c.in_ok-done.done
+    all there (sym next ∙ c.in-Some-2.is) host_there left.ok)

@@ -1,4 +1,4 @@
-use Rattle.std.proofs.Common.{◌≡◌, refl, Result, Err}
+use Rattle.std.proofs.Common.{refl, Result, Err}
 use Rattle.rep_core.specs.declared.reply.Reply.{Reply}
 use Rattle.rep_core.specs.declared.stamped.Lack.{Lack}
 use Rattle.rep_core.specs.declared.stamped.Stamped.{Stamped}
@@ -13,7 +13,7 @@ returns-in_default-serve c =
     let left = c.in_default-serve.ensures in
     let err : Lack → Result (Stamped Reply) Lack = λ lack. Err lack in
     λ agents. rw c.nothing-in_default-serve.ensures
-        (full_for_operator err _ c.args.server c.from.result c.in-Some.host.now _ c.args.order c.request.result c.in_default-serve.field-0 agents c.from.ensures there c.request.ensures left.full.0 left.memory left.err)
+    (full_for_operator err _ c.args.server c.from.result c.in-Some.host.now _ c.args.order c.request.result c.in_default-serve.field-0 agents c.from.ensures there c.request.ensures left.full.0 left.memory left.err)
 
 pub returns : goal.returns
 returns c =
@@ -21,4 +21,4 @@ returns c =
     let there = slice_get_read _ _ _ _ refl item.3.0 item.1 in
     let left = c.in-Ok.ensures in
     λ agents. served_for_operator _ c.args.server c.from.result c.in-Some.host.now _ c.args.order c.request.result c.request-2.result c.in-Ok.reply agents c.from.ensures there c.request.ensures c.request-2.ensures
-        (λ full. let clash = left.full.1 full in cc) left.state left.reply
+    (λ full. let clash = left.full.1 full in cc) left.state left.reply

@@ -23,4 +23,4 @@ returns-in_default-keep-clause-stopped c =
     let stepped = c.in-Ok.ensures in
     let within : c.loop-event.event-index < length c.args.events.now = omega arith in
     world_played c.args.self.now.given c.loop-event.self.given c.args.self.now.world c.loop-event.self.world c.step.new.self.world c.args.events.now c.loop-event.event-index c.loop-event.played c.event-item.result c.in-Ok.done
-        within so_far.given so_far.played so_far.world c.event-item.is stepped.ok
+    within so_far.given so_far.played so_far.world c.event-item.is stepped.ok

@@ -1,4 +1,4 @@
-use Rattle.std.proofs.Common.{◌≡◌, ◌≤◌, take, drop, ◌++◌}
+use Rattle.std.proofs.Common.{◌≡◌, take}
 use Rattle.txn_core.specs.Agents.{fixed_of}
 use Rattle.run_core.specs.Runs.{after, dones, outcomes}
 use Rattle.run_core.proofs.world.World.play.Given as goal

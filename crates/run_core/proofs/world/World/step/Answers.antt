@@ -1,4 +1,3 @@
-use Rattle.std.proofs.Common.{◌≡◌}
 use Rattle.txn_core.specs.Agents.{fixed_of, begin, forget}
 use Rattle.run_core.proofs.Moving.{of_becoming, becomes_there}
 use Rattle.run_core.proofs.world.World.step.Goals as goal
@@ -16,9 +15,9 @@ invariant_of-self-in-Lack c = c.lack.ensures.of (fixed_of c.self.inside.settings
 pub returns-in_ok-begin-in-Begin-clause-ok : goal.returns-in_ok-begin-in-Begin-clause-ok
 returns-in_ok-begin-in-Begin-clause-ok c =
     rw (← c.self.view_is, c.in-Begin.is, c.nothing.ensures)
-        (becomes_there (fixed_of c.self.inside.settings) c.self.inside.servers.items c.self.inside.seats.items c.begin.new.seats.items c.in-Begin.agent (λ fixed agent. begin fixed agent c.in-Begin.job) c.self.invariant c.in_ok-begin-in-Begin.ensures.ok)
+    (becomes_there (fixed_of c.self.inside.settings) c.self.inside.servers.items c.self.inside.seats.items c.begin.new.seats.items c.in-Begin.agent (λ fixed agent. begin fixed agent c.in-Begin.job) c.self.invariant c.in_ok-begin-in-Begin.ensures.ok)
 
 pub returns-in-Forget-clause-ok : goal.returns-in-Forget-clause-ok
 returns-in-Forget-clause-ok c =
     rw (← c.self.view_is, c.in-Forget.is, c.nothing-in-Forget.ensures)
-        (becomes_there (fixed_of c.self.inside.settings) c.self.inside.servers.items c.self.inside.seats.items c.forget.new.seats.items c.in-Forget.agent (λ fixed agent. forget agent c.in-Forget.site) c.self.invariant c.forget.ensures)
+    (becomes_there (fixed_of c.self.inside.settings) c.self.inside.servers.items c.self.inside.seats.items c.forget.new.seats.items c.in-Forget.agent (λ fixed agent. forget agent c.in-Forget.site) c.self.invariant c.forget.ensures)
