@@ -1,10 +1,22 @@
 -- It holds by computation.
-use Rattle.std.proofs.Common.{ℕ, ◌<◌, [], ◌∷◌, refl, arith}
+use Rattle.std.proofs.Common.{◌≡◌, ℕ, ◌<◌, [], ◌∷◌, refl, sym, ap, subst, arith}
 use Rattle.std.proofs.lemmas.List.Elements.{All-nil, All-cons}
-use Rattle.run_laws.specs.Worked.{SomeRunsDecide}
+use Rattle.file_ops.specs.Rows as rows
+use Rattle.run_core.specs.Decisions.{decisions}
+use Rattle.run_core.specs.TableOfRun.{table_of, table_after_all, AnswersAreTheTables}
+use Rattle.run_laws.specs.Worked.{two_agents, revoked, item, the_decisions, SomeRunsDecide}
 
 abbrev known : ℕ × ℕ → Type 0
 known rep = rep.0 < 3
+
+in_order : decisions two_agents revoked ≡ the_decisions
+in_order = refl
+
+answers : AnswersAreTheTables (rows.opening two_agents) (decisions two_agents revoked)
+answers = subst (AnswersAreTheTables (rows.opening two_agents)) (sym in_order) (refl, (refl, (refl, tt)))
+
+tables_audit : (table_of two_agents revoked).audit ≡ item ∷ []
+tables_audit = ap (λ ds. (table_after_all (rows.opening two_agents) ds).audit) in_order
 
 pub some_runs_decide : SomeRunsDecide
 some_runs_decide = record {
@@ -17,8 +29,12 @@ some_runs_decide = record {
     slots_fit = omega arith;
   };
   ends = refl;
-  decided = refl;
+  in_order = in_order;
   audit = refl;
   none_elsewhere = (refl, refl);
+  answers = answers;
+  tables_audit = tables_audit;
+  not_yet = refl;
+  now = refl;
   numbers = refl;
 }

@@ -11,6 +11,7 @@ use Rattle.file_ops.specs.declared.operation.Init.TheVariants.{Mode}
 use Rattle.file_ops.specs.declared.operation.Op.{Op}
 use Rattle.file_ops.specs.declared.refusal.Refusal.{Refusal}
 use Rattle.file_ops.specs.declared.refusal.Why.TheVariants.{Denied}
+use Rattle.file_ops.specs.Rows as rows
 use Rattle.file_ops.specs.Walks.{to_read}
 use Rattle.txn_core.specs.declared.ending.Ending.{Ending}
 use Rattle.txn_core.specs.declared.ending.Ending.TheVariants.{Answered, Refused, Swept, Undecided}
@@ -22,7 +23,8 @@ use Rattle.run_core.specs.declared.event.Event.TheVariants.{Begin, Step, Crash, 
 use Rattle.run_core.specs.declared.done.Outcome.{Outcome}
 use Rattle.run_core.specs.Worlds.{audit_of}
 use Rattle.run_core.specs.Runs.{run}
-use Rattle.run_core.specs.Decisions.{decisions}
+use Rattle.run_core.specs.Decisions.{Decided, decisions}
+use Rattle.run_core.specs.TableOfRun.{table_of, AnswersAreTheTables}
 use Rattle.run_laws.specs.Numbers.{number_of, begun}
 use Rattle.run_laws.specs.Claims.{ended}
 
@@ -66,6 +68,12 @@ denial = record { op = 1; why = Denied (record { suite = 1; wanted = to_read; de
 abbrev pub item : AuditItem
 item = record { t = 128; uid = 2000; op = 1; denial = record { suite = 1; wanted = to_read; decider = Other } }
 
+abbrev pub the_decisions : List Decided
+the_decisions =
+    record { t = 0; caller = owner; ops = make_a; answer = Ok (answer.Made 1 ∷ answer.Wrote ∷ []) }
+    ∷ record { t = 129; caller = owner; ops = close_a; answer = Ok (answer.Set ∷ []) }
+    ∷ record { t = 128; caller = other; ops = read_a; answer = Err denial } ∷ []
+
 -- a job by its number, with its ending
 abbrev pub ending_in : Outcome → ℕ × Ending
 ending_in job = (number_of job, job.ending)
@@ -75,10 +83,14 @@ pub record SomeRunsDecide : Type 0 where
   pub accepted : IsAccepted two_agents
   pub ends : map ending_in (ended two_agents revoked) ≡
       (0, Answered (answer.Made 1 ∷ answer.Wrote ∷ [])) ∷ (1, Swept 0 1 0) ∷ (65, Swept 0 1 0) ∷ (64, Undecided Overruled) ∷ (129, Answered (answer.Set ∷ [])) ∷ (128, Refused denial) ∷ []
-  pub decided : decisions two_agents revoked ≡
-      record { t = 0; caller = owner; ops = make_a; answer = Ok (answer.Made 1 ∷ answer.Wrote ∷ []) }
-      ∷ record { t = 129; caller = owner; ops = close_a; answer = Ok (answer.Set ∷ []) }
-      ∷ record { t = 128; caller = other; ops = read_a; answer = Err denial } ∷ []
+  pub in_order : decisions two_agents revoked ≡ the_decisions
   pub audit : audit_of (run two_agents revoked) 2 ≡ item ∷ []
   pub none_elsewhere : (audit_of (run two_agents revoked) 0 ≡ []) × (audit_of (run two_agents revoked) 1 ≡ [])
+  -- the plain table answers so too, and denies once
+  pub answers : AnswersAreTheTables (rows.opening two_agents) (decisions two_agents revoked)
+  pub tables_audit : (table_of two_agents revoked).audit ≡ item ∷ []
+  -- the first transaction is decided in the eighth step of its agent
+  pub not_yet : decisions two_agents (Begin 0 (Transaction owner 0 make_a) ∷ so_many 7 0) ≡ []
+  pub now : decisions two_agents (Begin 0 (Transaction owner 0 make_a) ∷ so_many 8 0) ≡
+      record { t = 0; caller = owner; ops = make_a; answer = Ok (answer.Made 1 ∷ answer.Wrote ∷ []) } ∷ []
   pub numbers : begun two_agents revoked ≡ 0 ∷ 64 ∷ 1 ∷ 65 ∷ 129 ∷ 128 ∷ []
