@@ -14,4 +14,5 @@ pub mod Waiting
 pub mod Waited
 pub mod Decided
 pub mod Readying
+pub mod Readied
 pub mod Kept

@@ -74,7 +74,7 @@ record AsksFor (task : Task) (suites : Suites) (number server : ℕ) (asked : Re
   pub comes : question ≡ asked_of suite.collector server
   pub is : request_for task.t number question ≡ asked
 
-asks_there : (a b : ℕ) (x y : Request) → ◌≡◌ {A = Option (ℕ × Request)} (Some (a, x)) (Some (b, y)) → a ≡ b
+pub asks_there : (a b : ℕ) (x y : Request) → ◌≡◌ {A = Option (ℕ × Request)} (Some (a, x)) (Some (b, y)) → a ≡ b
 asks_there a b x y same = ap at same
   where
     at : Option (ℕ × Request) → ℕ
