@@ -12,7 +12,8 @@ use Rattle.suite_collect.specs.Collecting.{raise}
 use Rattle.txn_core.specs.Suites.{First, Suite, Suites, suite_of, with_suite}
 use Rattle.txn_core.specs.Doing.{Task}
 use Rattle.txn_core.specs.Transactions.{Gathered}
-use Rattle.txn_core.specs.Plans.{opened_first, opened_at, opened_by, raised_at}
+use Rattle.txn_core.specs.Plans.{opened_by, raised_at}
+use Rattle.txn_core.proofs.Rounds.{opens}
 
 -- another value of a suite that is there
 set_there : (suites : Suites) (number : ℕ) (suite new : Suite) → IsOrdered nat_cmp suites → suite_of suites number ≡ Some suite → replace nat_cmp suites number new ≡ with_suite number new suites
@@ -25,21 +26,17 @@ raised suites number suite new ordered is more =
     ∙ ap (λ new. with_suite number new suites) more
     ∙ ap (λ o. raised_at number o suites) is
 
-opens : (task : Task) (all : Gathered) (number : ℕ) (content : Content) (suite : Suite) (first : Option First) → Some suite ≡ suite_of all.suites number → suite.first ≡ first
-    → opened_first task all number content suite first ≡ opened_by task all (number, content)
-opens task all number content suite first is was = ap (opened_first task all number content suite) (sym was) ∙ ap (opened_at task all number content) is
-
 pub opens_none : (task : Task) (all : Gathered) (number : ℕ) (content : Content) (suite : Suite) → Some suite ≡ suite_of all.suites number → suite.first ≡ None
     → replace nat_cmp all.suites number suite ≡ (opened_by task all (number, content)).suites
 opens_none task all number content suite is was =
-    replace_same nat_cmp_total all.suites number suite (sym is) ∙ ap (λ (g : Gathered). g.suites) (opens task all number content suite None is was)
+    replace_same nat_cmp_total all.suites number suite (sym is) ∙ ap (λ (g : Gathered). g.suites) (sym (opens task all number content suite None (sym is) was))
 
 pub opens_some : (task : Task) (all : Gathered) (number : ℕ) (content : Content) (suite new : Suite) (first : First) → IsOrdered nat_cmp all.suites → Some suite ≡ suite_of all.suites number → suite.first ≡ Some first
     → new ≡ record suite { content = Some content } → replace nat_cmp all.suites number new ≡ (opened_by task all (number, content)).suites
 opens_some task all number content suite new first ordered is was more =
     set_there all.suites number suite new ordered (sym is)
     ∙ ap (λ new. with_suite number new all.suites) more
-    ∙ ap (λ (g : Gathered). g.suites) (opens task all number content suite (Some first) is was)
+    ∙ ap (λ (g : Gathered). g.suites) (sym (opens task all number content suite (Some first) (sym is) was))
 
 -- a suite is put back in place of another
 pub still_there : (suites now : Suites) (number : ℕ) (suite : Suite) → now ≡ with_suite number suite suites → IsSome (suite_of now number)

@@ -26,7 +26,8 @@ opened_last : (task : Task) (list : List (ℕ × Content)) (one : ℕ × Content
 opened_last task [] one all = refl
 opened_last task (x ∷ list) one all = opened_last task list one (opened_by task all x)
 
-opens : (task : Task) (all : Gathered) (number : ℕ) (content : Content) (suite : Suite) (first : Option First) → suite_of all.suites number ≡ Some suite → suite.first ≡ first
+-- what becomes of all that was gathered
+pub opens : (task : Task) (all : Gathered) (number : ℕ) (content : Content) (suite : Suite) (first : Option First) → suite_of all.suites number ≡ Some suite → suite.first ≡ first
     → opened_by task all (number, content) ≡ opened_first task all number content suite first
 opens task all number content suite first is was = ap (opened_at task all number content) is ∙ ap (opened_first task all number content suite) was
 

@@ -21,7 +21,7 @@ use Rattle.txn_core.specs.declared.shelf.Fetched.{Fetched}
 use Rattle.txn_core.specs.Suites.{First, Suite, Suites, suite_of, with_suite}
 use Rattle.txn_core.specs.Doing.{Fixed, Task}
 use Rattle.txn_core.specs.Transactions.{Gathered, heard_on, gather, raised_or_new, proceed, execute, give_up, keep_content, fetched}
-use Rattle.txn_core.specs.Plans.{new_unless, new_for, asked_at, raised_at, asked_for, opened_all, carried_out, IsPlanOf, shelved, kept_of, fetched_first, fetched_of}
+use Rattle.txn_core.specs.Plans.{new_unless, new_for, with_asked_at, raised_at, with_asked, opened_all, carried_out, IsPlanOf, shelved, kept_of, fetched_first, fetched_of}
 use Rattle.txn_core.specs.Unused.{HasUnused}
 use Rattle.txn_core.specs.Sequels.{sequel_of, gather_again, follow}
 use Rattle.txn_core.proofs.Kept.{Keeps, keeps_all}
@@ -36,13 +36,13 @@ new_again fixed task cache more number mode same =
     ap (λ h. record { collector = collect mode (unwrap_or h (absent_prefix fixed.service.c0)); first = None; mode = Shared; content = None }) same
 
 follows : (fixed : Fixed) (task : Task) (all more : Gathered) → Keeps all more → (outcome : Executed) (new : Option Suite) → new ≡ new_for fixed task all outcome
-    → follow task more.cache (asked_for outcome new more.suites) (sequel_of outcome) ≡ proceed fixed task more.cache more.suites outcome
+    → follow task more.cache (with_asked outcome new more.suites) (sequel_of outcome) ≡ proceed fixed task more.cache more.suites outcome
 follows fixed task all more keeps (exec.Need (Hold number mode)) new is =
-    ap (λ new. gather_again task more.cache (asked_at number new more.suites) number (suite_of (asked_at number new more.suites) number)) is
+    ap (λ new. gather_again task more.cache (with_asked_at number new more.suites) number (suite_of (with_asked_at number new more.suites) number)) is
     ∙ of (suite_of all.suites number) (suite_of more.suites number) refl (keeps.there number)
   where
     of : (before after : Option Suite) → suite_of more.suites number ≡ after → is_some after ≡ is_some before →
-        let suites = asked_at number (new_unless fixed task all.cache number mode before) more.suites in
+        let suites = with_asked_at number (new_unless fixed task all.cache number mode before) more.suites in
         gather_again task more.cache suites number (suite_of suites number) ≡ gather task more.cache more.suites number (raised_or_new fixed task more.cache number mode after)
     of None None at there =
         gathers task more.cache more.suites number (raised_or_new fixed task all.cache number mode None)

@@ -87,13 +87,13 @@ abbrev pub raised_at : ℕ → Option Suite → Suites → Suites
 raised_at number (Some suite) suites = with_suite number (record suite { collector = raise suite.collector }) suites
 raised_at number None suites = suites
 
-abbrev pub asked_at : ℕ → Option Suite → Suites → Suites
-asked_at number (Some suite) suites = with_suite number suite suites
-asked_at number None suites = raised_at number (suite_of suites number) suites
+abbrev pub with_asked_at : ℕ → Option Suite → Suites → Suites
+with_asked_at number (Some suite) suites = with_suite number suite suites
+with_asked_at number None suites = raised_at number (suite_of suites number) suites
 
-abbrev pub asked_for : Executed → Option Suite → Suites → Suites
-asked_for (exec.Need (Hold number mode)) new suites = asked_at number new suites
-asked_for other new suites = suites
+abbrev pub with_asked : Executed → Option Suite → Suites → Suites
+with_asked (exec.Need (Hold number mode)) new suites = with_asked_at number new suites
+with_asked other new suites = suites
 
 -- ---- the plan
 
@@ -111,7 +111,7 @@ pub record IsPlanOf (fixed : Fixed) (task : Task) (all : Gathered) (plan : Plan)
 abbrev pub carried_out : Task → Plan → Gathered → Gathered
 carried_out task plan all =
     let more = opened_all task plan.opened.items all in
-    record more { suites = asked_for plan.outcome plan.new more.suites }
+    record more { suites = with_asked plan.outcome plan.new more.suites }
 
 -- ---- what was fetched
 

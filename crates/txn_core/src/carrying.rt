@@ -103,7 +103,7 @@ fn look_up(task: &Task, cache: &mut WeakCache, number: u64, first: &First)
 /// Asks for the suite that is needed: a new one is put among the suites, and another is raised.
 fn ask(suites: &mut RoomyMap<u64, Suite>, outcome: &Outcome, new: Option<Suite>)
     requires { IsSome new → 0 < suites.old.room }
-    ensures { suites.new.pairs ≡ spec.asked_for outcome.now new suites.old.pairs }
+    ensures { suites.new.pairs ≡ spec.with_asked outcome.now new suites.old.pairs }
 {
     let Outcome::Need(Need::Hold(number, _)) = outcome else {
         return;

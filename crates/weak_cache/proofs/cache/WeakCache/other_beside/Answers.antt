@@ -1,5 +1,4 @@
-use Rattle.std.proofs.Common.{◌≡◌, ◌∙◌, ap}
-use Rattle.std.specs.Option.{option_copied}
+use Rattle.std.proofs.Common.{◌∙◌, ap}
 use Rattle.weak_cache.specs.Entries.{entry_of}
 use Rattle.weak_cache.specs.Cache.{Limited}
 use Rattle.weak_cache.specs.NewEntry.{new_entry}
