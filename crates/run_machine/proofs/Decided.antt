@@ -3,6 +3,7 @@ use Rattle.std.proofs.Common.{◌≡◌, ℕ, ◌≤◌, Bool, IsTrue, true, fal
 use Rattle.std.specs.Prelude.{◌&&◌, nat_le}
 use Rattle.std.proofs.lemmas.Bool.{false≢true, and_parts}
 use Rattle.std.proofs.lemmas.Bool.Decides.{nat_tests}
+use Rattle.suite_prefix.specs.declared.copies.Replica.{Replica}
 use Rattle.suite_prefix.specs.declared.lock_mode.LockMode.TheVariants.{Shared}
 use Rattle.suite_collect.specs.Telling.{holds}
 use Rattle.txn_core.specs.Suites.{First, Suite, Suites, suite_of}
@@ -15,6 +16,8 @@ use Rattle.suite_machine.specs.Conditions.{IsReady, Knows, May}
 use Rattle.run_machine.specs.Deciding.{showed, showed_to, known_by, written_from, first_of, to_write, decides_with, decides_without, decides_first, decides_on, decision_with}
 use Rattle.run_machine.specs.Owed.{OwesKnown, OwesWritten, OwesWith, OwesFirst, Owes}
 use Rattle.run_machine.proofs.Stages.{Going, Stage}
+use Rattle.run_machine.proofs.Readying.{ReadyIn, IsReadying}
+use Rattle.run_machine.proofs.Readied.{ToldBelow}
 use Rattle.run_machine.proofs.Linked.{InCourse, IsDoing}
 use Rattle.run_machine.proofs.Sending.{ToldAs, told_none}
 
@@ -31,9 +34,9 @@ showed_told known (Some told) is =
     let both = and_parts (nat_le told.copy.prefix.pver known.prefix.pver) (nat_le told.copy.dver known.dver) is in
     (told, refl, at_most told.copy.prefix.pver known.prefix.pver both.0, at_most told.copy.dver known.dver both.1)
 
-module _ (start : Beginning) (w : World) (t : ℕ) (undecided : w.verdict t ≡ None) (going : w.gave_up t ≡ false) where
-  ready : (known : Known) → OwesKnown start w t known → IsReady w t
-  ready known owes = record { undecided = undecided; going = going; prepared = owes.prepared }
+module _ (start : Beginning) (w : World) (t : ℕ) (undecided : w.verdict t ≡ None) (going : w.gave_up t ≡ false) (prepared : (i : ℕ) (told : Told) → w.told i t ≡ Some told → (left : Option Replica) × (w.ready i t ≡ Some left)) where
+  ready : IsReady w t
+  ready = record { undecided = undecided; going = going; prepared = prepared }
 
   knows : (known : Known) → OwesKnown start w t known → Knows start w t (showed_to w t known) known
   knows known owes = record {
@@ -50,10 +53,10 @@ module _ (start : Beginning) (w : World) (t : ℕ) (undecided : w.verdict t ≡ 
   }
 
   with_known : (known : Known) (outcome : Outcome) (new : Option Change) → w.aim t ≡ new → ((refusal : _) → outcome ≡ Err refusal → new ≡ None) → OwesWith start w t known outcome new → May start w (decides_with w t known outcome new)
-  with_known known (Err refusal) new aimed none owes = record { ready = ready known owes; knows = knows known owes; unaimed = aimed ∙ none refusal refl }
-  with_known known (Ok granted) None aimed none owes = record { ready = ready known owes; knows = knows known owes; unaimed = aimed }
+  with_known known (Err refusal) new aimed none owes = record { ready = ready; knows = knows known owes; unaimed = aimed ∙ none refusal refl }
+  with_known known (Ok granted) None aimed none owes = record { ready = ready; knows = knows known owes; unaimed = aimed }
   with_known known (Ok granted) (Some new) aimed none owes = record {
-    ready = ready known owes.knows;
+    ready = ready;
     knows = knows known owes.knows;
     aimed = aimed;
     under = owes.under;
@@ -88,15 +91,21 @@ writes_none : (z : ℕ) (suites : Suites) (outcome : Outcome) (refusal : _) → 
 writes_none z suites (Err other) refusal is = refused_none (first_of (suite_of suites z))
 writes_none z suites (Ok granted) refusal is = cc
 
-pub may_decide : (start : Beginning) (z : ℕ) (w : World) (task : Task) (suites : Suites) (outcome : Outcome) → Going w task.t → w.aim task.t ≡ to_write z suites outcome → ToldAs z w task.t suites → w.verdict task.t ≡ None
+pub may_decide : (start : Beginning) (z : ℕ) (w : World) (task : Task) (suites : Suites) (outcome : Outcome) → Going w task.t → w.aim task.t ≡ to_write z suites outcome → ToldAs z w task.t suites → w.verdict task.t ≡ None → ((i : ℕ) (told : Told) → w.told i task.t ≡ Some told → (left : Option Replica) × (w.ready i task.t ≡ Some left))
     → Owes start w task.t outcome (to_write z suites outcome) (suite_of suites z) → May start w (decision_with z w task suites outcome)
-may_decide start z w task suites outcome going aimed told undecided owes =
-    by_suite start w task.t undecided going.gave_up outcome (to_write z suites outcome) (suite_of suites z) aimed (writes_none z suites outcome) told owes
+may_decide start z w task suites outcome going aimed told undecided prepared owes =
+    by_suite start w task.t undecided going.gave_up prepared outcome (to_write z suites outcome) (suite_of suites z) aimed (writes_none z suites outcome) told owes
 
 -- of what an agent is doing
-pub may_of : (start : Beginning) (z : ℕ) (w : World) (n count : ℕ) (doing : Option Doing) → IsDoing z w n count doing → (course : Course) (outcome : Outcome) → doing ≡ Some (Running course) → course.phase ≡ Deciding outcome → w.verdict course.task.t ≡ None
+some_of : {X : Type 0} (o : Option X) → is_some o ≡ true → (x : X) × (o ≡ Some x)
+some_of None is = absurd (false≢true is)
+some_of (Some x) is = (x, refl)
+
+pub may_of : (start : Beginning) (z : ℕ) (w : World) (n count : ℕ) (doing : Option Doing) → IsDoing z w n count doing → IsReadying z w doing → ToldBelow w → (course : Course) (outcome : Outcome) → doing ≡ Some (Running course) → course.phase ≡ Deciding outcome → w.verdict course.task.t ≡ None
     → Owes start w course.task.t outcome (to_write z course.suites outcome) (suite_of course.suites z) → May start w (decision_with z w course.task course.suites outcome)
-may_of start z w n count doing is course outcome same phase undecided owes =
+may_of start z w n count doing is readying below course outcome same phase undecided owes =
     let in' : InCourse z w n count course = subst (IsDoing z w n count) same is in
     let stage : Stage z w course.task.t course.suites (Deciding outcome) = subst (Stage z w course.task.t course.suites) phase in'.stage in
-    may_decide start z w course.task course.suites outcome stage.0 stage.1 in'.told undecided owes
+    let ready : ReadyIn z w course.task.t course.suites (Deciding outcome) = subst (ReadyIn z w course.task.t course.suites) phase (subst (IsReadying z w) same readying) in
+    may_decide start z w course.task course.suites outcome stage.0 stage.1 in'.told undecided
+    (λ i told is. some_of (w.ready i course.task.t) (ready i (below i course.task.t (ap is_some is)) (sym (in'.told i) ∙ ap is_some is))) owes

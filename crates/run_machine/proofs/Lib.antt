@@ -12,7 +12,7 @@ pub mod Turns
 pub mod Turned
 pub mod Waiting
 pub mod Waited
-pub mod Decided
 pub mod Readying
 pub mod Readied
+pub mod Decided
 pub mod Kept

@@ -35,4 +35,4 @@ ServersAreConsistent = (given : Opening) (events : List Event) (i : ℕ) → IsC
 -- prepares at a server once, tells servers how its transaction ended and nothing else, and gives up only what was not decided; and its transactions are
 -- numbered apart from all others.
 abbrev pub SidesAreKept : Type 0
-SidesAreKept = (given : Opening) (z : ℕ) (events : List Event) → IsValid given.c0 → given.agents ≤ 64 → AgentsOwe given z events → AgentsKeepSides given z events
+SidesAreKept = (given : Opening) (z : ℕ) (events : List Event) → IsValid given.c0 → given.agents ≤ 64 → given.servers ≤ 16 → AgentsOwe given z events → AgentsKeepSides given z events

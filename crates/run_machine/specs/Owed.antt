@@ -1,5 +1,4 @@
--- What is left to be shown of agents, suite by suite, for them to keep to their side: where a transaction is deciding, that each server that told it of a
--- copy prepared, that what it knows is from a quorum, and that what it writes covers enough servers.
+-- What is left to be shown of agents, suite by suite, for them to keep to their side: where a transaction is deciding, that what it knows is from a quorum, and that what it writes covers enough servers.
 use Rattle.std.specs.Prelude.{◌≡◌, ◌⊎◌, ℕ, ◌≤◌, IsTrue, List, [], ◌∷◌, Option, Some, None, Ok, Err}
 use Rattle.vote_core.specs.Quorums.{is_write_quorum}
 use Rattle.vote_core.specs.Validity.{IsValid}
@@ -22,7 +21,6 @@ use Rattle.run_machine.specs.Machines.{moved}
 
 -- of a suite that it knows
 pub record OwesKnown (start : Beginning) (w : World) (t : ℕ) (known : Known) : Type 0 where
-  pub prepared : (i : ℕ) (told : Told) → w.told i t ≡ Some told → (left : Option Replica) × (w.ready i t ≡ Some left)  -- each server that told it of a copy prepared
   pub quorum : IsQuorum known.prefix.votes (showed_to w t known)  -- those that told of none newer have a quorum of the votes that it knows
   pub was : WasPrefix start w.log known.prefix  -- the prefix was the suite's
   pub from : ℕ

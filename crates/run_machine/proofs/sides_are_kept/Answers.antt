@@ -1,5 +1,4 @@
 use Rattle.run_machine.proofs.Kept.{sides_are_kept}
-use Rattle.run_machine.proofs.Readied.{ready_next}
 use Rattle.run_machine.proofs.sides_are_kept.Goals as goal
 
 pub returns : goal.returns
