@@ -1,3 +1,7 @@
+<<<<<<< HEAD:crates/library_tests/src/words.rt
+=======
+use crate::{ArgsError, Request, Script, read_words};
+>>>>>>> 7d2de3141f496df0ed9d1f43754ca304db470bd4:crates/suite_args/src/tests.rt
 use std::alloc::{AllocError, Global};
 use std::test::Fail;
 use suite_args::{ArgsError, Request, read_words};
@@ -12,7 +16,8 @@ fn told(alloc: Global, words: &[&str]) -> Result<String, AllocError> {
             }
             Ok(text)
         }
-        Ok(Request::Table) => String::from_str(alloc, "table"),
+        Ok(Request::Plays(Script::Table)) => String::from_str(alloc, "table"),
+        Ok(Request::Plays(Script::Play)) => String::from_str(alloc, "play"),
         Ok(Request::Help(help)) => String::from_str(alloc, help.as_str()),
         Err(ArgsError::CommandLine) => String::from_str(alloc, "fault"),
         Err(ArgsError::Memory) => String::from_str(alloc, "memory"),
@@ -24,6 +29,7 @@ fn reads_command_lines(rt: HostRuntime) -> Result<(), Fail> {
     let cases = [
         ([].as_slice(), "fault"),
         (["table"].as_slice(), "table"),
+        (["play"].as_slice(), "play"),
         (["acl"].as_slice(), "acl"),
         (
             ["acl", "user:lisa=1001", "group:toolies=200"].as_slice(),
@@ -38,7 +44,7 @@ fn reads_command_lines(rt: HostRuntime) -> Result<(), Fail> {
         (["list"].as_slice(), "fault"),
         ([""].as_slice(), "fault"),
         (["Table"].as_slice(), "fault"),
-        (["play"].as_slice(), "fault"),
+        (["play", "more"].as_slice(), "fault"),
         (["serve", "--agents", "4"].as_slice(), "fault"),
         (["-x"].as_slice(), "fault"),
         (["-x", "table"].as_slice(), "fault"),
@@ -51,6 +57,7 @@ fn reads_command_lines(rt: HostRuntime) -> Result<(), Fail> {
         (["--"].as_slice(), "fault"),
         (["--", "table"].as_slice(), "fault"),
         (["table", "--"].as_slice(), "table"),
+        (["play", "--"].as_slice(), "play"),
         (["table", "--", "more"].as_slice(), "fault"),
         (
             ["acl", "a", "--", "-x", "--"].as_slice(),
@@ -71,6 +78,7 @@ Usage: suites <COMMAND>
 Commands:
   acl    Reads list text, prints the list as canonical long text
   table  Reads a script, plays it on one plain table, prints a line an outcome
+  play   Reads a script of events, plays it on servers and agents, prints a line an outcome
   help   Print this message or the help of the given subcommand(s)
 
 Options:
@@ -108,6 +116,7 @@ fn tells_how_to_use_it(rt: HostRuntime) -> Result<(), Fail> {
         ),
         (["help", "acl"].as_slice(), "Usage: suites acl [NAME]...\n"),
         (["table", "-h"].as_slice(), "Usage: suites table\n"),
+        (["play", "--help"].as_slice(), "Usage: suites play\n"),
     ];
     for (words, part) in cases {
         let text = told(rt.alloc(), words)?;

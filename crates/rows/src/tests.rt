@@ -263,6 +263,8 @@ fn reads_comment(
 fn reads_no_more_than_16_mib(rt: HostRuntime) {
     reads_comment(&rt, "table", 16_777_216, 3, "fault line 2: S2\n");
     reads_comment(&rt, "table", 16_777_217, 6, "");
+    reads_comment(&rt, "play", 16_777_216, 3, "fault line 2: S2\n");
+    reads_comment(&rt, "play", 16_777_217, 6, "");
     reads_comment(&rt, "acl", 16_777_216, 3, "fault A1\n");
     reads_comment(&rt, "acl", 16_777_217, 6, "");
 }

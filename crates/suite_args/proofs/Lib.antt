@@ -1,4 +1,3 @@
-pub mod CallerLemmas
 mod RequestLemmas
 mod Meanings
 mod WordShapes

@@ -4,7 +4,7 @@ use Rattle.std.specs.List.{list_all}
 use Rattle.clap.specs.Kinds.{Kinds, or_else}
 use Rattle.clap.specs.declared.error.kind.ErrorKind.{ErrorKind}
 use Rattle.clap.specs.declared.error.kind.ErrorKind.TheVariants.{DisplayHelp, InvalidSubcommand, MissingSubcommand, TooManyValues, UnknownArgument}
-use Rattle.suite_args.specs.CommandLine.{Asked, acl, help, nothing, table, topic}
+use Rattle.suite_args.specs.CommandLine.{Asked, acl, help, nothing, plays, topic}
 
 -- the kinds of error that a wrong command line may give
 abbrev pub is_mistake : ErrorKind → Bool
@@ -20,7 +20,7 @@ are_mistakes (kind ∷ kinds) = list_all is_mistake (kind ∷ kinds)
 
 -- the faults of a parse, and what its matches ask for where it has none, fit what the words ask for
 abbrev pub Meets : Asked → Kinds → Asked → Type 0
-Meets table faults found = (faults ≡ []) × (found ≡ table)
+Meets (plays script) faults found = (faults ≡ []) × (found ≡ plays script)
 Meets (acl names) faults found = (faults ≡ []) × (found ≡ acl names)
 Meets help faults found = faults ≡ DisplayHelp ∷ []
 Meets topic faults found = faults ≡ DisplayHelp ∷ InvalidSubcommand ∷ []

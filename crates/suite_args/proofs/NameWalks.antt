@@ -9,7 +9,7 @@ use Rattle.clap.specs.Faults.{flag_word_fault, other_fault, settle_fault, step_f
 use Rattle.clap.specs.Walk.{Held, Step, Text, Waiting, Walk, after_step, idle, long_or_other, plain_word, positional, subcommand_met, subcommand_or_other, trailing, value, walked, word_met}
 use Rattle.clap.specs.declared.builder.value_parser.ValueParser.TheVariants as vp
 use Rattle.clap.specs.declared.error.kind.ErrorKind.TheVariants.{DisplayHelp}
-use Rattle.suite_args.specs.CommandLine.{Asked, acl, help, nothing, table, topic, asked_by_option, asked_of_acl, ends_options, is_help_option, is_option, with_name}
+use Rattle.suite_args.specs.CommandLine.{Asked, acl, help, nothing, plays, topic, asked_by_option, asked_of_acl, ends_options, is_help_option, is_option, with_name}
 use Rattle.suite_args.proofs.Meanings.{are_mistakes, mistakes_first}
 use Rattle.suite_args.proofs.OptionWords.{held_so_far, help_faults, plain_faults, plain_met, wrong_faults}
 use Rattle.suite_args.proofs.BuiltCommands.{acl_shape, acl_knows}
@@ -133,7 +133,7 @@ abbrev pub EndsAs : List Text → Asked → Kinds → Walk → Type 0
 EndsAs names (acl more) faults w = (faults ≡ []) × ((is_trailing : Bool) × (w ≡ name_walk is_trailing (names ++ more))) × (length (names ++ more) ≤ usize_max)
 EndsAs names help faults w = faults ≡ DisplayHelp ∷ []
 EndsAs names nothing faults w = are_mistakes faults ≡ true
-EndsAs names table faults w = ⊥
+EndsAs names (plays script) faults w = ⊥
 EndsAs names topic faults w = ⊥
 
 ends_as : (names : List Text) (asked asked' : Asked) (faults faults' : Kinds) (w w' : Walk) → asked ≡ asked' → faults ≡ faults' → w ≡ w'
@@ -149,7 +149,7 @@ one_more_name names word (acl more) faults w h = (
 )
 one_more_name names word help faults w h = h
 one_more_name names word nothing faults w h = h
-one_more_name names word table faults w h = h
+one_more_name names word (plays script) faults w h = h
 one_more_name names word topic faults w h = h
 
 -- `--` ends the options

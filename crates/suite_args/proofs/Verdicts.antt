@@ -6,16 +6,16 @@ use Rattle.clap.proofs.WalkLemmas.{both}
 use Rattle.clap.specs.declared.error.kind.ErrorKind.{ErrorKind}
 use Rattle.clap.specs.declared.error.kind.ErrorKind.TheVariants.{DisplayHelp, InvalidSubcommand, MissingSubcommand, OutOfMemory, TooManyValues, UnknownArgument}
 use Rattle.suite_args.specs.Answering.{Answers, AnswersTo}
-use Rattle.suite_args.specs.CommandLine.{Asked, acl, help, nothing, table, topic}
+use Rattle.suite_args.specs.CommandLine.{Asked, acl, help, nothing, plays, topic}
 use Rattle.suite_args.specs.declared.request.ArgsError.{ArgsError}
 use Rattle.suite_args.specs.declared.request.ArgsError.TheVariants.{CommandLine, Memory}
 use Rattle.suite_args.specs.declared.request.Request.{Request}
-use Rattle.suite_args.specs.declared.request.Request.TheVariants.{Acl, Help, Table}
+use Rattle.suite_args.specs.declared.request.Request.TheVariants.{Acl, Help, Plays}
 use Rattle.suite_args.proofs.Meanings.{Meets, are_mistakes, is_mistake}
 
 -- a parse with matches has no fault, and they say what the words ask for
 pub parsed : (asked found : Asked) (faults : Kinds) (r : Result Request ArgsError) → Meets asked faults found → faults ≡ [] → Answers found r → Answers asked r
-parsed table found faults r meets right answers = subst (λ (x : Asked). Answers x r) meets.1 answers
+parsed (plays script) found faults r meets right answers = subst (λ (x : Asked). Answers x r) meets.1 answers
 parsed (acl names) found faults r meets right answers = subst (λ (x : Asked). Answers x r) meets.1 answers
 parsed help found faults r meets right answers = cc
 parsed topic found faults r meets right answers = cc
@@ -23,7 +23,7 @@ parsed nothing found faults r meets right answers = let bad : are_mistakes [] �
 
 -- want of memory answers anything
 no_memory : (asked : Asked) (r : Result Request ArgsError) → AnswersTo OutOfMemory r → Answers asked r
-no_memory table (Err Memory) answers = tt
+no_memory (plays script) (Err Memory) answers = tt
 no_memory (acl names) (Err Memory) answers = tt
 no_memory help (Err Memory) answers = tt
 no_memory topic (Err Memory) answers = tt
@@ -34,14 +34,14 @@ no_memory asked (Ok r) answers = absurd answers
 helped : (r : Result Request ArgsError) → AnswersTo DisplayHelp r → Answers help r
 helped (Ok (Help text)) answers = tt
 helped (Err Memory) answers = tt
-helped (Ok Table) answers = absurd answers
+helped (Ok (Plays script)) answers = absurd answers
 helped (Ok (Acl names)) answers = absurd answers
 helped (Err CommandLine) answers = absurd answers
 
 helped_on_topic : (r : Result Request ArgsError) → AnswersTo DisplayHelp r → Answers topic r
 helped_on_topic (Ok (Help text)) answers = tt
 helped_on_topic (Err Memory) answers = tt
-helped_on_topic (Ok Table) answers = absurd answers
+helped_on_topic (Ok (Plays script)) answers = absurd answers
 helped_on_topic (Ok (Acl names)) answers = absurd answers
 helped_on_topic (Err CommandLine) answers = absurd answers
 
@@ -66,7 +66,7 @@ mistaken kind (Ok r) mistake answers = cc
 
 -- a parse that fails for one of its faults
 faulted : (asked found : Asked) (faults : Kinds) (kind : ErrorKind) (r : Result Request ArgsError) → Meets asked faults found → IsAmong kind faults → AnswersTo kind r → Answers asked r
-faulted table found faults kind r meets among answers = absurd (subst (IsAmong kind) meets.0 among)
+faulted (plays script) found faults kind r meets among answers = absurd (subst (IsAmong kind) meets.0 among)
 faulted (acl names) found faults kind r meets among answers = absurd (subst (IsAmong kind) meets.0 among)
 faulted help found faults kind r meets among answers = elim (subst (IsAmong kind) meets among) [
   | inl is ↦ helped r (subst (λ (k : ErrorKind). AnswersTo k r) is answers)

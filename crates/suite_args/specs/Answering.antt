@@ -5,16 +5,17 @@ use Rattle.std.specs.Str.{bytes_eq}
 use Rattle.clap.specs.Words.{Row, Text, all_of}
 use Rattle.clap.specs.declared.error.kind.ErrorKind.{ErrorKind}
 use Rattle.clap.specs.declared.error.kind.ErrorKind.TheVariants.{DisplayHelp, OutOfMemory}
-use Rattle.suite_args.specs.CommandLine.{Asked, acl, help, nothing, table, topic}
+use Rattle.suite_args.specs.CommandLine.{Asked, acl, help, nothing, plays, topic}
 use Rattle.suite_args.specs.declared.request.ArgsError.{ArgsError}
 use Rattle.suite_args.specs.declared.request.ArgsError.TheVariants.{CommandLine, Memory}
 use Rattle.suite_args.specs.declared.request.Request.{Request}
-use Rattle.suite_args.specs.declared.request.Request.TheVariants.{Acl, Help, Table}
+use Rattle.suite_args.specs.declared.request.Request.TheVariants.{Acl, Help, Plays}
+use Rattle.suite_args.specs.declared.script.Script.TheVariants.{Play, Table}
 
 -- memory may always run out; but for that there is one answer, save that `help` may refuse the
 -- words after it
 abbrev pub Answers : Asked → Result Request ArgsError → Type 0
-Answers table (Ok Table) = ⊤
+Answers (plays script) (Ok (Plays given)) = given ≡ script
 Answers (acl names) (Ok (Acl given)) = given ≡ names
 Answers help (Ok (Help text)) = ⊤
 Answers topic (Ok (Help text)) = ⊤
@@ -28,7 +29,8 @@ abbrev pub asked_in : Option (Text × List Row) → Asked
 asked_in None = nothing
 asked_in (Some command) =
     if bytes_eq command.0 (codes "acl") then acl (unwrap_or (all_of (codes "NAME") command.1) [])
-    else (if bytes_eq command.0 (codes "table") then table else nothing)
+    else (if bytes_eq command.0 (codes "table") then plays Table
+    else (if bytes_eq command.0 (codes "play") then plays Play else nothing))
 
 -- what a parse without matches comes to
 abbrev pub AnswersTo : ErrorKind → Result Request ArgsError → Type 0

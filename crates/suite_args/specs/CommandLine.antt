@@ -4,13 +4,15 @@ use Rattle.std.specs.Prelude.{◌==◌, ◌||◌, ℕ, Bool, false, List, [], �
 use Rattle.std.specs.Prelude.{if◌then◌else◌, is_some, slice_get}
 use Rattle.std.specs.Option.{option_map_or}
 use Rattle.std.specs.Str.{bytes_eq, chars}
+use Rattle.suite_args.specs.declared.script.Script.{Script}
+use Rattle.suite_args.specs.declared.script.Script.TheVariants.{Play, Table}
 
 abbrev pub Text : Type 0
 Text = List ℕ
 
 pub data Asked : Type 0 where
-  -- `table`
-  table : Asked
+  -- a command that plays a script
+  plays : Script → Asked
   -- `acl`, with these names
   acl : List Text → Asked
   -- a text on how to use the program
@@ -51,20 +53,21 @@ asked_of_acl (word ∷ words) =
     if ends_options word then acl words
     else (if is_option word then asked_by_option word else with_name word (asked_of_acl words))
 
-abbrev pub nothing_more : List Text → Asked
-nothing_more [] = table
-nothing_more (word ∷ words) = nothing
+abbrev pub nothing_more : Script → List Text → Asked
+nothing_more script [] = plays script
+nothing_more script (word ∷ words) = nothing
 
--- the words after `table`
-abbrev pub asked_of_table : List Text → Asked
-asked_of_table [] = table
-asked_of_table (word ∷ words) =
-    if ends_options word then nothing_more words else asked_by_option word
+-- the words after `table` or `play`
+abbrev pub asked_of_script : Script → List Text → Asked
+asked_of_script script [] = plays script
+asked_of_script script (word ∷ words) =
+    if ends_options word then nothing_more script words else asked_by_option word
 
 -- the words after the program's name
 abbrev pub asked_by : List Text → Asked
 asked_by [] = nothing
 asked_by (word ∷ words) =
     if bytes_eq word (codes "acl") then asked_of_acl words
-    else (if bytes_eq word (codes "table") then asked_of_table words
-    else (if bytes_eq word (codes "help") then topic else asked_by_option word))
+    else (if bytes_eq word (codes "table") then asked_of_script Table words
+    else (if bytes_eq word (codes "play") then asked_of_script Play words
+    else (if bytes_eq word (codes "help") then topic else asked_by_option word)))

@@ -6,6 +6,9 @@ use Rattle.clap.specs.Words.{with_subcommand}
 use Rattle.clap.specs.declared.builder.command.Command.{Command}
 use Rattle.clap.specs.declared.builder.range.ValueRange.{ValueRange}
 use Rattle.clap.specs.declared.builder.command.Command.TheViews.{out-Command}
+use Rattle.suite_args.specs.CommandLine.{Text}
+use Rattle.suite_args.specs.declared.script.Script.{Script}
+use Rattle.suite_args.specs.declared.script.Script.TheVariants.{Play, Table}
 
 abbrev pub any_number : ValueRange
 any_number = record { start_inclusive = 0; end_inclusive = usize_max }
@@ -16,8 +19,13 @@ name_rule = record (new_rule (codes "NAME")) { range = Some any_number }
 abbrev pub acl_command : App
 acl_command = with_rule (new_app (codes "acl")) name_rule
 
-abbrev pub table_command : App
-table_command = new_app (codes "table")
+-- how a command that plays a script is written
+abbrev pub script_word : Script → Text
+script_word Table = codes "table"
+script_word Play = codes "play"
+
+abbrev pub script_command : Script → App
+script_command script = new_app (script_word script)
 
 abbrev pub no_commands : App
 no_commands =
@@ -25,7 +33,7 @@ no_commands =
     record app { top = record app.top { no_binary_name = true; subcommand_required = true } }
 
 abbrev pub suites : App
-suites = with_subcommand (with_subcommand no_commands acl_command.top) table_command.top
+suites = with_subcommand (with_subcommand (with_subcommand no_commands acl_command.top) (script_command Table).top) (script_command Play).top
 
 -- the command is this one, and no argument of it goes to the commands below it
 abbrev pub IsCommand : App → Command → Type 0

@@ -4,8 +4,9 @@ ghost use Rattle.std.specs.Prelude.{◌≡◌, [], IfOk, codes, unwrap_or};
 ghost use Rattle.clap.specs.Words.{all_of, found_of, kind_of, rows_of, subcommand_rows_of};
 ghost use Rattle.suite_args.specs.Answering.{Answers, AnswersTo, asked_in};
 
-use crate::commands::{ACL, NAME, TABLE};
+use crate::commands::{ACL, NAME, PLAY, TABLE};
 use crate::request::{ArgsError, HelpText, Names, Request};
+use crate::script::Script;
 use clap::error::ErrorKind;
 use clap::{ArgMatches, Error};
 use std::alloc::{AllocError, Global};
@@ -35,7 +36,10 @@ pub(crate) fn request_of<'a>(
         return Ok(Request::Acl(names_in(alloc, arguments)?));
     }
     if command == TABLE {
-        return Ok(Request::Table);
+        return Ok(Request::Plays(Script::Table));
+    }
+    if command == PLAY {
+        return Ok(Request::Plays(Script::Play));
     }
     Err(ArgsError::CommandLine)
 }

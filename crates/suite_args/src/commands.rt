@@ -2,7 +2,8 @@
 
 ghost use Rattle.std.specs.Prelude.{◌≡◌, IfOk};
 ghost use Rattle.clap.specs.Words.{app_of};
-ghost use Rattle.suite_args.specs.Commands.{IsCommand, acl_command, suites, table_command};
+ghost use Rattle.suite_args.specs.Commands.{IsCommand, acl_command, script_command, suites};
+ghost use Rattle.suite_args.specs.declared.script.Script.TheVariants.{Play, Table};
 
 use clap::{Arg, Command};
 use std::alloc::{AllocError, Global};
@@ -15,6 +16,9 @@ pub(crate) const ACL: &str = "acl";
 /// The command that plays a script on one table.
 pub(crate) const TABLE: &str = "table";
 
+/// The command that plays a script of events.
+pub(crate) const PLAY: &str = "play";
+
 /// The words after `acl`.
 pub(crate) const NAME: &str = "NAME";
 
@@ -26,6 +30,9 @@ const ACL_NAME: &str = "A name that the list may use, with its number: \
     user:lisa=1001 or group:toolies=200";
 
 const TABLE_ABOUT: &str = "Reads a script, plays it on one plain table, prints a line an outcome";
+
+const PLAY_ABOUT: &str =
+    "Reads a script of events, plays it on servers and agents, prints a line an outcome";
 
 const STREAMS: &str = "A command reads standard input to its end, and prints to standard output.
 
@@ -47,10 +54,18 @@ fn acl_command<'a>(alloc: Global) -> Result<Command<'a>, AllocError>
 }
 
 fn table_command<'a>(alloc: Global) -> Command<'a>
-    ensures { IsCommand table_command result }
+    ensures { IsCommand (script_command Table) result }
 {
     Command::new(alloc, TABLE)
         .about(TABLE_ABOUT)
+        .after_help(STREAMS)
+}
+
+fn play_command<'a>(alloc: Global) -> Command<'a>
+    ensures { IsCommand (script_command Play) result }
+{
+    Command::new(alloc, PLAY)
+        .about(PLAY_ABOUT)
         .after_help(STREAMS)
 }
 
@@ -65,5 +80,6 @@ pub(crate) fn commands<'a>(alloc: Global) -> Result<Command<'a>, AllocError>
         .no_binary_name(true)
         .subcommand_required(true)
         .subcommand(acl_command(alloc)?)?
-        .subcommand(table_command(alloc))
+        .subcommand(table_command(alloc))?
+        .subcommand(play_command(alloc))
 }

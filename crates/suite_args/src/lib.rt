@@ -12,11 +12,13 @@ ghost use Rattle.suite_args.specs.Answering.{Answers};
 mod answer;
 mod commands;
 mod request;
+mod script;
 
 pub use request::{ArgsError, HelpText, Names, Request};
+pub use script::Script;
 use std::alloc::Global;
 
-/// Reads the words after the program's name: `table`, `acl [NAME]...`, or a call for help. A word
+/// Reads the words after the program's name: `table`, `play`, `acl [NAME]...`, or a call for help. A word
 /// that begins with a hyphen and has more is an option, until `--`, and no option but help is known.
 pub fn read_words<'a>(alloc: Global, words: &'a [&'a str]) -> Result<Request<'a>, ArgsError>
     ensures { Answers (asked_by (map (λ w. w.now) words.entry.now)) result }

@@ -4,6 +4,7 @@ ghost use Rattle.std.specs.Prelude.{◌≡◌, IfOk, Some, map};
 ghost use Rattle.suite_args.specs.Texts.{text_of};
 ghost use Rattle.suite_args.specs.declared.request.ArgsError.TheVariants.{Memory};
 
+use crate::script::Script;
 use std::alloc::{AllocError, AllocFailed, Global};
 use std::fmt;
 use std::marker::Model;
@@ -13,8 +14,8 @@ use std::marker::Model;
 pub enum Request<'a> {
     /// `suites acl [NAME]...`: print the list that standard input spells, under these names.
     Acl(Names<'a>),
-    /// `suites table`: play the script that standard input has on one plain table.
-    Table,
+    /// Play the script that standard input has.
+    Plays(Script),
     /// Print this text.
     Help(HelpText),
 }

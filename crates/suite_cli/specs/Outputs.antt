@@ -19,6 +19,9 @@ use Rattle.suite_script.specs.Faults.{line_feed, text_code}
 use Rattle.suite_script.specs.Outputs.{Output, Done, Faulty, script_output}
 use Rattle.suite_script.specs.Scripts as scripts
 use Rattle.suite_cli.specs.Scripts.{Job, script_in}
+use Rattle.suite_args.specs.declared.script.Script.{Script}
+use Rattle.suite_args.specs.declared.script.Script.TheVariants.{Play, Table}
+use Rattle.suite_play.specs.Outputs.{play_output}
 use Rattle.suite_script.specs.Texts.{outcome_text}
 
 -- the opening votes of a script's table: one vote, of server 0
@@ -57,6 +60,11 @@ lines_of script = table_lines (opening (settings_of script.header)) 0 script.own
 -- what `table` writes for a script
 abbrev pub table_output : List ℕ → Output
 table_output text = script_output lines_of (script_in text)
+
+-- what a command that plays a script writes for it
+abbrev pub script_output_of : Script → List ℕ → Output
+script_output_of Table text = table_output text
+script_output_of Play text = play_output text
 
 -- the line of a list's text that has a fault
 abbrev pub text_fault_line : TextFault → List ℕ

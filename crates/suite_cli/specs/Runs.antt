@@ -6,7 +6,7 @@ use Rattle.suite_args.specs.CommandLine as asked
 use Rattle.suite_script.specs.Outputs.{Output, Done, Faulty}
 use Rattle.suite_script.specs.Scripts.{no_names}
 use Rattle.suite_cli.specs.Names.{names_from}
-use Rattle.suite_cli.specs.Outputs.{acl_output, command_line_fault, memory_line, table_output, word_fault_line}
+use Rattle.suite_cli.specs.Outputs.{acl_output, command_line_fault, memory_line, script_output_of, word_fault_line}
 use Rattle.suite_cli.specs.declared.acl.NamesError.{NamesError}
 use Rattle.suite_cli.specs.declared.acl.NamesError.TheVariants as names
 use Rattle.std.specs.declared.alloc.AllocError.{AllocError}
@@ -114,7 +114,7 @@ RunsAcl (Err place) streams status = Refuses (word_fault_line place) streams sta
 
 -- what the words ask for was done
 abbrev pub Does : Asked → Streams → ℕ → Type 0
-Does asked.table streams status = Runs table_output streams status
+Does (asked.plays script) streams status = Runs (script_output_of script) streams status
 Does (asked.acl names) streams status = RunsAcl (names_from 1 no_names names) streams status
 Does asked.help streams status = Helps streams status
 Does asked.topic streams status = Helps streams status ⊎ Refuses command_line_fault streams status

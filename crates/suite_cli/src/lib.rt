@@ -5,6 +5,7 @@ mod acl;
 mod commands;
 mod job;
 mod language;
+mod scripts;
 mod table;
 
 pub use byte_streams::{ByteIn, ByteOut};
