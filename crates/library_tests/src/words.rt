@@ -1,10 +1,6 @@
-<<<<<<< HEAD:crates/library_tests/src/words.rt
-=======
-use crate::{ArgsError, Request, Script, read_words};
->>>>>>> 7d2de3141f496df0ed9d1f43754ca304db470bd4:crates/suite_args/src/tests.rt
 use std::alloc::{AllocError, Global};
 use std::test::Fail;
-use suite_args::{ArgsError, Request, read_words};
+use suite_args::{ArgsError, Request, Script, read_words};
 
 /// What the words ask for, in a line.
 fn told(alloc: Global, words: &[&str]) -> Result<String, AllocError> {
