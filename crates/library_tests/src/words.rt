@@ -1,3 +1,5 @@
+//! Command lines, with what they ask for.
+
 use std::alloc::{AllocError, Global};
 use std::test::Fail;
 use suite_args::{ArgsError, Request, Script, read_words};
