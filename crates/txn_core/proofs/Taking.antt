@@ -30,13 +30,13 @@ module _ (fixed : Fixed) (state : Agent) (word : Word) (ending : Option Ending) 
     at_after cache (GoesOn more) same became = (
       became.0,
       ap (λ ending. record state { cache = kept; doing = left_by ending (Some (Running after)) }) became.0
-      ∙ ap (λ (after : Course). record state { cache = kept; doing = Some (Running after) }) became.1
-      ∙ ap (λ cache. record state { cache = cache; doing = Some (Running more) }) same,
+          ∙ ap (λ (after : Course). record state { cache = kept; doing = Some (Running after) }) became.1
+          ∙ ap (λ cache. record state { cache = cache; doing = Some (Running more) }) same,
     )
     at_after cache (Ends how) same became = (
       became,
       ap (λ ending. record state { cache = kept; doing = left_by ending (Some (Running after)) }) became
-      ∙ ap (λ cache. record state { cache = cache; doing = None }) same,
+          ∙ ap (λ cache. record state { cache = cache; doing = None }) same,
     )
 
     at_asked : (running : Course) (asked : Option (ℕ × Request)) → state.doing ≡ Some (Running running) → Steps (taken fixed running state.cache asked word) ending after kept

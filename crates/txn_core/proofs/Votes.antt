@@ -51,9 +51,6 @@ change_at changes at one ordered is = lookup_from_place (eq_by_cmp_equiv nat_cmp
 -- ---- one suite
 
 module _ (task : Task) (cache : Cache) (granted : Granted) (number : ℕ) (change : Change) (left : List ℕ) (is : change_of granted.changes number ≡ Some change) where
-
-
-
   abbrev go_on : Suites → Step
   go_on suites = widen_all task cache suites granted left
 
