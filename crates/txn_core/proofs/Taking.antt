@@ -1,10 +1,10 @@
 -- An agent that takes a word, as its code goes about it.
-use Rattle.std.proofs.Common.{◌≡◌, ℕ, Option, Some, None, refl, sym, ap, ◌∙◌, subst}
+use Rattle.std.proofs.Common.{◌≡◌, ℕ, Option, Some, None, sym, ap, ◌∙◌}
 use Rattle.rep_core.specs.declared.request.Request.{Request}
 use Rattle.weak_cache.specs.Entries.{Cache}
 use Rattle.txn_core.specs.declared.ending.Ending.{Ending}
 use Rattle.txn_core.specs.declared.word.Word.{Word}
-use Rattle.txn_core.specs.Agents.{Agent, Taken, left, end_of, with_step, take_in, take, next_in}
+use Rattle.txn_core.specs.Agents.{Agent, Taken, left, end_of, take_in, take, next_in}
 use Rattle.txn_core.specs.Doing.{Fixed, Course, Round, Doing, Running, Rounding, After, GoesOn, Ends}
 use Rattle.txn_core.specs.RoundFields.{Comes}
 use Rattle.txn_core.specs.Standing.{left_by}
