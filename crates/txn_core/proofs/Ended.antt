@@ -1,12 +1,10 @@
 -- The end of a transaction, as its code goes about it.
 use Rattle.std.proofs.Common.{◌≡◌, ℕ, List, [], ◌∷◌, Option, None, drop, refl, sym, ap, ◌∙◌, subst}
 use Rattle.rep_core.specs.declared.reply.Verdict.{Verdict}
-use Rattle.rep_core.specs.declared.reply.Reply.{Reply}
-use Rattle.rep_core.specs.declared.request.Request.{Request}
 use Rattle.rep_core.specs.declared.stamped.Lack.{Lack}
 use Rattle.weak_cache.specs.Entries.{Cache}
 use Rattle.txn_core.specs.declared.ending.Ending.{Ending}
-use Rattle.txn_core.specs.Doing.{Fixed, Task, Outcome, Phase, Preparing, Finishing, Course}
+use Rattle.txn_core.specs.Doing.{Task, Outcome, Phase, Finishing, Course}
 use Rattle.txn_core.specs.Steps.{Steps}
 use Rattle.txn_core.specs.Hearing.{on_hearing}
 use Rattle.txn_core.specs.Suites.{Suite, Suites, with_suite}

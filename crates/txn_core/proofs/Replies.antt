@@ -15,7 +15,7 @@ use Rattle.txn_core.specs.Hearing.{heard, on_hearing}
 use Rattle.txn_core.specs.Standing.{FitsAsked}
 use Rattle.txn_core.specs.Steps.{Steps, taken}
 use Rattle.txn_core.specs.Suites.{Suite, Suites, suite_of, with_suite}
-use Rattle.txn_core.specs.Transactions.{Step, execute, widen_all, asked_by, asked_for, request_in, request_of, hear, heard_of, after_reply, said_to, changes_of, prepared, tell_end}
+use Rattle.txn_core.specs.Transactions.{Step, execute, widen_all, asked_by, asked_for, request_in, request_of, heard_of, after_reply, changes_of, prepared, tell_end}
 use Rattle.txn_core.specs.Unused.{shows_unused}
 use Rattle.txn_core.specs.Writing.{parts_at}
 use Rattle.txn_core.specs.declared.ending.Ending.{Ending}

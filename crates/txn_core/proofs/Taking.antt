@@ -1,10 +1,10 @@
 -- An agent that takes a word, as its code goes about it.
-use Rattle.std.proofs.Common.{◌≡◌, ℕ, Option, Some, None, refl, sym, ap, ◌∙◌, subst}
+use Rattle.std.proofs.Common.{◌≡◌, ℕ, Option, Some, None, sym, ap, ◌∙◌}
 use Rattle.rep_core.specs.declared.request.Request.{Request}
 use Rattle.weak_cache.specs.Entries.{Cache}
 use Rattle.txn_core.specs.declared.ending.Ending.{Ending}
 use Rattle.txn_core.specs.declared.word.Word.{Word}
-use Rattle.txn_core.specs.Agents.{Agent, Taken, left, end_of, with_step, take_in, take, next_in}
+use Rattle.txn_core.specs.Agents.{Agent, Taken, left, end_of, take_in, take, next_in}
 use Rattle.txn_core.specs.Doing.{Fixed, Course, Round, Doing, Running, Rounding, After, GoesOn, Ends}
 use Rattle.txn_core.specs.RoundFields.{Comes}
 use Rattle.txn_core.specs.Standing.{left_by}
@@ -30,13 +30,13 @@ module _ (fixed : Fixed) (state : Agent) (word : Word) (ending : Option Ending) 
     at_after cache (GoesOn more) same became = (
       became.0,
       ap (λ ending. record state { cache = kept; doing = left_by ending (Some (Running after)) }) became.0
-      ∙ ap (λ (after : Course). record state { cache = kept; doing = Some (Running after) }) became.1
-      ∙ ap (λ cache. record state { cache = cache; doing = Some (Running more) }) same,
+          ∙ ap (λ (after : Course). record state { cache = kept; doing = Some (Running after) }) became.1
+          ∙ ap (λ cache. record state { cache = cache; doing = Some (Running more) }) same,
     )
     at_after cache (Ends how) same became = (
       became,
       ap (λ ending. record state { cache = kept; doing = left_by ending (Some (Running after)) }) became
-      ∙ ap (λ cache. record state { cache = cache; doing = None }) same,
+          ∙ ap (λ cache. record state { cache = cache; doing = None }) same,
     )
 
     at_asked : (running : Course) (asked : Option (ℕ × Request)) → state.doing ≡ Some (Running running) → Steps (taken fixed running state.cache asked word) ending after kept

@@ -1,5 +1,5 @@
 -- The suites that get votes are widened one after the other.
-use Rattle.std.proofs.Common.{◌≡◌, ℕ, ◌+◌, suc, Bool, true, false, cond, List, [], ◌∷◌, drop, map, length, get_or, ◌≤◌, ◌<◌, ◌⊎◌, inl, inr, refl, sym, ap, ◌∙◌, subst, arith}
+use Rattle.std.proofs.Common.{◌≡◌, ℕ, ◌+◌, suc, true, false, cond, List, [], ◌∷◌, drop, map, length, get_or, ◌≤◌, ◌<◌, ◌⊎◌, inl, inr, refl, sym, ap, ◌∙◌, subst, arith}
 use Rattle.std.specs.Prelude.{filter, slice_get, Option, Some, None, Ok, IsSome}
 use Rattle.std.specs.Ordering.{nat_cmp}
 use Rattle.std.proofs.Math.Seq.{drop-cons}
@@ -13,13 +13,12 @@ use Rattle.sorted_map.specs.Edits.{insert_present}
 use Rattle.vote_core.specs.Quorums.{Configuration}
 use Rattle.file_exec.specs.declared.changes.Change.{Change}
 use Rattle.suite_collect.specs.Collecting.{Next, widen, next}
-use Rattle.suite_collect.specs.Collecting as collecting
 use Rattle.weak_cache.specs.Entries.{Cache}
 use Rattle.txn_core.specs.declared.coming.Coming.{Coming}
 use Rattle.txn_core.specs.declared.coming.Coming.TheVariants as coming
 use Rattle.txn_core.specs.declared.coming.Asked.{Asked}
 use Rattle.txn_core.specs.Coming.{Comes}
-use Rattle.txn_core.specs.Doing.{Changes, Granted, Task, Phase, Widening, Course}
+use Rattle.txn_core.specs.Doing.{Changes, Granted, Task, Widening, Course}
 use Rattle.txn_core.specs.Steps.{Steps, WidensTo, Widens}
 use Rattle.txn_core.specs.declared.ending.Ending.{Ending}
 use Rattle.txn_core.specs.Suites.{Suite, Suites, suite_of, with_suite}
@@ -51,9 +50,6 @@ change_at changes at one ordered is = lookup_from_place (eq_by_cmp_equiv nat_cmp
 -- ---- one suite
 
 module _ (task : Task) (cache : Cache) (granted : Granted) (number : ℕ) (change : Change) (left : List ℕ) (is : change_of granted.changes number ≡ Some change) where
-
-
-
   abbrev go_on : Suites → Step
   go_on suites = widen_all task cache suites granted left
 

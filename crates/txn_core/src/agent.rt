@@ -192,11 +192,7 @@ impl Agent {
 
 impl Doing {
     /// What is asked next, and of which server.
-    fn next(
-        &self,
-        alloc: Global,
-        service: &Service,
-    ) -> Result<Option<(u8, Request)>, AllocError>
+    fn next(&self, alloc: Global, service: &Service) -> Result<Option<(u8, Request)>, AllocError>
         requires { (0 < service.now.servers) × (service.now.servers ≤ MAX_SERVERS) }
         ensures { IfOk result (λ asked. (limits : Limits) → asked ≡ agents.next_in (record { service = service.now; limits = limits }) (Some (doing_of self.now))) }
     {

@@ -94,7 +94,13 @@ impl Course {
         };
         let changes = outcome.as_ref().ok().map(|granted| &granted.changes);
         let parts = parts_at(alloc, self.suites.as_slice(), changes, server)?;
-        Ok(Some((server, Request::Prepare { t: self.task.t, parts })))
+        Ok(Some((
+            server,
+            Request::Prepare {
+                t: self.task.t,
+                parts,
+            },
+        )))
     }
 
     /// The first of these servers is told how the transaction ended.
@@ -109,7 +115,13 @@ impl Course {
             return Ok(None);
         };
         let verdict = verdict.clone()?;
-        Ok(Some((server, Request::Finish { t: self.task.t, verdict })))
+        Ok(Some((
+            server,
+            Request::Finish {
+                t: self.task.t,
+                verdict,
+            },
+        )))
     }
 }
 

@@ -72,12 +72,7 @@ impl Course {
     }
 
     /// The end is told to these servers, one after the other.
-    fn tell_end(
-        &mut self,
-        servers: Servers,
-        verdict: Verdict,
-        ending: Ending,
-    ) -> Option<Ending>
+    fn tell_end(&mut self, servers: Servers, verdict: Verdict, ending: Ending) -> Option<Ending>
         ensures { (cache : Cache) → Steps (course.tell_end self.old.task cache self.old.suites verdict ending servers) result self.new cache }
     {
         if servers.first().is_none() {

@@ -68,7 +68,5 @@ pub(crate) fn locked_at(suites: &[(u64, Suite)]) -> Servers
 fn has_locks(suites: &[(u64, Suite)], server: u8) -> bool
     ensures { result ≡ gathering.has_locks suites.now server }
 {
-    suites
-        .iter()
-        .any(|(_, suite)| suite.holds_lock(server))
+    suites.iter().any(|(_, suite)| suite.holds_lock(server))
 }

@@ -87,13 +87,20 @@ fn ending_text(rt: &(impl Abort + AllocGlobal), steps: u8, ending: &Ending) -> S
 }
 
 /// A job from its begin on, for so many steps at most: how many it took, and how it ended.
-fn run(rt: &(impl Abort + AllocGlobal), servers: &mut [Server], agent: &mut Agent, most: u8) -> String {
+fn run(
+    rt: &(impl Abort + AllocGlobal),
+    servers: &mut [Server],
+    agent: &mut Agent,
+    most: u8,
+) -> String {
     for steps in 1..=most {
         if let Some(ending) = step(rt, servers, agent) {
             return ending_text(rt, steps, &ending);
         }
     }
-    String::from_str(rt.alloc(), "goes on").ok().expect(rt, "memory")
+    String::from_str(rt.alloc(), "goes on")
+        .ok()
+        .expect(rt, "memory")
 }
 
 /// A job as text: `sweep` and a server, or a user, a site and operations.

@@ -1,4 +1,4 @@
-use Rattle.std.proofs.Common.{ap, sym, subst}
+use Rattle.std.proofs.Common.{sym, subst}
 use Rattle.weak_cache.specs.Cache.{Limited}
 use Rattle.txn_core.specs.Unused.{HasUnused}
 use Rattle.txn_core.proofs.Unused.{unused_forgotten}

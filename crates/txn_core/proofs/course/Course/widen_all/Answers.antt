@@ -1,10 +1,9 @@
-use Rattle.std.proofs.Common.{◌≡◌, ◌+◌, ◌∷◌, drop, ap, sym, ◌∙◌, subst, List, ℕ, Some, None, Ok, nat_cmp}
+use Rattle.std.proofs.Common.{◌≡◌, ◌+◌, ◌∷◌, drop, ap, sym, ◌∙◌, subst, ℕ, Some, None, Ok, nat_cmp}
 use Rattle.std.specs.Prelude.{slice_get}
 use Rattle.std.proofs.lemmas.Option.{slice_get-get_or, slice_get_past}
 use Rattle.std.proofs.lemmas.Bool.{ltb-true}
 use Rattle.sorted_map.specs.SortedMap.{IsOrdered}
 use Rattle.file_exec.specs.declared.changes.Change.{Change}
-use Rattle.weak_cache.specs.Entries.{Cache}
 use Rattle.txn_core.specs.Doing.{Changes, Granted, Widening, Course}
 use Rattle.txn_core.specs.Steps.{Steps}
 use Rattle.txn_core.specs.declared.ending.Cause.{Cause}
