@@ -16,3 +16,4 @@ pub mod Readying
 pub mod Readied
 pub mod Decided
 pub mod Kept
+pub mod Jobs
