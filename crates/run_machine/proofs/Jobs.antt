@@ -13,7 +13,9 @@ use Rattle.rep_core.specs.Serving.{answer_of, is_full}
 use Rattle.txn_core.specs.declared.word.Word.{Word}
 use Rattle.txn_core.specs.declared.word.Word.TheVariants.{Replied, Lacked}
 use Rattle.txn_core.specs.declared.job.Job.{Job}
-use Rattle.txn_core.specs.Doing.{Fixed, Doing}
+use Rattle.txn_core.specs.Suites.{First, Suite, suite_of}
+use Rattle.txn_core.specs.Doing.{Fixed, Outcome, Deciding, Course, Doing, Running}
+use Rattle.txn_core.proofs.Quorums.{decides_on_quorums}
 use Rattle.txn_core.specs.Agents as agents
 use Rattle.txn_core.specs.Agents.{Agent, Take, Forget, fixed_of, next_in, next_of, take, begin, started, forget, is_idle, has_sense, most_jobs, after_event, after_all}
 use Rattle.run_core.specs.declared.event.Event.{Event}
@@ -29,7 +31,7 @@ one_more fixed agent [] event = refl
 one_more fixed agent (first ∷ told) event = one_more fixed (after_event fixed agent first) told event
 
 -- it is idle, or of a job
-abbrev IdleOr : Fixed → Agent → Type 0
+abbrev pub IdleOr : Fixed → Agent → Type 0
 IdleOr fixed agent = (is_idle agent.doing ≡ true) ⊎ IsOfAJob fixed agent
 
 told_more : (fixed : Fixed) (agent : Agent) (event : agents.Event) → IsOfAJob fixed agent → IsOfAJob fixed (after_event fixed agent event)
@@ -63,7 +65,7 @@ forgets fixed agent site (inr is) = inr (told_more fixed agent (Forget site) is)
 
 -- ---- all agents
 
-abbrev All : Fixed → World → Type 0
+abbrev pub All : Fixed → World → Type 0
 All fixed world = (n : ℕ) (actor : Actor) → actor_at world n ≡ Some actor → IdleOr fixed actor.agent
 
 module _ (fixed : Fixed) (world : World) (all : All fixed world) where
@@ -114,7 +116,7 @@ module _ (fixed : Fixed) (world : World) (all : All fixed world) where
   becomes_all number change keeps (Some actor) there = set number actor (record actor { agent = change actor.agent }) there (keeps actor.agent (all number actor there))
   becomes_all number change keeps None there = all
 
-  event_all : (event : Event) → All fixed (step fixed world event).world
+  pub event_all : (event : Event) → All fixed (step fixed world event).world
   event_all (Begin number job) = becomes_all number (λ agent. begin fixed agent job) (λ agent. begins fixed agent job) (actor_at world number) refl
   event_all (Step number) = step_all number (actor_at world number) refl
   event_all (Crash server) = operates_all server request.Crash (server_at world server)
@@ -126,7 +128,7 @@ all_after : (fixed : Fixed) (world : World) (events : List Event) → All fixed 
 all_after fixed world [] all = all
 all_after fixed world (event ∷ events) all = all_after fixed (step fixed world event).world events (event_all fixed world all event)
 
-opens : (fixed : Fixed) (start count n : ℕ) (actor : Actor) → slice_get (actors_from start count) n ≡ Some actor → IdleOr fixed actor.agent
+pub opens : (fixed : Fixed) (start count n : ℕ) (actor : Actor) → slice_get (actors_from start count) n ≡ Some actor → IdleOr fixed actor.agent
 opens fixed start zero n actor is = absurd (none-some actor is)
 opens fixed start (suc count) zero actor is = subst (λ (actor : Actor). IdleOr fixed actor.agent) (same_Some _ actor is) (inl refl)
 opens fixed start (suc count) (suc n) actor is = opens fixed (start + 1) count n actor is
@@ -137,3 +139,14 @@ agents_are_of_jobs given events number actor there busy =
       | inl idle ↦ absurd (false≢true (sym busy ∙ idle))
       | inr is ↦ is
     ]
+
+-- ---- where a transaction is decided, each suite that it asked for had a Current
+
+none_first : (first : First) (o : Option First) → o ≡ Some first → o ≡ None → ⊥
+none_first first o is none = none-some first (sym none ∙ is)
+
+pub firsts : (fixed : Fixed) (agent : Agent) (z : ℕ) → IdleOr fixed agent → (course : Course) (outcome : Outcome) → agent.doing ≡ Some (Running course) → course.phase ≡ Deciding outcome → (suite : Suite) → suite_of course.suites z ≡ Some suite → suite.first ≡ None → ⊥
+firsts fixed agent z (inl idle) course outcome running phase suite there none = absurd (false≢true (ap is_idle (sym running) ∙ idle))
+firsts fixed agent z (inr is) course outcome running phase suite there none =
+    let ready = decides_on_quorums fixed is.before is.job is.told course outcome z suite is.idle (ap (λ (agent : Agent). agent.doing) (sym is.is) ∙ running) phase there in
+    none_first ready.first suite.first ready.was none
