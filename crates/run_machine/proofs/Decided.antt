@@ -74,13 +74,13 @@ module _ (start : Beginning) (w : World) (t : ℕ) (undecided : w.verdict t ≡ 
   without (Ok granted) untold = record { undecided = undecided; going = going; untold = untold }
   without (Err refusal) untold = record { undecided = undecided; going = going; untold = untold }
 
-  by_first : (outcome : Outcome) (new : Option Change) (suite : Suite) (first : Option First) → w.aim t ≡ new → ((refusal : _) → outcome ≡ Err refusal → new ≡ None) → OwesFirst start w t outcome new suite first → May start w (decides_first w t outcome new suite first)
-  by_first outcome new suite (Some first) aimed none owes = with_known (known_by first suite) outcome new aimed none owes
-  by_first outcome new suite None aimed none owes = absurd owes
+  by_first : (outcome : Outcome) (new : Option Change) (suite : Suite) (first : Option First) → (first ≡ None → ⊥) → w.aim t ≡ new → ((refusal : _) → outcome ≡ Err refusal → new ≡ None) → OwesFirst start w t outcome new suite first → May start w (decides_first w t outcome new suite first)
+  by_first outcome new suite (Some first) had aimed none owes = with_known (known_by first suite) outcome new aimed none owes
+  by_first outcome new suite None had aimed none owes = absurd (had refl)
 
-  by_suite : (outcome : Outcome) (new : Option Change) (found : Option Suite) → w.aim t ≡ new → ((refusal : _) → outcome ≡ Err refusal → new ≡ None) → ((i : ℕ) → is_some (w.told i t) ≡ holds Shared (told_in found) i) → Owes start w t outcome new found → May start w (decides_on w t outcome new found)
-  by_suite outcome new (Some suite) aimed none told owes = by_first outcome new suite suite.first aimed none owes
-  by_suite outcome new None aimed none told owes = without outcome (λ i. told_none (w.told i t) (told i))
+  by_suite : (outcome : Outcome) (new : Option Change) (found : Option Suite) → ((suite : Suite) → found ≡ Some suite → suite.first ≡ None → ⊥) → w.aim t ≡ new → ((refusal : _) → outcome ≡ Err refusal → new ≡ None) → ((i : ℕ) → is_some (w.told i t) ≡ holds Shared (told_in found) i) → Owes start w t outcome new found → May start w (decides_on w t outcome new found)
+  by_suite outcome new (Some suite) had aimed none told owes = by_first outcome new suite suite.first (had suite refl) aimed none owes
+  by_suite outcome new None had aimed none told owes = without outcome (λ i. told_none (w.told i t) (told i))
 
 -- what is refused writes nothing
 refused_none : (first : Option First) → written_from first None ≡ None
@@ -92,20 +92,20 @@ writes_none z suites (Err other) refusal is = refused_none (first_of (suite_of s
 writes_none z suites (Ok granted) refusal is = cc
 
 pub may_decide : (start : Beginning) (z : ℕ) (w : World) (task : Task) (suites : Suites) (outcome : Outcome) → Going w task.t → w.aim task.t ≡ to_write z suites outcome → ToldAs z w task.t suites → w.verdict task.t ≡ None → ((i : ℕ) (told : Told) → w.told i task.t ≡ Some told → (left : Option Replica) × (w.ready i task.t ≡ Some left))
-    → Owes start w task.t outcome (to_write z suites outcome) (suite_of suites z) → May start w (decision_with z w task suites outcome)
-may_decide start z w task suites outcome going aimed told undecided prepared owes =
-    by_suite start w task.t undecided going.gave_up prepared outcome (to_write z suites outcome) (suite_of suites z) aimed (writes_none z suites outcome) told owes
+    → ((suite : Suite) → suite_of suites z ≡ Some suite → suite.first ≡ None → ⊥) → Owes start w task.t outcome (to_write z suites outcome) (suite_of suites z) → May start w (decision_with z w task suites outcome)
+may_decide start z w task suites outcome going aimed told undecided prepared had owes =
+    by_suite start w task.t undecided going.gave_up prepared outcome (to_write z suites outcome) (suite_of suites z) had aimed (writes_none z suites outcome) told owes
 
 -- of what an agent is doing
 some_of : {X : Type 0} (o : Option X) → is_some o ≡ true → (x : X) × (o ≡ Some x)
 some_of None is = absurd (false≢true is)
 some_of (Some x) is = (x, refl)
 
-pub may_of : (start : Beginning) (z : ℕ) (w : World) (n count : ℕ) (doing : Option Doing) → IsDoing z w n count doing → IsReadying z w doing → ToldBelow w → (course : Course) (outcome : Outcome) → doing ≡ Some (Running course) → course.phase ≡ Deciding outcome → w.verdict course.task.t ≡ None
+pub may_of : (start : Beginning) (z : ℕ) (w : World) (n count : ℕ) (doing : Option Doing) → IsDoing z w n count doing → IsReadying z w doing → ToldBelow w → ((course : Course) (outcome : Outcome) → doing ≡ Some (Running course) → course.phase ≡ Deciding outcome → (suite : Suite) → suite_of course.suites z ≡ Some suite → suite.first ≡ None → ⊥) → (course : Course) (outcome : Outcome) → doing ≡ Some (Running course) → course.phase ≡ Deciding outcome → w.verdict course.task.t ≡ None
     → Owes start w course.task.t outcome (to_write z course.suites outcome) (suite_of course.suites z) → May start w (decision_with z w course.task course.suites outcome)
-may_of start z w n count doing is readying below course outcome same phase undecided owes =
+may_of start z w n count doing is readying below had course outcome same phase undecided owes =
     let in' : InCourse z w n count course = subst (IsDoing z w n count) same is in
     let stage : Stage z w course.task.t course.suites (Deciding outcome) = subst (Stage z w course.task.t course.suites) phase in'.stage in
     let ready : ReadyIn z w course.task.t course.suites (Deciding outcome) = subst (ReadyIn z w course.task.t course.suites) phase (subst (IsReadying z w) same readying) in
     may_decide start z w course.task course.suites outcome stage.0 stage.1 in'.told undecided
-    (λ i told is. some_of (w.ready i course.task.t) (ready i (below i course.task.t (ap is_some is)) (sym (in'.told i) ∙ ap is_some is))) owes
+    (λ i told is. some_of (w.ready i course.task.t) (ready i (below i course.task.t (ap is_some is)) (sym (in'.told i) ∙ ap is_some is))) (had course outcome same phase) owes

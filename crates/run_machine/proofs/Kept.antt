@@ -54,6 +54,7 @@ use Rattle.run_machine.proofs.Decided.{may_of}
 use Rattle.run_machine.proofs.Waiting.{Waiting}
 use Rattle.run_machine.proofs.Readying.{IsReadying}
 use Rattle.run_machine.proofs.Readied.{Readied, ready_next}
+use Rattle.run_machine.proofs.Jobs.{All, event_all, opens as jobs_open, firsts}
 use Rattle.run_machine.proofs.Waited.{AllWaiting, waits_first, waits_next}
 use Rattle.run_machine.proofs.Turned.{served_at, served_concerns, lacked_concerns, asks_well, Stays, Others, all_linked, turned, others_turned, Begun, begun_so}
 
@@ -70,7 +71,7 @@ returned_of : (t z : ℕ) (home : ℕ → ℕ) (decision : Event) (i : ℕ) (w :
 returned_of t z home decision i w reply.Done = tt
 returned_of t z home decision i w _ = tt
 
-module _ (given : Opening) (z : ℕ) (w : World) (world : worlds.World) (inv : Inv (beginning z given) w) (shows : Shows z (home_in given) (servers_of given world) w) (all : AllConsistent (servers_of given world)) (linked : AllLinked z w world) (owed : Owed given z w world) (waiting : AllWaiting given world) (readied : Readied z w world) where
+module _ (given : Opening) (z : ℕ) (w : World) (world : worlds.World) (inv : Inv (beginning z given) w) (shows : Shows z (home_in given) (servers_of given world) w) (all : AllConsistent (servers_of given world)) (linked : AllLinked z w world) (owed : Owed given z w world) (waiting : AllWaiting given world) (readied : Readied z w world) (jobs : All (fixed_of given) world) where
   abbrev first : Beginning
   first = beginning z given
 
@@ -104,7 +105,7 @@ module _ (given : Opening) (z : ℕ) (w : World) (world : worlds.World) (inv : I
       let said = reply_of st asked.1 in
       let events = served_at given z w world inv shows all number actor.agent.count actor.agent.doing asked st in
       let side = asks_well given z w world inv shows all number actor.agent.count actor.agent.doing asked st.locks next was.1.doing
-      (λ course outcome doing phase undecided. may_of first z w number actor.agent.count actor.agent.doing was.1.doing (readied.agents number actor there) readied.below course outcome doing phase undecided (owed.decides number actor course outcome there doing phase undecided))
+      (λ course outcome doing phase undecided. may_of first z w number actor.agent.count actor.agent.doing was.1.doing (readied.agents number actor there) readied.below (firsts (fixed_of given) actor.agent z (jobs number actor there)) course outcome doing phase undecided (owed.decides number actor course outcome there doing phase undecided))
       (λ course now left outcome doing phase same.
       subst (λ (st : State). has_prepared course.task.t st.locks ≡ false) (ap (servers_of given world) same ∙ server_there given world asked.0 st at) (waits_first (servers_of given world) actor.agent.doing (waiting number actor there).now course doing now left outcome phase)) in
       let follows = serves given z w world inv shows all actor.agent.doing asked.0 st (record { stamp = actor.stamp; value = asked.1 }) at is side in
@@ -207,12 +208,12 @@ module _ (given : Opening) (z : ℕ) (w : World) (world : worlds.World) (inv : I
 
 -- ---- all events
 
-sides_from : (given : Opening) (z : ℕ) (w : World) (world : worlds.World) (events : List happening.Event) → Inv (beginning z given) w → Shows z (home_in given) (servers_of given world) w → AllConsistent (servers_of given world) → AllLinked z w world → AllWaiting given world → Readied z w world → AreOwed given z w world events → KeepSides given z w world events
-sides_from given z w world [] inv shows all linked waiting readied owed = tt
-sides_from given z w world (event ∷ events) inv shows all linked waiting readied owed =
-    let one = next given z w world inv shows all linked owed.0 waiting readied event in
+sides_from : (given : Opening) (z : ℕ) (w : World) (world : worlds.World) (events : List happening.Event) → Inv (beginning z given) w → Shows z (home_in given) (servers_of given world) w → AllConsistent (servers_of given world) → AllLinked z w world → AllWaiting given world → Readied z w world → All (fixed_of given) world → AreOwed given z w world events → KeepSides given z w world events
+sides_from given z w world [] inv shows all linked waiting readied jobs owed = tt
+sides_from given z w world (event ∷ events) inv shows all linked waiting readied jobs owed =
+    let one = next given z w world inv shows all linked owed.0 waiting readied jobs event in
     let comes = event_comes given z w world inv shows all event one.0 in
-    (one.0, sides_from given z (moved given z w world event) (step (fixed_of given) world event).world events (all_steps (beginning z given) w inv (events_of given z w world event) comes.obeys) comes.shows comes.consistent one.1 (waits_next given z w world linked waiting event) (ready_next given z w world readied event) owed.1)
+    (one.0, sides_from given z (moved given z w world event) (step (fixed_of given) world event).world events (all_steps (beginning z given) w inv (events_of given z w world event) comes.obeys) comes.shows comes.consistent one.1 (waits_next given z w world linked waiting event) (ready_next given z w world readied event) (event_all (fixed_of given) world jobs event) owed.1)
 
 -- ---- at the opening
 
@@ -267,4 +268,4 @@ sides_are_kept given z events valid few few_servers owed =
     let opens = opening_shows z (home_in given) given valid in
     sides_from given z (begun (beginning z given)) (worlds.opening given) events (begins (beginning z given) opens.0)
     (subst (λ servers. Shows z (home_in given) servers (begun (beginning z given))) (sym (servers_open given)) opens.1)
-    (opening_consistent given) (opens_linked z given few) (opens_waiting given) (opens_readied z given few_servers) owed
+    (opening_consistent given) (opens_linked z given few) (opens_waiting given) (opens_readied z given few_servers) (λ n actor. jobs_open (fixed_of given) 0 given.agents n actor) owed

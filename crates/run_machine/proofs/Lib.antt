@@ -15,4 +15,5 @@ pub mod Waited
 pub mod Readying
 pub mod Readied
 pub mod Decided
+pub mod Jobs
 pub mod Kept

@@ -1,8 +1,13 @@
 -- The laws of this crate.
-use Rattle.std.specs.Prelude.{◌≡◌, ℕ, ◌≤◌, List}
+use Rattle.std.specs.Prelude.{◌≡◌, ℕ, ◌≤◌, true, false, List, Some}
 use Rattle.suite_prefix.specs.SettingsRules.{Opening}
 use Rattle.vote_core.specs.Validity.{IsValid}
 use Rattle.rep_core.specs.Consistency.{IsConsistent}
+use Rattle.txn_core.specs.declared.job.Job.{Job}
+use Rattle.txn_core.specs.Doing.{Fixed}
+use Rattle.txn_core.specs.Agents as agents
+use Rattle.txn_core.specs.Agents.{Agent, fixed_of, begin, is_idle, after_all}
+use Rattle.run_core.specs.Worlds.{Actor, actor_at}
 use Rattle.run_core.specs.declared.event.Event.{Event}
 use Rattle.run_core.specs.Runs as runs
 use Rattle.suite_machine.specs.Registers.{Beginning, IsBeginning}
@@ -36,3 +41,15 @@ ServersAreConsistent = (given : Opening) (events : List Event) (i : ℕ) → IsC
 -- numbered apart from all others.
 abbrev pub SidesAreKept : Type 0
 SidesAreKept = (given : Opening) (z : ℕ) (events : List Event) → IsValid given.c0 → given.agents ≤ 64 → given.servers ≤ 16 → AgentsOwe given z events → AgentsKeepSides given z events
+
+-- an agent that began a job when it was idle, and was told this since
+pub record IsOfAJob (fixed : Fixed) (agent : Agent) : Type 0 where
+  pub before : Agent
+  pub job : Job
+  pub told : List agents.Event
+  pub idle : is_idle before.doing ≡ true
+  pub is : agent ≡ after_all fixed (begin fixed before job) told
+
+-- every agent of a run that is not idle is one of a job: so what holds of every agent that began a job, whatever it is told, holds of it
+abbrev pub AgentsAreOfJobs : Type 0
+AgentsAreOfJobs = (given : Opening) (events : List Event) (number : ℕ) (actor : Actor) → actor_at (runs.run given events) number ≡ Some actor → is_idle actor.agent.doing ≡ false → IsOfAJob (fixed_of given) actor.agent

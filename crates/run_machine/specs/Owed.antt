@@ -47,10 +47,10 @@ OwesWith start w t known (Err refusal) new = OwesKnown start w t known
 OwesWith start w t known (Ok granted) None = OwesKnown start w t known
 OwesWith start w t known (Ok granted) (Some new) = OwesWritten start w t known new
 
--- each suite that it asked for had a Current
+-- each suite that it asked for had a Current, or it would not decide
 abbrev pub OwesFirst : Beginning → World → ℕ → Outcome → Option Change → Suite → Option First → Type 0
 OwesFirst start w t outcome new suite (Some first) = OwesWith start w t (known_by first suite) outcome new
-OwesFirst start w t outcome new suite None = ⊥
+OwesFirst start w t outcome new suite None = Unit {0}
 
 abbrev pub Owes : Beginning → World → ℕ → Outcome → Option Change → Option Suite → Type 0
 Owes start w t outcome new (Some suite) = OwesFirst start w t outcome new suite suite.first

@@ -4,7 +4,7 @@
 //! world is to the machine of a suite in `specs/Machines`, what agents keep to in `specs/Sides`, and the laws in `specs/Laws`.
 #![tactic(auto)]
 
-ghost use Rattle.run_machine.specs.Laws.{MachinesFollow, ServersAreConsistent, SidesAreKept};
+ghost use Rattle.run_machine.specs.Laws.{MachinesFollow, ServersAreConsistent, SidesAreKept, AgentsAreOfJobs};
 
 /// A law: in every run in which agents keep to their side, all that happens to a suite may happen to its machine, and
 /// the machine shows the servers. It does nothing.
@@ -20,4 +20,10 @@ pub fn servers_are_consistent()
 /// A law: in every run agents keep to their side, but for what is left in `specs/Owed`. It does nothing.
 pub fn sides_are_kept()
     ensures { SidesAreKept }
+{}
+
+/// A law: every agent of a run that is not idle is one that began a job when it was idle and was told something since,
+/// so that the laws of agents hold of it. It does nothing.
+pub fn agents_are_of_jobs()
+    ensures { AgentsAreOfJobs }
 {}
