@@ -2,31 +2,46 @@
 
 use acl_core::Caller;
 use file_ops::Op;
+use std::alloc::AllocError;
 use std::marker::Model;
+use std::sync::ArcSlice;
 
-/// The operations of a transaction.
+/// The operations of a transaction. A clone shares them.
 #[derive(Debug, Drop)]
 pub struct Ops {
-    ops: Vec<Op>,
+    ops: ArcSlice<Op>,
 }
 
 impl Model for Ops {
     ghost use Rattle.std.specs.Prelude.{List};
+    ghost use Rattle.std.specs.Arc.{arc_slice_items};
     ghost use Rattle.file_ops.specs.declared.operation.Op.{Op};
 
     ghost Value = { List Op };
 
-    ghost view = { λ ops. ops.ops.items };
+    ghost view = { λ ops. arc_slice_items ops.ops };
+}
+
+impl Clone for Ops {
+    ghost use Rattle.std.specs.Prelude.{◌≡◌};
+
+    ghost is_clone = { λ ops copy. copy ≡ ops };
+
+    fn clone(&self) -> Result<Ops, AllocError> {
+        let ops = self.ops.clone()?;
+        Ok(Ops { ops })
+    }
 }
 
 impl Ops {
-    ghost use Rattle.std.specs.Prelude.{◌≡◌};
+    ghost use Rattle.std.specs.Prelude.{◌≡◌, IfOk};
 
     /// The operations of a vector, which are not copied.
-    pub fn from_vec(ops: Vec<Op>) -> Ops
-        ensures { result ≡ ops.items }
+    pub fn from_vec(ops: Vec<Op>) -> Result<Ops, AllocError>
+        ensures { IfOk result (λ shared. shared ≡ ops.items) }
     {
-        Ops { ops }
+        let ops = ArcSlice::from_vec(ops)?;
+        Ok(Ops { ops })
     }
 
     /// The operations.
