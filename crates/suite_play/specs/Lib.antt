@@ -3,3 +3,4 @@ pub mod Commands
 pub mod Texts
 pub mod Playing
 pub mod Outputs
+pub mod Laws

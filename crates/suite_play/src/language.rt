@@ -124,7 +124,7 @@ fn read_begin(
     let uid = read_id(next_word(&mut words)?)?;
     let caller = read_caller(uid, next_word(&mut words)?)?;
     let site = read_place(next_word(&mut words)?, LAST_SITE)?;
-    let ops = Ops::from_vec(read_operations(alloc, names, words)?);
+    let ops = Ops::from_vec(read_operations(alloc, names, words)?)?;
     let job = Job::Transaction { caller, site, ops };
     Ok(Command::Event(Event::Begin { agent, job }))
 }

@@ -5,9 +5,11 @@ mod caches;
 mod command;
 mod header;
 mod language;
+mod laws;
 mod outcome;
 mod places;
 mod player;
 mod verb;
 
+pub use laws::run_is_until_idle;
 pub use player::{check_events, play_events};

@@ -1,0 +1,9 @@
+//! What holds of the definitions of `play`.
+
+ghost use Rattle.suite_play.specs.Laws.{RunIsUntilIdle};
+
+/// A law: `run` is steps until the agent has no job. Where it has none after so many steps, `run` is these
+/// steps and no more. It does nothing.
+pub fn run_is_until_idle()
+    ensures { RunIsUntilIdle }
+{}
