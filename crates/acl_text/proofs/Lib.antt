@@ -9,3 +9,5 @@ pub mod CleanText
 pub mod Letters
 pub mod EntryTexts
 pub mod RoundTrip
+pub mod Trimming
+pub mod ItemGrammar

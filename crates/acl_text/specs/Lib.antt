@@ -8,3 +8,4 @@ pub mod Faults
 pub mod Texts
 pub mod Writing
 pub mod Laws
+pub mod Items

@@ -2,7 +2,7 @@
 
 ghost use Rattle.std.specs.Prelude.{◌≤◌};
 ghost use Rattle.acl_core.specs.Tags.{qualifier};
-ghost use Rattle.acl_text.specs.Laws.{LongTextSpells, NumbersFit, ShortTextSpells, SpelledIsRead};
+ghost use Rattle.acl_text.specs.Laws.{LongTextSpells, NumbersFit, ReadsAsWritten, ShortTextSpells, SpelledIsRead};
 ghost use Rattle.acl_text.specs.Qualifiers.{most_id};
 
 use acl_core::{Entry, Tag};
@@ -20,6 +20,12 @@ pub fn short_text_spells_its_list()
 /// What is spelled is read: a text that spells entries has no fault but that of the entries.
 pub fn what_is_spelled_is_read()
     ensures { SpelledIsRead }
+{}
+
+/// An item reads as an entry exactly when it is written as that entry: from its parts, with white space
+/// round each, and not by the way in which it is cut.
+pub fn items_read_as_written()
+    ensures { ReadsAsWritten }
 {}
 
 /// The users and groups of entries are numbers that users and groups can have. It does nothing.

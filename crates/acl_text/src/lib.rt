@@ -17,7 +17,10 @@ mod qualifier;
 mod read;
 mod write;
 
-pub use laws::{long_text_spells_its_list, short_text_spells_its_list, what_is_spelled_is_read};
+pub use laws::{
+    items_read_as_written, long_text_spells_its_list, short_text_spells_its_list,
+    what_is_spelled_is_read,
+};
 pub use names::{MAX_NAME, NameError, Names};
 pub use read::{TextFault, read_acl};
 pub use write::{append_acl, append_short, append_tag, permission_text, write_acl, write_short};
