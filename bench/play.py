@@ -1,0 +1,51 @@
+#!/usr/bin/env python3
+"""bench/play.py [STEPS]..
+
+Plays scripts of events with `suites play` that take about so many steps (1,000, 10,000, 100,000 and 1,000,000), and
+prints the seconds (the least of five runs), the steps a second and the peak memory of each: a step is to cost the
+same however much was done before it.
+
+Two agents on three servers: files are made in the root folder, at most 100 of them; then they are written and read
+in turn, and each tenth transaction sets a list. A fault of a transaction ends the bench.
+"""
+import sys
+
+import measure
+
+HEADER = ["servers 3", "agents 2", "votes 1,1,1/2/2", "root 1000 100 777", "cache 65536 65536 64"]
+FILES = 100
+
+
+def events(steps):
+    """Lines of events, and how many steps they take at most."""
+    lines, taken, number = list(HEADER), 0, 0
+    while taken < steps:
+        name = f"/file-{number * 7 % FILES}"
+        if number < FILES:
+            asked = f"file /file-{number} 666 ; write /file-{number} {number:08x}"
+        elif number % 10 == 9:
+            asked = f"setacl {name} u::rw,u:1001:rw,g::r,m::rw,o::r"
+        elif number % 2 == 0:
+            asked = f"write {name} {number:032x}"
+        else:
+            asked = f"read {name}"
+        lines += [f"begin {number % 2} 1000 100 0 {asked}", f"run {number % 2}"]
+        taken += 10
+        number += 1
+    return "\n".join(lines).encode() + b"\n", number
+
+
+def main():
+    measure.head("suites play, two agents on three servers")
+    print(f"{'steps':>9} {'input MiB':>10} {'seconds':>8} {'a second':>10} {'peak MiB':>9}")
+    for steps in [int(word) for word in sys.argv[1:]] or [1_000, 10_000, 100_000, 1_000_000]:
+        data, jobs = events(steps)
+        status, output, seconds, peak = measure.suites(["play"], data)
+        lines = output.decode().splitlines()
+        if status != 0 or len(lines) != jobs or any(" answered " not in line for line in lines):
+            sys.exit(f"status {status}, {len(lines)} lines: {[line for line in lines if ' answered ' not in line][:3]}")
+        taken = sum(int(line.split()[1]) for line in lines)
+        print(f"{taken:>9} {len(data) / 2**20:>10.2f} {seconds:>8.3f} {taken / seconds:>10.0f} {peak:>9.1f}")
+
+
+main()
