@@ -65,7 +65,7 @@ pub fn play_events<O: ByteOut>(alloc: Global, text: &[u8], writer: &mut O) -> Re
             Err(ScriptError::Memory) => return Err(PlayError::Memory),
             Err(ScriptError::Faulty(_)) => unreachable!(),
         };
-        play_command(alloc, &mut world, &command, &mut gathered, writer)?;
+        play_command(alloc, &mut world, command, &mut gathered, writer)?;
     }
     write_gathered(writer, &mut gathered)
 }
@@ -74,15 +74,15 @@ pub fn play_events<O: ByteOut>(alloc: Global, text: &[u8], writer: &mut O) -> Re
 fn play_command<O: ByteOut>(
     alloc: Global,
     world: &mut World,
-    command: &Command,
+    command: Command,
     text: &mut Vec<u8>,
     writer: &mut O,
 ) -> Result<(), PlayError>
-    ensures printed { Moves result (text.old.items ++ (played (fixed_of world.old.given) world.old.world command.now).text) text.new.items
+    ensures printed { Moves result (text.old.items ++ (played (fixed_of world.old.given) world.old.world command).text) text.new.items
         (O.written writer.old) (O.written writer.new) (O.failed_writes writer.old) (O.failed_writes writer.new) }
-    ensures world { OnOk result (world.new ≡ record world.old { world = (played (fixed_of world.old.given) world.old.world command.now).world }) }
+    ensures world { OnOk result (world.new ≡ record world.old { world = (played (fixed_of world.old.given) world.old.world command).world }) }
 {
-    match command {
+    match &command {
         Command::Event(event) => push_event(alloc, world, event, text)?,
         Command::Steps { agent, count } => push_steps(alloc, world, *agent, *count, text)?,
         Command::Run { agent } => push_steps(alloc, world, *agent, u64::MAX, text)?,
