@@ -3,3 +3,4 @@ pub mod Shown
 pub mod Knowing
 pub mod Writing
 pub mod Running
+pub mod Effects
