@@ -41,7 +41,7 @@ use Rattle.run_machine.specs.Machines.{servers_of, home_in, events_of, moved, ma
 use Rattle.run_machine.specs.Laws.{Follows}
 use Rattle.run_machine.proofs.Joining.{run-append}
 use Rattle.run_machine.proofs.Following.{machines_follow}
-use Rattle.one_table.specs.Tables.{row_shown, register, SidesAreKept}
+use Rattle.one_table.specs.Tables.{row_shown, register, AllKeepSides}
 use Rattle.one_table.specs.Effects.{was_answered, answered_in, copy_at, HasOne, HasHead, IsInEffect, RowsAreInEffect, ReplacedIsKnown}
 use Rattle.one_table.proofs.Shown.{FitsAs, IsShown}
 use Rattle.one_table.proofs.Running.{all_shown}
@@ -99,7 +99,7 @@ has_head prefix content row copy of is = record {
 
 -- ---- the machine of a suite, after a run
 
-module _ (given : Opening) (kept : SidesAreKept given) (events : List happening.Event) (z : ℕ) where
+module _ (given : Opening) (kept : AllKeepSides given) (events : List happening.Event) (z : ℕ) where
   follows : Follows given z events
   follows = machines_follow given z events kept.valid (kept.keep z events)
 
@@ -151,7 +151,7 @@ obeys_later : (start : Beginning) (w : World) (first later : List Event) → Obe
 obeys_later start w [] later obeys = obeys
 obeys_later start w (event ∷ first) later obeys = obeys_later start (happens start w event) first later obeys.1
 
-module _ (given : Opening) (kept : SidesAreKept given) (events later : List happening.Event) (z : ℕ) where
+module _ (given : Opening) (kept : AllKeepSides given) (events later : List happening.Event) (z : ℕ) where
   abbrev start : Beginning
   start = beginning z given
 

@@ -34,7 +34,7 @@ use Rattle.server_moves.specs.Laws.{beginning}
 use Rattle.run_machine.specs.Deciding.{known_by, to_write, decision_in, decision_by, decision_with}
 use Rattle.run_machine.specs.Machines.{moved, machine_from, machine_of, history_of}
 use Rattle.run_machine.proofs.Following.{machines_follow}
-use Rattle.one_table.specs.Tables.{row_shown, register, SidesAreKept, RowsAreTheRegisters, AgentsKnowTheTable, AnswersAreOneTables}
+use Rattle.one_table.specs.Tables.{row_shown, register, AllKeepSides, RowsAreTheRegisters, AgentsKnowTheTable, AnswersAreOneTables}
 use Rattle.one_table.proofs.Logs.{LogIs, decision_of_actor, decision_at, event_log}
 use Rattle.one_table.proofs.Shown.{IsShown}
 use Rattle.one_table.proofs.Knowing.{known_by_plain, decision_is, agrees}
@@ -61,7 +61,7 @@ opens_shown given (suc z) = record { shows = refl; fits = tt }
 
 -- ---- what a step decides
 
-module _ (given : Opening) (kept : SidesAreKept given) (events : List happening.Event) (shown : AllShown given events) where
+module _ (given : Opening) (kept : AllKeepSides given) (events : List happening.Event) (shown : AllShown given events) where
   abbrev world : worlds.World
   world = runs.run given events
 
@@ -141,7 +141,7 @@ module _ (given : Opening) (kept : SidesAreKept given) (events : List happening.
 
 -- ---- all events
 
-shown_from : (given : Opening) → SidesAreKept given → (later events : List happening.Event) → AllShown given events → AllShown given (events ++ later)
+shown_from : (given : Opening) → AllKeepSides given → (later events : List happening.Event) → AllShown given events → AllShown given (events ++ later)
 shown_from given kept [] events shown = subst (AllShown given) (sym (nothing events)) shown
   where
     nothing : (events : List happening.Event) → events ++ [] ≡ events
@@ -151,7 +151,7 @@ shown_from given kept (event ∷ later) events shown =
     subst (AllShown given) (one_more events event later)
     (shown_from given kept later (events ++ event ∷ []) (shown_after given kept events shown event (decided (fixed_of given) (runs.run given events) event) refl))
 
-pub all_shown : (given : Opening) → SidesAreKept given → (events : List happening.Event) → AllShown given events
+pub all_shown : (given : Opening) → AllKeepSides given → (events : List happening.Event) → AllShown given events
 all_shown given kept events = shown_from given kept events [] (opens_shown given)
 
 -- ---- the laws

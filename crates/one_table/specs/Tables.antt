@@ -24,18 +24,18 @@ abbrev pub register : Opening → ℕ → List Event → Replica
 register given z events = row (beginning z given) (machine_of given z events).log
 
 -- In every run from this opening agents keep to their side of every suite's machine.
-pub record SidesAreKept (given : Opening) : Type 0 where
+pub record AllKeepSides (given : Opening) : Type 0 where
   pub valid : IsValid given.c0
   pub keep : (z : ℕ) (events : List Event) → AgentsKeepSides given z events
 
 -- Then each row of the table of a run is what the suite's register holds.
 abbrev pub RowsAreTheRegisters : Type 0
-RowsAreTheRegisters = (given : Opening) → SidesAreKept given → (events : List Event) (z : ℕ) → row_of (table_of given events).rows z ≡ row_shown (register given z events)
+RowsAreTheRegisters = (given : Opening) → AllKeepSides given → (events : List Event) (z : ℕ) → row_of (table_of given events).rows z ≡ row_shown (register given z events)
 
 -- Whenever a transaction is decided, what its agent knows is so in the table.
 abbrev pub AgentsKnowTheTable : Type 0
-AgentsKnowTheTable = (given : Opening) → SidesAreKept given → KnowsTheTable given
+AgentsKnowTheTable = (given : Opening) → AllKeepSides given → KnowsTheTable given
 
 -- And every run is answered as one table answers it.
 abbrev pub AnswersAreOneTables : Type 0
-AnswersAreOneTables = (given : Opening) → SidesAreKept given → (events : List Event) → AnswersAreTheTables (rows.opening given) (decisions given events)
+AnswersAreOneTables = (given : Opening) → AllKeepSides given → (events : List Event) → AnswersAreTheTables (rows.opening given) (decisions given events)

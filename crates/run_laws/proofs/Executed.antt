@@ -119,8 +119,7 @@ refusal_in before (exec.Done answers changes) = before
 refusal_in before (exec.Need need) = before
 
 came_done : (fixed : Fixed) (task : Task) (suites : Suites) (answers : List Answer) (set : Changes) → AreFit suites → heard_on fixed task suites ≡ exec.Done answers set → Came fixed task suites (Ok (record { answers = answers; changes = set }))
-unfolding answers_in
-unfolding set_in
+unfolding answers_in set_in
 came_done fixed task suites answers set fit = of (exec_of fixed.service (known_of suites) task.t task.caller task.ops) refl
   where
     of : (heard : Heard (List Answer) Refusal) → exec_of fixed.service (known_of suites) task.t task.caller task.ops ≡ heard → changes.answered (known_of suites) heard ≡ exec.Done answers set → Came fixed task suites (Ok (record { answers = answers; changes = set }))
