@@ -1,6 +1,12 @@
 -- Each row of the table of a run is what the register of its suite holds, event by event.
-use Rattle.std.proofs.Common.{◌≡◌, ℕ, zero, suc, List, [], ◌∷◌, ◌++◌, Option, Some, None, refl, sym, ap, subst, ◌∙◌}
-use Rattle.std.specs.Prelude.{option_to_list, Result, Ok, Err}
+use Rattle.std.proofs.Common.{◌≡◌, ℕ, zero, suc, false, cond, Less, Equal, Greater, List, [], ◌∷◌, ◌++◌, Option, Some, None, refl, sym, ap, subst, ◌∙◌, arith}
+use Rattle.std.specs.Prelude.{◌==◌, option_to_list, Result, Ok, Err}
+use Rattle.std.specs.declared.cmp.Ordering.{Ordering}
+use Rattle.std.specs.Ordering.{nat_cmp, is_eq}
+use Rattle.std.proofs.lemmas.Bool.Decides.{nat_tests}
+use Rattle.std.proofs.lemmas.Map.Lookups.{exact_unsigned}
+use Rattle.suite_prefix.specs.Absent.{absent_copy}
+use Rattle.rep_core.specs.Store.{root_copy}
 use Rattle.suite_prefix.specs.SettingsRules.{Opening}
 use Rattle.suite_prefix.specs.declared.copies.Replica.{Replica}
 use Rattle.file_ops.specs.declared.answer.Answer.{Answer}
@@ -55,9 +61,22 @@ machine_one given z events event = machine_more given z (begun (beginning z give
 abbrev AllShown : Opening → List happening.Event → Type 0
 AllShown given events = (z : ℕ) → IsShown (register given z events) (row_of (table_of given events).rows z)
 
+not_zero : (z : ℕ) → (suc z == 0) ≡ false
+not_zero z = grind (arith, nat_tests)
+
+not_root : (z : ℕ) → is_eq (nat_cmp (suc z) 0) ≡ false
+not_root z = of (nat_cmp (suc z) 0) refl
+  where
+    of : (o : Ordering) → nat_cmp (suc z) 0 ≡ o → is_eq o ≡ false
+    of Less is = refl
+    of Greater is = refl
+    of Equal is = let none : suc z ≡ 0 = exact_unsigned (suc z) 0 is in absurd (omega (arith, none))
+
 opens_shown : (given : Opening) → AllShown given []
 opens_shown given zero = record { shows = refl; fits = refl }
-opens_shown given (suc z) = record { shows = refl; fits = tt }
+opens_shown given (suc z) =
+    subst (λ b. IsShown (cond b (root_copy given) (absent_copy given.c0)) (row_of (table_of given []).rows (suc z))) (sym (not_zero z))
+    (subst (λ b. IsShown (absent_copy given.c0) (cond b (Some (rows.root_row given)) None)) (sym (not_root z)) (record { shows = refl; fits = tt }))
 
 -- ---- what a step decides
 

@@ -44,6 +44,10 @@ pub record IsShown (held : Replica) (row : Option Row) : Type 0 where
 
 -- ---- what is known is so
 
+-- the row of a prefix, empty
+abbrev empty_row : Prefix → Kind → Option Row
+empty_row prefix k = Some (record { owner = prefix.owner; group = prefix.group; acl = prefix.acl; votes = prefix.votes; content = empty_content k })
+
 same_known : (content x : Content) → (P : Content → Type 0) → x ≡ content → P x → P content
 same_known content x P same is = subst P same is
 
@@ -51,11 +55,11 @@ pub is_so : (mode : LockMode) (k : PrefixKind) (prefix : Prefix) (known : Option
     → IsSo (record { mode = mode; row = row_with k prefix known; opened = is_some known }) (row_with k prefix (Some content))
 is_so mode kind.Absent prefix known content fits same = record { head = refl; content = λ opened. refl }
 is_so mode kind.File prefix None content fits same = record {
-  head = ap (λ k. Some (record { owner = prefix.owner; group = prefix.group; acl = prefix.acl; votes = prefix.votes; content = empty_content k })) (sym fits);
+  head = ap (empty_row prefix) (sym fits);
   content = λ opened. absurd (false≢true opened);
 }
 is_so mode kind.Folder prefix None content fits same = record {
-  head = ap (λ k. Some (record { owner = prefix.owner; group = prefix.group; acl = prefix.acl; votes = prefix.votes; content = empty_content k })) (sym fits);
+  head = ap (empty_row prefix) (sym fits);
   content = λ opened. absurd (false≢true opened);
 }
 is_so mode kind.File prefix (Some x) content fits same =
@@ -76,13 +80,17 @@ made_is_set : (edits : Edits) (suite : ℕ) → some makes edits suite ≡ true 
 made_is_set [] suite is = is
 made_is_set (e ∷ edits) suite is = made_if (e.0 == suite) e.1 (some makes edits suite) (is_set edits suite) (made_is_set edits suite) is
 
+-- what edits tell of a suite with this row after them
+abbrev told_as : Edits → ℕ → Row → executor.Change
+told_as edits suite row = record { made = some makes edits suite; acl = some changes.sets_acl edits suite; votes = some changes.sets_votes edits suite; content = is_set edits suite; row = row }
+
 pub made_sets : (known : Known) (edits : Edits) (suite : ℕ) (change : executor.Change) → get nat_cmp (changes.changes_of known edits) suite ≡ Some change → change.made ≡ true → change.content ≡ true
 made_sets known edits suite change is = if_touched (touches edits suite) (sym (changes_by_suite known edits suite) ∙ is)
   where
-    of : (row : Option Row) → option_map (λ (row : Row). record { made = some makes edits suite; acl = some changes.sets_acl edits suite; votes = some changes.sets_votes edits suite; content = is_set edits suite; row = row }) row ≡ Some change → change.made ≡ true → change.content ≡ true
+    of : (row : Option Row) → option_map (told_as edits suite) row ≡ Some change → change.made ≡ true → change.content ≡ true
     of None told = absurd (none-some change told)
     of (Some row) told =
-        let same = same_Some (record { made = some makes edits suite; acl = some changes.sets_acl edits suite; votes = some changes.sets_votes edits suite; content = is_set edits suite; row = row }) change told in
+        let same = same_Some (told_as edits suite row) change told in
         subst (λ (change : executor.Change). change.made ≡ true → change.content ≡ true) same (made_is_set edits suite)
 
     if_touched : (b : Bool) → cond b (changes.change_of known edits suite) None ≡ Some change → change.made ≡ true → change.content ≡ true
