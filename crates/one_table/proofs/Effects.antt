@@ -1,6 +1,5 @@
 -- What is in effect at the servers is what the machines of the suites have in effect.
-use Rattle.std.proofs.Common.{◌≡◌, ◌⊎◌, ℕ, ◌<◌, ◌≤◌, Bool, true, false, cond, List, [], ◌∷◌, ◌++◌, append_assoc, Option, Some, None, refl, sym, ap, subst, ◌∙◌, arith}
-use Rattle.std.specs.Prelude.{IsTrue}
+use Rattle.std.proofs.Common.{◌≡◌, ℕ, ◌<◌, ◌≤◌, Bool, cond, List, [], ◌∷◌, ◌++◌, append_assoc, Option, Some, None, refl, sym, ap, subst, ◌∙◌, arith}
 use Rattle.std.specs.Ordering.{nat_cmp}
 use Rattle.std.proofs.lemmas.Option.{none-some, same_Some}
 use Rattle.sorted_map.specs.SortedMap.{get}
@@ -12,7 +11,7 @@ use Rattle.suite_prefix.specs.declared.copies.Prefix.{Prefix}
 use Rattle.suite_prefix.specs.declared.copies.PrefixKind.{PrefixKind}
 use Rattle.suite_prefix.specs.declared.copies.PrefixKind.TheVariants as kind
 use Rattle.suite_prefix.specs.declared.copies.Replica.{Replica}
-use Rattle.file_ops.specs.Rows.{Row, row_of}
+use Rattle.file_ops.specs.Rows.{Row}
 use Rattle.rep_core.specs.declared.intention.Intention.{Intention}
 use Rattle.rep_core.specs.declared.reply.Verdict.{Verdict}
 use Rattle.rep_core.specs.declared.reply.Verdict.TheVariants as verdict
@@ -26,8 +25,7 @@ use Rattle.run_core.specs.declared.event.Event as happening
 use Rattle.run_core.specs.Worlds as worlds
 use Rattle.run_core.specs.Worlds.{opening, step}
 use Rattle.run_core.specs.Runs as runs
-use Rattle.run_core.specs.TableOfRun.{table_of}
-use Rattle.suite_machine.specs.Registers.{Beginning, WasPrefix, row, prefix_at}
+use Rattle.suite_machine.specs.Registers.{Beginning, WasPrefix, row}
 use Rattle.suite_machine.specs.Machine as machine
 use Rattle.suite_machine.specs.Machine.{World, IsQuorum, effect, is_answered, begun}
 use Rattle.suite_machine.specs.Events.{Event, happens, run}
@@ -41,9 +39,9 @@ use Rattle.run_machine.specs.Machines.{servers_of, home_in, events_of, moved, ma
 use Rattle.run_machine.specs.Laws.{Follows}
 use Rattle.run_machine.proofs.Joining.{run-append}
 use Rattle.run_machine.proofs.Following.{machines_follow}
-use Rattle.one_table.specs.Tables.{row_shown, register, AllKeepSides}
+use Rattle.one_table.specs.Tables.{register, AllKeepSides}
 use Rattle.one_table.specs.Effects.{was_answered, answered_in, copy_at, HasOne, HasHead, IsInEffect, RowsAreInEffect, ReplacedIsKnown}
-use Rattle.one_table.proofs.Shown.{FitsAs, IsShown}
+use Rattle.one_table.proofs.Shown.{FitsAs}
 use Rattle.one_table.proofs.Running.{all_shown}
 
 -- ---- the copy in effect

@@ -13,7 +13,6 @@ use Rattle.rep_core.specs.declared.reply.Reply.{Reply}
 use Rattle.rep_core.specs.declared.reply.Reply.TheVariants as reply
 use Rattle.rep_core.specs.declared.reply.Verdict as replied
 use Rattle.rep_core.specs.declared.stamped.Lack.TheVariants as lack
-use Rattle.rep_core.specs.declared.stamped.Stamped.{Stamped}
 use Rattle.rep_core.specs.State.{State, record_of}
 use Rattle.rep_core.specs.Service.{reply_of, recorded, verdict_of}
 use Rattle.rep_core.specs.Serving.{is_full, answer_of}
@@ -21,11 +20,11 @@ use Rattle.txn_core.specs.declared.job.Job.{Job}
 use Rattle.txn_core.specs.declared.word.Word.{Word}
 use Rattle.txn_core.specs.declared.word.Word.TheVariants.{Replied, Lacked}
 use Rattle.txn_core.specs.Suites.{Suites}
-use Rattle.txn_core.specs.Doing.{Fixed, Task, Outcome, Course, Round, Phase, Deciding, Doing, Running, Rounding, home_of}
+use Rattle.txn_core.specs.Doing.{Task, Outcome, Doing, Running, Rounding}
 use Rattle.txn_core.specs.Transactions.{decision_of}
 use Rattle.txn_core.specs.Sweeps.{asked_now}
 use Rattle.txn_core.specs.Laws.{is_decide}
-use Rattle.txn_core.specs.Agents.{Agent, Taken, fixed_of, next_in, next_of, take, begin}
+use Rattle.txn_core.specs.Agents.{Taken, fixed_of, next_in, next_of, take, begin}
 use Rattle.run_core.specs.declared.event.Event as happening
 use Rattle.run_core.specs.declared.event.Event.TheVariants.{Begin, Step, Crash, Return, Forget, Lack}
 use Rattle.run_core.specs.declared.done.Served.{Served}
@@ -37,14 +36,14 @@ use Rattle.run_laws.proofs.Asking.{decides, sweep_decides_none}
 use Rattle.run_laws.proofs.Turns.{decides_at, no_decide}
 use Rattle.suite_machine.specs.Registers.{Beginning, Change, Entry}
 use Rattle.suite_machine.specs.Machine.{Verdict, World}
-use Rattle.suite_machine.specs.Events.{Event, Held, Upgrade, Aim, Prepare, Overrule, GiveUp, Finish, Lose, happens, run, aimed, given_up}
+use Rattle.suite_machine.specs.Events.{Event, Held, Upgrade, Overrule, GiveUp, Lose, happens, run, aimed}
 use Rattle.server_moves.specs.Views.{Shows, ended_as}
 use Rattle.server_moves.specs.Views as views
 use Rattle.server_moves.specs.Preparing.{part_of}
 use Rattle.server_moves.specs.Moves.{moves, first_verdict, prepare_of, left_by_break}
 use Rattle.server_moves.specs.Laws.{beginning}
-use Rattle.run_machine.specs.Deciding.{to_write, decision_with, decision_in, decision_by, fixed_in, aim_of, aims_once, aims, is_finishing, is_at_an_end, gives_up, tells_aborted, begun_events, own_events}
-use Rattle.run_machine.specs.Machines.{servers_of, home_in, served_events, word_events, begin_events, answered_events, asked_at_events, asked_events, step_events, lacks_for_events, lack_events, operated_events, operator_events, events_of, moved}
+use Rattle.run_machine.specs.Deciding.{to_write, decision_in, decision_by, fixed_in, aim_of, aims_once, aims, is_finishing, is_at_an_end, gives_up, tells_aborted, begun_events, own_events}
+use Rattle.run_machine.specs.Machines.{servers_of, home_in, begin_events, answered_events, asked_at_events, asked_events, step_events, lacks_for_events, lack_events, operated_events, operator_events, moved}
 use Rattle.run_machine.proofs.Servers.{server_there}
 use Rattle.run_machine.proofs.Joining.{run-append}
 

@@ -8,17 +8,16 @@ use Rattle.std.proofs.lemmas.Map.Lookups.{exact_unsigned}
 use Rattle.suite_prefix.specs.Absent.{absent_copy}
 use Rattle.rep_core.specs.Store.{root_copy}
 use Rattle.suite_prefix.specs.SettingsRules.{Opening}
-use Rattle.suite_prefix.specs.declared.copies.Replica.{Replica}
 use Rattle.file_ops.specs.declared.answer.Answer.{Answer}
 use Rattle.file_ops.specs.declared.refusal.Refusal.{Refusal}
 use Rattle.file_ops.specs.Rows as rows
 use Rattle.file_ops.specs.Rows.{PlainTable, row_of}
-use Rattle.file_ops.specs.Transactions.{Played, transaction, table_after}
+use Rattle.file_ops.specs.Transactions.{transaction, table_after}
 use Rattle.file_exec.specs.Following.{Ended}
 use Rattle.file_exec.specs.Known.{AgreesWith, on_table}
 use Rattle.file_exec.proofs.More.{done_is_the_tables}
 use Rattle.txn_core.specs.Suites.{First, Suite, suite_of, known_of}
-use Rattle.txn_core.specs.Doing.{Course, Doing, Outcome, Running}
+use Rattle.txn_core.specs.Doing.{Course, Doing, Running}
 use Rattle.txn_core.specs.Agents.{fixed_of}
 use Rattle.run_core.specs.declared.event.Event as happening
 use Rattle.run_core.specs.declared.event.Event.TheVariants.{Step}
@@ -26,21 +25,22 @@ use Rattle.run_core.specs.Worlds as worlds
 use Rattle.run_core.specs.Worlds.{actor_at, opening, step}
 use Rattle.run_core.specs.Runs as runs
 use Rattle.run_core.specs.Decisions.{Decided, decided, decisions}
-use Rattle.run_core.specs.TableOfRun.{played_on, table_with, table_after_all, table_of}
-use Rattle.run_laws.specs.Answers.{IsAnsweredAsKnown, KnowsTheTable}
+use Rattle.run_core.specs.TableOfRun.{played_on, table_after_all, table_of}
+use Rattle.run_laws.specs.Answers.{IsAnsweredAsKnown}
 use Rattle.run_laws.proofs.Worlds.{agent_of}
 use Rattle.run_laws.proofs.Executed.{Came, Keeps}
 use Rattle.run_laws.proofs.Answering.{answers_follow_knowledge, always_knows, Knows}
-use Rattle.run_laws.proofs.Table.{service_stays, table_one, one_more, known_answers}
-use Rattle.suite_machine.specs.Registers.{Beginning, IsPlain, IsKnown, row}
+use Rattle.run_laws.proofs.Table.{service_stays, table_one, one_more, known_answers, tables_audit}
+use Rattle.suite_machine.specs.Registers.{IsPlain, IsKnown, row}
 use Rattle.suite_machine.specs.Machine.{World, begun}
-use Rattle.suite_machine.specs.Events.{happens, run}
+use Rattle.suite_machine.specs.Events.{happens}
 use Rattle.suite_machine.proofs.Conclusions.{one_register}
 use Rattle.server_moves.specs.Laws.{beginning}
 use Rattle.run_machine.specs.Deciding.{known_by, to_write, decision_in, decision_by, decision_with}
 use Rattle.run_machine.specs.Machines.{moved, machine_from, machine_of, history_of}
 use Rattle.run_machine.proofs.Following.{machines_follow}
-use Rattle.one_table.specs.Tables.{row_shown, register, AllKeepSides, RowsAreTheRegisters, AgentsKnowTheTable, AnswersAreOneTables}
+use Rattle.run_machine.proofs.Kept.{sides_are_kept}
+use Rattle.one_table.specs.Tables.{register, AllKeepSides, RowsAreTheRegisters, AgentsKnowTheTable, AnswersAreOneTables, AuditIsOneTables, OwedIsEnough}
 use Rattle.one_table.proofs.Logs.{LogIs, decision_of_actor, decision_at, event_log}
 use Rattle.one_table.proofs.Shown.{IsShown}
 use Rattle.one_table.proofs.Knowing.{known_by_plain, decision_is, agrees}
@@ -198,3 +198,9 @@ agents_know_the_table given kept events number one actor course is there running
 
 pub answers_are_one_tables : AnswersAreOneTables
 answers_are_one_tables given kept events = known_answers given (agents_know_the_table given kept) events
+
+pub audit_is_one_tables : AuditIsOneTables
+audit_is_one_tables given kept events = tables_audit given events (answers_are_one_tables given kept events)
+
+pub owed_is_enough : OwedIsEnough
+owed_is_enough given accepted valid owed = record { valid = valid; keep = λ z events. sides_are_kept given z events valid accepted.some_agents.1 accepted.some_servers.1 (owed z events) }

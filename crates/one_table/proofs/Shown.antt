@@ -1,7 +1,6 @@
 -- The row that a register shows: what is known of it is so, and a change leads on.
-use Rattle.std.proofs.Common.{◌≡◌, ◌⊎◌, inl, inr, ℕ, ◌+◌, Bool, true, false, cond, List, [], ◌∷◌, Option, Some, None, refl, sym, ap, subst, ◌∙◌}
+use Rattle.std.proofs.Common.{◌≡◌, inl, inr, ℕ, Bool, true, false, cond, [], ◌∷◌, Option, Some, None, refl, sym, ap, subst, ◌∙◌}
 use Rattle.std.specs.Prelude.{◌==◌, ◌&&◌, ◌||◌, is_some, option_map}
-use Rattle.std.specs.List.{list_any}
 use Rattle.std.specs.Ordering.{nat_cmp}
 use Rattle.sorted_map.specs.SortedMap.{get}
 use Rattle.std.proofs.lemmas.Bool.{false≢true}
@@ -28,7 +27,7 @@ use Rattle.file_exec.proofs.Leading.{changes_by_suite}
 use Rattle.txn_core.specs.Suites.{First, row_with}
 use Rattle.txn_core.specs.Writing.{new_prefix, prefix_kind}
 use Rattle.suite_machine.specs.Registers.{changed}
-use Rattle.run_machine.specs.Deciding.{content_to, change_to}
+use Rattle.run_machine.specs.Deciding.{change_to}
 use Rattle.one_table.specs.Tables.{row_shown}
 
 -- a content is of the kind that a prefix says

@@ -1,5 +1,5 @@
 -- A decision leads the table and the registers on to the same rows.
-use Rattle.std.proofs.Common.{◌≡◌, ℕ, true, false, List, [], ◌∷◌, Option, Some, None, refl, sym, ap, subst, ◌∙◌}
+use Rattle.std.proofs.Common.{◌≡◌, ℕ, true, List, Option, Some, None, refl, sym, ap, subst, ◌∙◌}
 use Rattle.std.specs.Prelude.{is_some, Result, Ok, Err}
 use Rattle.std.specs.Ordering.{nat_cmp}
 use Rattle.std.proofs.lemmas.Bool.{false≢true}
@@ -7,7 +7,6 @@ use Rattle.sorted_map.specs.SortedMap.{get, IsOrdered}
 use Rattle.file_ops.specs.declared.answer.Answer.{Answer}
 use Rattle.file_ops.specs.declared.refusal.Refusal.{Refusal}
 use Rattle.file_ops.specs.Rows.{Row, Rows, row_of}
-use Rattle.suite_prefix.specs.declared.copies.Replica.{Replica}
 use Rattle.suite_prefix.specs.declared.lock_mode.LockMode.TheVariants.{Exclusive}
 use Rattle.file_exec.specs.declared.known.KnownSuite.{KnownSuite}
 use Rattle.file_exec.specs.declared.changes.Change as executor
@@ -20,8 +19,7 @@ use Rattle.file_exec.proofs.Leading.{changes_lead_on}
 use Rattle.file_exec.proofs.Unset.{changes_are_held}
 use Rattle.txn_core.specs.Suites.{First, Suite, Suites, suite_of, known_of}
 use Rattle.txn_core.specs.Writing.{change_of}
-use Rattle.txn_core.specs.Doing.{Changes, Granted, Fixed, Task, Outcome}
-use Rattle.txn_core.specs.Transactions.{changes_of}
+use Rattle.txn_core.specs.Doing.{Granted, Fixed, Task, Outcome}
 use Rattle.run_laws.proofs.Knowing.{known_from, IsOfSuite}
 use Rattle.run_laws.proofs.Executed.{given_by, set_by, answer_as, Came}
 use Rattle.suite_machine.specs.Registers.{Beginning, Change, changed, row}

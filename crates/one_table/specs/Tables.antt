@@ -1,7 +1,7 @@
 -- The one table of a run beside the machines of its suites.
 use Rattle.std.specs.Prelude.{◌≡◌, ℕ, List, Option, Some}
 use Rattle.vote_core.specs.Validity.{IsValid}
-use Rattle.suite_prefix.specs.SettingsRules.{Opening}
+use Rattle.suite_prefix.specs.SettingsRules.{Opening, IsAccepted}
 use Rattle.suite_prefix.specs.declared.copies.Replica.{Replica}
 use Rattle.file_ops.specs.Rows as rows
 use Rattle.file_ops.specs.Rows.{Row, row_of}
@@ -9,11 +9,12 @@ use Rattle.txn_core.specs.Suites.{row_with}
 use Rattle.run_core.specs.declared.event.Event.{Event}
 use Rattle.run_core.specs.Decisions.{decisions}
 use Rattle.run_core.specs.TableOfRun.{table_of, AnswersAreTheTables}
-use Rattle.run_laws.specs.Answers.{KnowsTheTable}
+use Rattle.run_laws.specs.Answers.{KnowsTheTable, all_denials}
 use Rattle.suite_machine.specs.Registers.{row}
 use Rattle.server_moves.specs.Laws.{beginning}
 use Rattle.run_machine.specs.Machines.{machine_of}
 use Rattle.run_machine.specs.Sides.{AgentsKeepSides}
+use Rattle.run_machine.specs.Owed.{AgentsOwe}
 
 -- the row that a prefix and a content show; what was never made has none
 abbrev pub row_shown : Replica → Option Row
@@ -39,3 +40,11 @@ AgentsKnowTheTable = (given : Opening) → AllKeepSides given → KnowsTheTable 
 -- And every run is answered as one table answers it.
 abbrev pub AnswersAreOneTables : Type 0
 AnswersAreOneTables = (given : Opening) → AllKeepSides given → (events : List Event) → AnswersAreTheTables (rows.opening given) (decisions given events)
+
+-- The audit of that table is the denials of all decisions, in their order.
+abbrev pub AuditIsOneTables : Type 0
+AuditIsOneTables = (given : Opening) → AllKeepSides given → (events : List Event) → (table_of given events).audit ≡ all_denials (decisions given events)
+
+-- What is still owed of agents is enough for all this.
+abbrev pub OwedIsEnough : Type 0
+OwedIsEnough = (given : Opening) → IsAccepted given → IsValid given.c0 → ((z : ℕ) (events : List Event) → AgentsOwe given z events) → AllKeepSides given

@@ -5,7 +5,7 @@
 #![tactic(auto)]
 
 ghost use Rattle.one_table.specs.Effects.{RowsAreInEffect, ReplacedIsKnown};
-ghost use Rattle.one_table.specs.Tables.{RowsAreTheRegisters, AgentsKnowTheTable, AnswersAreOneTables};
+ghost use Rattle.one_table.specs.Tables.{RowsAreTheRegisters, AgentsKnowTheTable, AnswersAreOneTables, AuditIsOneTables, OwedIsEnough};
 
 /// A law: where agents keep to their side, each row of the table of a run is what the register of its suite holds. It
 /// does nothing.
@@ -35,4 +35,15 @@ pub fn rows_are_in_effect()
 /// effect. It does nothing.
 pub fn replaced_is_known()
     ensures { ReplacedIsKnown }
+{}
+
+/// A law: where agents keep to their side, the audit of the one table is the denials of all decisions, in their order. It
+/// does nothing.
+pub fn audit_is_one_tables()
+    ensures { AuditIsOneTables }
+{}
+
+/// A law: what is still owed of agents is enough for them to keep to their side. It does nothing.
+pub fn owed_is_enough()
+    ensures { OwedIsEnough }
 {}
