@@ -1,7 +1,10 @@
 -- What agents keep and hold of a suite was its register's: event by event.
 use Rattle.std.proofs.Common.{◌≡◌, ◌⊎◌, inl, inr, ℕ, zero, suc, ◌+◌, ◌<◌, ◌≤◌, Bool, true, false, cond, List, [], ◌∷◌, ◌++◌, Option, Some, None, refl, sym, ap, subst, ◌∙◌, arith}
 use Rattle.std.specs.Prelude.{◌*◌, ◌&&◌, nat_lt, slice_get, slice_set, Contains}
+use Rattle.std.specs.Ordering.{nat_cmp}
+use Rattle.std.specs.List.Sorted.{IsStrictlySortedBy}
 use Rattle.std.proofs.lemmas.Option.{same_Some, none-some}
+use Rattle.sorted_map.specs.SortedMap.{IsOrdered}
 use Rattle.vote_core.specs.Validity.{IsValid}
 use Rattle.acl_core.specs.Identity.{Identity}
 use Rattle.file_ops.specs.declared.operation.Op.{Op}
@@ -32,8 +35,8 @@ use Rattle.txn_core.specs.Sweeps as sweep
 use Rattle.txn_core.specs.Agents as agents
 use Rattle.txn_core.specs.Agents.{Agent, fixed_of, next_in, next_of, left, take_in, take, begin, started, forget, is_idle, has_sense, most_jobs, after_all}
 use Rattle.txn_core.proofs.Causes.{Stands}
-use Rattle.txn_core.specs.Laws.{Exchange}
-use Rattle.txn_core.proofs.Upheld.{Runs, DoingStands, stands_after}
+use Rattle.txn_core.specs.Laws.{Exchange, of_job}
+use Rattle.txn_core.proofs.Upheld.{Started, Begins, Runs, DoingStands, stands_after}
 use Rattle.run_core.specs.declared.event.Event as happening
 use Rattle.run_core.specs.declared.event.Event.TheVariants.{Begin, Step as Steps, Crash, Return, Forget, Lack}
 use Rattle.run_core.specs.Worlds as worlds
@@ -99,9 +102,13 @@ narrow_of fixed agent (inl idle) course running asked is number hears suite ther
 narrow_of fixed agent (inr job) course running asked is number hears suite there none =
     let runs' : Runs fixed job.before job.job job.told course =
     subst (DoingStands fixed job.before job.job job.told) (ap (λ (agent : Agent). agent.doing) (sym job.is) ∙ running) (stands_after fixed job.before job.job job.told job.idle) in
-    stands_narrow fixed course.task _ _ _ _ course.suites course.phase number hears (runs'.stands asked is) suite there none
+    stands_narrow fixed course.task (Started fixed job.before job.job job.told) (Started fixed job.before job.job job.told) (Begins fixed job.before job.job job.told) (of_job fixed job.before job.job job.told) course.suites course.phase number hears (runs'.stands asked is) suite there none
 
 -- ---- a word
+
+no_suites : IsOrdered {V = Suite} nat_cmp []
+unfolding IsStrictlySortedBy
+no_suites = tt
 
 idle_fits : (z : ℕ) (start : Beginning) (w : World) (doing : Option Doing) → is_idle doing ≡ true → DoingFits z start w doing
 idle_fits z start w None idle = tt
@@ -143,7 +150,7 @@ module _ (start : Beginning) (z : ℕ) (w : World) (inv : Inv start w) (fixed : 
   started_fits agent (Transaction caller site ops) fits =
       let task : Task = record { t = 64 * agent.count + agent.index; caller = caller; site = site; ops = ops } in
       step_fits agent task (execute fixed task (record { suites = []; cache = agent.cache }))
-      (fits_execute start z w (copies_were start w inv) fixed never task (record { suites = []; cache = agent.cache }) fits.cache (tt, λ number suite there. cc))
+      (fits_execute start z w (copies_were start w inv) fixed never task (record { suites = []; cache = agent.cache }) fits.cache (no_suites, λ number suite there. cc))
   started_fits agent (Sweep server) fits = record { cache = fits.cache; doing = tt }
 
   counted : (agent : Agent) (count : ℕ) → AgentFits z start w agent → AgentFits z start w (record agent { count = count })
