@@ -1,13 +1,10 @@
 -- What agents keep and hold of a suite was its register's: event by event.
-use Rattle.std.proofs.Common.{◌≡◌, ◌⊎◌, inl, inr, ℕ, zero, suc, ◌+◌, ◌<◌, ◌≤◌, Bool, true, false, cond, List, [], ◌∷◌, ◌++◌, Option, Some, None, refl, sym, ap, subst, ◌∙◌, arith}
+use Rattle.std.proofs.Common.{◌≡◌, ◌⊎◌, inl, inr, ℕ, zero, suc, ◌+◌, Bool, true, false, cond, List, [], ◌∷◌, ◌++◌, Option, Some, None, refl, sym, ap, subst, ◌∙◌}
 use Rattle.std.specs.Prelude.{◌*◌, ◌&&◌, nat_lt, slice_get, slice_set, Contains}
 use Rattle.std.specs.Ordering.{nat_cmp}
 use Rattle.std.specs.List.Sorted.{IsStrictlySortedBy}
 use Rattle.std.proofs.lemmas.Option.{same_Some, none-some}
 use Rattle.sorted_map.specs.SortedMap.{IsOrdered}
-use Rattle.vote_core.specs.Validity.{IsValid}
-use Rattle.acl_core.specs.Identity.{Identity}
-use Rattle.file_ops.specs.declared.operation.Op.{Op}
 use Rattle.suite_prefix.specs.SettingsRules.{Opening}
 use Rattle.rep_core.specs.declared.request.Request.{Request}
 use Rattle.rep_core.specs.declared.request.Request.TheVariants as request
@@ -65,7 +62,7 @@ use Rattle.run_machine.proofs.Following.{serves, event_comes}
 use Rattle.run_machine.proofs.Joining.{run-append, obeys-append}
 use Rattle.run_machine.proofs.Jobs.{IdleOr, All, event_all, opens}
 use Rattle.run_machine.proofs.Turned.{set_here, set_apart, same_or}
-use Rattle.run_knowledge.specs.Knowledge.{CacheWas, ToldVersion, SuiteWas, AgentWas, DoingWas, AllWere}
+use Rattle.run_knowledge.specs.Knowledge.{ToldVersion, SuiteWas, DoingWas, AllWere}
 use Rattle.run_knowledge.specs.Laws.{KnowledgeWas, KnownWas}
 use Rattle.run_knowledge.proofs.Walk.{IsNarrow, Says, Fits, AfterFits, fits_word, fits_execute}
 use Rattle.run_knowledge.proofs.Lasting.{Lasts, lasts, FitIn, DoingFits, AgentFits, said_later, agent_later}

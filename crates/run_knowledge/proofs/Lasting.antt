@@ -1,8 +1,7 @@
 -- What was so stays so: whatever happens to a suite, what an agent keeps and holds of it was still its register's.
-use Rattle.std.proofs.Common.{◌≡◌, ◌⊎◌, inl, inr, ℕ, ◌<◌, ◌≤◌, true, List, [], ◌∷◌, Option, Some, None, refl, sym, ap, subst, ◌∙◌}
-use Rattle.std.specs.Prelude.{Contains}
+use Rattle.std.proofs.Common.{◌≡◌, inl, inr, ℕ, true, List, [], ◌∷◌, Option, Some, None, refl, sym, ap, ◌∙◌}
 use Rattle.std.specs.Ordering.{nat_cmp}
-use Rattle.std.proofs.lemmas.Option.{same_Some, none-some}
+use Rattle.std.proofs.lemmas.Option.{none-some}
 use Rattle.sorted_map.specs.SortedMap.{IsOrdered}
 use Rattle.suite_content.specs.declared.content.Content.{Content}
 use Rattle.suite_prefix.specs.declared.copies.Prefix.{Prefix}
@@ -11,19 +10,19 @@ use Rattle.suite_collect.specs.declared.told.Said.{Said}
 use Rattle.suite_collect.specs.declared.told.Said.TheVariants as said
 use Rattle.suite_collect.specs.declared.told.Told as collect
 use Rattle.weak_cache.specs.Entries.{Cache}
-use Rattle.txn_core.specs.Suites.{First, Suite, Suites}
-use Rattle.txn_core.specs.Doing.{Course, Round, Doing, Running, Rounding}
+use Rattle.txn_core.specs.Suites.{Suite, Suites}
+use Rattle.txn_core.specs.Doing.{Doing, Running, Rounding}
 use Rattle.txn_core.specs.Agents.{Agent}
 use Rattle.txn_core.proofs.Gathers.{Each}
-use Rattle.suite_machine.specs.Registers.{Beginning, GoesWith, WasPrefix}
-use Rattle.suite_machine.specs.Machine.{Told, World, set2}
+use Rattle.suite_machine.specs.Registers.{Beginning, GoesWith}
+use Rattle.suite_machine.specs.Machine.{Told, World}
 use Rattle.suite_machine.specs.Events.{Event, Held, Upgrade, Aim, Prepare, DecideRead, DecideRefused, DecideWrite, DecideElsewhere, Overrule, GiveUp, Finish, Lose, happens, upgraded_told, run}
 use Rattle.suite_machine.specs.Conditions.{May, Obeys}
 use Rattle.suite_machine.specs.Laws.{Stays}
-use Rattle.suite_machine.proofs.Places.{IsAt, at2}
+use Rattle.suite_machine.proofs.Places.{at2}
 use Rattle.suite_machine.proofs.Invariant.{Inv}
 use Rattle.suite_machine.proofs.Lasting.{run_stays}
-use Rattle.run_knowledge.specs.Knowledge.{EntryWas, CacheWas, ToldOf, ToldVersion, SaidIs, AreTold, FirstWas, SuiteWas}
+use Rattle.run_knowledge.specs.Knowledge.{CacheWas, ToldOf, ToldVersion, SaidIs, AreTold, SuiteWas}
 use Rattle.run_knowledge.proofs.Walk.{InPhase}
 
 -- ---- what was told

@@ -1,21 +1,19 @@
 -- What a collector's replies give: its newest prefix was the register's, and the source of a content showed its version.
-use Rattle.std.proofs.Common.{◌≡◌, ℕ, ◌+◌, ◌<◌, ◌≤◌, Bool, true, false, cond, inl, inr, List, [], ◌∷◌, ◌++◌, Option, Some, None, refl, sym, ap, subst, ◌∙◌, arith}
-use Rattle.std.specs.Prelude.{nat_lt, ◌==◌, max}
+use Rattle.std.proofs.Common.{◌≡◌, ℕ, ◌<◌, true, false, cond, inl, inr, List, [], ◌∷◌, ◌++◌, Option, Some, None, refl, sym, ap, subst, ◌∙◌, arith}
+use Rattle.std.specs.Prelude.{nat_lt, ◌==◌}
 use Rattle.std.proofs.lemmas.Bool.{cases_lt, eq-eqb, eqb-true, false≢true}
-use Rattle.vote_core.specs.Quorums.{Configuration}
 use Rattle.suite_prefix.specs.declared.copies.Prefix.{Prefix}
-use Rattle.suite_prefix.specs.declared.lock_mode.LockMode.{LockMode}
 use Rattle.suite_collect.specs.declared.told.Said.{Said}
 use Rattle.suite_collect.specs.declared.told.Said.TheVariants.{Held, Busy, Down}
 use Rattle.suite_collect.specs.declared.told.Told as collect
 use Rattle.suite_collect.specs.Telling.{newer, newest, holds, version_in, shown, greatest}
-use Rattle.suite_collect.specs.Collecting.{Collector, Widening, told_since, all_told, votes_or, counted, mode_or, wanted, is_member, members_of, version, next, Current, tell_at, tell}
+use Rattle.suite_collect.specs.Collecting.{Collector, Widening, told_since, all_told, votes_or, counted, mode_or, wanted, is_member, members_of, next, Current, tell_at, tell}
 use Rattle.suite_collect.proofs.Collected.{gives_of}
-use Rattle.txn_core.specs.Suites.{First, Suite, source_of}
+use Rattle.txn_core.specs.Suites.{source_of}
 use Rattle.suite_machine.specs.Registers.{Beginning, WasPrefix}
 use Rattle.suite_machine.specs.Machine.{World}
 use Rattle.suite_machine.specs.Laws.{CopiesWere}
-use Rattle.run_knowledge.specs.Knowledge.{ToldOf, ToldVersion, SaidIs, AreTold, FirstWas}
+use Rattle.run_knowledge.specs.Knowledge.{ToldOf, ToldVersion, SaidIs, AreTold}
 
 module _ (start : Beginning) (w : World) (t : ℕ) (copies : CopiesWere start w) where
   -- ---- prefixes

@@ -1,6 +1,5 @@
 -- What a reply tells a transaction of a suite, its machine tells it.
-use Rattle.std.proofs.Common.{◌≡◌, ◌⊎◌, inl, inr, ℕ, ◌<◌, ◌≤◌, Bool, true, false, cond, List, [], ◌∷◌, Option, Some, None, refl, sym, ap, subst, ◌∙◌, arith}
-use Rattle.std.specs.Prelude.{◌==◌}
+use Rattle.std.proofs.Common.{◌≡◌, inl, inr, ℕ, ◌<◌, Bool, true, false, cond, [], ◌∷◌, Option, Some, None, refl, sym, ap, subst, ◌∙◌, arith}
 use Rattle.std.proofs.lemmas.Bool.{eq-eqb}
 use Rattle.std.proofs.lemmas.Option.{same_Some, none-some}
 use Rattle.suite_content.specs.declared.content.Content.{Content}
@@ -14,22 +13,22 @@ use Rattle.rep_core.specs.declared.reply.Reply.{Reply}
 use Rattle.rep_core.specs.declared.reply.Reply.TheVariants as reply
 use Rattle.suite_collect.specs.declared.told.Said.{Said}
 use Rattle.suite_collect.specs.declared.told.Said.TheVariants as said
-use Rattle.suite_collect.specs.Collecting.{Asked, Poll, Upgrade, Next, Ask, Current, Short, next, request_for}
-use Rattle.txn_core.specs.Suites.{Suite, suite_of}
+use Rattle.suite_collect.specs.Collecting.{Poll, Upgrade, Next, Ask, Current, Short, next}
+use Rattle.txn_core.specs.Suites.{Suite}
 use Rattle.txn_core.specs.Doing.{Task}
 use Rattle.txn_core.specs.Transactions.{is_poll, said_to, asked_by, asked_for}
 use Rattle.txn_core.proofs.Asks.{asks_same}
 use Rattle.suite_machine.specs.Registers.{Beginning, WasContent}
-use Rattle.suite_machine.specs.Machine.{Hold, Told, World, set2}
+use Rattle.suite_machine.specs.Machine.{Hold, Told, World}
 use Rattle.suite_machine.specs.Events as machine
 use Rattle.suite_machine.specs.Events.{Event, run, upgraded_told}
 use Rattle.suite_machine.specs.Conditions.{Obeys, MayUpgrade}
-use Rattle.suite_machine.proofs.Places.{IsAt, at2}
+use Rattle.suite_machine.proofs.Places.{at2}
 use Rattle.suite_machine.proofs.Invariant.{Inv}
 use Rattle.server_moves.specs.Moves.{moves}
 use Rattle.server_moves.specs.Laws.{TellsCopy, TellsContent, Tells}
 use Rattle.run_knowledge.specs.Knowledge.{ToldOf, ToldVersion, SaidIs}
-use Rattle.run_knowledge.proofs.Lasting.{StillTold, Lasts}
+use Rattle.run_knowledge.proofs.Lasting.{Lasts}
 
 -- of a lock of a transaction it was told
 told_lock : (start : Beginning) (w : World) → Inv start w → (i t : ℕ) (lock : Hold) → w.lock i t ≡ Some lock → (told : Told) × (w.told i t ≡ Some told) × (w.copy i ≡ told.copy)

@@ -1,6 +1,6 @@
 -- What a transaction holds of a suite, and what its agent caches of it, stays the register's in each step.
-use Rattle.std.proofs.Common.{◌≡◌, ℕ, zero, suc, ◌+◌, ◌<◌, ◌≤◌, Bool, true, false, cond, ◌⊎◌, inl, inr, List, [], ◌∷◌, Option, Some, None, Ok, Err, refl, sym, ap, subst, ◌∙◌, arith}
-use Rattle.std.specs.Prelude.{◌==◌, ◌&&◌, Contains, length, find, unwrap_or}
+use Rattle.std.proofs.Common.{◌≡◌, ℕ, zero, suc, ◌<◌, Bool, true, false, cond, ◌⊎◌, inl, inr, List, [], ◌∷◌, Option, Some, None, Ok, Err, refl, sym, ap, subst, ◌∙◌, arith}
+use Rattle.std.specs.Prelude.{◌==◌, length, find, unwrap_or}
 use Rattle.std.specs.Ordering.{nat_cmp}
 use Rattle.std.proofs.lemmas.Bool.{eqb-true, and_parts}
 use Rattle.std.proofs.lemmas.Cmp.{nat_cmp_total}
@@ -46,7 +46,7 @@ use Rattle.txn_core.proofs.Cached.{given_is}
 use Rattle.suite_machine.specs.Registers.{Beginning, WasPrefix, WasContent, GoesWith}
 use Rattle.suite_machine.specs.Machine.{World}
 use Rattle.suite_machine.specs.Laws.{CopiesWere}
-use Rattle.run_knowledge.specs.Knowledge.{EntryWas, CacheWas, ToldVersion, SaidIs, AreTold, FirstWas, SuiteWas}
+use Rattle.run_knowledge.specs.Knowledge.{EntryWas, CacheWas, ToldVersion, SaidIs, FirstWas, SuiteWas}
 use Rattle.run_knowledge.proofs.Opened.{fetched_above}
 use Rattle.run_knowledge.proofs.Showed.{newest_was, showed, sourced, narrow_version, told_one}
 

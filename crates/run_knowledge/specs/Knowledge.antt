@@ -5,11 +5,11 @@ use Rattle.suite_prefix.specs.declared.copies.Prefix.{Prefix}
 use Rattle.suite_collect.specs.declared.told.Said.{Said}
 use Rattle.suite_collect.specs.declared.told.Said.TheVariants.{Held, Busy, Down}
 use Rattle.suite_collect.specs.declared.told.Told as collect
-use Rattle.suite_collect.specs.Collecting.{Collector, told_since}
+use Rattle.suite_collect.specs.Collecting.{told_since}
 use Rattle.weak_cache.specs.Entries as weak
 use Rattle.weak_cache.specs.Entries.{Cache}
 use Rattle.txn_core.specs.Suites.{First, Suite, suite_of}
-use Rattle.txn_core.specs.Doing.{Course, Doing, Running, Rounding}
+use Rattle.txn_core.specs.Doing.{Doing, Running, Rounding}
 use Rattle.txn_core.specs.Agents.{Agent}
 use Rattle.run_core.specs.Worlds as worlds
 use Rattle.run_core.specs.Worlds.{Actor, actor_at}
