@@ -1,0 +1,2 @@
+pub mod Knowledge
+pub mod Laws
