@@ -3,3 +3,4 @@ pub mod Heard
 pub mod Known
 pub mod Written
 pub mod Agreed
+pub mod Events
