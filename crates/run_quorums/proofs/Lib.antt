@@ -1,0 +1,7 @@
+pub mod Served
+pub mod Heard
+pub mod Known
+pub mod Written
+pub mod Agreed
+pub mod Events
+pub mod Runs
