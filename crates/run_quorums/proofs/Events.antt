@@ -27,7 +27,7 @@ use Rattle.run_core.specs.Worlds as worlds
 use Rattle.run_core.specs.Worlds.{Actor, server_at, actor_at, with_server, answered, asks_at, asks, steps_once, lacks_for, lacks, operated, operates, becomes, step}
 use Rattle.suite_machine.specs.Registers.{Beginning}
 use Rattle.suite_machine.specs.Machine.{Told, World, set1}
-use Rattle.suite_machine.specs.Events.{Event, run}
+use Rattle.suite_machine.specs.Events.{run}
 use Rattle.suite_machine.specs.Conditions.{is_exclusive, Obeys}
 use Rattle.suite_machine.proofs.Invariant.{Inv}
 use Rattle.server_moves.specs.Views.{Shows}

@@ -6,7 +6,6 @@ use Rattle.std.proofs.lemmas.Bool.Decides.{nat_tests}
 use Rattle.std.proofs.lemmas.Option.{same_Some}
 use Rattle.std.specs.List.{list_any}
 use Rattle.vote_core.specs.Quorums.{Representative, votes_at, is_write_quorum}
-use Rattle.suite_prefix.specs.declared.copies.Prefix.{Prefix}
 use Rattle.suite_prefix.specs.declared.copies.Replica.{Replica}
 use Rattle.file_exec.specs.declared.changes.Change as executor
 use Rattle.rep_core.specs.declared.request.Take.TheVariants as take
