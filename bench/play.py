@@ -1,5 +1,6 @@
 #!/usr/bin/env python3
 """bench/play.py [STEPS]..
+bench/play.py servers
 
 Plays scripts of events with `suites play` that take about so many steps (1,000, 10,000, 100,000 and 1,000,000), and
 prints the seconds (the least of five runs), the steps a second and the peak memory of each: a step is to cost the
@@ -7,6 +8,9 @@ same however much was done before it.
 
 Two agents on three servers: files are made in the root folder, at most 100 of them; then they are written and read
 in turn, and each tenth transaction sets a list. A fault of a transaction ends the bench.
+
+With the word `servers`: the steps a second of one agent that reads a file, once and eight times a transaction, of 1,
+4 and 16 servers with a vote each.
 """
 import sys
 
@@ -35,7 +39,33 @@ def events(steps):
     return "\n".join(lines).encode() + b"\n", number
 
 
+def reads(servers, operations, jobs):
+    """A script of transactions that read a file so many times each."""
+    quorum = servers // 2 + 1
+    votes = ",".join(["1"] * servers) + f"/{quorum}/{quorum}"
+    lines = [f"servers {servers}", "agents 1", f"votes {votes}", "root 1000 100 777", "cache 65536 65536 64"]
+    lines += ["begin 0 1000 100 0 file /a 644 ; write /a 6869", "run 0"]
+    for _ in range(jobs):
+        lines += ["begin 0 1000 100 0 " + " ; ".join(["read /a"] * operations), "run 0"]
+    return "\n".join(lines).encode() + b"\n"
+
+
+def by_servers():
+    measure.head("suites play, one agent that reads a file")
+    print(f"{'servers':>8} {'operations':>11} {'steps':>8} {'seconds':>8} {'a second':>10}")
+    for servers in (1, 4, 16):
+        for operations in (1, 8):
+            status, output, seconds, _ = measure.suites(["play"], reads(servers, operations, 5_000))
+            taken = sum(int(line.split()[1]) for line in output.decode().splitlines())
+            if status != 0:
+                sys.exit(f"status {status}")
+            print(f"{servers:>8} {operations:>11} {taken:>8} {seconds:>8.3f} {taken / seconds:>10.0f}")
+
+
 def main():
+    if sys.argv[1:] == ["servers"]:
+        by_servers()
+        return
     measure.head("suites play, two agents on three servers")
     print(f"{'steps':>9} {'input MiB':>10} {'seconds':>8} {'a second':>10} {'peak MiB':>9}")
     for steps in [int(word) for word in sys.argv[1:]] or [1_000, 10_000, 100_000, 1_000_000]:
