@@ -16,4 +16,3 @@ pub use reading::{ReadError, read_all};
 pub use system::{SystemIn, SystemOut};
 pub use traits::{ByteIn, ByteOut, ReadFailed, WriteFailed};
 pub use writing::write_all;
-

@@ -32,4 +32,3 @@ pub use refusal::{ApplyError, Denial, Refusal, Why};
 pub use service::Service;
 pub use table::Table;
 pub use walk::last_name;
-

@@ -50,4 +50,3 @@ pub use server::Server;
 pub use stamped::{Lack, Stamped};
 pub use store::MOST_SUITES;
 pub use types_fit::settings_fit;
-

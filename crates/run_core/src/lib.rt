@@ -1,4 +1,21 @@
 //! Servers and agents together, event by event.
+//!
+//! A [`World`] is the servers and the agents of a service. An [`Event`] is one thing that happens there: an
+//! agent begins a job; it sends its request to a server and takes the reply; a server falls down or comes
+//! up; an agent forgets what its cache keeps for a site, or is told that its request was not served. An
+//! event without sense (a number that nobody has, a step of an agent without a job, a begin of one that has
+//! one) does nothing. [`World::step`] plays one event, and answers what was served and how a job ended;
+//! [`World::play`] plays many.
+//!
+//! What an event makes of a world is one equation each (`specs/Worlds.antt`). A run is events one after the
+//! other, from the opening on (`specs/Runs.antt`). Its decisions are the transactions that a served Decide
+//! decided, with their answers, in the order in which that was recorded (`specs/Decisions.antt`); its table
+//! is the plain table that takes them one at a time (`specs/TableOfRun.antt`). The contracts of `World` are
+//! these definitions, exactly: on success the world is the one that they give, and where memory runs out
+//! nothing has changed, or `play` tells how many events were played.
+//!
+//! A step copies nothing of a server or an agent: the server gives the reply to the agent before anything is
+//! changed for good, and takes the change back, without memory, where the agent lacks memory for it.
 #![tactic(auto)]
 
 mod done;

@@ -1,5 +1,5 @@
 -- What a request of a transaction, once it is served, is to the machine of a suite.
-use Rattle.std.proofs.Common.{◌≡◌, ℕ, Bool, true, false, cond, List, [], ◌∷◌, Option, Some, None, is_some, refl, sym, ap, ◌∙◌, arith}
+use Rattle.std.proofs.Common.{◌≡◌, ℕ, Bool, true, false, cond, [], ◌∷◌, Option, Some, None, is_some, refl, sym, ap, ◌∙◌, arith}
 use Rattle.std.specs.Prelude.{◌==◌, ◌&&◌, ◌||◌}
 use Rattle.std.proofs.lemmas.Bool.{false≢true}
 use Rattle.std.proofs.lemmas.Bool.Decides.{nat_tests}
@@ -13,7 +13,7 @@ use Rattle.txn_core.specs.declared.word.Word.TheVariants.{Replied}
 use Rattle.txn_core.specs.Laws.{locks, says_held}
 use Rattle.suite_machine.specs.Registers.{Beginning}
 use Rattle.suite_machine.specs.Machine.{World, Told, Verdict, set2}
-use Rattle.suite_machine.specs.Events.{Event, Held, Upgrade, Overrule, happens, run, held, upgraded, upgraded_told}
+use Rattle.suite_machine.specs.Events.{Event, Held, Upgrade, Overrule, happens, run, upgraded_told}
 use Rattle.suite_machine.proofs.Places.{at2, one_is, itself, another}
 use Rattle.server_moves.specs.Preparing.{part_of}
 use Rattle.server_moves.specs.Moves.{prepare_of, first_verdict, moves}

@@ -12,13 +12,11 @@ use Rattle.rep_core.specs.Serving as serving
 use Rattle.rep_core.proofs.Consistent.{consistent_opening, consistent_step}
 use Rattle.txn_core.specs.declared.word.Word.{Word}
 use Rattle.txn_core.specs.declared.word.Word.TheVariants.{Lacked}
-use Rattle.txn_core.specs.Doing.{Fixed}
 use Rattle.txn_core.specs.Agents.{Agent, fixed_of, next_of}
 use Rattle.run_core.specs.declared.event.Event.{Event}
 use Rattle.run_core.specs.declared.event.Event.TheVariants.{Begin, Step, Crash, Return, Forget, Lack}
-use Rattle.run_core.specs.declared.done.Served.{Served}
-use Rattle.run_core.specs.Worlds.{World, Actor, opening, server_at, actor_at, with_server, serve, answered, asks_at, asks, steps_once, lacks_for, lacks, operated, operates, becomes, step}
-use Rattle.run_core.specs.Runs.{after, run}
+use Rattle.run_core.specs.Worlds.{World, Actor, opening, server_at, actor_at, with_server, answered, asks_at, asks, steps_once, lacks_for, lacks, operated, operates, becomes, step}
+use Rattle.run_core.specs.Runs.{after}
 use Rattle.suite_machine.specs.Machine.{set1}
 use Rattle.run_machine.specs.Machines.{servers_of}
 use Rattle.run_machine.specs.Laws.{ServersAreConsistent}

@@ -1,20 +1,19 @@
 -- What a transaction decides may be decided, where what is owed is shown.
-use Rattle.std.proofs.Common.{◌≡◌, ℕ, ◌≤◌, Bool, IsTrue, true, false, cond, Option, Some, None, is_some, Ok, Err, refl, sym, ap, subst, ◌∙◌, arith}
-use Rattle.std.specs.Prelude.{◌&&◌, nat_le}
+use Rattle.std.proofs.Common.{◌≡◌, ℕ, ◌≤◌, true, false, Option, Some, None, is_some, Ok, Err, refl, sym, ap, subst, ◌∙◌, arith}
+use Rattle.std.specs.Prelude.{nat_le}
 use Rattle.std.proofs.lemmas.Bool.{false≢true, and_parts}
 use Rattle.std.proofs.lemmas.Bool.Decides.{nat_tests}
 use Rattle.suite_prefix.specs.declared.copies.Replica.{Replica}
 use Rattle.suite_prefix.specs.declared.lock_mode.LockMode.TheVariants.{Shared}
 use Rattle.suite_collect.specs.Telling.{holds}
 use Rattle.txn_core.specs.Suites.{First, Suite, Suites, suite_of}
-use Rattle.txn_core.specs.Writing.{change_of}
 use Rattle.txn_core.specs.Doing.{Task, Outcome, Deciding, Course, Doing, Running}
 use Rattle.txn_core.proofs.Locks.{told_in}
 use Rattle.suite_machine.specs.Registers.{Beginning, Known, Change}
 use Rattle.suite_machine.specs.Machine.{Told, World}
 use Rattle.suite_machine.specs.Conditions.{IsReady, Knows, May}
 use Rattle.run_machine.specs.Deciding.{showed, showed_to, known_by, written_from, first_of, to_write, decides_with, decides_without, decides_first, decides_on, decision_with}
-use Rattle.run_machine.specs.Owed.{OwesKnown, OwesWritten, OwesWith, OwesFirst, Owes}
+use Rattle.run_machine.specs.Owed.{OwesKnown, OwesWith, OwesFirst, Owes}
 use Rattle.run_machine.proofs.Stages.{Going, Stage}
 use Rattle.run_machine.proofs.Readying.{ReadyIn, IsReadying}
 use Rattle.run_machine.proofs.Readied.{ToldBelow}

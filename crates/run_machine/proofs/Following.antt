@@ -1,15 +1,10 @@
 -- The machine of a suite follows the world, event by event.
-use Rattle.std.proofs.Common.{◌≡◌, ℕ, Bool, true, false, cond, List, [], ◌∷◌, ◌++◌, Option, Some, None, refl, sym, ap, subst, ◌∙◌}
-use Rattle.std.specs.Prelude.{◌==◌}
-use Rattle.vote_core.specs.Validity.{IsValid}
+use Rattle.std.proofs.Common.{◌≡◌, ℕ, Bool, true, false, cond, List, [], ◌∷◌, Option, Some, None, refl, sym, subst, ◌∙◌}
 use Rattle.suite_prefix.specs.SettingsRules.{Opening}
 use Rattle.rep_core.specs.declared.request.Request.{Request}
 use Rattle.rep_core.specs.declared.request.Request.TheVariants as request
-use Rattle.rep_core.specs.declared.reply.Reply.{Reply}
 use Rattle.rep_core.specs.declared.stamped.Lack.TheVariants as lack
 use Rattle.rep_core.specs.declared.stamped.Stamped.{Stamped}
-use Rattle.rep_core.specs.Consistency.{IsConsistent}
-use Rattle.rep_core.specs.State as state
 use Rattle.rep_core.specs.State.{State}
 use Rattle.rep_core.specs.Service.{reply_of}
 use Rattle.rep_core.specs.Serving.{answer_of, is_full, served}
@@ -17,16 +12,13 @@ use Rattle.rep_core.specs.Serving as serving
 use Rattle.txn_core.specs.declared.word.Word.{Word}
 use Rattle.txn_core.specs.declared.word.Word.TheVariants.{Replied, Lacked}
 use Rattle.txn_core.specs.declared.job.Job.{Job}
-use Rattle.txn_core.specs.Doing.{Fixed, Doing}
+use Rattle.txn_core.specs.Doing.{Doing}
 use Rattle.txn_core.specs.Agents.{Agent, fixed_of, next_of, take, begin}
 use Rattle.run_core.specs.declared.event.Event as happening
 use Rattle.run_core.specs.declared.event.Event.TheVariants.{Begin, Step, Crash, Return, Forget, Lack}
-use Rattle.run_core.specs.declared.done.Served.{Served}
 use Rattle.run_core.specs.Worlds as worlds
 use Rattle.run_core.specs.Worlds.{Actor, Stepped, server_at, actor_at, with_server, after_serving, serve, answered, asks_at, asks, steps_once, lacks_for, lacks, operated, operates, becomes, step}
-use Rattle.run_core.specs.Runs as runs
 use Rattle.run_core.specs.Runs.{after}
-use Rattle.suite_machine.specs.Registers.{Beginning}
 use Rattle.suite_machine.specs.Machine.{World, set1, begun}
 use Rattle.suite_machine.specs.Events.{Event, run}
 use Rattle.suite_machine.specs.Conditions.{Obeys}
@@ -40,10 +32,10 @@ use Rattle.server_moves.specs.Laws as steps
 use Rattle.server_moves.specs.Laws.{beginning}
 use Rattle.server_moves.proofs.Steps.{each_step_moves}
 use Rattle.server_moves.proofs.Opening.{opening_shows}
-use Rattle.run_machine.specs.Deciding.{decision_by, own_events}
-use Rattle.run_machine.specs.Machines.{servers_of, home_in, served_events, word_events, begin_events, answered_events, asked_at_events, asked_events, step_events, lacks_for_events, lack_events, operated_events, operator_events, events_of, moved, machine_from, history_from, machine_of, history_of}
-use Rattle.run_machine.specs.Sides.{AskedWell, DoesWell, AnsweredWell, AsksAtWell, AsksWell, StepsWell, LacksForWell, LacksWell, KeepsSide, KeepSides, AgentsKeepSides}
-use Rattle.run_machine.specs.Laws.{Follows, MachinesFollow}
+use Rattle.run_machine.specs.Deciding.{decision_by}
+use Rattle.run_machine.specs.Machines.{servers_of, home_in, word_events, begin_events, answered_events, asked_at_events, asked_events, step_events, lacks_for_events, lack_events, operated_events, operator_events, events_of, machine_from, history_from}
+use Rattle.run_machine.specs.Sides.{AnsweredWell, AsksAtWell, AsksWell, StepsWell, LacksForWell, LacksWell, KeepsSide, KeepSides}
+use Rattle.run_machine.specs.Laws.{MachinesFollow}
 use Rattle.run_machine.proofs.Servers.{servers_set, server_there, servers_open}
 use Rattle.run_machine.proofs.Consistent.{AllConsistent, served_is, consistent_serving, opening_consistent}
 use Rattle.run_machine.proofs.Joining.{run-append, obeys-append}

@@ -3,7 +3,6 @@ use Rattle.std.proofs.Common.{◌≡◌, ◌⊎◌, inl, inr, ℕ, zero, suc, �
 use Rattle.std.specs.Prelude.{◌&&◌, nat_lt, slice_get, slice_set}
 use Rattle.std.proofs.lemmas.Bool.{false≢true}
 use Rattle.std.proofs.lemmas.Option.{same_Some, none-some}
-use Rattle.suite_prefix.specs.SettingsRules.{Opening}
 use Rattle.rep_core.specs.declared.request.Request.{Request}
 use Rattle.rep_core.specs.declared.request.Request.TheVariants as request
 use Rattle.rep_core.specs.declared.stamped.Lack.TheVariants as lack
@@ -22,7 +21,7 @@ use Rattle.run_core.specs.declared.event.Event.{Event}
 use Rattle.run_core.specs.declared.event.Event.TheVariants.{Begin, Step, Crash, Return, Forget as Forgets, Lack}
 use Rattle.run_core.specs.Worlds.{World, Actor, server_at, actor_at, answered, asks_at, asks, steps_once, lacks_for, lacks, operated, operates, becomes, step, opening, actors_from}
 use Rattle.run_core.specs.Worlds as worlds
-use Rattle.run_core.specs.Runs.{after, run}
+use Rattle.run_core.specs.Runs.{after}
 use Rattle.run_machine.specs.Laws.{IsOfAJob, AgentsAreOfJobs}
 use Rattle.run_machine.proofs.Turned.{set_here, set_apart, same_or}
 

@@ -3,20 +3,17 @@ use Rattle.std.proofs.Common.{◌≡◌, inl, ℕ, zero, suc, ◌+◌, ◌<◌, 
 use Rattle.std.specs.Prelude.{◌*◌, slice_get}
 use Rattle.std.proofs.lemmas.Bool.{false≢true}
 use Rattle.std.proofs.lemmas.Option.{same_Some, none-some}
-use Rattle.vote_core.specs.Validity.{IsValid}
 use Rattle.suite_prefix.specs.SettingsRules.{Opening}
 use Rattle.rep_core.specs.declared.request.Request.{Request}
 use Rattle.rep_core.specs.declared.request.Request.TheVariants as request
 use Rattle.rep_core.specs.declared.reply.Reply.{Reply}
 use Rattle.rep_core.specs.declared.reply.Reply.TheVariants as reply
 use Rattle.rep_core.specs.declared.stamped.Lack.TheVariants as lack
-use Rattle.rep_core.specs.declared.stamped.Stamped.{Stamped}
 use Rattle.rep_core.specs.Locks.{has_prepared}
 use Rattle.rep_core.specs.State as state
 use Rattle.rep_core.specs.State.{State}
 use Rattle.rep_core.specs.Service.{reply_of}
-use Rattle.rep_core.specs.Serving.{answer_of, is_full, served}
-use Rattle.txn_core.specs.declared.word.Word.{Word}
+use Rattle.rep_core.specs.Serving.{answer_of, is_full}
 use Rattle.txn_core.specs.declared.word.Word.TheVariants.{Replied, Lacked}
 use Rattle.txn_core.specs.declared.job.Job.{Job}
 use Rattle.txn_core.specs.Agents.{Agent, fixed_of, next_of, take, begin, forget}
@@ -26,8 +23,8 @@ use Rattle.run_core.specs.declared.event.Event.TheVariants.{Begin, Step, Crash, 
 use Rattle.run_core.specs.Worlds as worlds
 use Rattle.run_core.specs.Worlds.{Actor, server_at, actor_at, with_server, with_actor, answered, asks_at, asks, steps_once, lacks_for, lacks, operated, operates, becomes, step}
 use Rattle.suite_machine.specs.Registers.{Beginning}
-use Rattle.suite_machine.specs.Machine.{World, Verdict, begun}
-use Rattle.suite_machine.specs.Events.{Event, GiveUp, run}
+use Rattle.suite_machine.specs.Machine.{World, begun}
+use Rattle.suite_machine.specs.Events.{Event, run}
 use Rattle.suite_machine.specs.Conditions.{Obeys}
 use Rattle.suite_machine.proofs.Invariant.{Inv}
 use Rattle.suite_machine.proofs.Steps.{all_steps}
@@ -44,19 +41,18 @@ use Rattle.run_machine.specs.Owed.{Owed, AreOwed}
 use Rattle.run_machine.specs.Laws.{SidesAreKept}
 use Rattle.run_machine.proofs.Servers.{server_there, servers_open}
 use Rattle.run_machine.proofs.Consistent.{AllConsistent, opening_consistent}
-use Rattle.run_machine.proofs.Following.{Comes, serves, event_comes}
+use Rattle.run_machine.proofs.Following.{serves, event_comes}
 use Rattle.run_machine.proofs.Joining.{run-append, obeys-append}
 use Rattle.run_machine.proofs.Quiet.{AreOf, quiet_all}
-use Rattle.run_machine.proofs.Stages.{Going}
 use Rattle.run_machine.proofs.Linked.{Untouched, Linked, AllLinked, linked_later}
-use Rattle.run_machine.proofs.Turns.{Turn, turn}
+use Rattle.run_machine.proofs.Turns.{turn}
 use Rattle.run_machine.proofs.Decided.{may_of}
 use Rattle.run_machine.proofs.Waiting.{Waiting}
 use Rattle.run_machine.proofs.Readying.{IsReadying}
 use Rattle.run_machine.proofs.Readied.{Readied, ready_next}
 use Rattle.run_machine.proofs.Jobs.{All, event_all, opens as jobs_open, firsts}
 use Rattle.run_machine.proofs.Waited.{AllWaiting, waits_first, waits_next}
-use Rattle.run_machine.proofs.Turned.{served_at, served_concerns, lacked_concerns, asks_well, Stays, Others, all_linked, turned, others_turned, Begun, begun_so}
+use Rattle.run_machine.proofs.Turned.{served_at, served_concerns, lacked_concerns, asks_well, Stays, all_linked, turned, others_turned, begun_so}
 
 next_number : (u : ℕ) → u ≡ u + 1 → ⊥
 next_number u same = absurd (omega arith)

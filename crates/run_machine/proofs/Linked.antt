@@ -1,61 +1,20 @@
 -- Agents keep to their side in every run: what each event keeps of agents and machine together.
-use Rattle.std.proofs.Common.{◌≡◌, ◌⊎◌, inl, inr, ℕ, zero, suc, ◌+◌, ◌<◌, ◌≤◌, Bool, true, false, cond, List, [], ◌∷◌, ◌++◌, length, Option, Some, None, is_some, refl, sym, ap, subst, ◌∙◌, arith}
-use Rattle.std.specs.Prelude.{◌*◌, ◌==◌, ◌&&◌, ◌||◌, nat_lt, slice_get, slice_set}
+use Rattle.std.proofs.Common.{◌≡◌, inl, inr, ℕ, zero, suc, ◌+◌, ◌<◌, ◌≤◌, Option, Some, None, is_some, refl, sym, ap, ◌∙◌, arith}
+use Rattle.std.specs.Prelude.{◌*◌}
 use Rattle.std.specs.Ordering.{nat_cmp}
-use Rattle.std.proofs.lemmas.Bool.{false≢true, and_parts}
-use Rattle.std.proofs.lemmas.Option.{same_Some, none-some}
+use Rattle.std.proofs.lemmas.Option.{none-some}
 use Rattle.sorted_map.specs.SortedMap.{IsOrdered}
-use Rattle.suite_prefix.specs.SettingsRules.{Opening}
-use Rattle.suite_prefix.specs.declared.lock_mode.LockMode.TheVariants.{Shared}
-use Rattle.rep_core.specs.declared.request.Request.{Request}
-use Rattle.rep_core.specs.declared.request.Request.TheVariants as request
-use Rattle.rep_core.specs.declared.reply.Reply.{Reply}
-use Rattle.rep_core.specs.declared.reply.Reply.TheVariants as reply
-use Rattle.rep_core.specs.declared.reply.Verdict as replied
-use Rattle.rep_core.specs.declared.stamped.Lack.TheVariants as lack
-use Rattle.rep_core.specs.declared.stamped.Stamped.{Stamped}
-use Rattle.rep_core.specs.Locks.{has_prepared}
-use Rattle.rep_core.specs.State.{State}
-use Rattle.rep_core.specs.Service.{reply_of}
-use Rattle.rep_core.specs.Serving.{answer_of, is_full, served}
-use Rattle.rep_core.specs.Serving as serving
-use Rattle.suite_collect.specs.Telling.{holds}
 use Rattle.txn_core.specs.Suites.{Suites}
-use Rattle.txn_core.specs.declared.word.Word.{Word}
-use Rattle.txn_core.specs.declared.word.Word.TheVariants.{Replied, Lacked}
-use Rattle.txn_core.specs.declared.job.Job.{Job}
-use Rattle.txn_core.specs.declared.job.Job.TheVariants.{Transaction, Sweep}
-use Rattle.txn_core.specs.Doing.{Fixed, Task, Outcome, Phase, Gathering, Fetching, Widening, Preparing, Deciding, Finishing, Course, Sweeping, Listing, Resolving, Telling, Breaking, Round, Doing, Running, Rounding, After, GoesOn, Ends, home_of}
-use Rattle.txn_core.specs.Transactions as course
-use Rattle.txn_core.specs.Transactions.{request_of, execute}
-use Rattle.txn_core.specs.Sweeps as sweep
-use Rattle.txn_core.specs.Sweeps.{asked_now, sweep_on}
-use Rattle.txn_core.specs.Agents as agents
-use Rattle.txn_core.specs.Agents.{Agent, Taken, Take, fixed_of, next_in, next_of, take, take_in, begin, started, forget, is_idle, has_sense, most_jobs, left}
-use Rattle.txn_core.specs.Laws.{locks, says_held, exchange_of, is_decide}
-use Rattle.txn_core.proofs.Locks.{told_at, Keeps, plus_all, all_keep, begin_keeps, nothing_held}
-use Rattle.run_core.specs.declared.event.Event as happening
-use Rattle.run_core.specs.declared.event.Event.TheVariants.{Begin, Step, Crash, Return, Forget, Lack}
-use Rattle.run_core.specs.declared.done.Served.{Served}
+use Rattle.txn_core.specs.Doing.{Phase, Gathering, Fetching, Widening, Preparing, Deciding, Finishing, Course, Sweeping, Listing, Resolving, Telling, Breaking, Doing, Running, Rounding}
+use Rattle.txn_core.specs.Agents.{Agent, left}
+use Rattle.txn_core.specs.Laws.{locks}
 use Rattle.run_core.specs.Worlds as worlds
 use Rattle.run_core.specs.Worlds.{Actor, server_at, actor_at, with_server, with_actor, moved}
-use Rattle.suite_machine.specs.Registers.{Beginning}
-use Rattle.suite_machine.specs.Machine.{World, Aborted, set1, begun}
-use Rattle.suite_machine.specs.Events.{Event, run}
-use Rattle.suite_machine.specs.Conditions.{May, Obeys, MayFinish}
-use Rattle.suite_machine.proofs.Invariant.{Inv}
-use Rattle.suite_machine.proofs.Steps.{all_steps}
-use Rattle.suite_machine.proofs.Lasting.{run_stays}
-use Rattle.server_moves.specs.Views.{Shows, ended_as}
-use Rattle.server_moves.specs.Moves.{moves}
-use Rattle.server_moves.specs.Agents.{AgentSide}
-use Rattle.server_moves.specs.Laws.{beginning}
-use Rattle.run_laws.specs.Naming.{names}
-use Rattle.run_laws.proofs.Asking.{asks_in_its_name, asks_to_sweep}
-use Rattle.run_machine.specs.Deciding.{to_write, decision_by, decision_in, fixed_in, is_finishing, own_events}
-use Rattle.run_machine.specs.Machines.{servers_of, home_in}
-use Rattle.run_machine.proofs.Quiet.{Quiet, IsOf, AreOf, of-append, quiet_all}
-use Rattle.run_machine.proofs.Stages.{Going, Stage, StageLeft}
+use Rattle.suite_machine.specs.Machine.{World}
+use Rattle.suite_machine.specs.Conditions.{MayFinish}
+use Rattle.server_moves.specs.Views.{ended_as}
+use Rattle.run_machine.proofs.Quiet.{Quiet}
+use Rattle.run_machine.proofs.Stages.{Going, Stage}
 use Rattle.run_machine.proofs.Sending.{ToldAs}
 
 -- ---- what each agent is to the machine

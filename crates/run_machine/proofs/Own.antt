@@ -2,7 +2,7 @@
 use Rattle.std.proofs.Common.{◌≡◌, ℕ, Bool, true, false, cond, List, [], ◌∷◌, ◌++◌, Option, Some, None, refl}
 use Rattle.rep_core.specs.State.{State}
 use Rattle.txn_core.specs.Suites.{Suites}
-use Rattle.txn_core.specs.Doing.{Outcome, Course, Doing, Running, Rounding}
+use Rattle.txn_core.specs.Doing.{Outcome, Doing, Running, Rounding}
 use Rattle.txn_core.specs.Agents.{Taken}
 use Rattle.suite_machine.specs.Registers.{Beginning, Change}
 use Rattle.suite_machine.specs.Machine.{World}

@@ -1,7 +1,7 @@
 -- What the events of one transaction leave of another.
-use Rattle.std.proofs.Common.{◌≡◌, ◌⊎◌, inl, inr, ℕ, Bool, true, false, cond, List, [], ◌∷◌, ◌++◌, Option, Some, None, refl, sym, ap, ◌∙◌}
+use Rattle.std.proofs.Common.{◌≡◌, ◌⊎◌, inl, inr, ℕ, List, [], ◌∷◌, ◌++◌, Option, Some, None, refl, sym, ap, ◌∙◌}
 use Rattle.suite_machine.specs.Registers.{Beginning}
-use Rattle.suite_machine.specs.Machine.{World, Told, Verdict, Aborted, set1, set2}
+use Rattle.suite_machine.specs.Machine.{World, Verdict, Aborted, set1, set2}
 use Rattle.suite_machine.specs.Events.{Event, Held, Upgrade, Aim, Prepare, DecideRead, DecideRefused, DecideWrite, DecideElsewhere, Overrule, GiveUp, Finish, Lose, happens, run}
 use Rattle.suite_machine.specs.Conditions.{May, Obeys}
 use Rattle.suite_machine.proofs.Places.{at1, at2}

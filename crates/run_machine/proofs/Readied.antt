@@ -1,12 +1,10 @@
 -- In every run each server that told a transaction of a copy has prepared, where it is decided: event by event.
-use Rattle.std.proofs.Common.{◌≡◌, ◌⊎◌, inl, inr, ℕ, ◌+◌, ◌<◌, ◌≤◌, Bool, true, false, cond, List, [], ◌∷◌, ◌++◌, length, Option, Some, None, is_some, refl, sym, ap, subst, ◌∙◌, arith}
+use Rattle.std.proofs.Common.{◌≡◌, ℕ, ◌+◌, ◌<◌, ◌≤◌, Bool, true, false, cond, List, [], ◌∷◌, length, Option, Some, None, is_some, refl, sym, ap, subst, ◌∙◌, arith}
 use Rattle.std.specs.Prelude.{◌==◌, ◌&&◌, ◌*◌, nat_lt, slice_get, slice_set}
-use Rattle.std.proofs.lemmas.Bool.{false≢true}
 use Rattle.std.proofs.lemmas.Option.{same_Some, slice_get_within}
 use Rattle.std.proofs.lemmas.List.{length-set}
 use Rattle.suite_prefix.specs.SettingsRules.{Opening}
 use Rattle.suite_prefix.specs.LockModes.{is_exclusive}
-use Rattle.suite_prefix.specs.declared.lock_mode.LockMode.TheVariants.{Shared}
 use Rattle.rep_core.specs.declared.request.Part.{Part}
 use Rattle.rep_core.specs.declared.request.Request.{Request}
 use Rattle.rep_core.specs.declared.request.Request.TheVariants as request
@@ -16,33 +14,30 @@ use Rattle.rep_core.specs.declared.stamped.Lack.TheVariants as lack
 use Rattle.rep_core.specs.State.{State}
 use Rattle.rep_core.specs.Service.{reply_of}
 use Rattle.rep_core.specs.Serving.{answer_of, is_full, served}
-use Rattle.suite_collect.specs.Telling.{holds}
 use Rattle.txn_core.specs.Writing.{parts_at}
-use Rattle.txn_core.specs.declared.word.Word.{Word}
 use Rattle.txn_core.specs.declared.word.Word.TheVariants.{Replied, Lacked}
 use Rattle.txn_core.specs.declared.job.Job.{Job}
 use Rattle.txn_core.specs.declared.job.Job.TheVariants.{Transaction, Sweep}
-use Rattle.txn_core.specs.Doing.{Fixed, Outcome, Preparing, Course, Doing, Running, Rounding}
+use Rattle.txn_core.specs.Doing.{Preparing, Doing, Running, Rounding}
 use Rattle.txn_core.specs.Transactions.{request_in, changes_of}
 use Rattle.txn_core.specs.Agents.{Agent, fixed_of, next_in, next_of, take, take_in, begin, started, forget, is_idle, has_sense, most_jobs}
 use Rattle.txn_core.proofs.Asks.{asks_same}
-use Rattle.txn_core.proofs.Locks.{told_at}
 use Rattle.run_core.specs.declared.event.Event as happening
 use Rattle.run_core.specs.declared.event.Event.TheVariants.{Begin, Step, Crash, Return, Forget, Lack}
 use Rattle.run_core.specs.Worlds as worlds
 use Rattle.run_core.specs.Worlds.{Actor, server_at, actor_at, answered, asks_at, asks, steps_once, lacks_for, lacks, operated, operates, becomes, step}
 use Rattle.suite_machine.specs.Registers.{Beginning}
 use Rattle.suite_machine.specs.Machine.{World, Told, Verdict, set2}
-use Rattle.suite_machine.specs.Events.{Event, Held, Upgrade, Overrule, GiveUp, happens, run, upgraded_told}
+use Rattle.suite_machine.specs.Events.{Event, Held, Upgrade, Overrule, happens, run, upgraded_told}
 use Rattle.suite_machine.proofs.Places.{at2}
 use Rattle.server_moves.specs.Moves.{prepare_of, first_verdict, moves}
 use Rattle.server_moves.specs.Laws.{beginning}
-use Rattle.run_machine.specs.Deciding.{decision_by, begun_events, own_events}
-use Rattle.run_machine.specs.Machines.{home_in, begin_events, answered_events, asked_at_events, asked_events, step_events, lacks_for_events, lack_events, operated_events, operator_events, events_of, moved}
+use Rattle.run_machine.specs.Deciding.{decision_by, own_events}
+use Rattle.run_machine.specs.Machines.{home_in, begin_events, answered_events, asked_at_events, asked_events, step_events, lacks_for_events, lack_events, operated_events, operator_events, moved}
 use Rattle.run_machine.proofs.Joining.{run-append}
 use Rattle.run_machine.proofs.Own.{own_told, begun_told}
 use Rattle.run_machine.proofs.Sending.{decision_told, asks_there}
-use Rattle.run_machine.proofs.Turned.{set_here, set_apart, same_or, only}
+use Rattle.run_machine.proofs.Turned.{set_here, set_apart, same_or}
 use Rattle.run_machine.proofs.Readying.{IsReadying, PreparesNow, ready_stays, prepared_now, ready_begin, readying_left, readying_later, take_readying}
 
 -- ---- copies are told of at servers that are there

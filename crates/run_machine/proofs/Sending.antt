@@ -1,6 +1,6 @@
 -- What a transaction asks a server, its machine of a suite lets it ask.
 use Rattle.std.proofs.Common.{◌≡◌, ◌⊎◌, inl, inr, ℕ, Bool, true, false, cond, List, [], ◌∷◌, Option, Some, None, is_some, Ok, Err, refl, sym, ap, subst, ◌∙◌, arith}
-use Rattle.std.specs.Prelude.{◌==◌, ◌&&◌, ◌||◌, ◌≢◌, map, filter, find, nat_le}
+use Rattle.std.specs.Prelude.{◌==◌, ◌||◌, ◌≢◌, filter, find, nat_le}
 use Rattle.std.specs.Ordering.{nat_cmp}
 use Rattle.std.proofs.lemmas.Bool.{false≢true, and_parts}
 use Rattle.std.proofs.lemmas.Bool.Decides.{nat_tests}
@@ -18,14 +18,14 @@ use Rattle.rep_core.specs.declared.request.Request.TheVariants as request
 use Rattle.rep_core.specs.Locks.{has_prepared}
 use Rattle.rep_core.specs.Store.{is_keep}
 use Rattle.rep_core.specs.Service.{verdict_of}
-use Rattle.rep_core.proofs.Members.{Has, has_map, has_filter}
+use Rattle.rep_core.proofs.Members.{has_map, has_filter}
 use Rattle.rep_core.proofs.Finding.{find_some}
 use Rattle.rep_core.proofs.IntentionLookups.{get_has}
 use Rattle.suite_collect.specs.Telling.{newest, holds}
 use Rattle.suite_collect.specs.Collecting.{Collector, needed, got, all_told, wanted, request_for, Asked, Poll, Upgrade, Next, Ask, Current, Short, next, is_left, counted, is_member, members_of, version, asked_of, ask_or_short}
 use Rattle.txn_core.specs.Suites.{First, Suite, Suites, suite_of, holds_lock, holds_exclusively}
 use Rattle.txn_core.specs.Writing.{change_of, new_copy, new_prefix, sets_prefix, has_vote, takes_whole, take_of_changed, take_from, part_of, parts_at}
-use Rattle.txn_core.specs.Doing.{Changes, Fixed, Task, home_of, Outcome, Phase, Gathering, Fetching, Widening, Preparing, Deciding, Finishing}
+use Rattle.txn_core.specs.Doing.{Fixed, Task, home_of, Outcome, Phase, Gathering, Fetching, Widening, Preparing, Deciding, Finishing}
 use Rattle.txn_core.specs.Transactions.{asked_by, asked_for, fetched_at, fetched_for, request_in, changes_of, decision_of}
 use Rattle.txn_core.proofs.Asks.{asks_same}
 use Rattle.txn_core.proofs.Locks.{told_in, told_at}
@@ -34,10 +34,9 @@ use Rattle.suite_machine.specs.Machine.{World, Told, Verdict, Answered, Refused,
 use Rattle.suite_machine.specs.Events.{Event, happens, decided}
 use Rattle.suite_machine.specs.Conditions.{May}
 use Rattle.server_moves.specs.Views.{ended_as}
-use Rattle.server_moves.specs.Preparing as preparing
-use Rattle.server_moves.specs.Preparing.{GoesBy, SendsFixed, Sends}
+use Rattle.server_moves.specs.Preparing.{GoesBy, Sends}
 use Rattle.server_moves.specs.Agents.{Decides, AgentSide}
-use Rattle.run_machine.specs.Deciding.{content_to, change_to, written_from, first_of, to_write, decides_with, decides_without, decides_first, decides_on, decision_with, decision_in}
+use Rattle.run_machine.specs.Deciding.{content_to, change_to, written_from, first_of, to_write, decides_first, decides_on, decision_with, decision_in}
 use Rattle.run_machine.proofs.Stages.{Going, Stage}
 
 -- ---- what a collector asks

@@ -1,5 +1,5 @@
 -- Where a transaction stands against the machine of a suite, and what it does by itself when it takes a word.
-use Rattle.std.proofs.Common.{◌≡◌, ◌⊎◌, inl, inr, ℕ, Bool, true, false, cond, List, [], ◌∷◌, ◌++◌, Option, Some, None, refl, sym, ap, subst, ◌∙◌}
+use Rattle.std.proofs.Common.{◌≡◌, ◌⊎◌, inl, inr, ℕ, Bool, true, false, cond, List, [], ◌∷◌, ◌++◌, Option, Some, None, refl, sym, ap, ◌∙◌}
 use Rattle.rep_core.specs.Fits.{is_prepared}
 use Rattle.rep_core.specs.declared.request.Request.{Request}
 use Rattle.rep_core.specs.declared.request.Request.TheVariants as request
@@ -16,15 +16,15 @@ use Rattle.txn_core.specs.declared.ending.Cause.{Cause}
 use Rattle.txn_core.specs.declared.ending.Cause.TheVariants.{Lost}
 use Rattle.txn_core.specs.declared.ending.Ending.{Ending}
 use Rattle.txn_core.specs.declared.ending.Ending.TheVariants.{Undecided}
-use Rattle.txn_core.specs.Doing.{Fixed, Task, home_of, Outcome, Phase, Gathering, Fetching, Widening, Preparing, Deciding, Finishing, Course, Doing, Running, After, GoesOn, Ends}
-use Rattle.txn_core.specs.Transactions.{execute, tell_end, give_up, prepare, locked_at, lack_cause, prepared, after_word, request_in, changes_of, decision_of, verdict_in, ending_by, cause_of_abort}
+use Rattle.txn_core.specs.Doing.{Fixed, Task, home_of, Outcome, Phase, Gathering, Fetching, Widening, Preparing, Deciding, Finishing, Course, Running, After, GoesOn, Ends}
+use Rattle.txn_core.specs.Transactions.{execute, tell_end, give_up, prepare, locked_at, lack_cause, prepared, after_word, request_in, changes_of, decision_of, ending_by, cause_of_abort}
 use Rattle.txn_core.specs.Agents.{Agent, Taken, left, end_of}
 use Rattle.txn_core.specs.Laws.{is_decide}
 use Rattle.txn_core.proofs.Asks.{asks_same, asked_as, fetched_as}
 use Rattle.txn_core.proofs.Walk.{IsEarly, goes_word, goes_execute}
 use Rattle.suite_machine.specs.Registers.{Beginning, Change}
-use Rattle.suite_machine.specs.Machine.{World, Verdict, Aborted, set1}
-use Rattle.suite_machine.specs.Events.{Event, Aim, GiveUp, run}
+use Rattle.suite_machine.specs.Machine.{World, Verdict, Aborted}
+use Rattle.suite_machine.specs.Events.{Event, run}
 use Rattle.suite_machine.specs.Conditions.{Obeys, MayFinish}
 use Rattle.server_moves.specs.Views.{ended_as}
 use Rattle.server_moves.proofs.Placing.{here1}

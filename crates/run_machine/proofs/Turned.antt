@@ -1,16 +1,14 @@
 -- Agents against the machine of a suite: after a turn, and once a job begins.
-use Rattle.std.proofs.Common.{◌≡◌, ◌⊎◌, inl, inr, ℕ, zero, suc, ◌+◌, ◌<◌, ◌≤◌, Bool, true, false, cond, List, [], ◌∷◌, ◌++◌, Option, Some, None, is_some, Ok, Err, refl, sym, ap, subst, ◌∙◌, arith}
+use Rattle.std.proofs.Common.{◌≡◌, inl, ℕ, zero, suc, ◌+◌, ◌<◌, ◌≤◌, Bool, true, false, cond, List, [], ◌∷◌, ◌++◌, Option, Some, None, is_some, Ok, Err, refl, sym, ap, subst, ◌∙◌, arith}
 use Rattle.std.specs.Prelude.{◌*◌, ◌==◌, ◌&&◌, ◌||◌, nat_lt, slice_get, slice_set}
 use Rattle.std.proofs.lemmas.Bool.{false≢true, and_parts}
 use Rattle.std.proofs.lemmas.Option.{same_Some, none-some}
 use Rattle.suite_prefix.specs.SettingsRules.{Opening}
-use Rattle.suite_prefix.specs.declared.lock_mode.LockMode.TheVariants.{Shared}
 use Rattle.rep_core.specs.declared.request.Request.{Request}
 use Rattle.rep_core.specs.declared.request.Request.TheVariants as request
 use Rattle.rep_core.specs.declared.reply.Reply.{Reply}
 use Rattle.rep_core.specs.declared.reply.Reply.TheVariants as reply
 use Rattle.rep_core.specs.declared.reply.Verdict as replied
-use Rattle.rep_core.specs.declared.stamped.Lack.TheVariants as lack
 use Rattle.rep_core.specs.declared.stamped.Stamped.{Stamped}
 use Rattle.rep_core.specs.declared.lock.Lock.{Lock}
 use Rattle.rep_core.specs.Locks.{has_prepared}
@@ -18,7 +16,6 @@ use Rattle.rep_core.specs.State.{State}
 use Rattle.rep_core.specs.Service.{reply_of}
 use Rattle.rep_core.specs.Serving.{answer_of, is_full, served}
 use Rattle.rep_core.specs.Serving as serving
-use Rattle.suite_collect.specs.Telling.{holds}
 use Rattle.acl_core.specs.Identity.{Identity}
 use Rattle.file_ops.specs.declared.operation.Op.{Op}
 use Rattle.txn_core.specs.Suites.{First, Suite, Suites, suite_of}
@@ -27,47 +24,39 @@ use Rattle.txn_core.specs.declared.word.Word.TheVariants.{Replied, Lacked}
 use Rattle.txn_core.specs.declared.job.Job.{Job}
 use Rattle.txn_core.specs.declared.job.Job.TheVariants.{Transaction, Sweep}
 use Rattle.txn_core.specs.Doing.{Fixed, Task, Outcome, Phase, Gathering, Fetching, Widening, Preparing, Deciding, Finishing, Course, Sweeping, Listing, Resolving, Telling, Breaking, Round, Doing, Running, Rounding, After, GoesOn, Ends, home_of}
-use Rattle.txn_core.specs.Transactions.{request_of, request_in, execute, decision_of}
+use Rattle.txn_core.specs.Transactions.{execute, decision_of}
 use Rattle.txn_core.specs.Sweeps.{asked_now}
-use Rattle.txn_core.specs.Agents.{Agent, Taken, fixed_of, next_in, next_of, take, take_in, begin, started, forget, is_idle, has_sense, most_jobs, left}
+use Rattle.txn_core.specs.Agents.{Agent, fixed_of, next_in, next_of, take, take_in, begin, started, is_idle, has_sense, most_jobs, left}
 use Rattle.txn_core.specs.Laws.{locks, says_held, is_decide}
-use Rattle.txn_core.proofs.Locks.{told_at, Keeps, nothing_held, begin_keeps}
-use Rattle.run_core.specs.declared.event.Event as happening
-use Rattle.run_core.specs.declared.event.Event.TheVariants.{Begin, Step, Crash, Return, Forget, Lack}
-use Rattle.run_core.specs.declared.done.Served.{Served}
+use Rattle.txn_core.proofs.Locks.{Keeps, nothing_held, begin_keeps}
 use Rattle.run_core.specs.Worlds as worlds
 use Rattle.run_core.specs.Worlds.{Actor, server_at, actor_at, with_server, with_actor}
 use Rattle.suite_machine.specs.Registers.{Beginning, Known, Change}
-use Rattle.suite_machine.specs.Machine.{World, Verdict, set1, begun}
-use Rattle.suite_machine.specs.Events.{Event, GiveUp, happens, run}
+use Rattle.suite_machine.specs.Machine.{World, Verdict, set1}
+use Rattle.suite_machine.specs.Events.{Event, GiveUp, run}
 use Rattle.suite_machine.specs.Conditions.{May, Obeys}
 use Rattle.suite_machine.proofs.Places.{one_is, one_not}
 use Rattle.suite_machine.proofs.Invariant.{Inv}
-use Rattle.suite_machine.proofs.Steps.{all_steps}
-use Rattle.suite_machine.proofs.Lasting.{run_stays}
 use Rattle.server_moves.specs.Views.{Shows, ended_as}
 use Rattle.server_moves.specs.Moves.{moves}
 use Rattle.server_moves.specs.Agents.{AgentSide}
 use Rattle.server_moves.specs.Laws as steps
 use Rattle.server_moves.specs.Laws.{beginning}
 use Rattle.server_moves.proofs.Replies.{replies_tell}
-use Rattle.run_laws.specs.Naming.{names, may_sweep}
+use Rattle.run_laws.specs.Naming.{may_sweep}
 use Rattle.run_laws.proofs.Asking.{asks_in_its_name, asks_to_sweep}
 use Rattle.run_laws.proofs.Asking as asking
 use Rattle.run_machine.specs.Deciding.{to_write, known_by, decides_with, decides_without, decides_first, decides_on, decision_by, decision_in, decision_with, aims, tells_aborted, begun_events, own_events}
 use Rattle.run_machine.specs.Machines.{servers_of, home_in}
-use Rattle.run_machine.specs.Owed.{Owed}
 use Rattle.run_machine.proofs.Own.{begun_told}
 use Rattle.run_machine.proofs.Servers.{server_there, servers_set}
 use Rattle.run_machine.proofs.Consistent.{AllConsistent, served_is}
-use Rattle.run_machine.proofs.Following.{serves}
-use Rattle.run_machine.proofs.Joining.{run-append, obeys-append}
 use Rattle.run_machine.proofs.Quiet.{Quiet, IsOf, AreOf, of-append, quiet_same, quiet_all}
-use Rattle.run_machine.proofs.Asked.{named_of, swept_of, rules, Steady, steady_served, told_served}
+use Rattle.run_machine.proofs.Asked.{named_of, swept_of, steady_served, told_served}
 use Rattle.run_machine.proofs.Stages.{Leaves, Stage, Does, own_by, begins_word}
-use Rattle.run_machine.proofs.Sending.{ToldAs, agent_side, upgrade_told, decision_told}
-use Rattle.run_machine.proofs.Linked.{Untouched, InCourse, InRound, IsDoing, Linked, AllLinked, linked_later, untouched_quiet, apart, later_apart}
-use Rattle.run_machine.proofs.Turns.{Turn, Concerns, turn, of_aims}
+use Rattle.run_machine.proofs.Sending.{agent_side, upgrade_told, decision_told}
+use Rattle.run_machine.proofs.Linked.{Untouched, InRound, IsDoing, Linked, AllLinked, linked_later, untouched_quiet, apart, later_apart}
+use Rattle.run_machine.proofs.Turns.{Turn, Concerns, of_aims}
 
 -- ---- what an agent asks is its side
 

@@ -1,31 +1,27 @@
 -- One turn of an agent: what its request and its word make of the machine and of what it is doing.
-use Rattle.std.proofs.Common.{◌≡◌, ◌⊎◌, inl, inr, ℕ, zero, suc, ◌+◌, ◌<◌, ◌≤◌, Bool, true, false, cond, List, [], ◌∷◌, ◌++◌, Option, Some, None, is_some, refl, sym, ap, subst, ◌∙◌, arith}
+use Rattle.std.proofs.Common.{◌≡◌, ℕ, ◌+◌, Bool, true, false, cond, List, [], ◌∷◌, ◌++◌, Option, Some, None, is_some, refl, sym, ap, subst, ◌∙◌}
 use Rattle.std.specs.Prelude.{◌*◌, ◌==◌, ◌&&◌, ◌||◌}
 use Rattle.std.specs.Ordering.{nat_cmp}
-use Rattle.std.proofs.lemmas.Bool.{false≢true}
 use Rattle.sorted_map.specs.SortedMap.{IsOrdered}
 use Rattle.suite_prefix.specs.declared.lock_mode.LockMode.TheVariants.{Shared}
 use Rattle.file_ops.specs.declared.service.Service.{Service}
 use Rattle.rep_core.specs.declared.lock.Lock.{Lock}
 use Rattle.rep_core.specs.declared.request.Request.{Request}
-use Rattle.rep_core.specs.declared.request.Request.TheVariants as request
 use Rattle.rep_core.specs.declared.reply.Reply.{Reply}
 use Rattle.rep_core.specs.declared.reply.Reply.TheVariants as reply
 use Rattle.rep_core.specs.declared.reply.Verdict as replied
-use Rattle.rep_core.specs.declared.reply.Verdict.TheVariants as verdict
 use Rattle.rep_core.specs.Locks.{has_prepared}
 use Rattle.suite_collect.specs.Telling.{holds}
-use Rattle.weak_cache.specs.Entries.{Cache}
 use Rattle.txn_core.specs.Suites.{Suites}
 use Rattle.txn_core.specs.declared.word.Word.{Word}
 use Rattle.txn_core.specs.declared.word.Word.TheVariants.{Replied, Lacked}
-use Rattle.txn_core.specs.Doing.{Fixed, Task, Outcome, Deciding, Course, Sweeping, Listing, Resolving, Telling, Breaking, Round, Doing, Running, Rounding, After, GoesOn, Ends, home_of}
+use Rattle.txn_core.specs.Doing.{Fixed, Outcome, Course, Sweeping, Listing, Resolving, Telling, Breaking, Round, Doing, Running, Rounding, After, GoesOn, Ends, home_of}
 use Rattle.txn_core.specs.Transactions as course
 use Rattle.txn_core.specs.Transactions.{request_of}
 use Rattle.txn_core.specs.Sweeps as sweep
 use Rattle.txn_core.specs.Sweeps.{asked_now, sweep_on, others}
 use Rattle.txn_core.specs.Agents.{Agent, Taken, Take, next_of, take_in, left, with_step, end_of}
-use Rattle.txn_core.specs.Laws.{locks, says_held, is_decide}
+use Rattle.txn_core.specs.Laws.{locks, says_held}
 use Rattle.txn_core.proofs.Locks.{told_at, Keeps, plus_all, all_keep}
 use Rattle.txn_core.specs.Laws.{exchange_of}
 use Rattle.suite_machine.specs.Registers.{Beginning, Change}
@@ -36,8 +32,7 @@ use Rattle.server_moves.specs.Views.{ended_as}
 use Rattle.run_machine.specs.Deciding.{to_write, aim_of, aims_once, aims, gives_up, is_at_an_end, fixed_in, is_finishing, own_events}
 use Rattle.run_machine.proofs.Quiet.{Quiet, AreOf, of-append, quiet_all, quiet_on}
 use Rattle.run_machine.proofs.Own.{own_told}
-use Rattle.run_machine.proofs.Stages.{Leaves, Stage, StageLeft, Does, does_word}
-use Rattle.run_machine.proofs.Sending.{ToldAs}
+use Rattle.run_machine.proofs.Stages.{Leaves, Stage, StageLeft, does_word}
 use Rattle.run_machine.proofs.Linked.{InCourse, InRound, IsDoing}
 
 -- ---- an agent's own events are of its transaction

@@ -1,5 +1,5 @@
 -- In every run a transaction prepares at a server once: event by event.
-use Rattle.std.proofs.Common.{◌≡◌, ◌⊎◌, inl, inr, ℕ, zero, suc, ◌+◌, ◌<◌, ◌≤◌, Bool, true, false, cond, List, [], ◌∷◌, Option, Some, None, refl, sym, ap, subst, ◌∙◌, arith}
+use Rattle.std.proofs.Common.{◌≡◌, inl, ℕ, ◌+◌, ◌<◌, ◌≤◌, Bool, true, false, cond, List, ◌∷◌, Option, Some, None, refl, sym, ap, subst, ◌∙◌}
 use Rattle.std.specs.Prelude.{◌*◌, slice_get, slice_set}
 use Rattle.std.proofs.lemmas.Option.{same_Some}
 use Rattle.suite_prefix.specs.SettingsRules.{Opening}
@@ -8,7 +8,6 @@ use Rattle.rep_core.specs.declared.request.Request.TheVariants as request
 use Rattle.rep_core.specs.declared.stamped.Lack.TheVariants as lack
 use Rattle.rep_core.specs.declared.stamped.Stamped.{Stamped}
 use Rattle.rep_core.specs.Locks.{has_prepared}
-use Rattle.rep_core.specs.State as state
 use Rattle.rep_core.specs.State.{State}
 use Rattle.rep_core.specs.Steps.{is_prepare}
 use Rattle.rep_core.specs.Service.{reply_of}
@@ -16,7 +15,7 @@ use Rattle.rep_core.specs.Serving.{answer_of, is_full, served}
 use Rattle.txn_core.specs.declared.word.Word.{Word}
 use Rattle.txn_core.specs.declared.word.Word.TheVariants.{Replied, Lacked}
 use Rattle.txn_core.specs.declared.job.Job.{Job}
-use Rattle.txn_core.specs.Doing.{Fixed, Outcome, Phase, Preparing, Course, Doing, Running, Rounding}
+use Rattle.txn_core.specs.Doing.{Fixed, Outcome, Preparing, Course, Doing, Running, Rounding}
 use Rattle.txn_core.specs.Sweeps.{asked_now}
 use Rattle.txn_core.specs.Agents.{Agent, fixed_of, next_in, next_of, take, take_in, begin, forget}
 use Rattle.run_core.specs.declared.event.Event as happening
@@ -27,9 +26,8 @@ use Rattle.suite_machine.specs.Machine.{World}
 use Rattle.run_laws.specs.Naming.{may_sweep}
 use Rattle.run_laws.proofs.Asking.{asks_in_its_name, asks_to_sweep}
 use Rattle.run_machine.specs.Machines.{servers_of}
-use Rattle.run_machine.proofs.Servers.{servers_open}
 use Rattle.run_machine.proofs.Linked.{AllLinked, apart, later_apart, numbered_at}
-use Rattle.run_machine.proofs.Turned.{set_here, set_apart, same_or, only, take_same, numbered_of}
+use Rattle.run_machine.proofs.Turned.{set_here, set_apart, same_or, take_same, numbered_of}
 use Rattle.run_machine.proofs.Waiting.{Keeps, keeps_same, keeps_served, Waits, waits_on, IsWaiting, Waiting, take_waiting, begin_waiting, named_prepare, swept_prepare}
 
 abbrev pub AllWaiting : Opening → worlds.World → Type 0

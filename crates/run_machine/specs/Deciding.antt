@@ -2,13 +2,12 @@
 use Rattle.std.specs.Prelude.{ℕ, ◌+◌, nat_le, Bool, true, false, ◌&&◌, ◌||◌, if◌then◌else◌, List, [], ◌∷◌, ◌++◌, Option, Some, None, Ok, Err}
 use Rattle.suite_content.specs.declared.content.Content.{Content}
 use Rattle.file_exec.specs.declared.changes.Change as executor
-use Rattle.rep_core.specs.declared.reply.Verdict.{Verdict}
 use Rattle.rep_core.specs.declared.reply.Verdict.TheVariants as verdict
 use Rattle.txn_core.specs.declared.ending.Ending.{Ending}
 use Rattle.txn_core.specs.declared.ending.Ending.TheVariants as ending
 use Rattle.txn_core.specs.Suites.{First, Suite, Suites, suite_of}
 use Rattle.txn_core.specs.Writing.{change_of, new_prefix, one_if}
-use Rattle.txn_core.specs.Doing.{Task, Outcome, Phase, Gathering, Fetching, Widening, Preparing, Deciding, Finishing, Course, Doing, Running, Rounding}
+use Rattle.txn_core.specs.Doing.{Task, Outcome, Phase, Preparing, Deciding, Finishing, Doing, Running}
 use Rattle.txn_core.specs.Transactions.{changes_of}
 use Rattle.txn_core.specs.Agents.{Taken}
 use Rattle.suite_machine.specs.Registers.{Known, Change}

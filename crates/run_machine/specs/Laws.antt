@@ -10,9 +10,8 @@ use Rattle.txn_core.specs.Agents.{Agent, fixed_of, begin, is_idle, after_all}
 use Rattle.run_core.specs.Worlds.{Actor, actor_at}
 use Rattle.run_core.specs.declared.event.Event.{Event}
 use Rattle.run_core.specs.Runs as runs
-use Rattle.suite_machine.specs.Registers.{Beginning, IsBeginning}
-use Rattle.suite_machine.specs.Machine.{World, begun}
-use Rattle.suite_machine.specs.Events as machine
+use Rattle.suite_machine.specs.Registers.{IsBeginning}
+use Rattle.suite_machine.specs.Machine.{begun}
 use Rattle.suite_machine.specs.Events.{run}
 use Rattle.suite_machine.specs.Conditions.{Obeys}
 use Rattle.server_moves.specs.Views.{Shows}

@@ -15,4 +15,3 @@ pub use number::{push_number, read_number};
 pub use parts::Parts;
 pub use phrases::Phrases;
 pub use words::Words;
-

@@ -1,5 +1,5 @@
 -- Requests for locks move the machine, and what lets locks go.
-use Rattle.std.proofs.Common.{◌≡◌, ℕ, Bool, true, false, cond, ◌⊎◌, [], ◌∷◌, Option, Some, None, refl, sym, ap, subst, ◌∙◌, inl, inr}
+use Rattle.std.proofs.Common.{◌≡◌, ℕ, Bool, true, false, cond, [], ◌∷◌, Option, Some, None, refl, sym, ap, subst, ◌∙◌, inl, inr}
 use Rattle.std.specs.Prelude.{◌==◌, ◌&&◌, ◌||◌, not}
 use Rattle.suite_prefix.specs.declared.lock_mode.LockMode.{LockMode}
 use Rattle.suite_prefix.specs.declared.lock_mode.LockMode.TheVariants.{Exclusive}
@@ -12,11 +12,11 @@ use Rattle.rep_core.specs.declared.reply.Reply.TheVariants as reply
 use Rattle.rep_core.specs.Locks.{rise, lock_at, in_the_way, has_lock, broken}
 use Rattle.rep_core.specs.Store.{copy_of}
 use Rattle.rep_core.specs.State.{State}
-use Rattle.rep_core.specs.Service.{held, locking_reply, after_locking, poll_reply, after_poll, after_crash}
+use Rattle.rep_core.specs.Service.{locking_reply, after_locking, poll_reply, after_poll, after_crash}
 use Rattle.rep_core.proofs.LockLookups.{lock_there, way_free}
 use Rattle.rep_core.proofs.Ways.{with_locked}
 use Rattle.suite_machine.specs.Registers.{Beginning}
-use Rattle.suite_machine.specs.Machine.{Hold, World, set1}
+use Rattle.suite_machine.specs.Machine.{World, set1}
 use Rattle.suite_machine.specs.Events.{Event, Held, Upgrade, Lose, upgraded, upgraded_hold, lost, kept}
 use Rattle.suite_machine.specs.Events as events
 use Rattle.suite_machine.specs.Conditions.{IsFree, MayLose}

@@ -1,23 +1,19 @@
 -- What a reply tells is what the machine has.
-use Rattle.std.proofs.Common.{◌≡◌, ℕ, Bool, true, false, cond, Option, Some, None, refl, sym, ap, subst, ◌∙◌}
-use Rattle.std.specs.Prelude.{◌==◌}
+use Rattle.std.proofs.Common.{◌≡◌, ℕ, false, cond, Some, refl, ap, ◌∙◌}
 use Rattle.suite_content.specs.declared.content.Content.{Content}
 use Rattle.suite_prefix.specs.declared.copies.Prefix.{Prefix}
 use Rattle.suite_prefix.specs.declared.copies.Replica.{Replica}
 use Rattle.suite_prefix.specs.declared.lock_mode.LockMode.{LockMode}
 use Rattle.suite_prefix.specs.LockModes.{is_exclusive}
-use Rattle.rep_core.specs.declared.lock.Lock.{Lock}
-use Rattle.rep_core.specs.declared.request.Decision.{Decision}
 use Rattle.rep_core.specs.declared.request.Request.{Request}
 use Rattle.rep_core.specs.declared.request.Request.TheVariants as request
 use Rattle.rep_core.specs.declared.reply.Reply.{Reply}
 use Rattle.rep_core.specs.declared.reply.Reply.TheVariants as reply
 use Rattle.rep_core.specs.declared.reply.Verdict as replied
 use Rattle.rep_core.specs.declared.stamped.Stamped.{Stamped}
-use Rattle.rep_core.specs.Store.{copy_of}
 use Rattle.rep_core.specs.State.{State, record_of}
 use Rattle.rep_core.specs.Service.{reply_of, after}
-use Rattle.rep_core.specs.Serving.{is_full, next_stamp, served, step}
+use Rattle.rep_core.specs.Serving.{is_full, served, step}
 use Rattle.rep_core.proofs.Records.{decide_ruled, resolve_ruled}
 use Rattle.rep_core.proofs.LockLookups.{lock_there}
 use Rattle.rep_core.proofs.Told.{LockTold, poll_told, upgrade_told, ContentTold, fetch_told}

@@ -1,5 +1,5 @@
 -- What a request and its reply are to the machine of one suite.
-use Rattle.std.specs.Prelude.{ℕ, ◌==◌, Bool, true, false, ◌&&◌, ◌||◌, not, if◌then◌else◌, List, [], ◌∷◌, Option, Some, None}
+use Rattle.std.specs.Prelude.{ℕ, ◌==◌, Bool, false, ◌&&◌, ◌||◌, not, if◌then◌else◌, List, [], ◌∷◌, Option, Some, None}
 use Rattle.suite_prefix.specs.LockModes.{is_exclusive}
 use Rattle.rep_core.specs.declared.request.Part.{Part}
 use Rattle.rep_core.specs.declared.request.Request.{Request}

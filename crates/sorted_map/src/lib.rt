@@ -17,4 +17,3 @@ mod roomy;
 
 pub use map::SortedMap;
 pub use roomy::RoomyMap;
-

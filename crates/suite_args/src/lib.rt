@@ -29,4 +29,3 @@ pub fn read_words<'a>(alloc: Global, words: &'a [&'a str]) -> Result<Request<'a>
         Err(error) => answer::answer_to(alloc, &error),
     }
 }
-

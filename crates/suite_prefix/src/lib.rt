@@ -28,4 +28,3 @@ pub use settings::{LARGEST_CACHE, MAX_AGENTS, MOST_SLOTS, Settings, SettingsFaul
 pub use suite_content::Content;
 pub use validity::tests_are_exact;
 pub use writing::{encode, no_bytes_begin_others};
-

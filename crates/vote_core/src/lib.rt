@@ -21,4 +21,3 @@ pub use votes::Votes;
 
 /// The most servers that there are: they are numbered from 0.
 pub const MAX_SERVERS: usize = 16;
-

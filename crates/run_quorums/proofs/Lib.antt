@@ -1,0 +1,6 @@
+pub mod Served
+pub mod Heard
+pub mod Known
+pub mod Written
+pub mod Agreed
+pub mod Events

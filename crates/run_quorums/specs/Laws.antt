@@ -1,0 +1,33 @@
+-- The laws of this crate: what an agent owes where it decides, from what its collector was told and what it prepared.
+use Rattle.std.specs.Prelude.{◌≡◌, ℕ, IsTrue, Some}
+use Rattle.vote_core.specs.Validity.{IsValid}
+use Rattle.suite_content.specs.declared.content.Content.{Content}
+use Rattle.file_exec.specs.declared.changes.Change as executor
+use Rattle.suite_collect.specs.Collecting.{all_told}
+use Rattle.txn_core.specs.Suites.{First, Suite}
+use Rattle.txn_core.specs.Writing.{change_of, part_of}
+use Rattle.txn_core.specs.Doing.{Changes}
+use Rattle.txn_core.specs.Laws.{newest_of, IsReady}
+use Rattle.suite_machine.specs.Registers.{Beginning, WasPrefix, GoesWith}
+use Rattle.suite_machine.specs.Machine.{World}
+use Rattle.suite_machine.specs.Conditions.{holds_exclusively}
+use Rattle.run_machine.specs.Deciding.{known_by, change_to}
+use Rattle.run_machine.specs.Owed.{OwesKnown, OwesWritten}
+use Rattle.run_quorums.specs.Telling.{Agrees, told_to}
+use Rattle.run_quorums.specs.Firsts.{FirstFrom}
+use Rattle.run_quorums.specs.Fairness.{IsFair, PreparedPart}
+
+-- What a transaction knows of a suite it knows from a quorum, and some server told it of the version: where its collector holds what the machine told it, and
+-- its first Current came from that list. That the prefix and the content were the suite's is presumed here.
+abbrev pub KnowsFromAQuorum : Type 0
+KnowsFromAQuorum =
+    (start : Beginning) (w : World) (t : ℕ) (suite : Suite) (first : First) → IsValid first.prefix.votes → FirstFrom suite first → Agrees (told_to w t) (all_told suite.collector)
+    → WasPrefix start w.log first.prefix → ((content : Content) → suite.content ≡ Some content → GoesWith start w.log first.prefix first.dver content) → OwesKnown start w t (known_by first suite)
+
+-- What it writes it writes to quorums: under the newest prefix that it was told of, and under the new votes where it sets them; and each server that it holds
+-- exclusively is to have what changes. Of the operations it presumes that what they do not set stays as it was known.
+abbrev pub WritesToQuorums : Type 0
+WritesToQuorums =
+    (start : Beginning) (w : World) (t z : ℕ) (suite : Suite) (changes : Changes) (change : executor.Change) (first : First) → Agrees (told_to w t) (all_told suite.collector)
+    → suite.first ≡ Some first → change_of changes z ≡ Some change → IsFair suite first change → ((i : ℕ) → IsTrue (holds_exclusively w t i) → PreparedPart w t i (part_of changes i (z, suite)))
+    → OwesKnown start w t (known_by first suite) → IsReady suite z changes → WasPrefix start w.log (newest_of suite) → OwesWritten start w t (known_by first suite) (change_to first change)

@@ -1,0 +1,4 @@
+pub mod Telling
+pub mod Firsts
+pub mod Fairness
+pub mod Laws
