@@ -152,7 +152,7 @@ module _ (given : Opening) (world : World) (all : AllKnow (fixed_of given) (agen
       let same : one ≡ decided_with course.task does.outcome =
       carried st course.task does.outcome one (subst (λ (value : Request). decides_at st course.task value (reply_of st value) ≡ Some one) does.decide is) in
       let knows : Knows (fixed_of given) (Some (Running course)) = subst (Knows (fixed_of given)) running (all number actor.agent (ap agent_of there)) in
-      let came : Came (fixed_of given) course.task course.suites (answer_as does.outcome) = subst (Keeps (fixed_of given) course.task course.suites) does.deciding knows in
+      let came : Came (fixed_of given) course.task course.suites does.outcome = subst (Keeps (fixed_of given) course.task course.suites) does.deciding knows in
       subst (IsAnsweredAsKnown given world (Step number)) (sym same) (record {
         number = number;
         step = refl;

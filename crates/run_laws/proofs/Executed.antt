@@ -1,6 +1,7 @@
 -- What a transaction is to be decided with is what the executor came to on what is known.
-use Rattle.std.proofs.Common.{◌≡◌, ℕ, zero, suc, true, false, cond, List, [], ◌∷◌, Option, Some, None, refl, sym, ap, subst}
-use Rattle.std.specs.Prelude.{length, Result, Ok, Err}
+use Rattle.std.proofs.Common.{◌≡◌, ℕ, zero, suc, true, false, cond, List, [], ◌∷◌, Option, Some, None, refl, sym, ap, subst, ◌∙◌}
+use Rattle.std.specs.Prelude.{length, is_some, Result, Ok, Err}
+use Rattle.std.proofs.lemmas.Bool.{false≢true}
 use Rattle.suite_content.specs.declared.content.Content.{Content}
 use Rattle.suite_prefix.specs.declared.copies.Prefix.{Prefix}
 use Rattle.suite_prefix.specs.declared.lock_mode.LockMode.{LockMode}
@@ -8,6 +9,7 @@ use Rattle.suite_prefix.specs.declared.lock_mode.LockMode.TheVariants.{Shared, E
 use Rattle.suite_prefix.specs.LockModes.{serves}
 use Rattle.file_ops.specs.declared.answer.Answer.{Answer}
 use Rattle.file_ops.specs.declared.refusal.Refusal.{Refusal}
+use Rattle.file_ops.specs.Rows.{Row}
 use Rattle.rep_core.specs.declared.request.Request.{Request}
 use Rattle.rep_core.specs.declared.reply.Reply.{Reply}
 use Rattle.rep_core.specs.declared.reply.Verdict.{Verdict}
@@ -18,8 +20,10 @@ use Rattle.file_exec.specs.declared.executor.Outcome.{Outcome as Executed}
 use Rattle.file_exec.specs.declared.executor.Outcome.TheVariants as exec
 use Rattle.file_exec.specs.Changes as changes
 use Rattle.file_exec.specs.Following.{Ended}
-use Rattle.file_exec.specs.Known.{Heard, Needs, Done, exec_of}
-use Rattle.file_exec.specs.Laws.{MoreKnown}
+use Rattle.file_exec.specs.declared.known.KnownSuite.{KnownSuite}
+use Rattle.file_exec.specs.Known as known
+use Rattle.file_exec.specs.Known.{Known, IsSoAt, AgreesWith, Heard, Needs, Done, exec_of}
+use Rattle.file_exec.specs.Laws.{IsMoreAt, MoreKnown}
 use Rattle.file_exec.proofs.More.{more_known_changes_nothing}
 use Rattle.suite_collect.specs.declared.told.Told.{Told}
 use Rattle.suite_collect.specs.declared.told.Said.{Said}
@@ -33,7 +37,7 @@ use Rattle.txn_core.specs.declared.ending.Cause.TheVariants.{Lost}
 use Rattle.txn_core.specs.declared.ending.Ending.{Ending}
 use Rattle.txn_core.specs.declared.ending.Ending.TheVariants.{Undecided}
 use Rattle.txn_core.specs.Doing.{Changes, Granted, Fixed, Task, Outcome, Phase, Gathering, Fetching, Widening, Preparing, Deciding, Finishing, Course, After, GoesOn, Ends}
-use Rattle.txn_core.specs.Transactions.{Step, Gathered, tell_end, give_up, prepare, locked_at, short_cause, gather_by, widen_by, widen_one, widened, widen_all, to_widen, opened, or_all, open_needed, open_suite, open_first, opened_with, free_content, heard_on, raised_or_new, keep_content, heard_of, said_to, proceed, execute, collected, hear, fetched, prepared, after_word, given_in, lack_cause, verdict_in, ending_by, cause_of_abort}
+use Rattle.txn_core.specs.Transactions.{Step, changes_of, Gathered, tell_end, give_up, prepare, locked_at, short_cause, gather_by, widen_by, widen_one, widened, widen_all, to_widen, opened, or_all, open_needed, open_suite, open_first, opened_with, free_content, heard_on, raised_or_new, keep_content, heard_of, said_to, proceed, execute, collected, hear, fetched, prepared, after_word, given_in, lack_cause, verdict_in, ending_by, cause_of_abort}
 use Rattle.run_laws.proofs.Standing.{Answer'}
 use Rattle.run_laws.proofs.Knowing.{AreFit, with_fit, more_known, serves_itself}
 
@@ -43,17 +47,60 @@ abbrev pub given_by : Result (Ended (List Answer)) Refusal → Answer'
 given_by (Ok ended) = Ok ended.given
 given_by (Err refusal) = Err refusal
 
--- on what is known of these suites the executor is done, with this answer
-pub record Came (fixed : Fixed) (task : Task) (suites : Suites) (answer : Answer') : Type 0 where
+-- what a result sets, by what was known
+abbrev pub set_by : Known → Result (Ended (List Answer)) Refusal → Changes
+set_by known (Ok ended) = changes.changes_of known ended.edits
+set_by known (Err refusal) = []
+
+abbrev pub answer_as : Outcome → Answer'
+answer_as (Ok granted) = Ok granted.answers
+answer_as (Err refusal) = Err refusal
+
+-- what was known before is known still, and agrees with each table with which what is known now agrees
+pub record IsStill (before now : Known) : Type 0 where
+  pub agrees : (rows : ℕ → Option Row) → AgreesWith now rows → AgreesWith before rows
+  pub knows : (suite : ℕ) → is_some (known.known_of before suite) ≡ true → is_some (known.known_of now suite) ≡ true
+
+pub still_itself : (known : Known) → IsStill known known
+still_itself known = record { agrees = λ rows agrees. agrees; knows = λ suite is. is }
+
+agrees_at : (less more : Option KnownSuite) (row : Option Row) → IsMoreAt less more → IsSoAt more row → IsSoAt less row
+agrees_at None more row goes so = tt
+agrees_at (Some less) None row goes so = absurd (false≢true (sym goes))
+agrees_at (Some less) (Some more) row goes so = record { head = goes.head ∙ so.head; content = λ opened. goes.content opened ∙ so.content (goes.opened opened) }
+
+knows_at : (less more : Option KnownSuite) → IsMoreAt less more → is_some less ≡ true → is_some more ≡ true
+knows_at None more goes is = absurd (false≢true is)
+knows_at (Some less) None goes is = absurd (false≢true (sym goes))
+knows_at (Some less) (Some more) goes is = refl
+
+still_more : (before less more : Known) → MoreKnown less more → IsStill before less → IsStill before more
+still_more before less more goes still = record {
+  agrees = λ rows agrees. still.agrees rows (λ suite. agrees_at (known.known_of less suite) (known.known_of more suite) (rows suite) (goes suite) (agrees suite));
+  knows = λ suite is. knows_at (known.known_of less suite) (known.known_of more suite) (goes suite) (still.knows suite is);
+}
+
+-- On what is known of these suites the executor is done, with this outcome; what it sets it said when it was done first, on what was known then.
+pub record Came (fixed : Fixed) (task : Task) (suites : Suites) (outcome : Outcome) : Type 0 where
+  pub fit : AreFit suites
   pub result : Result (Ended (List Answer)) Refusal
   pub is : exec_of fixed.service (known_of suites) task.t task.caller task.ops ≡ Done result
-  pub answered : answer ≡ given_by result
+  pub answered : answer_as outcome ≡ given_by result
+  pub before : Known
+  pub still : IsStill before (known_of suites)
+  pub was : exec_of fixed.service before task.t task.caller task.ops ≡ Done result
+  pub set : changes_of outcome ≡ set_by before result
 
-came_more : (fixed : Fixed) (task : Task) (less more : Suites) (answer : Answer') → MoreKnown (known_of less) (known_of more) → Came fixed task less answer → Came fixed task more answer
-came_more fixed task less more answer goes came = record {
+came_more : (fixed : Fixed) (task : Task) (less more : Suites) (outcome : Outcome) → MoreKnown (known_of less) (known_of more) → AreFit more → Came fixed task less outcome → Came fixed task more outcome
+came_more fixed task less more outcome goes fit came = record {
+  fit = fit;
   result = came.result;
   is = more_known_changes_nothing fixed.service (known_of less) (known_of more) task.t task.caller task.ops came.result goes came.is;
   answered = came.answered;
+  before = came.before;
+  still = still_more came.before (known_of less) (known_of more) goes came.still;
+  was = came.was;
+  set = came.set;
 }
 
 answers_in : List Answer → Executed → List Answer
@@ -61,41 +108,60 @@ answers_in before (exec.Done answers changes) = answers
 answers_in before (exec.Need need) = before
 answers_in before (exec.Refused refusal) = before
 
+set_in : Changes → Executed → Changes
+set_in before (exec.Done answers changes) = changes
+set_in before (exec.Need need) = before
+set_in before (exec.Refused refusal) = before
+
 refusal_in : Refusal → Executed → Refusal
 refusal_in before (exec.Refused refusal) = refusal
 refusal_in before (exec.Done answers changes) = before
 refusal_in before (exec.Need need) = before
 
-came_done : (fixed : Fixed) (task : Task) (suites : Suites) (answers : List Answer) (set : Changes) → heard_on fixed task suites ≡ exec.Done answers set → Came fixed task suites (Ok answers)
-unfolding answers_in
-came_done fixed task suites answers set = of (exec_of fixed.service (known_of suites) task.t task.caller task.ops) refl
+came_done : (fixed : Fixed) (task : Task) (suites : Suites) (answers : List Answer) (set : Changes) → AreFit suites → heard_on fixed task suites ≡ exec.Done answers set → Came fixed task suites (Ok (record { answers = answers; changes = set }))
+unfolding answers_in set_in
+came_done fixed task suites answers set fit = of (exec_of fixed.service (known_of suites) task.t task.caller task.ops) refl
   where
-    of : (heard : Heard (List Answer) Refusal) → exec_of fixed.service (known_of suites) task.t task.caller task.ops ≡ heard → changes.answered (known_of suites) heard ≡ exec.Done answers set → Came fixed task suites (Ok answers)
+    of : (heard : Heard (List Answer) Refusal) → exec_of fixed.service (known_of suites) task.t task.caller task.ops ≡ heard → changes.answered (known_of suites) heard ≡ exec.Done answers set → Came fixed task suites (Ok (record { answers = answers; changes = set }))
     of (Needs need) is told = cc
-    of (Done (Ok ended)) is told = record { result = Ok ended; is = is; answered = ap Ok (sym (ap (answers_in answers) told)) }
+    of (Done (Ok ended)) is told = record {
+      fit = fit;
+      result = Ok ended;
+      is = is;
+      answered = ap Ok (sym (ap (answers_in answers) told));
+      before = known_of suites;
+      still = still_itself (known_of suites);
+      was = is;
+      set = sym (ap (set_in set) told);
+    }
     of (Done (Err refusal)) is told = cc
 
-came_refused : (fixed : Fixed) (task : Task) (suites : Suites) (why : Refusal) → heard_on fixed task suites ≡ exec.Refused why → Came fixed task suites (Err why)
+came_refused : (fixed : Fixed) (task : Task) (suites : Suites) (why : Refusal) → AreFit suites → heard_on fixed task suites ≡ exec.Refused why → Came fixed task suites (Err why)
 unfolding refusal_in
-came_refused fixed task suites why = of (exec_of fixed.service (known_of suites) task.t task.caller task.ops) refl
+came_refused fixed task suites why fit = of (exec_of fixed.service (known_of suites) task.t task.caller task.ops) refl
   where
     of : (heard : Heard (List Answer) Refusal) → exec_of fixed.service (known_of suites) task.t task.caller task.ops ≡ heard → changes.answered (known_of suites) heard ≡ exec.Refused why → Came fixed task suites (Err why)
     of (Needs need) is told = cc
     of (Done (Ok ended)) is told = cc
-    of (Done (Err refusal)) is told = record { result = Err refusal; is = is; answered = ap Err (sym (ap (refusal_in why) told)) }
+    of (Done (Err refusal)) is told = record {
+      fit = fit;
+      result = Err refusal;
+      is = is;
+      answered = ap Err (sym (ap (refusal_in why) told));
+      before = known_of suites;
+      still = still_itself (known_of suites);
+      was = is;
+      set = refl;
+    }
 
 -- ---- what a phase keeps
-
-abbrev pub answer_as : Outcome → Answer'
-answer_as (Ok granted) = Ok granted.answers
-answer_as (Err refusal) = Err refusal
 
 abbrev pub Keeps : Fixed → Task → Suites → Phase → Type 0
 Keeps fixed task suites (Gathering number) = AreFit suites
 Keeps fixed task suites (Fetching number) = AreFit suites
-Keeps fixed task suites (Widening left granted) = AreFit suites × Came fixed task suites (Ok granted.answers)
-Keeps fixed task suites (Preparing left outcome) = Came fixed task suites (answer_as outcome)
-Keeps fixed task suites (Deciding outcome) = Came fixed task suites (answer_as outcome)
+Keeps fixed task suites (Widening left granted) = AreFit suites × Came fixed task suites (Ok granted)
+Keeps fixed task suites (Preparing left outcome) = Came fixed task suites outcome
+Keeps fixed task suites (Deciding outcome) = Came fixed task suites outcome
 Keeps fixed task suites (Finishing servers v ending) = Unit {0}
 
 abbrev pub Left : Fixed → After Course → Type 0
@@ -109,29 +175,29 @@ left_end fixed task cache suites v ending (server ∷ servers) = tt
 left_give_up : (fixed : Fixed) (task : Task) (cache : Cache) (suites : Suites) (cause : Cause) → Left fixed (give_up task cache suites cause).after
 left_give_up fixed task cache suites cause = left_end fixed task cache suites verdict.Aborted (Undecided cause) (locked_at suites)
 
-left_prepare : (fixed : Fixed) (task : Task) (cache : Cache) (suites : Suites) (outcome : Outcome) (servers : List ℕ) → Came fixed task suites (answer_as outcome) → Left fixed (prepare task cache suites outcome servers).after
+left_prepare : (fixed : Fixed) (task : Task) (cache : Cache) (suites : Suites) (outcome : Outcome) (servers : List ℕ) → Came fixed task suites outcome → Left fixed (prepare task cache suites outcome servers).after
 left_prepare fixed task cache suites outcome [] came = came
 left_prepare fixed task cache suites outcome (server ∷ servers) came = came
 
 -- ---- widening
 
-left_widen_by : (fixed : Fixed) (task : Task) (cache : Cache) (suites : Suites) (left : List ℕ) (granted : Granted) (number : ℕ) (next : Next) (go_on : Suites → Step) → AreFit suites → Came fixed task suites (Ok granted.answers)
-    → ((suites : Suites) → AreFit suites → Came fixed task suites (Ok granted.answers) → Left fixed (go_on suites).after) → Left fixed (widen_by task cache suites (Widening left granted) number next go_on).after
+left_widen_by : (fixed : Fixed) (task : Task) (cache : Cache) (suites : Suites) (left : List ℕ) (granted : Granted) (number : ℕ) (next : Next) (go_on : Suites → Step) → AreFit suites → Came fixed task suites (Ok granted)
+    → ((suites : Suites) → AreFit suites → Came fixed task suites (Ok granted) → Left fixed (go_on suites).after) → Left fixed (widen_by task cache suites (Widening left granted) number next go_on).after
 left_widen_by fixed task cache suites left granted number (Current prefix dver members) go_on fit came more = more suites fit came
 left_widen_by fixed task cache suites left granted number (Ask server asked) go_on fit came more = (fit, came)
 left_widen_by fixed task cache suites left granted number (Short got needed busy) go_on fit came more = left_give_up fixed task cache suites (short_cause number got needed busy)
 
-left_widen_one : (fixed : Fixed) (task : Task) (cache : Cache) (suites : Suites) (left : List ℕ) (granted : Granted) (number : ℕ) (found : Option Suite) → suite_of suites number ≡ found → (go_on : Suites → Step) → AreFit suites → Came fixed task suites (Ok granted.answers)
-    → ((suites : Suites) → AreFit suites → Came fixed task suites (Ok granted.answers) → Left fixed (go_on suites).after) → Left fixed (widen_one task cache suites (Widening left granted) granted.changes number found go_on).after
+left_widen_one : (fixed : Fixed) (task : Task) (cache : Cache) (suites : Suites) (left : List ℕ) (granted : Granted) (number : ℕ) (found : Option Suite) → suite_of suites number ≡ found → (go_on : Suites → Step) → AreFit suites → Came fixed task suites (Ok granted)
+    → ((suites : Suites) → AreFit suites → Came fixed task suites (Ok granted) → Left fixed (go_on suites).after) → Left fixed (widen_one task cache suites (Widening left granted) granted.changes number found go_on).after
 left_widen_one fixed task cache suites left granted number (Some suite) there go_on fit came more =
     let wider = widened granted.changes number suite in
     left_widen_by fixed task cache (with_suite number wider suites) left granted number (next wider.collector) go_on
     (with_fit suites number wider fit (fit.modes number suite there))
-    (came_more fixed task suites (with_suite number wider suites) (Ok granted.answers) (more_known suites number suite wider fit.ordered there (record { first = λ first was. was; content = refl; mode = serves_itself suite.mode })) came)
+    (came_more fixed task suites (with_suite number wider suites) (Ok granted) (more_known suites number suite wider fit.ordered there (record { first = λ first was. was; content = refl; mode = serves_itself suite.mode })) (with_fit suites number wider fit (fit.modes number suite there)) came)
     more
 left_widen_one fixed task cache suites left granted number None there go_on fit came more = more suites fit came
 
-left_widen : (fixed : Fixed) (task : Task) (cache : Cache) (granted : Granted) (left : List ℕ) (suites : Suites) → AreFit suites → Came fixed task suites (Ok granted.answers) → Left fixed (widen_all task cache suites granted left).after
+left_widen : (fixed : Fixed) (task : Task) (cache : Cache) (granted : Granted) (left : List ℕ) (suites : Suites) → AreFit suites → Came fixed task suites (Ok granted) → Left fixed (widen_all task cache suites granted left).after
 left_widen fixed task cache granted [] suites fit came = left_prepare fixed task cache suites (Ok granted) (locked_at suites) came
 left_widen fixed task cache granted (number ∷ left) suites fit came =
     left_widen_one fixed task cache suites (number ∷ left) granted number (suite_of suites number) refl _ fit came (λ suites fit came. left_widen fixed task cache granted left suites fit came)
@@ -161,8 +227,8 @@ left_proceed fixed task cache suites (exec.Need (Hold number mode)) is fit =
     let suite = raised_or_new fixed task cache number mode (suite_of suites number) in
     left_gather fixed task cache (with_suite number suite suites) number (next suite.collector) (with_fit suites number suite fit (new_mode fixed task cache suites number mode (suite_of suites number) refl fit))
 left_proceed fixed task cache suites (exec.Need (Know number)) is fit = fit
-left_proceed fixed task cache suites (exec.Done answers set) is fit = left_widen fixed task cache (record { answers = answers; changes = set }) (to_widen set) suites fit (came_done fixed task suites answers set is)
-left_proceed fixed task cache suites (exec.Refused refusal) is fit = left_prepare fixed task cache suites (Err refusal) (locked_at suites) (came_refused fixed task suites refusal is)
+left_proceed fixed task cache suites (exec.Done answers set) is fit = left_widen fixed task cache (record { answers = answers; changes = set }) (to_widen set) suites fit (came_done fixed task suites answers set fit is)
+left_proceed fixed task cache suites (exec.Refused refusal) is fit = left_prepare fixed task cache suites (Err refusal) (locked_at suites) (came_refused fixed task suites refusal fit is)
 
 -- what is to be had without asking
 abbrev FitIf : Option Gathered → Type 0
@@ -240,18 +306,20 @@ left_gathering fixed task cache suites number (Some suite) server asked said the
     (λ told prefix dver members. left_execute fixed task (record { suites = with_suite number (settled prefix dver members (told_of told suite)) suites; cache = cache }) (with_fit suites number (settled prefix dver members (told_of told suite)) fit (serves_itself (tell told suite.collector).mode)))
 left_gathering fixed task cache suites number None server asked said there fit = left_give_up fixed task cache suites (Lost server)
 
-left_widening : (fixed : Fixed) (task : Task) (cache : Cache) (suites : Suites) (number : ℕ) (left : List ℕ) (granted : Granted) (found : Option Suite) (server : ℕ) (asked : Request) (said : Reply) → suite_of suites number ≡ found → AreFit suites → Came fixed task suites (Ok granted.answers)
+left_widening : (fixed : Fixed) (task : Task) (cache : Cache) (suites : Suites) (number : ℕ) (left : List ℕ) (granted : Granted) (found : Option Suite) (server : ℕ) (asked : Request) (said : Reply) → suite_of suites number ≡ found → AreFit suites → Came fixed task suites (Ok granted)
     → Left fixed (heard_of task cache suites (Widening (number ∷ left) granted) number found server asked said (λ suites. widen_all task cache suites granted left)).after
 left_widening fixed task cache suites number left granted (Some suite) server asked said there fit came =
     left_hear fixed task cache suites (Widening (number ∷ left) granted) number suite server asked (said_to asked said) _
     (λ told. (
       with_fit suites number (told_of told suite) fit (told_mode suites number suite told fit there),
-      came_more fixed task suites (with_suite number (told_of told suite) suites) (Ok granted.answers) (more_known suites number suite (told_of told suite) fit.ordered there (record { first = λ first was. was; content = refl; mode = serves_itself suite.mode })) came,
+      came_more fixed task suites (with_suite number (told_of told suite) suites) (Ok granted) (more_known suites number suite (told_of told suite) fit.ordered there (record { first = λ first was. was; content = refl; mode = serves_itself suite.mode }))
+          (with_fit suites number (told_of told suite) fit (told_mode suites number suite told fit there)) came,
     ))
     (λ told prefix dver members.
     let now = settled prefix dver members (told_of told suite) in
     left_widen fixed task cache granted left (with_suite number now suites) (with_fit suites number now fit (serves_itself (tell told suite.collector).mode))
-    (came_more fixed task suites (with_suite number now suites) (Ok granted.answers) (more_known suites number suite now fit.ordered there (record { first = λ first was. first_stays suite.first first _ was; content = refl; mode = told_mode suites number suite told fit there })) came))
+    (came_more fixed task suites (with_suite number now suites) (Ok granted) (more_known suites number suite now fit.ordered there (record { first = λ first was. first_stays suite.first first _ was; content = refl; mode = told_mode suites number suite told fit there }))
+    (with_fit suites number now fit (serves_itself (tell told suite.collector).mode)) came))
 left_widening fixed task cache suites number left granted None server asked said there fit came = left_give_up fixed task cache suites (Lost server)
 
 left_keep : (fixed : Fixed) (task : Task) (cache : Cache) (suites : Suites) (number : ℕ) (suite : Suite) (content : Content) (first : Option First) (server : ℕ) → suite_of suites number ≡ Some suite → AreFit suites → Left fixed (keep_content fixed task cache suites number suite content first server).after
@@ -264,7 +332,7 @@ left_fetched fixed task cache suites number (Some suite) server None there fit =
 left_fetched fixed task cache suites number None server (Some content) there fit = left_give_up fixed task cache suites (Lost server)
 left_fetched fixed task cache suites number None server None there fit = left_give_up fixed task cache suites (Lost server)
 
-left_prepared : (fixed : Fixed) (task : Task) (cache : Cache) (suites : Suites) (outcome : Outcome) (server : ℕ) (left : List ℕ) (said : Reply) → Came fixed task suites (answer_as outcome) → Left fixed (prepared task cache suites outcome server left said).after
+left_prepared : (fixed : Fixed) (task : Task) (cache : Cache) (suites : Suites) (outcome : Outcome) (server : ℕ) (left : List ℕ) (said : Reply) → Came fixed task suites outcome → Left fixed (prepared task cache suites outcome server left said).after
 left_prepared fixed task cache suites outcome server left said came =
     elim (is_prepared said) as (λ b. Left fixed (cond b (prepare task cache suites outcome left) (give_up task cache suites (Lost server))).after) [
       | true ↦ left_prepare fixed task cache suites outcome left came

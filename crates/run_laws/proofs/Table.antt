@@ -26,7 +26,7 @@ table_more table [] more = refl
 table_more table (one ∷ ds) more = table_more (table_with table one) ds more
 
 -- what a table is for never changes
-service_stays : (table : PlainTable) (ds : List Decided) → (table_after_all table ds).service ≡ table.service
+pub service_stays : (table : PlainTable) (ds : List Decided) → (table_after_all table ds).service ≡ table.service
 service_stays table [] = refl
 service_stays table (one ∷ ds) = service_stays (table_with table one) ds ∙ of (played_on table one)
   where
@@ -34,19 +34,19 @@ service_stays table (one ∷ ds) = service_stays (table_with table one) ds ∙ o
     of (Ok played) = refl
     of (Err refusal) = refl
 
-run_one : (given : Opening) (events : List Event) (event : Event) → run given (events ++ event ∷ []) ≡ (step (fixed_of given) (run given events) event).world
+pub run_one : (given : Opening) (events : List Event) (event : Event) → run given (events ++ event ∷ []) ≡ (step (fixed_of given) (run given events) event).world
 run_one given events event = after-append (fixed_of given) (opening given) events (event ∷ [])
 
 cons_none : (one : Option Decided) → cons_option one [] ≡ option_to_list one
 cons_none None = refl
 cons_none (Some d) = refl
 
-table_one : (given : Opening) (events : List Event) (event : Event) → table_of given (events ++ event ∷ []) ≡ table_after_all (table_of given events) (option_to_list (decided (fixed_of given) (run given events) event))
+pub table_one : (given : Opening) (events : List Event) (event : Event) → table_of given (events ++ event ∷ []) ≡ table_after_all (table_of given events) (option_to_list (decided (fixed_of given) (run given events) event))
 table_one given events event =
     ap (table_after_all (rows.opening given)) (decisions_from-append (fixed_of given) (opening given) events (event ∷ []) ∙ ap (λ more. decisions given events ++ more) (cons_none (decided (fixed_of given) (run given events) event)))
     ∙ table_more (rows.opening given) (decisions given events) (option_to_list (decided (fixed_of given) (run given events) event))
 
-one_more : (events : List Event) (event : Event) (later : List Event) → (events ++ event ∷ []) ++ later ≡ events ++ event ∷ later
+pub one_more : (events : List Event) (event : Event) (later : List Event) → (events ++ event ∷ []) ++ later ≡ events ++ event ∷ later
 one_more events event later = append_assoc events (event ∷ []) later
 
 -- ---- the answers

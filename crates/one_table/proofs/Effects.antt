@@ -1,0 +1,189 @@
+-- What is in effect at the servers is what the machines of the suites have in effect.
+use Rattle.std.proofs.Common.{◌≡◌, ℕ, ◌<◌, ◌≤◌, Bool, cond, List, [], ◌∷◌, ◌++◌, append_assoc, Option, Some, None, refl, sym, ap, subst, ◌∙◌, arith}
+use Rattle.std.specs.Ordering.{nat_cmp}
+use Rattle.std.proofs.lemmas.Option.{none-some, same_Some}
+use Rattle.sorted_map.specs.SortedMap.{get}
+use Rattle.vote_core.specs.Quorums.{Configuration}
+use Rattle.suite_content.specs.declared.content.Content.{Content}
+use Rattle.suite_content.specs.Contents.{kind_of}
+use Rattle.suite_prefix.specs.SettingsRules.{Opening}
+use Rattle.suite_prefix.specs.declared.copies.Prefix.{Prefix}
+use Rattle.suite_prefix.specs.declared.copies.PrefixKind.{PrefixKind}
+use Rattle.suite_prefix.specs.declared.copies.PrefixKind.TheVariants as kind
+use Rattle.suite_prefix.specs.declared.copies.Replica.{Replica}
+use Rattle.file_ops.specs.Rows.{Row}
+use Rattle.rep_core.specs.declared.intention.Intention.{Intention}
+use Rattle.rep_core.specs.declared.reply.Verdict.{Verdict}
+use Rattle.rep_core.specs.declared.reply.Verdict.TheVariants as verdict
+use Rattle.rep_core.specs.Store as store
+use Rattle.rep_core.specs.Store.{copy_of, left_by}
+use Rattle.rep_core.specs.State.{record_of}
+use Rattle.txn_core.specs.Suites.{row_with}
+use Rattle.txn_core.specs.Writing.{prefix_kind}
+use Rattle.txn_core.specs.Agents.{fixed_of}
+use Rattle.run_core.specs.declared.event.Event as happening
+use Rattle.run_core.specs.Worlds as worlds
+use Rattle.run_core.specs.Worlds.{opening, step}
+use Rattle.run_core.specs.Runs as runs
+use Rattle.suite_machine.specs.Registers.{Beginning, WasPrefix, row}
+use Rattle.suite_machine.specs.Machine as machine
+use Rattle.suite_machine.specs.Machine.{World, IsQuorum, effect, is_answered, begun}
+use Rattle.suite_machine.specs.Events.{Event, happens, run}
+use Rattle.suite_machine.specs.Conditions.{Obeys}
+use Rattle.suite_machine.specs.Laws.{CopiesWere, QuorumsShowRow, ReplacedIsSuperseded, Stays}
+use Rattle.suite_machine.specs.Laws as laws
+use Rattle.suite_machine.proofs.Conclusions.{always_current, always_superseded, every_copy_was, what_was_stays}
+use Rattle.server_moves.specs.Views.{Shows, plan_of, verdict_of}
+use Rattle.server_moves.specs.Laws.{beginning}
+use Rattle.run_machine.specs.Machines.{servers_of, home_in, events_of, moved, machine_from, history_from, machine_of, history_of}
+use Rattle.run_machine.specs.Laws.{Follows}
+use Rattle.run_machine.proofs.Joining.{run-append}
+use Rattle.run_machine.proofs.Following.{machines_follow}
+use Rattle.one_table.specs.Tables.{register, AllKeepSides}
+use Rattle.one_table.specs.Effects.{was_answered, answered_in, copy_at, HasOne, HasHead, IsInEffect, RowsAreInEffect, ReplacedIsKnown}
+use Rattle.one_table.proofs.Shown.{FitsAs}
+use Rattle.one_table.proofs.Running.{all_shown}
+
+-- ---- the copy in effect
+
+answered_is : (found : Option Verdict) → is_answered (verdict_of found) ≡ was_answered found
+answered_is (Some (verdict.Answered answers)) = refl
+answered_is (Some (verdict.Refused refusal)) = refl
+answered_is (Some verdict.Aborted) = refl
+answered_is None = refl
+
+module _ (given : Opening) (events : List happening.Event) (z : ℕ) (w : World) (shows : Shows z (home_in given) (servers_of given (runs.run given events)) w) where
+  plans : (found : Option Intention) (copy : Replica) → machine.in_effect w.verdict (plan_of found copy) copy ≡ store.in_effect found (answered_in given events) copy
+  plans None copy = refl
+  plans (Some intention) copy = ap (λ b. cond b (left_by intention.take copy) copy) (ap is_answered (shows.verdict intention.t) ∙ answered_is (record_of (servers_of given (runs.run given events) (home_in given intention.t)) intention.t))
+
+  pub effect_is : (i : ℕ) → effect w i ≡ copy_at given events z i
+  effect_is i =
+      let st = servers_of given (runs.run given events) i in
+      ap (λ plan. machine.in_effect w.verdict plan (w.copy i)) (shows.at i).plan
+      ∙ ap (λ copy. machine.in_effect w.verdict (plan_of (get nat_cmp st.store.intentions z) (copy_of st.store z)) copy) (shows.at i).copy
+      ∙ plans (get nat_cmp st.store.intentions z) (copy_of st.store z)
+
+  has_one : (set : ℕ → Bool) (P : Replica → Type 0) → laws.Shows w set P → HasOne given events z set P
+  has_one set P shown = record { server = shown.server; inside = shown.inside; is = subst P (effect_is shown.server) shown.is }
+
+-- ---- a row that is shown
+
+pub record IsOfRow (k : PrefixKind) (prefix : Prefix) (content : Content) (row : Row) : Type 0 where
+  pub kind_is : k ≡ prefix_kind (kind_of row.content)
+  pub owner : prefix.owner ≡ row.owner
+  pub group : prefix.group ≡ row.group
+  pub acl : prefix.acl ≡ row.acl
+  pub votes : prefix.votes ≡ row.votes
+  pub content_is : content ≡ row.content
+
+of_row : (k : PrefixKind) (prefix : Prefix) (content : Content) (row : Row) → FitsAs k content → row_with k prefix (Some content) ≡ Some row → IsOfRow k prefix content row
+of_row kind.Absent prefix content row fits is = absurd (none-some row is)
+of_row kind.File prefix content row fits is =
+    subst (IsOfRow kind.File prefix content) (same_Some (record { owner = prefix.owner; group = prefix.group; acl = prefix.acl; votes = prefix.votes; content = content }) row is)
+    (record { kind_is = sym (ap prefix_kind fits); owner = refl; group = refl; acl = refl; votes = refl; content_is = refl })
+of_row kind.Folder prefix content row fits is =
+    subst (IsOfRow kind.Folder prefix content) (same_Some (record { owner = prefix.owner; group = prefix.group; acl = prefix.acl; votes = prefix.votes; content = content }) row is)
+    (record { kind_is = sym (ap prefix_kind fits); owner = refl; group = refl; acl = refl; votes = refl; content_is = refl })
+
+has_head : (prefix : Prefix) (content : Content) (row : Row) (copy : Replica) → IsOfRow prefix.kind prefix content row → copy.prefix ≡ prefix → HasHead row copy
+has_head prefix content row copy of is = record {
+  kind = ap (λ (prefix : Prefix). prefix.kind) is ∙ of.kind_is;
+  owner = ap (λ (prefix : Prefix). prefix.owner) is ∙ of.owner;
+  group = ap (λ (prefix : Prefix). prefix.group) is ∙ of.group;
+  acl = ap (λ (prefix : Prefix). prefix.acl) is ∙ of.acl;
+  votes = ap (λ (prefix : Prefix). prefix.votes) is ∙ of.votes;
+}
+
+-- ---- the machine of a suite, after a run
+
+module _ (given : Opening) (kept : AllKeepSides given) (events : List happening.Event) (z : ℕ) where
+  follows : Follows given z events
+  follows = machines_follow given z events kept.valid (kept.keep z events)
+
+  current : QuorumsShowRow (beginning z given) (machine_of given z events)
+  current = subst (QuorumsShowRow (beginning z given)) (sym follows.is) (always_current (beginning z given) follows.begins (history_of given z events) follows.obeys)
+
+  superseded : ReplacedIsSuperseded (beginning z given) (machine_of given z events)
+  superseded = subst (ReplacedIsSuperseded (beginning z given)) (sym follows.is) (always_superseded (beginning z given) follows.begins (history_of given z events) follows.obeys)
+
+  were : CopiesWere (beginning z given) (machine_of given z events)
+  were = subst (CopiesWere (beginning z given)) (sym follows.is) (every_copy_was (beginning z given) follows.begins (history_of given z events) follows.obeys)
+
+  effect_at : (i : ℕ) → effect (machine_of given z events) i ≡ copy_at given events z i
+  effect_at i = effect_is given events z (machine_of given z events) follows.shows i
+
+  in_effect : (row : Row) → IsOfRow (register given z events).prefix.kind (register given z events).prefix (register given z events).content row → IsInEffect given events z row
+  in_effect row of =
+      let held = register given z events in
+      record {
+        head = λ set quorum.
+            let shown = current.prefix set (subst (λ (votes : Configuration). IsQuorum votes set) (sym of.votes) quorum) in
+            has_one given events z (machine_of given z events) follows.shows set (HasHead row)
+            (record { server = shown.server; inside = shown.inside; is = has_head held.prefix held.content row (effect (machine_of given z events) shown.server) of shown.is });
+        version = held.dver;
+        greatest = λ server. subst (λ (copy : Replica). copy.dver ≤ held.dver) (effect_at server) (current.greatest server).1;
+        content = λ set quorum.
+            let shown = current.content set (subst (λ (votes : Configuration). IsQuorum votes set) (sym of.votes) quorum) in
+            has_one given events z (machine_of given z events) follows.shows set (λ copy. (copy.dver ≡ held.dver) × (copy.content ≡ row.content))
+            (record { server = shown.server; inside = shown.inside; is = (shown.is.0, shown.is.1 ∙ of.content_is) });
+      }
+
+pub rows_are_in_effect : RowsAreInEffect
+rows_are_in_effect given kept events z row is =
+    let held = register given z events in
+    let shown = all_shown given kept events z in
+    in_effect given kept events z row (of_row held.prefix.kind held.prefix held.content row shown.fits (shown.shows ∙ is))
+
+-- ---- a run goes on
+
+history_more : (given : Opening) (z : ℕ) (w : World) (world : worlds.World) (events later : List happening.Event)
+    → history_from given z w world (events ++ later) ≡ history_from given z w world events ++ history_from given z (machine_from given z w world events) (runs.after (fixed_of given) world events) later
+history_more given z w world [] later = refl
+history_more given z w world (event ∷ events) later =
+    let next = (step (fixed_of given) world event).world in
+    ap (λ rest. events_of given z w world event ++ rest) (history_more given z (moved given z w world event) next events later)
+    ∙ sym (append_assoc (events_of given z w world event) (history_from given z (moved given z w world event) next events) (history_from given z (machine_from given z (moved given z w world event) next events) (runs.after (fixed_of given) next events) later))
+
+obeys_later : (start : Beginning) (w : World) (first later : List Event) → Obeys start w (first ++ later) → Obeys start (run start w first) later
+obeys_later start w [] later obeys = obeys
+obeys_later start w (event ∷ first) later obeys = obeys_later start (happens start w event) first later obeys.1
+
+module _ (given : Opening) (kept : AllKeepSides given) (events later : List happening.Event) (z : ℕ) where
+  abbrev start : Beginning
+  start = beginning z given
+
+  abbrev first : List Event
+  first = history_of given z events
+
+  abbrev rest : List Event
+  rest = history_from given z (machine_of given z events) (runs.run given events) later
+
+  goes_on : Stays start (machine_of given z events) (machine_of given z (events ++ later))
+  goes_on =
+      let before = follows given kept events z in
+      let now = follows given kept (events ++ later) z in
+      let joined : history_of given z (events ++ later) ≡ first ++ rest = history_more given z (begun start) (opening given) events later in
+      let obeys = subst (Obeys start (begun start)) joined now.obeys in
+      let is : machine_of given z (events ++ later) ≡ run start (run start (begun start) first) rest = now.is ∙ ap (run start (begun start)) joined ∙ run-append start (begun start) first rest in
+      subst (λ (w : World). Stays start w (machine_of given z (events ++ later))) (sym before.is)
+      (subst (Stays start (run start (begun start) first)) (sym is) (what_was_stays start before.begins first rest before.obeys (obeys_later start (begun start) first rest obeys)))
+
+  replaced : (prefix : Prefix) (other : ℕ) (set : ℕ → Bool) → WasPrefix start (machine_of given z events).log prefix → IsQuorum prefix.votes set
+      → prefix.pver < (copy_at given (events ++ later) z other).prefix.pver → HasOne given (events ++ later) z set (λ copy. prefix.pver < copy.prefix.pver)
+  replaced prefix other set was quorum newer =
+      let now = machine_of given z (events ++ later) in
+      let still = goes_on.prefixes prefix was in
+      let top : (copy_at given (events ++ later) z other).prefix.pver ≤ (row start now.log).prefix.pver =
+      subst (λ (copy : Replica). copy.prefix.pver ≤ (row start now.log).prefix.pver) (effect_at given kept (events ++ later) z other) ((current given kept (events ++ later) z).greatest other).0 in
+      has_one given (events ++ later) z now (follows given kept (events ++ later) z).shows set (λ copy. prefix.pver < copy.prefix.pver)
+      (superseded given kept (events ++ later) z prefix.pver (below prefix.pver (copy_at given (events ++ later) z other).prefix.pver (row start now.log).prefix.pver newer top) set (subst (λ (prefix : Prefix). IsQuorum prefix.votes set) (sym still.1) quorum))
+    where
+      below : (a b c : ℕ) → a < b → b ≤ c → a < c
+      below a b c less most = omega (arith, less, most)
+
+pub replaced_is_known : ReplacedIsKnown
+replaced_is_known given kept events later z server other set quorum newer =
+    replaced given kept events later z (copy_at given events z server).prefix other set
+    (subst (λ (copy : Replica). WasPrefix (beginning z given) (machine_of given z events).log copy.prefix) (effect_at given kept events z server) ((were given kept events z).in_effect server).0)
+    quorum newer

@@ -1,0 +1,6 @@
+pub mod Logs
+pub mod Shown
+pub mod Knowing
+pub mod Writing
+pub mod Running
+pub mod Effects

@@ -1,0 +1,206 @@
+-- Each row of the table of a run is what the register of its suite holds, event by event.
+use Rattle.std.proofs.Common.{◌≡◌, ℕ, zero, suc, false, cond, Less, Equal, Greater, List, [], ◌∷◌, ◌++◌, Option, Some, None, refl, sym, ap, subst, ◌∙◌, arith}
+use Rattle.std.specs.Prelude.{◌==◌, option_to_list, Result, Ok, Err}
+use Rattle.std.specs.declared.cmp.Ordering.{Ordering}
+use Rattle.std.specs.Ordering.{nat_cmp, is_eq}
+use Rattle.std.proofs.lemmas.Bool.Decides.{nat_tests}
+use Rattle.std.proofs.lemmas.Map.Lookups.{exact_unsigned}
+use Rattle.suite_prefix.specs.Absent.{absent_copy}
+use Rattle.rep_core.specs.Store.{root_copy}
+use Rattle.suite_prefix.specs.SettingsRules.{Opening}
+use Rattle.file_ops.specs.declared.answer.Answer.{Answer}
+use Rattle.file_ops.specs.declared.refusal.Refusal.{Refusal}
+use Rattle.file_ops.specs.Rows as rows
+use Rattle.file_ops.specs.Rows.{PlainTable, row_of}
+use Rattle.file_ops.specs.Transactions.{transaction, table_after}
+use Rattle.file_exec.specs.Following.{Ended}
+use Rattle.file_exec.specs.Known.{AgreesWith, on_table}
+use Rattle.file_exec.proofs.More.{done_is_the_tables}
+use Rattle.txn_core.specs.Suites.{First, Suite, suite_of, known_of}
+use Rattle.txn_core.specs.Doing.{Course, Doing, Running}
+use Rattle.txn_core.specs.Agents.{fixed_of}
+use Rattle.run_core.specs.declared.event.Event as happening
+use Rattle.run_core.specs.declared.event.Event.TheVariants.{Step}
+use Rattle.run_core.specs.Worlds as worlds
+use Rattle.run_core.specs.Worlds.{actor_at, opening, step}
+use Rattle.run_core.specs.Runs as runs
+use Rattle.run_core.specs.Decisions.{Decided, decided, decisions}
+use Rattle.run_core.specs.TableOfRun.{played_on, table_after_all, table_of}
+use Rattle.run_laws.specs.Answers.{IsAnsweredAsKnown}
+use Rattle.run_laws.proofs.Worlds.{agent_of}
+use Rattle.run_laws.proofs.Executed.{Came, Keeps}
+use Rattle.run_laws.proofs.Answering.{answers_follow_knowledge, always_knows, Knows}
+use Rattle.run_laws.proofs.Table.{service_stays, table_one, one_more, known_answers, tables_audit}
+use Rattle.suite_machine.specs.Registers.{IsPlain, IsKnown, row}
+use Rattle.suite_machine.specs.Machine.{World, begun}
+use Rattle.suite_machine.specs.Events.{happens}
+use Rattle.suite_machine.proofs.Conclusions.{one_register}
+use Rattle.server_moves.specs.Laws.{beginning}
+use Rattle.run_machine.specs.Deciding.{known_by, to_write, decision_in, decision_by, decision_with}
+use Rattle.run_machine.specs.Machines.{moved, machine_from, machine_of, history_of}
+use Rattle.run_machine.proofs.Following.{machines_follow}
+use Rattle.run_machine.proofs.Kept.{sides_are_kept}
+use Rattle.one_table.specs.Tables.{register, AllKeepSides, RowsAreTheRegisters, AgentsKnowTheTable, AnswersAreOneTables, AuditIsOneTables, OwedIsEnough}
+use Rattle.one_table.proofs.Logs.{LogIs, decision_of_actor, decision_at, event_log}
+use Rattle.one_table.proofs.Shown.{IsShown}
+use Rattle.one_table.proofs.Knowing.{known_by_plain, decision_is, agrees}
+use Rattle.one_table.proofs.Writing.{rows_after, decision_leads}
+
+-- ---- one event more
+
+machine_more : (given : Opening) (z : ℕ) (w : World) (world : worlds.World) (events : List happening.Event) (event : happening.Event)
+    → machine_from given z w world (events ++ event ∷ []) ≡ moved given z (machine_from given z w world events) (runs.after (fixed_of given) world events) event
+machine_more given z w world [] event = refl
+machine_more given z w world (one ∷ events) event = machine_more given z (moved given z w world one) (step (fixed_of given) world one).world events event
+
+machine_one : (given : Opening) (z : ℕ) (events : List happening.Event) (event : happening.Event) → machine_of given z (events ++ event ∷ []) ≡ moved given z (machine_of given z events) (runs.run given events) event
+machine_one given z events event = machine_more given z (begun (beginning z given)) (opening given) events event
+
+-- ---- at the opening
+
+abbrev AllShown : Opening → List happening.Event → Type 0
+AllShown given events = (z : ℕ) → IsShown (register given z events) (row_of (table_of given events).rows z)
+
+not_zero : (z : ℕ) → (suc z == 0) ≡ false
+not_zero z = grind (arith, nat_tests)
+
+not_root : (z : ℕ) → is_eq (nat_cmp (suc z) 0) ≡ false
+not_root z = of (nat_cmp (suc z) 0) refl
+  where
+    of : (o : Ordering) → nat_cmp (suc z) 0 ≡ o → is_eq o ≡ false
+    of Less is = refl
+    of Greater is = refl
+    of Equal is = let none : suc z ≡ 0 = exact_unsigned (suc z) 0 is in absurd (omega (arith, none))
+
+opens_shown : (given : Opening) → AllShown given []
+opens_shown given zero = record { shows = refl; fits = refl }
+opens_shown given (suc z) =
+    subst (λ b. IsShown (cond b (root_copy given) (absent_copy given.c0)) (row_of (table_of given []).rows (suc z))) (sym (not_zero z))
+    (subst (λ b. IsShown (absent_copy given.c0) (cond b (Some (rows.root_row given)) None)) (sym (not_root z)) (record { shows = refl; fits = tt }))
+
+-- ---- what a step decides
+
+module _ (given : Opening) (kept : AllKeepSides given) (events : List happening.Event) (shown : AllShown given events) where
+  abbrev world : worlds.World
+  world = runs.run given events
+
+  abbrev machine : ℕ → World
+  machine z = machine_of given z events
+
+  log_so : (z : ℕ) (event : happening.Event) → LogIs (beginning z given) (decision_at z (machine z) world event) (machine z) (decided (fixed_of given) world event) (machine_of given z (events ++ event ∷ [])).log
+  log_so z event =
+      subst (λ (w : World). LogIs (beginning z given) (decision_at z (machine z) world event) (machine z) (decided (fixed_of given) world event) w.log) (sym (machine_one given z events event))
+      (event_log given z (machine z) world (machines_follow given z events kept.valid (kept.keep z events)).shows event)
+
+  log_decided : (z : ℕ) (event : happening.Event) (one : Decided) → decided (fixed_of given) world event ≡ Some one → (machine_of given z (events ++ event ∷ [])).log ≡ (happens (beginning z given) (machine z) (decision_at z (machine z) world event)).log
+  log_decided z event one is = subst (λ one. LogIs (beginning z given) (decision_at z (machine z) world event) (machine z) one (machine_of given z (events ++ event ∷ [])).log) is (log_so z event)
+
+  plain_after : (z : ℕ) (event : happening.Event) → IsPlain (beginning z given) (machine_of given z (events ++ event ∷ [])).log
+  plain_after z event =
+      let follows = machines_follow given z (events ++ event ∷ []) kept.valid (kept.keep z (events ++ event ∷ [])) in
+      subst (λ (w : World). IsPlain (beginning z given) w.log) (sym follows.is) (one_register (beginning z given) follows.begins (history_of given z (events ++ event ∷ [])) follows.obeys)
+
+  module _ (event : happening.Event) (one : Decided) (is : decided (fixed_of given) world event ≡ Some one) (so : IsAnsweredAsKnown given world event one) where
+    decides_so : (z : ℕ) → decision_at z (machine z) world event ≡ decision_with z (machine z) so.course.task so.course.suites so.outcome
+    decides_so z =
+        ap (decision_at z (machine z) world) so.step
+        ∙ ap (decision_of_actor z (machine z)) so.there
+        ∙ ap (decision_by z (machine z)) so.running
+        ∙ ap (decision_in z (machine z) so.course.task so.course.suites) so.deciding
+
+    came : Came (fixed_of given) so.course.task so.course.suites so.outcome
+    came = subst (Keeps (fixed_of given) so.course.task so.course.suites) so.deciding (subst (Knows (fixed_of given)) so.running (always_knows given events so.number so.actor.agent (ap agent_of so.there)))
+
+    log_with : (z : ℕ) → (machine_of given z (events ++ event ∷ [])).log ≡ (happens (beginning z given) (machine z) (decision_with z (machine z) so.course.task so.course.suites so.outcome)).log
+    log_with z = log_decided z event one is ∙ ap (λ decision. (happens (beginning z given) (machine z) decision).log) (decides_so z)
+
+    knows : (z : ℕ) (suite : Suite) (first : First) → suite_of so.course.suites z ≡ Some suite → suite.first ≡ Some first → IsKnown (register given z events) (known_by first suite)
+    knows z suite first there was =
+        known_by_plain (beginning z given) (machine z) so.course.task.t (known_by first suite) so.outcome (to_write z so.course.suites so.outcome)
+        (subst (λ log. IsPlain (beginning z given) log)
+        (log_with z ∙ ap (λ decision. (happens (beginning z given) (machine z) decision).log) (decision_is z (machine z) so.course.task so.course.suites so.outcome suite first there was))
+        (plain_after z event))
+
+    agrees_so : AgreesWith (known_of so.course.suites) (row_of (table_of given events).rows)
+    agrees_so = agrees so.course.suites (table_of given events).rows (λ z. register given z events) came.fit.ordered shown knows
+
+    -- the table after it
+    rows_of : (outcome : Result (Ended (List Answer)) Refusal) → (table_after (table_of given events) one.t one.caller (on_table (table_of given events).rows outcome)).rows ≡ rows_after (table_of given events).rows outcome
+    rows_of (Ok ended) = refl
+    rows_of (Err refusal) = refl
+
+    plays : played_on (table_of given events) one ≡ on_table (table_of given events).rows came.result
+    plays =
+        ap (λ service. transaction service (table_of given events).rows one.t one.caller one.ops) (service_stays (rows.opening given) (decisions given events))
+        ∙ ap (λ t. transaction (fixed_of given).service (table_of given events).rows t one.caller one.ops) so.t
+        ∙ ap (λ caller. transaction (fixed_of given).service (table_of given events).rows so.course.task.t caller one.ops) so.caller
+        ∙ ap (transaction (fixed_of given).service (table_of given events).rows so.course.task.t so.course.task.caller) so.ops
+        ∙ done_is_the_tables (fixed_of given).service (known_of so.course.suites) (table_of given events).rows so.course.task.t so.course.task.caller so.course.task.ops came.result agrees_so came.is
+
+    table_so : (table_of given (events ++ event ∷ [])).rows ≡ rows_after (table_of given events).rows came.result
+    table_so =
+        ap (λ (table : PlainTable). table.rows) (table_one given events event ∙ ap (λ one. table_after_all (table_of given events) (option_to_list one)) is)
+        ∙ ap (λ outcome. (table_after (table_of given events) one.t one.caller outcome).rows) plays
+        ∙ rows_of came.result
+
+    shown_so : AllShown given (events ++ event ∷ [])
+    shown_so z =
+        subst (λ log. IsShown (row (beginning z given) log) (row_of (table_of given (events ++ event ∷ [])).rows z)) (sym (log_with z))
+        (subst (λ all. IsShown (row (beginning z given) (happens (beginning z given) (machine z) (decision_with z (machine z) so.course.task so.course.suites so.outcome)).log) (row_of all z)) (sym table_so)
+        (decision_leads (beginning z given) z (machine z) (fixed_of given) so.course.task so.course.suites (table_of given events).rows agrees_so (shown z) so.outcome came))
+
+  -- ---- any event
+
+  shown_after : (event : happening.Event) (o : Option Decided) → decided (fixed_of given) world event ≡ o → AllShown given (events ++ event ∷ [])
+  shown_after event (Some one) is = shown_so event one is (answers_follow_knowledge given events event one is)
+  shown_after event None is = λ z.
+      subst (λ (table : PlainTable). IsShown (register given z (events ++ event ∷ [])) (row_of table.rows z)) (sym (table_one given events event ∙ ap (λ one. table_after_all (table_of given events) (option_to_list one)) is))
+      (subst (λ log. IsShown (row (beginning z given) log) (row_of (table_of given events).rows z)) (sym (subst (λ one. LogIs (beginning z given) (decision_at z (machine z) world event) (machine z) one (machine_of given z (events ++ event ∷ [])).log) is (log_so z event)))
+      (shown z))
+
+-- ---- all events
+
+shown_from : (given : Opening) → AllKeepSides given → (later events : List happening.Event) → AllShown given events → AllShown given (events ++ later)
+shown_from given kept [] events shown = subst (AllShown given) (sym (nothing events)) shown
+  where
+    nothing : (events : List happening.Event) → events ++ [] ≡ events
+    nothing [] = refl
+    nothing (event ∷ events) = ap (λ rest. event ∷ rest) (nothing events)
+shown_from given kept (event ∷ later) events shown =
+    subst (AllShown given) (one_more events event later)
+    (shown_from given kept later (events ++ event ∷ []) (shown_after given kept events shown event (decided (fixed_of given) (runs.run given events) event) refl))
+
+pub all_shown : (given : Opening) → AllKeepSides given → (events : List happening.Event) → AllShown given events
+all_shown given kept events = shown_from given kept events [] (opens_shown given)
+
+-- ---- the laws
+
+pub rows_are_the_registers : RowsAreTheRegisters
+rows_are_the_registers given kept events z = sym (all_shown given kept events z).shows
+
+pub agents_know_the_table : AgentsKnowTheTable
+agents_know_the_table given kept events number one actor course is there running =
+    let so = answers_follow_knowledge given events (Step number) one is in
+    subst (λ (course : Course). AgreesWith (known_of course.suites) (row_of (table_of given events).rows)) (same_course so)
+    (agrees_so given kept events (all_shown given kept events) (Step number) one is so)
+  where
+    same_number : (a b : ℕ) → Step a ≡ Step b → a ≡ b
+    same_number a b is = cc
+
+    same_course : (so : IsAnsweredAsKnown given (runs.run given events) (Step number) one) → so.course ≡ course
+    same_course so = of so.course course (sym so.running ∙ ap (λ (actor : worlds.Actor). actor.agent.doing) (same_actor so.actor actor (sym so.there ∙ ap (actor_at (runs.run given events)) (same_number so.number number (sym so.step)) ∙ there)) ∙ running)
+      where
+        same_actor : (a b : worlds.Actor) → Some a ≡ Some b → a ≡ b
+        same_actor a b is = cc
+
+        of : (a b : Course) → ◌≡◌ {A = Option Doing} (Some (Running a)) (Some (Running b)) → a ≡ b
+        of a b is = cc
+
+pub answers_are_one_tables : AnswersAreOneTables
+answers_are_one_tables given kept events = known_answers given (agents_know_the_table given kept) events
+
+pub audit_is_one_tables : AuditIsOneTables
+audit_is_one_tables given kept events = tables_audit given events (answers_are_one_tables given kept events)
+
+pub owed_is_enough : OwedIsEnough
+owed_is_enough given accepted valid owed = record { valid = valid; keep = λ z events. sides_are_kept given z events valid accepted.some_agents.1 accepted.some_servers.1 (owed z events) }
