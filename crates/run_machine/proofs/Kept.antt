@@ -213,7 +213,7 @@ sides_from given z w world (event ∷ events) inv shows all linked waiting readi
 
 -- ---- at the opening
 
-actor_opens : (start count n : ℕ) (actor : Actor) → slice_get (worlds.actors_from start count) n ≡ Some actor → (n < count) × (actor.agent ≡ agents.opening (start + n))
+pub actor_opens : (start count n : ℕ) (actor : Actor) → slice_get (worlds.actors_from start count) n ≡ Some actor → (n < count) × (actor.agent ≡ agents.opening (start + n))
 actor_opens start zero n actor is = absurd (none-some actor is)
 actor_opens start (suc count) zero actor is =
     (omega arith, ap (λ (actor : Actor). actor.agent) (sym (same_Some _ actor is)) ∙ ap agents.opening (plus start))
@@ -234,7 +234,7 @@ untouched_begun z given t = record { told = λ i. refl; aim = refl; going = reco
 linked_opening : (z : ℕ) (given : Opening) (n : ℕ) → Linked z (begun (beginning z given)) n (agents.opening n)
 linked_opening z given n = record { index = refl; fresh = λ place past. untouched_begun z given (64 * place + n); doing = tt }
 
-opens_linked : (z : ℕ) (given : Opening) → given.agents ≤ 64 → AllLinked z (begun (beginning z given)) (worlds.opening given)
+pub opens_linked : (z : ℕ) (given : Opening) → given.agents ≤ 64 → AllLinked z (begun (beginning z given)) (worlds.opening given)
 opens_linked z given few n actor there =
     let is = actor_opens 0 given.agents n actor there in
     let within = is.0 in
@@ -243,7 +243,7 @@ opens_linked z given few n actor there =
     plus : (n : ℕ) → 0 + n ≡ n
     plus n = omega arith
 
-opens_waiting : (given : Opening) → AllWaiting given (worlds.opening given)
+pub opens_waiting : (given : Opening) → AllWaiting given (worlds.opening given)
 opens_waiting given n actor there =
     let is = actor_opens 0 given.agents n actor there in
     subst (λ servers. Waiting servers n actor.agent) (sym (servers_open given)) (subst (Waiting (λ i. state.opening i given) n) (sym is.1) (record { fresh = λ place past j. refl; now = tt }))
@@ -252,7 +252,7 @@ servers_count : (given : Opening) (start count : ℕ) → length (worlds.servers
 servers_count given start zero = refl
 servers_count given start (suc count) = ap suc (servers_count given (start + 1) count)
 
-opens_readied : (z : ℕ) (given : Opening) → given.servers ≤ 16 → Readied z (begun (beginning z given)) (worlds.opening given)
+pub opens_readied : (z : ℕ) (given : Opening) → given.servers ≤ 16 → Readied z (begun (beginning z given)) (worlds.opening given)
 opens_readied z given few = record {
   agents = λ n actor there. let is = actor_opens 0 given.agents n actor there in subst (λ (agent : Agent). IsReadying z (begun (beginning z given)) agent.doing) (sym is.1) tt;
   below = λ j u told. absurd (false≢true told);

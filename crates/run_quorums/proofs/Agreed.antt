@@ -1,54 +1,22 @@
 -- In every run collectors hold what machines told: event by event.
-use Rattle.std.proofs.Common.{◌≡◌, ℕ, ◌+◌, ◌<◌, ◌≤◌, Bool, true, false, cond, List, [], ◌∷◌, ◌++◌, Option, Some, None, refl, sym, ap, subst, ◌∙◌, arith}
-use Rattle.std.specs.Prelude.{◌*◌, ◌&&◌, nat_lt, slice_get, slice_set}
-use Rattle.std.proofs.lemmas.Bool.{false≢true}
+use Rattle.std.proofs.Common.{◌≡◌, ℕ, ◌+◌, ◌<◌, List, Option, Some, None, refl, sym, ap, subst, ◌∙◌, arith}
+use Rattle.std.specs.Prelude.{◌*◌, slice_get, slice_set}
 use Rattle.std.proofs.lemmas.Option.{same_Some}
-use Rattle.std.specs.Ordering.{nat_cmp}
-use Rattle.sorted_map.specs.SortedMap.{IsOrdered}
-use Rattle.suite_prefix.specs.SettingsRules.{Opening}
 use Rattle.rep_core.specs.declared.request.Request.{Request}
-use Rattle.rep_core.specs.declared.request.Request.TheVariants as request
-use Rattle.rep_core.specs.declared.stamped.Lack.TheVariants as lack
-use Rattle.rep_core.specs.declared.stamped.Stamped.{Stamped}
-use Rattle.rep_core.specs.State.{State}
-use Rattle.rep_core.specs.Service.{reply_of}
-use Rattle.rep_core.specs.Serving as serving
-use Rattle.rep_core.specs.Serving.{answer_of, is_full, served}
 use Rattle.suite_collect.specs.declared.told.Told as collect
 use Rattle.txn_core.specs.declared.word.Word.{Word}
-use Rattle.txn_core.specs.declared.word.Word.TheVariants.{Replied, Lacked}
-use Rattle.txn_core.specs.declared.job.Job.{Job}
 use Rattle.txn_core.specs.Doing.{Fixed, Course, Doing, Running, Rounding, After, GoesOn, Ends}
 use Rattle.txn_core.specs.Transactions.{after_word, request_of}
-use Rattle.txn_core.specs.Laws.{locks, told_by}
-use Rattle.txn_core.specs.Agents.{Agent, fixed_of, next_in, next_of, take, take_in, left}
+use Rattle.txn_core.specs.Agents.{Agent, next_in, take_in, left}
 use Rattle.txn_core.proofs.Locks.{Leaves, told_at}
-use Rattle.run_core.specs.declared.event.Event as happening
 use Rattle.run_core.specs.Worlds as worlds
-use Rattle.run_core.specs.Worlds.{Actor, server_at, actor_at, with_server}
-use Rattle.suite_machine.specs.Registers.{Beginning}
-use Rattle.suite_machine.specs.Machine.{World, set1}
-use Rattle.suite_machine.specs.Events.{Event, run}
-use Rattle.suite_machine.specs.Conditions.{Obeys}
-use Rattle.suite_machine.proofs.Invariant.{Inv}
-use Rattle.server_moves.specs.Views.{Shows}
-use Rattle.server_moves.specs.Moves.{moves}
-use Rattle.server_moves.specs.Laws as steps
-use Rattle.server_moves.specs.Laws.{beginning}
-use Rattle.server_moves.proofs.Replies.{replies_tell}
-use Rattle.run_laws.proofs.Asking.{asks_in_its_name}
-use Rattle.run_machine.specs.Deciding.{decision_by, decision_in, own_events}
-use Rattle.run_machine.specs.Machines.{servers_of, home_in}
-use Rattle.run_machine.proofs.Servers.{server_there, servers_set}
-use Rattle.run_machine.proofs.Consistent.{AllConsistent, served_is}
-use Rattle.run_machine.proofs.Own.{own_told}
+use Rattle.run_core.specs.Worlds.{Actor, actor_at}
+use Rattle.suite_machine.specs.Machine.{World}
 use Rattle.run_machine.proofs.Quiet.{Quiet}
-use Rattle.run_machine.proofs.Sending.{decision_told}
-use Rattle.run_machine.proofs.Linked.{InCourse, IsDoing, Linked, AllLinked, numbered_at}
-use Rattle.run_machine.proofs.Turns.{Turn}
-use Rattle.run_machine.proofs.Turned.{Others, served_at, set_here, set_apart, same_or}
+use Rattle.run_machine.proofs.Linked.{InCourse, IsDoing, AllLinked, numbered_at}
+use Rattle.run_machine.proofs.Turned.{Others, set_here, set_apart, same_or}
 use Rattle.run_quorums.specs.Telling.{Agrees, told_to, DoingAgrees, AllAgree}
-use Rattle.run_quorums.proofs.Served.{heard_by, served_agrees, lacked_agrees}
+use Rattle.run_quorums.proofs.Served.{heard_by}
 use Rattle.run_quorums.proofs.Heard.{hears_word}
 
 -- ---- what others do leaves it

@@ -1,5 +1,5 @@
 -- In every run collectors hold what machines told: each event of a world.
-use Rattle.std.proofs.Common.{◌≡◌, ℕ, ◌+◌, ◌<◌, Bool, true, false, cond, List, [], ◌∷◌, ◌++◌, Option, Some, None, is_some, refl, sym, ap, subst, ◌∙◌, arith}
+use Rattle.std.proofs.Common.{◌≡◌, ℕ, ◌+◌, Bool, true, false, cond, List, [], Option, Some, None, is_some, refl, sym, ap, subst, ◌∙◌, arith}
 use Rattle.std.specs.Prelude.{◌*◌, ◌&&◌, nat_lt}
 use Rattle.suite_prefix.specs.SettingsRules.{Opening}
 use Rattle.rep_core.specs.declared.request.Request.{Request}
@@ -38,7 +38,7 @@ use Rattle.server_moves.proofs.Replies.{replies_tell}
 use Rattle.run_laws.proofs.Asking.{asks_in_its_name}
 use Rattle.run_machine.specs.Deciding.{decision_by, decision_in, own_events}
 use Rattle.run_machine.specs.Machines.{servers_of, home_in, begin_events, answered_events, asked_at_events, asked_events, step_events, lacks_for_events, lack_events, operated_events, operator_events, moved}
-use Rattle.run_machine.specs.Sides.{AnsweredWell, AsksAtWell, AsksWell, StepsWell, LacksForWell, LacksWell, KeepsSide}
+use Rattle.run_machine.specs.Sides.{AnsweredWell, AsksAtWell, AsksWell, StepsWell, KeepsSide}
 use Rattle.run_machine.proofs.Servers.{server_there, servers_set}
 use Rattle.run_machine.proofs.Consistent.{AllConsistent, served_is}
 use Rattle.run_machine.proofs.Following.{serves}
@@ -46,9 +46,9 @@ use Rattle.run_machine.proofs.Joining.{run-append}
 use Rattle.run_machine.proofs.Own.{own_told, begun_told}
 use Rattle.run_machine.proofs.Quiet.{quiet_same}
 use Rattle.run_machine.proofs.Sending.{decision_told}
-use Rattle.run_machine.proofs.Linked.{Linked, AllLinked, IsDoing}
+use Rattle.run_machine.proofs.Linked.{AllLinked, IsDoing}
 use Rattle.run_machine.proofs.Turns.{turn}
-use Rattle.run_machine.proofs.Turned.{only, served_at, served_concerns, lacked_concerns, turned, others_turned, begun_so}
+use Rattle.run_machine.proofs.Turned.{served_at, served_concerns, lacked_concerns, others_turned, begun_so}
 use Rattle.run_quorums.specs.Telling.{Agrees, told_to, DoingAgrees, AllAgree}
 use Rattle.run_quorums.proofs.Served.{heard_by, served_agrees, lacked_agrees}
 use Rattle.run_quorums.proofs.Agreed.{all_agree, take_agrees}

@@ -1,8 +1,7 @@
 -- What a word makes of the lists of a transaction's collectors.
-use Rattle.std.proofs.Common.{◌≡◌, ℕ, Bool, true, false, cond, List, [], ◌∷◌, Option, Some, None, refl, sym, ap, subst, ◌∙◌}
-use Rattle.std.specs.Prelude.{◌==◌, ◌&&◌, nat_lt, ◌*◌, ◌+◌}
+use Rattle.std.proofs.Common.{◌≡◌, ℕ, Bool, true, false, cond, List, [], ◌∷◌, Option, Some, None, refl, sym, ap, ◌∙◌}
+use Rattle.std.specs.Prelude.{◌==◌}
 use Rattle.std.proofs.lemmas.Bool.{eqb-true}
-use Rattle.sorted_map.specs.SortedMap.{IsOrdered}
 use Rattle.rep_core.specs.declared.request.Request.{Request}
 use Rattle.rep_core.specs.declared.request.Request.TheVariants as request
 use Rattle.rep_core.specs.declared.reply.Reply.{Reply}
@@ -20,11 +19,11 @@ use Rattle.txn_core.specs.declared.word.Word.TheVariants.{Replied, Lacked}
 use Rattle.txn_core.specs.declared.ending.Cause.{Cause}
 use Rattle.txn_core.specs.declared.ending.Cause.TheVariants.{Lost}
 use Rattle.txn_core.specs.declared.ending.Ending.{Ending}
-use Rattle.txn_core.specs.Doing.{Fixed, Task, Phase, Gathering, Fetching, Widening, Preparing, Deciding, Finishing, home_of, After, GoesOn, Ends, Course}
-use Rattle.txn_core.specs.Transactions.{Step, tell_end, give_up, locked_at, hear, heard_of, said_to, after_lack, after_word, asked_for, fetched_at, fetched_for, request_in, changes_of, decision_of, given_in, verdict_in, ending_by, cause_of_abort, lack_cause, execute, widen_all}
+use Rattle.txn_core.specs.Doing.{Fixed, Task, Phase, Gathering, Fetching, Widening, Preparing, Deciding, Finishing, home_of, After, Course}
+use Rattle.txn_core.specs.Transactions.{Step, tell_end, give_up, locked_at, hear, heard_of, said_to, after_lack, after_word, asked_for, fetched_at, fetched_for, request_in, changes_of, decision_of, given_in, verdict_in, ending_by, cause_of_abort, lack_cause}
 use Rattle.txn_core.specs.Laws.{locks, told_by, more_told}
 use Rattle.txn_core.proofs.Asks.{asks_same}
-use Rattle.txn_core.proofs.Locks.{Are, Leaves, told_at, told_in, told_with, leaves_widen, leaves_execute, leaves_fetched, leaves_prepared, leaves_collected, all_told-tell, asks_lock}
+use Rattle.txn_core.proofs.Locks.{Are, Leaves, told_in, told_with, leaves_widen, leaves_execute, leaves_fetched, leaves_prepared, leaves_collected, all_told-tell, asks_lock}
 use Rattle.run_quorums.proofs.Served.{heard_by}
 
 -- the lists after a word: of each suite what was there, with what the word tells of it

@@ -1,5 +1,5 @@
 -- What a transaction knows of a suite, it knows from a quorum.
-use Rattle.std.proofs.Common.{◌≡◌, ℕ, ◌+◌, ◌<◌, ◌≤◌, Bool, IsTrue, true, false, cond, ◌⊎◌, inl, inr, List, [], ◌∷◌, ◌++◌, Option, Some, None, refl, sym, ap, subst, ◌∙◌, arith}
+use Rattle.std.proofs.Common.{◌≡◌, ℕ, ◌+◌, ◌<◌, ◌≤◌, Bool, true, false, cond, ◌⊎◌, inl, inr, List, [], ◌∷◌, ◌++◌, Option, Some, refl, sym, ap, subst, ◌∙◌, arith}
 use Rattle.std.specs.Prelude.{◌==◌, ◌&&◌, ◌||◌, nat_lt, nat_le, max}
 use Rattle.std.proofs.lemmas.Bool.{false≢true, eqb-true}
 use Rattle.std.proofs.lemmas.Bool.Decides.{nat_tests}
@@ -20,8 +20,8 @@ use Rattle.txn_core.specs.Suites.{First, Suite}
 use Rattle.suite_machine.specs.Registers.{Beginning, Known, WasPrefix}
 use Rattle.suite_machine.specs.Machine.{Told, World, IsQuorum}
 use Rattle.suite_machine.proofs.Invariant.{Inv}
-use Rattle.run_machine.specs.Deciding.{showed, showed_to, known_by}
-use Rattle.run_quorums.specs.Telling.{ToldOf, SaidIs, AreTold, Agrees, told_to}
+use Rattle.run_machine.specs.Deciding.{showed, known_by}
+use Rattle.run_quorums.specs.Telling.{ToldOf, SaidIs, AreTold, told_to}
 use Rattle.run_quorums.specs.Firsts.{FirstFrom, early_collector}
 use Rattle.run_quorums.specs.Laws.{KnowsFromAQuorum}
 

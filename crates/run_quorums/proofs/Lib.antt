@@ -4,3 +4,4 @@ pub mod Known
 pub mod Written
 pub mod Agreed
 pub mod Events
+pub mod Runs

@@ -22,14 +22,14 @@ use Rattle.suite_collect.specs.Telling.{is_held, holds}
 use Rattle.suite_collect.specs.Collecting.{mode_of}
 use Rattle.txn_core.specs.declared.word.Word.{Word}
 use Rattle.txn_core.specs.declared.word.Word.TheVariants.{Replied, Lacked}
-use Rattle.txn_core.specs.Laws.{Exchange, more_told, told_by, locks}
+use Rattle.txn_core.specs.Laws.{more_told, told_by, locks}
 use Rattle.txn_core.specs.Transactions.{is_poll, said_to}
 use Rattle.suite_machine.specs.Registers.{Beginning}
 use Rattle.suite_machine.specs.Machine.{Told, Hold, Verdict, World, set2}
 use Rattle.suite_machine.specs.Events as machine
 use Rattle.suite_machine.specs.Events.{Event, Overrule, happens, run, upgraded_told}
 use Rattle.suite_machine.specs.Conditions.{is_exclusive, Obeys}
-use Rattle.suite_machine.proofs.Places.{at2, one_is, itself, another}
+use Rattle.suite_machine.proofs.Places.{at2, one_is, itself}
 use Rattle.suite_machine.proofs.Sound.{Sound}
 use Rattle.server_moves.specs.Moves.{prepare_of, first_verdict, moves}
 use Rattle.server_moves.specs.Laws.{TellsCopy, Tells}

@@ -5,25 +5,23 @@ use Rattle.std.proofs.lemmas.Bool.{false≢true}
 use Rattle.std.proofs.lemmas.Bool.Decides.{nat_tests}
 use Rattle.std.proofs.lemmas.Option.{same_Some}
 use Rattle.std.specs.List.{list_any}
-use Rattle.vote_core.specs.Quorums.{Representative, Configuration, votes_at, is_write_quorum}
+use Rattle.vote_core.specs.Quorums.{Representative, votes_at, is_write_quorum}
 use Rattle.suite_prefix.specs.declared.copies.Prefix.{Prefix}
 use Rattle.suite_prefix.specs.declared.copies.Replica.{Replica}
-use Rattle.suite_prefix.specs.declared.lock_mode.LockMode.TheVariants.{Exclusive}
 use Rattle.file_exec.specs.declared.changes.Change as executor
 use Rattle.rep_core.specs.declared.request.Take.TheVariants as take
-use Rattle.suite_collect.specs.Telling.{holds}
 use Rattle.suite_collect.specs.Collecting.{all_told}
 use Rattle.txn_core.specs.Suites.{First, Suite}
 use Rattle.txn_core.specs.Suites as suites
-use Rattle.txn_core.specs.Writing.{change_of, gets_votes, sets_votes, sets_prefix, new_prefix, new_copy, one_if, has_vote, takes_whole, take_of_changed, take_from, part_of}
+use Rattle.txn_core.specs.Writing.{change_of, gets_votes, sets_prefix, new_prefix, new_copy, one_if, has_vote, takes_whole, take_of_changed, take_from, part_of}
 use Rattle.txn_core.specs.Doing.{Changes}
 use Rattle.txn_core.specs.Transactions.{votes_then}
 use Rattle.txn_core.specs.Laws.{newest_of, IsReady}
-use Rattle.suite_machine.specs.Registers.{Beginning, Known, Change, WasPrefix}
-use Rattle.suite_machine.specs.Machine.{Told, World}
-use Rattle.suite_machine.specs.Conditions.{is_exclusive, holds_exclusively, CoversPrefix, KeepsContent, CoversContent}
+use Rattle.suite_machine.specs.Registers.{Beginning, Change, WasPrefix}
+use Rattle.suite_machine.specs.Machine.{World}
+use Rattle.suite_machine.specs.Conditions.{holds_exclusively, CoversPrefix, KeepsContent, CoversContent}
 use Rattle.server_moves.specs.Preparing.{left_of}
-use Rattle.run_machine.specs.Deciding.{known_by, change_to, content_to}
+use Rattle.run_machine.specs.Deciding.{known_by, change_to}
 use Rattle.run_machine.specs.Owed.{OwesKnown, OwesWritten}
 use Rattle.run_quorums.specs.Telling.{Agrees, told_to}
 use Rattle.run_quorums.specs.Fairness.{IsFair, PreparedPart}
@@ -79,10 +77,13 @@ module _ (start : Beginning) (w : World) (t : ℕ) (z : ℕ) (suite : Suite) (ch
   pub covers_prefix : CoversPrefix w t (known_by first suite) new
   covers_prefix =
       elim (sets_prefix change) as (λ b. sets_prefix change ≡ b → CoversPrefix w t (known_by first suite) new) [
-        | true ↦ λ e. inr (ap (λ b. first.prefix.pver + one_if b) e, λ i held.
-            let at = left i held in
-            let x = prefix_left i at.copy (takes_whole change i) in
-            (x.0, at.is ∙ ap (λ b. Some (left_with i at.copy (takes_whole change i) b)) e ∙ ap Some x.1, x.2))
+        | true ↦ λ e. inr (
+          ap (λ b. first.prefix.pver + one_if b) e,
+          λ i held.
+              let at = left i held in
+              let x = prefix_left i at.copy (takes_whole change i) in
+              (x.0, at.is ∙ ap (λ b. Some (left_with i at.copy (takes_whole change i) b)) e ∙ ap Some x.1, x.2),
+        )
         | false ↦ λ e. inl (fair.prefix e)
       ] refl
 

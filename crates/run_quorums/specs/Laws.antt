@@ -1,19 +1,23 @@
 -- The laws of this crate: what an agent owes where it decides, from what its collector was told and what it prepared.
-use Rattle.std.specs.Prelude.{◌≡◌, ℕ, IsTrue, Some}
+use Rattle.std.specs.Prelude.{◌≡◌, ℕ, ◌≤◌, IsTrue, List, Some}
 use Rattle.vote_core.specs.Validity.{IsValid}
 use Rattle.suite_content.specs.declared.content.Content.{Content}
+use Rattle.suite_prefix.specs.SettingsRules.{Opening}
 use Rattle.file_exec.specs.declared.changes.Change as executor
 use Rattle.suite_collect.specs.Collecting.{all_told}
 use Rattle.txn_core.specs.Suites.{First, Suite}
 use Rattle.txn_core.specs.Writing.{change_of, part_of}
 use Rattle.txn_core.specs.Doing.{Changes}
 use Rattle.txn_core.specs.Laws.{newest_of, IsReady}
+use Rattle.run_core.specs.declared.event.Event.{Event}
+use Rattle.run_core.specs.Runs as runs
 use Rattle.suite_machine.specs.Registers.{Beginning, WasPrefix, GoesWith}
 use Rattle.suite_machine.specs.Machine.{World}
 use Rattle.suite_machine.specs.Conditions.{holds_exclusively}
 use Rattle.run_machine.specs.Deciding.{known_by, change_to}
-use Rattle.run_machine.specs.Owed.{OwesKnown, OwesWritten}
-use Rattle.run_quorums.specs.Telling.{Agrees, told_to}
+use Rattle.run_machine.specs.Machines.{machine_of}
+use Rattle.run_machine.specs.Owed.{OwesKnown, OwesWritten, AgentsOwe}
+use Rattle.run_quorums.specs.Telling.{Agrees, told_to, AllAgree}
 use Rattle.run_quorums.specs.Firsts.{FirstFrom}
 use Rattle.run_quorums.specs.Fairness.{IsFair, PreparedPart}
 
@@ -31,3 +35,8 @@ WritesToQuorums =
     (start : Beginning) (w : World) (t z : ℕ) (suite : Suite) (changes : Changes) (change : executor.Change) (first : First) → Agrees (told_to w t) (all_told suite.collector)
     → suite.first ≡ Some first → change_of changes z ≡ Some change → IsFair suite first change → ((i : ℕ) → IsTrue (holds_exclusively w t i) → PreparedPart w t i (part_of changes i (z, suite)))
     → OwesKnown start w t (known_by first suite) → IsReady suite z changes → WasPrefix start w.log (newest_of suite) → OwesWritten start w t (known_by first suite) (change_to first change)
+
+-- In every run in which agents give what they owe: a transaction's collector holds what the machine of its suite told it, server by server: the mode of the lock,
+-- and the prefix and the version of the copy.
+abbrev pub CollectorsAgree : Type 0
+CollectorsAgree = (given : Opening) (z : ℕ) (events : List Event) → IsValid given.c0 → given.agents ≤ 64 → given.servers ≤ 16 → AgentsOwe given z events → AllAgree z (machine_of given z events) (runs.run given events)

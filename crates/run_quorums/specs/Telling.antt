@@ -6,8 +6,7 @@ use Rattle.suite_collect.specs.declared.told.Said.{Said}
 use Rattle.suite_collect.specs.declared.told.Said.TheVariants.{Held, Busy, Down}
 use Rattle.suite_collect.specs.declared.told.Told as collect
 use Rattle.suite_collect.specs.Telling.{holds}
-use Rattle.txn_core.specs.Suites.{suite_of}
-use Rattle.txn_core.specs.Doing.{Doing, Running, Rounding}
+use Rattle.txn_core.specs.Doing.{Doing, Running}
 use Rattle.txn_core.proofs.Locks.{told_at}
 use Rattle.run_core.specs.Worlds as worlds
 use Rattle.run_core.specs.Worlds.{Actor, actor_at}

@@ -5,7 +5,7 @@
 //! the laws in `specs/Laws`.
 #![tactic(auto)]
 
-ghost use Rattle.run_quorums.specs.Laws.{KnowsFromAQuorum, WritesToQuorums};
+ghost use Rattle.run_quorums.specs.Laws.{KnowsFromAQuorum, WritesToQuorums, CollectorsAgree};
 
 /// A law: where a collector holds what the machine of its suite told, what is known by its first Current is known from a
 /// quorum, and some server told of the version. It does nothing.
@@ -16,4 +16,10 @@ pub fn knows_from_a_quorum()
 /// A law: and what is written to the suite is written to quorums, at each server that is held exclusively. It does nothing.
 pub fn writes_to_quorums()
     ensures { WritesToQuorums }
+{}
+
+/// A law: in every run in which agents give what they owe, each collector holds what the machine of its suite told: at
+/// which server, in which mode, which prefix and which version. It does nothing.
+pub fn collectors_agree()
+    ensures { CollectorsAgree }
 {}
