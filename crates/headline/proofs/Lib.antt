@@ -1,0 +1,3 @@
+pub mod Together
+pub mod Owing
+pub mod Keeping
