@@ -23,15 +23,14 @@ use Rattle.run_machine.specs.Owed.{OwesKnown, OwesWritten, OwesWith, OwesFirst, 
 use Rattle.run_machine.proofs.Jobs.{IdleOr}
 use Rattle.run_knowledge.proofs.Decided.{suite_was, known_prefix, known_content, newest_prefix}
 use Rattle.run_quorums.specs.Telling.{Agrees, told_to, DoingAgrees}
-use Rattle.run_quorums.specs.Firsts.{FirstFrom}
 use Rattle.run_quorums.specs.Fairness.{IsFair, PreparedPart}
 use Rattle.run_quorums.proofs.Known.{valid_was, knows_from_a_quorum}
 use Rattle.run_quorums.proofs.Written.{writes_to_quorums}
+use Rattle.headline.proofs.Firsts.{firsts_given}
 use Rattle.headline.proofs.Together.{Together}
 
 -- of a transaction that decides, for a suite of which it had a Current
 pub record LeftOf (z : ℕ) (w : World) (course : Course) (outcome : Outcome) (suite : Suite) (first : First) : Type 0 where
-  pub from : FirstFrom suite first  -- the Current was given by its collector
   pub fair : (change : executor.Change) → change_of (changes_of outcome) z ≡ Some change → IsFair suite first change  -- its operations leave what they do not set
   pub prepared : (i : ℕ) → IsTrue (holds_exclusively w course.task.t i) → PreparedPart w course.task.t i (part_of (changes_of outcome) i (z, suite))  -- and it prepared what it is to write
 
@@ -71,7 +70,7 @@ module _ (given : Opening) (z : ℕ) (w : World) (world : worlds.World) (now : T
     owes_known suite found first had =
         let was = suite_was z start w actor.agent course suite (now.fits number actor there) running found in
         let prefix = known_prefix z start w t suite was first had in
-        knows_from_a_quorum start w t suite first (valid_was start w first.prefix now.inv prefix) (left number actor course outcome suite first there running phase found had).from (agrees_on suite found) prefix (known_content z start w t suite was first had)
+        knows_from_a_quorum start w t suite first (valid_was start w first.prefix now.inv prefix) (firsts_given (fixed_of given) actor.agent (now.jobs number actor there) course running z suite found first had) (agrees_on suite found) prefix (known_content z start w t suite was first had)
 
     owes_written : (suite : Suite) → suite_of course.suites z ≡ Some suite → (first : First) → suite.first ≡ Some first → (change : executor.Change) → change_of (changes_of outcome) z ≡ Some change → OwesWritten start w t (known_by first suite) (change_to first change)
     owes_written suite found first had change changed =
