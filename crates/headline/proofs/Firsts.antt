@@ -1,20 +1,14 @@
 -- Each first Current of a suite that a transaction gathers was given by its collector.
-use Rattle.std.proofs.Common.{◌≡◌, ◌+◌, ◌++◌, append_assoc, ℕ, zero, suc, ◌<◌, Bool, true, false, cond, ◌⊎◌, inl, inr, List, [], ◌∷◌, Option, Some, None, Ok, Err, refl, sym, ap, subst, ◌∙◌, arith}
+use Rattle.std.proofs.Common.{◌≡◌, ◌+◌, ◌++◌, append_assoc, ℕ, zero, suc, Bool, true, false, cond, inl, inr, List, [], ◌∷◌, Option, Some, None, Ok, Err, refl, sym, ap, subst, ◌∙◌}
 use Rattle.std.proofs.lemmas.List.{append-nil}
-use Rattle.std.specs.Prelude.{◌&&◌, ◌*◌, nat_lt, ◌==◌, length, find, unwrap_or}
-use Rattle.std.specs.Ordering.{nat_cmp}
+use Rattle.std.specs.Prelude.{◌&&◌, ◌*◌, nat_lt, length}
 use Rattle.std.proofs.lemmas.Bool.{false≢true}
-use Rattle.std.proofs.lemmas.Option.{same_Some, none-some}
+use Rattle.std.proofs.lemmas.Option.{same_Some}
 use Rattle.suite_content.specs.declared.content.Content.{Content}
-use Rattle.suite_content.specs.Contents.{empty_content}
-use Rattle.suite_prefix.specs.Copies.{held_by}
-use Rattle.suite_prefix.specs.Absent.{absent_prefix}
 use Rattle.suite_prefix.specs.declared.copies.Prefix.{Prefix}
 use Rattle.suite_prefix.specs.declared.lock_mode.LockMode.{LockMode}
 use Rattle.rep_core.specs.declared.request.Request.{Request}
-use Rattle.rep_core.specs.declared.request.Request.TheVariants as request
 use Rattle.rep_core.specs.declared.reply.Reply.{Reply}
-use Rattle.rep_core.specs.declared.reply.Reply.TheVariants as reply
 use Rattle.rep_core.specs.declared.reply.Verdict.{Verdict}
 use Rattle.rep_core.specs.declared.reply.Verdict.TheVariants as verdict
 use Rattle.rep_core.specs.declared.stamped.Lack.{Lack}
@@ -25,8 +19,7 @@ use Rattle.file_exec.specs.declared.executor.Outcome.TheVariants as exec
 use Rattle.suite_collect.specs.declared.told.Said.{Said}
 use Rattle.suite_collect.specs.declared.told.Told as collect
 use Rattle.suite_collect.specs.Collecting.{Collector, Widening as Wider, all_told, told_since, tell_at, tell, mode_of, Next, Ask, Current, Short, next}
-use Rattle.suite_collect.proofs.Collected.{gives_of}
-use Rattle.weak_cache.specs.Entries.{Entry, Cache, is_of, entry_of}
+use Rattle.weak_cache.specs.Entries.{Cache}
 use Rattle.txn_core.specs.Suites.{First, Suite, Suites, suite_of, with_suite, first_or, settled, source_of}
 use Rattle.txn_core.specs.declared.word.Word.{Word}
 use Rattle.txn_core.specs.declared.word.Word.TheVariants.{Replied, Lacked}
@@ -34,18 +27,15 @@ use Rattle.txn_core.specs.declared.ending.Cause.{Cause}
 use Rattle.txn_core.specs.declared.ending.Cause.TheVariants.{Lost}
 use Rattle.txn_core.specs.declared.ending.Ending.{Ending}
 use Rattle.txn_core.specs.Doing.{Granted, Fixed, Task, Outcome, Phase, Gathering, Fetching, Widening, Preparing, Deciding, Finishing, Changes, Course, Round, Doing, Running, Rounding, After, GoesOn, Ends}
-use Rattle.txn_core.specs.Transactions.{Step, Gathered, tell_end, give_up, prepare, locked_at, short_cause, gather_by, start_from, widen_by, widen_one, widened, widen_all, opened, or_all, open_needed, open_suite, open_first, opened_with, free_content, after_search, heard_on, raised_or_new, keep_content, heard_of, said_to, proceed, execute, collected, hear, fetched, fetched_at, fetched_for, after_lack, after_word, given_in, lack_cause, verdict_in, ending_by, cause_of_abort, request_in}
-use Rattle.txn_core.proofs.Asks.{asks_same}
+use Rattle.txn_core.specs.Transactions.{Step, Gathered, tell_end, give_up, prepare, locked_at, short_cause, gather_by, widen_by, widen_one, widened, widen_all, opened, or_all, open_needed, open_suite, open_first, opened_with, free_content, heard_on, raised_or_new, keep_content, heard_of, said_to, proceed, execute, collected, hear, fetched, after_lack, after_word, given_in, lack_cause, verdict_in, ending_by, cause_of_abort}
 use Rattle.txn_core.proofs.Gathers.{Each, each_but, each_with, tell_start}
-
 -- a suite whose content is fetched has one of a version above 0
 use Rattle.txn_core.specs.declared.job.Job.{Job}
 use Rattle.txn_core.specs.declared.job.Job.TheVariants.{Transaction, Sweep}
 use Rattle.txn_core.specs.Sweeps as sweep
-use Rattle.txn_core.specs.Agents.{Agent, Event, Take, Forget, next_in, next_of, take, take_in, begin, started, forget, is_idle, has_sense, most_jobs, after_all, left}
+use Rattle.txn_core.specs.Agents.{Agent, Event, Take, Forget, next_in, next_of, take_in, begin, started, is_idle, has_sense, most_jobs, after_all, left}
 use Rattle.txn_core.proofs.Upheld.{after-append}
 use Rattle.run_machine.proofs.Jobs.{IdleOr}
-use Rattle.run_machine.specs.Laws.{IsOfAJob}
 use Rattle.run_knowledge.proofs.Walk.{IsNarrow}
 use Rattle.run_knowledge.proofs.Events.{Hears, narrow_of}
 use Rattle.run_quorums.specs.Firsts.{FirstFrom, early_collector}
