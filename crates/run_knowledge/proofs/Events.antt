@@ -71,7 +71,7 @@ use Rattle.run_knowledge.proofs.Told.{says_so, gives_so}
 -- ---- a suite that had no Current was not widened
 
 -- it is gathered, or it is the first that is widened
-abbrev Hears : Phase → ℕ → Type 0
+abbrev pub Hears : Phase → ℕ → Type 0
 Hears phase number = (phase ≡ Gathering number) ⊎ ((left : List ℕ) × (granted : Granted) × (phase ≡ Widening (number ∷ left) granted))
 
 had_none : (first : First) (o : Option First) → o ≡ Some first → o ≡ None → ⊥
@@ -93,7 +93,7 @@ stands_narrow fixed task Old Now Loose past suites (Deciding outcome) number (in
 stands_narrow fixed task Old Now Loose past suites (Finishing servers v ending) number (inl same) stands suite there none = absurd cc
 stands_narrow fixed task Old Now Loose past suites (Finishing servers v ending) number (inr widens) stands suite there none = absurd (let same = widens.2 in cc)
 
-narrow_of : (fixed : Fixed) (agent : Agent) → IdleOr fixed agent → (course : Course) → agent.doing ≡ Some (Running course) → (asked : ℕ × Request) → request_of fixed course ≡ Some asked → (number : ℕ) → Hears course.phase number → (suite : Suite)
+pub narrow_of : (fixed : Fixed) (agent : Agent) → IdleOr fixed agent → (course : Course) → agent.doing ≡ Some (Running course) → (asked : ℕ × Request) → request_of fixed course ≡ Some asked → (number : ℕ) → Hears course.phase number → (suite : Suite)
     → suite_of course.suites number ≡ Some suite → IsNarrow suite
 narrow_of fixed agent (inl idle) course running asked is number hears suite there none = absurd (let busy : is_idle (Some (Running course)) ≡ true = ap is_idle (sym running) ∙ idle in cc)
 narrow_of fixed agent (inr job) course running asked is number hears suite there none =

@@ -13,7 +13,7 @@ use Rattle.suite_collect.specs.declared.told.Said.{Said}
 use Rattle.suite_collect.specs.declared.told.Said.TheVariants.{Held, Busy, Down}
 use Rattle.suite_collect.specs.declared.told.Told as collect
 use Rattle.suite_collect.specs.Telling.{is_held, newer, newest, holds, version_in, shown, greatest}
-use Rattle.suite_collect.specs.Collecting.{Collector, told_since, needed_of}
+use Rattle.suite_collect.specs.Collecting.{Collector, all_told, needed_of}
 use Rattle.suite_collect.specs.Laws.{among, IsCurrent}
 use Rattle.suite_collect.proofs.Collected.{gives_of, current_is_a_quorum}
 use Rattle.txn_core.specs.Suites.{First, Suite}
@@ -161,7 +161,7 @@ are_later : (f : ℕ → Option Told) (later early : List collect.Told) → AreT
 are_later f [] early are = are
 are_later f (one ∷ later) early are = are_later f later early are.1
 
-module _ (f : ℕ → Option Told) (suite : Suite) (first : First) (from : FirstFrom suite first) (told : AreTold f suite.collector.told) where
+module _ (f : ℕ → Option Told) (suite : Suite) (first : First) (from : FirstFrom suite first) (told : AreTold f (all_told suite.collector)) where
   abbrev early : Collector
   early = early_collector suite.collector.start from.mode from.earlier
 
@@ -211,6 +211,6 @@ valid_was start w prefix inv was = subst (λ (p : Prefix). IsValid p.votes) was.
 
 pub knows_from_a_quorum : KnowsFromAQuorum
 knows_from_a_quorum start w t suite first valid from agrees was content =
-    let told = are_later (told_to w t) (told_since suite.collector.widening) suite.collector.told agrees.copies in
+    let told = agrees.copies in
     let found = source (told_to w t) suite first from told valid in
     record { quorum = quorum (told_to w t) suite first from told; was = was; from = found.0; from_told = found.1; told_from = found.2; told_dver = found.3; content = content }

@@ -3,7 +3,7 @@ use Rattle.std.specs.Prelude.{◌≡◌, ℕ, List, ◌++◌, None}
 use Rattle.suite_prefix.specs.declared.copies.Prefix.{Prefix}
 use Rattle.suite_prefix.specs.declared.lock_mode.LockMode.{LockMode}
 use Rattle.suite_collect.specs.declared.told.Told.{Told}
-use Rattle.suite_collect.specs.Collecting.{Collector, Current, next}
+use Rattle.suite_collect.specs.Collecting.{Collector, Current, all_told, next}
 use Rattle.txn_core.specs.Suites.{First, Suite}
 
 -- the collector at that moment: nothing was widened then
@@ -16,5 +16,5 @@ pub record FirstFrom (suite : Suite) (first : First) : Type 0 where
   pub members : List ℕ
   pub earlier : List Told
   pub later : List Told
-  pub parts : suite.collector.told ≡ later ++ earlier
+  pub parts : all_told suite.collector ≡ later ++ earlier
   pub gave : next (early_collector suite.collector.start mode earlier) ≡ Current first.prefix first.dver members

@@ -1,0 +1,4 @@
+pub mod Firsts
+pub mod Together
+pub mod Owing
+pub mod Keeping
