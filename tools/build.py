@@ -5,7 +5,7 @@ Only the crates that the program stands on are proved, side by side where they d
 What is proved stays in each crate's out/, so a build that was interrupted goes on where it was. Two builds
 at once wait for each other. Status 0: the program is there; 1: it is not.
 """
-import fcntl, os, signal, subprocess, sys, tempfile, time
+import fcntl, os, select, signal, subprocess, sys, tempfile, time
 
 TOP = os.path.dirname(os.path.dirname(os.path.abspath(__file__)))
 CRATES = os.path.join(TOP, "crates")
@@ -36,24 +36,6 @@ def crates_below(program):
     return found
 
 
-def size(name):
-    """The bytes of a crate's sources, by which the longest way up is guessed."""
-    total = 0
-    for folder, folders, files in os.walk(os.path.join(CRATES, name)):
-        folders[:] = [one for one in folders if one not in ("out", "must-fail")]
-        total += sum(os.path.getsize(os.path.join(folder, file)) for file in files)
-    return total
-
-
-def ways_up(needs):
-    """How much is to be proved from each crate up to the program, along the longest way."""
-    ways = {}
-    for name in reversed(list(needs)):
-        above = [ways[other] for other in ways if name in needs[other]]
-        ways[name] = size(name) + max(above, default=0)
-    return ways
-
-
 def seats():
     """How many checks may run side by side."""
     cores = len(os.sched_getaffinity(0))
@@ -81,15 +63,15 @@ class Teller:
             sys.stderr.write(text + "\n")
         sys.stderr.flush()
 
-    def step(self, done, count, running, stays):
+    def step(self, done, count, last, stays):
         seconds = int(time.monotonic() - self.begun)
-        self.say(f"{done} of {count} crates proved, {seconds} s; at {', '.join(running)}", stays and not self.changes)
+        self.say(f"{done} of {count} crates proved, {seconds} s" + (f"; the last was {last}" if last else ""), stays and not self.changes)
 
 
-def start(words, name, log):
-    """Starts rt in a crate's folder, in a group of its own so that it can be stopped whole."""
+def start(words, log):
+    """Starts rt in the program's folder, in a group of its own so that it can be stopped whole."""
     return subprocess.Popen(
-        ["rt", *words], cwd=os.path.join(CRATES, name), stdin=subprocess.DEVNULL, stdout=log, stderr=log, start_new_session=True
+        ["rt", *words], cwd=os.path.join(CRATES, PROGRAM), stdin=subprocess.DEVNULL, stdout=log, stderr=subprocess.STDOUT, start_new_session=True
     )
 
 
@@ -101,54 +83,62 @@ def stop(process):
     process.wait()
 
 
-def tail(log, lines=20):
-    log.seek(0)
-    return b"".join(log.readlines()[-lines:]).decode("utf-8", "replace")
+def tail(text, lines=20):
+    return "".join(text.splitlines(True)[-lines:])
 
 
 def prove(needs, teller):
-    """Proves the crates, lower ones first and the longest way first. Answers the crate that failed, and what it printed."""
-    ways, room = ways_up(needs), seats()
-    waiting = [name for name in needs if name != PROGRAM]
-    proved, running, changed = set(), {}, False
+    """Proves the crates, side by side where they do not stand on each other. Answers the crate that failed, and what it printed.
+
+    `rt all` in a crate's folder takes that crate and those below it. (An `rt check` for each would not run side by
+    side: each keeps all others out of the crates below its own.)
+    """
+    said, name, rest = {"": ""}, "", b""
+    process = start(["all", "check", "--jobs", str(seats())], subprocess.PIPE)
     try:
-        while waiting or running:
-            ready = [name for name in waiting if proved.issuperset(needs[name])]
-            for name in sorted(ready, key=ways.get, reverse=True)[: room - len(running)]:
-                waiting.remove(name)
-                log = tempfile.TemporaryFile()
-                jobs = ["--jobs", "1"] if len(ready) + len(running) >= room else []
-                running[name] = (start(["check", *jobs], name, log), log)
-            teller.step(len(proved), len(needs), sorted(running), changed)
-            ended = [name for name, (process, _) in running.items() if process.poll() is not None]
-            for name in ended:
-                process, log = running.pop(name)
-                if process.returncode != 0:
-                    return name, tail(log)
-                proved.add(name)
-            changed = bool(ended)
-            if not ended:
-                time.sleep(0.5)
+        while True:
+            teller.step(len(needs.keys() & said), len(needs), name, False)
+            if not select.select([process.stdout], [], [], 0.5)[0]:
+                continue
+            read = os.read(process.stdout.fileno(), 1 << 16)
+            *lines, rest = (rest + read).split(b"\n")
+            for line in (one.decode("utf-8", "replace") for one in lines):
+                title = line[3:] if line.startswith("== ") else None
+                if title == "summary" or title in needs:
+                    # a crate's text comes when it has ended
+                    name = title
+                    said[name] = ""
+                    teller.step(len(needs.keys() & said), len(needs), name, title in needs)
+                else:
+                    said[name] += line + "\n"
+            if not read:
+                break
+        process.wait()
     finally:
-        for process, _ in running.values():
+        if process.poll() is None:
             stop(process)
-    return None
+    if process.returncode == 0:
+        return None
+    summary = said.get("summary", said[""])
+    failed = [one for one in needs if one in said and f"{one}: ok\n" not in summary]
+    return (failed[0], tail(said[failed[0]])) if failed else (PROGRAM, tail(summary))
 
 
 def build(needs, teller):
     """Proves, compiles and links the program itself. Answers what it printed where that failed."""
     with tempfile.TemporaryFile() as log:
         # rt run also runs what it built; here that prints the program's help into the log
-        process = start(["run", "--", "--help"], PROGRAM, log)
+        process = start(["run", "--", "--help"], log)
         try:
             while process.poll() is None:
-                teller.step(len(needs) - 1, len(needs), [PROGRAM], False)
+                teller.step(len(needs), len(needs), PROGRAM, False)
                 time.sleep(0.5)
         finally:
             if process.poll() is None:
                 stop(process)
         if process.returncode != 0 or not os.path.exists(BINARY):
-            return tail(log)
+            log.seek(0)
+            return tail(log.read().decode("utf-8", "replace"))
     with open(NEEDS, "w") as file:
         file.write("".join(f"crates/{name}\n" for name in needs))
     os.utime(BINARY)
