@@ -6,5 +6,7 @@ pub mod Sorting
 pub mod Answering
 pub mod EntryEquality
 pub mod Doubles
+pub mod Numbers
+pub mod Tallying
 pub mod OneOrder
 pub mod Reordered

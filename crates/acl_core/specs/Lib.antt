@@ -4,6 +4,7 @@ pub mod Padding
 pub mod Tags
 pub mod Entries
 pub mod AccessLists
+pub mod Tallies
 pub mod Modes
 pub mod InOrder
 pub mod Sorted

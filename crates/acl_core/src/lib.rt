@@ -15,6 +15,7 @@ mod fault;
 mod mode;
 mod perms;
 mod search;
+mod tally;
 
 pub use acl::{Acl, MAX_ENTRIES};
 pub use caller::{Caller, MAX_GROUPS, TooManyGroups};
@@ -23,3 +24,4 @@ pub use entry::{Entry, Tag};
 pub use fault::{AclError, AclFault};
 pub use mode::Mode;
 pub use perms::Perms;
+pub use tally::Tally;

@@ -7,6 +7,7 @@ pub mod Spelling
 pub mod Appending
 pub mod CleanText
 pub mod Letters
+pub mod Granting
 pub mod EntryTexts
 pub mod RoundTrip
 pub mod Trimming

@@ -1,10 +1,12 @@
 -- Parts between separators, by the place of the first one.
-use Rattle.std.proofs.Common.{◌≡◌, ℕ, ◌+◌, ◌-◌, ◌<◌, ◌≤◌, ◌==◌, Bool, List, [], ◌∷◌, length, take, drop, refl, inl, inr, arith}
+use Rattle.std.proofs.Common.{◌≡◌, ℕ, ◌+◌, ◌-◌, ◌<◌, ◌≤◌, ◌==◌, Bool, List, [], ◌∷◌, Some, None, get_or, length, take, drop, refl, sym, inl, inr, arith}
 use Rattle.std.specs.List.{slice_split, position_or_len}
-use Rattle.std.proofs.lemmas.Bool.{cases_Bool}
+use Rattle.std.proofs.lemmas.Bool.{cases_Bool, false_from_ne_true}
 use Rattle.std.proofs.lemmas.List.{take_rest}
+use Rattle.std.proofs.lemmas.List.Sums.{position_or_len_is}
 use Rattle.std.proofs.lemmas.List.Splits.{slice_split_first, slice_split-cons_no}
 use Rattle.acl_text.specs.Layout.{parts}
+use Rattle.memchr.specs.Find.{IsFirstByte, is_byte}
 
 -- where no separator is found, all is one part
 pub split_whole : (p : ℕ → Bool) (bytes : List ℕ) → length bytes ≤ position_or_len p bytes → slice_split p bytes ≡ bytes ∷ []
@@ -31,3 +33,13 @@ some_part p (byte ∷ bytes) =
       | inl separates ↦ ([], slice_split p bytes, rw separates refl)
       | inr other ↦ (byte ∷ later.0, later.1, rw (slice_split-cons_no p byte bytes other, later.2) refl)
     ]
+
+-- the first place of a byte, as a search finds it
+pub first_place : (byte : ℕ) (bytes : List ℕ) (place : ℕ) → IsFirstByte (is_byte byte) bytes (Some place) → (place ≡ position_or_len (λ b. b == byte) bytes) × (place ≤ length bytes)
+first_place byte bytes place found =
+    let inside : place ≤ length bytes = omega (arith, found.0.high) in
+    (sym (position_or_len_is (λ (b : ℕ). b == byte) bytes place 0 inside (λ k before. false_from_ne_true (get_or bytes k 0 == byte) (found.0.before k (omega arith) before)) (λ less. found.1)), inside)
+
+pub no_place : (byte : ℕ) (bytes : List ℕ) → IsFirstByte (is_byte byte) bytes None → length bytes ≡ position_or_len (λ b. b == byte) bytes
+no_place byte bytes none =
+    sym (position_or_len_is (λ (b : ℕ). b == byte) bytes (length bytes) 0 (omega arith) (λ k before. false_from_ne_true (get_or bytes k 0 == byte) (none k (omega arith) before)) (λ less. absurd (omega arith)))

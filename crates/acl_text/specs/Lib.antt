@@ -4,6 +4,7 @@ pub mod Qualifiers
 pub mod Tables
 pub mod Keywords
 pub mod Grammar
+pub mod Letters
 pub mod Faults
 pub mod Texts
 pub mod Writing

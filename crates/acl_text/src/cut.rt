@@ -5,12 +5,37 @@ ghost use Rattle.std.specs.List.{flat_map, list_all, position_or_len, prefix_len
 ghost use Rattle.std.specs.Iterator.{YieldsFirstRef, item_count};
 ghost use Rattle.acl_text.specs.Layout.{parts, parts_left, uncommented, is_white, trimmed, items_of, items_of_line, comma, line_feed};
 
+use memchr::memchr;
+
 /// The place of the first of some byte, or the length where there is none.
 fn place_of(bytes: &[u8], byte: u8) -> usize
     ensures place { result ≡ position_or_len (λ b. b == byte) bytes.now }
     ensures within { result ≤ length bytes.now }
 {
     bytes.iter().take_while(|b| **b != byte).count()
+}
+
+/// The same, where it may be far away.
+fn far_place_of(bytes: &[u8], byte: u8) -> usize
+    ensures place { result ≡ position_or_len (λ b. b == byte) bytes.now }
+    ensures within { result ≤ length bytes.now }
+{
+    match memchr(byte, bytes) {
+        Some(place) => place,
+        None => bytes.len(),
+    }
+}
+
+/// A text's first line, and what stands after its end where it has one.
+fn cut_line(text: &[u8]) -> (&[u8], Option<&[u8]>)
+    ensures { parts line_feed text.now ≡ result.0.now ∷ parts_left line_feed result.1 }
+{
+    let place = far_place_of(text, b'\n');
+    if place < text.len() {
+        (&text[..place], Some(&text[place + 1..]))
+    } else {
+        (text, None)
+    }
 }
 
 /// What stands before the first separator, and what after it where there is one.
@@ -29,7 +54,7 @@ pub(crate) fn cut(bytes: &[u8], separator: u8) -> (&[u8], Option<&[u8]>)
 fn uncommented(line: &[u8]) -> &[u8]
     ensures { result.now ≡ uncommented line.now }
 {
-    &line[..place_of(line, b'#')]
+    &line[..far_place_of(line, b'#')]
 }
 
 fn is_white(byte: u8) -> bool
@@ -107,7 +132,7 @@ impl<'a> Iterator for Items<'a> {
         let (item, line) = match self.line {
             Some(rest) => cut(rest, b','),
             None => {
-                let (line, lines) = cut(self.lines?, b'\n');
+                let (line, lines) = cut_line(self.lines?);
                 self.lines = lines;
                 cut(uncommented(line), b',')
             }

@@ -1,9 +1,11 @@
 //! One item of a list's text.
 
-ghost use Rattle.std.specs.Prelude.{◌≡◌, ◌==◌, nat_le, ◌∷◌, map};
+ghost use Rattle.std.specs.Prelude.{◌≡◌, ◌≤◌, ℕ, List, ◌∷◌, map, None, Err, IfSome, MatchOption, if◌then◌else◌, option_map};
 ghost use Rattle.std.specs.List.{list_all};
 ghost use Rattle.acl_text.specs.Layout.{colon, is_white, parts_left, trimmed};
-ghost use Rattle.acl_text.specs.Grammar.{are_permissions, is_permission_byte, permission_bytes, count_of, entry_reading, fields_reading, fits_keyword, numbered, reading, tag_of};
+ghost use Rattle.acl_text.specs.Grammar.{entry_reading, fields_reading, fits_keyword, numbered, reading, tag_of};
+ghost use Rattle.acl_text.specs.Letters.{granted, granted_after, granted_by};
+ghost use Rattle.acl_text.specs.Qualifiers.{is_name_byte};
 
 use crate::cut::{cut, is_blank, trimmed};
 use crate::keyword::{Keyword, is_default};
@@ -20,69 +22,86 @@ pub(crate) enum ItemFault {
     DefaultEntry,
 }
 
-fn count(field: &[u8], byte: u8) -> usize
-    ensures { result ≡ count_of byte field.now }
-{
-    field.iter().filter(|b| **b == byte).count()
+/// What was read of permissions: the letters, and how many hyphens.
+#[derive(Clone, Copy)]
+pub(crate) struct Letters {
+    reads: bool,
+    writes: bool,
+    executes: bool,
+    hyphens: u8,
 }
 
-/// Whether a field has no byte but those of permissions.
-fn has_permission_bytes_alone(field: &[u8]) -> bool
-    ensures { result ≡ list_all is_permission_byte field.now }
+/// One byte more of permissions: each letter once at most, in any order, and three hyphens at most.
+fn with_byte(letters: Letters, byte: u8) -> Option<Letters>
+    ensures few { IfSome result (λ next. letters.hyphens ≤ 3 → next.hyphens ≤ 3) }
+    ensures rest { (rest : List ℕ) → MatchOption result (granted_after letters (byte ∷ rest) ≡ None) (λ next. granted_after letters (byte ∷ rest) ≡ granted_after next rest) }
 {
-    field
-        .iter()
-        .all(|byte| matches!(*byte, b'r' | b'w' | b'x' | b'-'))
-}
-
-/// Whether no permission stands twice in a field.
-fn has_none_twice(field: &[u8]) -> bool
-    ensures { result ≡ list_all (λ byte. nat_le (count_of byte field.now) 1) permission_bytes }
-{
-    [b'r', b'w', b'x']
-        .iter()
-        .all(|byte| count(field, *byte) <= 1)
-}
-
-/// Whether a field is permissions: each once at most, in any order, and three hyphens at most.
-fn are_permissions(field: &[u8]) -> bool
-    ensures { result ≡ are_permissions field.now }
-{
-    has_permission_bytes_alone(field) && has_none_twice(field) && count(field, b'-') <= 3
-}
-
-/// Whether a field can be the qualifier of an entry.
-fn fits_keyword(keyword: Keyword, qualifier: &[u8]) -> bool
-    ensures { result ≡ fits_keyword keyword qualifier.now }
-{
-    match keyword {
-        Keyword::User | Keyword::Group => is_qualifier(qualifier),
-        Keyword::Mask | Keyword::Other => qualifier.is_empty(),
+    if byte == b'r' && !letters.reads {
+        Some(Letters {
+            reads: true,
+            ..letters
+        })
+    } else if byte == b'w' && !letters.writes {
+        Some(Letters {
+            writes: true,
+            ..letters
+        })
+    } else if byte == b'x' && !letters.executes {
+        Some(Letters {
+            executes: true,
+            ..letters
+        })
+    } else if byte == b'-' && letters.hyphens < 3 {
+        Some(Letters {
+            hyphens: letters.hyphens + 1,
+            ..letters
+        })
+    } else {
+        None
     }
 }
 
-/// The number of a qualifier: digits alone are one, and all else is a name.
+/// The permissions that a field is, if it is some.
+fn permissions(field: &[u8]) -> Option<Letters>
+    ensures { option_map granted result ≡ granted_by field.now }
+{
+    let mut letters = Letters {
+        reads: false,
+        writes: false,
+        executes: false,
+        hyphens: 0,
+    };
+    for byte in field {
+        letters = with_byte(letters, *byte)?;
+    }
+    Some(letters)
+}
+
+/// The number of a qualifier: digits alone are one, and all else that can be one is a name.
 fn numbered(qualifier: &[u8], table: &NameTable) -> Result<u32, ItemFault>
-    ensures { result ≡ numbered table.now qualifier.now }
+    ensures { result ≡ (if list_all is_name_byte qualifier.now then numbered table.now qualifier.now else Err ItemFault.Syntax) }
 {
     if is_number(qualifier) {
         number(qualifier).ok_or(ItemFault::NumberTooBig)
-    } else {
+    } else if is_qualifier(qualifier) {
         table.number_of(qualifier).ok_or(ItemFault::UnknownName)
+    } else {
+        Err(ItemFault::Syntax)
     }
 }
 
-/// Whom an entry is about.
+/// Whom an entry is about, where the qualifier can be one of this keyword.
 fn tag(keyword: Keyword, qualifier: &[u8], names: &Names) -> Result<Tag, ItemFault>
-    ensures { result ≡ tag_of names.now keyword qualifier.now }
+    ensures { result ≡ (if fits_keyword keyword qualifier.now then tag_of names.now keyword qualifier.now else Err ItemFault.Syntax) }
 {
     match keyword {
         Keyword::User if qualifier.is_empty() => Ok(Tag::UserObj),
         Keyword::User => numbered(qualifier, names.users()).map(Tag::User),
         Keyword::Group if qualifier.is_empty() => Ok(Tag::GroupObj),
         Keyword::Group => numbered(qualifier, names.groups()).map(Tag::Group),
-        Keyword::Mask => Ok(Tag::Mask),
-        Keyword::Other => Ok(Tag::Other),
+        Keyword::Mask if qualifier.is_empty() => Ok(Tag::Mask),
+        Keyword::Other if qualifier.is_empty() => Ok(Tag::Other),
+        Keyword::Mask | Keyword::Other => Err(ItemFault::Syntax),
     }
 }
 
@@ -90,22 +109,18 @@ fn tag(keyword: Keyword, qualifier: &[u8], names: &Names) -> Result<Tag, ItemFau
 fn read_entry(
     keyword: Option<Keyword>,
     qualifier: &[u8],
-    permissions: &[u8],
+    field: &[u8],
     names: &Names,
 ) -> Result<Entry, ItemFault>
-    ensures { result ≡ entry_reading names.now keyword qualifier.now permissions.now }
+    ensures { result ≡ entry_reading names.now keyword qualifier.now field.now }
 {
-    let Some(keyword) = keyword else {
+    let (Some(keyword), Some(letters)) = (keyword, permissions(field)) else {
         return Err(ItemFault::Syntax);
     };
-    if !fits_keyword(keyword, qualifier) || !are_permissions(permissions) {
-        return Err(ItemFault::Syntax);
+    match tag(keyword, qualifier, names) {
+        Ok(tag) => Ok(Entry::new(tag, letters.reads, letters.writes, letters.executes)),
+        Err(fault) => Err(fault),
     }
-    let tag = tag(keyword, qualifier, names)?;
-    let reads = permissions.contains(&b'r');
-    let writes = permissions.contains(&b'w');
-    let executes = permissions.contains(&b'x');
-    Ok(Entry::new(tag, reads, writes, executes))
 }
 
 /// The entry of a word and the fields after it.

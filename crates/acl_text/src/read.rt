@@ -10,8 +10,8 @@ ghost use Rattle.acl_text.specs.declared.read.TextFault.TheVariants.{Memory};
 use crate::cut::Items;
 use crate::item::{ItemFault, read_item};
 use crate::names::Names;
-use acl_core::{Acl, AclError, AclFault};
-use std::alloc::{AllocFailed, Global};
+use acl_core::{Acl, AclError, AclFault, Tally};
+use std::alloc::{AllocError, Global};
 use thiserror::Error;
 
 /// Why no list was read. Items are numbered from 1, empty ones too.
@@ -37,10 +37,10 @@ pub enum TextFault {
     Memory,
 }
 
-impl<T: Drop> From<AllocFailed<T>> for TextFault {
+impl From<AllocError> for TextFault {
     ghost from_gives = { λ _ fault. fault ≡ Memory };
 
-    fn from(_error: AllocFailed<T>) -> TextFault {
+    fn from(_error: AllocError) -> TextFault {
         TextFault::Memory
     }
 }
@@ -79,16 +79,16 @@ pub fn read_acl(alloc: Global, text: &[u8], names: &Names) -> Result<Acl, TextFa
     ensures refused { IfErr result (λ e. e ≢ TextFault.Memory → fault text.now names.now ≡ Some e) }
     ensures memory { result ≡ Err TextFault.Memory → filter_map entry_said (readings text.now names.now) ≢ [] }
 {
-    let mut entries = Vec::new(alloc);
+    let mut tally = Tally::new(alloc);
     let mut number = 0;
     for item in Items::of(text) {
         number += 1;
         match read_item(item, names) {
             Ok(None) => {}
-            Ok(Some(entry)) => entries.push(entry)?,
+            Ok(Some(entry)) => tally.take(entry)?,
             Err(fault) => return Err(fault.at(number)),
         }
     }
-    let acl = Acl::from_vec(entries)?;
+    let acl = tally.finish()?;
     Ok(acl)
 }

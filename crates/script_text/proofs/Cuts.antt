@@ -1,12 +1,13 @@
 -- Cutting off the first line and the first word.
-use Rattle.std.proofs.Common.{◌≡◌, ℕ, zero, suc, ◌+◌, ◌-◌, ◌<◌, ◌≤◌, Bool, true, cond, eqb, ltb, not, List, [], ◌∷◌, Some, None, length, take, drop, filter, get_or, refl, ◌∙◌, ap, sym, inl, inr, arith}
+use Rattle.std.proofs.Common.{◌≡◌, ℕ, zero, suc, ◌+◌, ◌-◌, ◌<◌, ◌≤◌, Bool, true, cond, eqb, ltb, not, List, [], ◌∷◌, Some, None, length, take, drop, filter, get_or, Option, refl, ◌∙◌, ap, sym, inl, inr, arith}
 use Rattle.std.specs.List.{slice_split, position, position_or_len, before_first, after_first}
 use Rattle.std.specs.Str.Lines.{lines, lines_of_parts, strip_carriage_return}
 use Rattle.std.proofs.lemmas.List.{drop_all, drop_more, take_all, length-drop, length-take-le}
 use Rattle.std.proofs.lemmas.List.Splits.{slice_split-cons_yes, slice_split_first, slice_split_none, length-slice_split}
-use Rattle.std.proofs.lemmas.List.Sums.{fails_before_first, passes_at_first}
-use Rattle.std.proofs.lemmas.Bool.{cases_Bool, both_ways, ltb-true, ltb-false, lt-ltb, ne_eqb}
+use Rattle.std.proofs.lemmas.List.Sums.{fails_before_first, passes_at_first, position_or_len_is}
+use Rattle.std.proofs.lemmas.Bool.{cases_Bool, both_ways, false_from_ne_true, le-ltb, ltb-true, ltb-false, lt-ltb, ne_eqb}
 use Rattle.std.proofs.Math.Numerals.{one-add}
+use Rattle.memchr.specs.Find.{IsFirstByte, is_byte}
 use Rattle.script_text.specs.Words.{words, is_blank, BeginsWithWord}
 
 -- a place that is found is the first, and in the list
@@ -142,3 +143,15 @@ parts-cut separator word end found =
     let inside : position_or_len (λ b. eqb b separator) word < length word = omega arith in
     slice_split_first (λ b. eqb b separator) word 0 inside
     ∙ ap (λ n. take n word ∷ slice_split (λ b. eqb b separator) (drop (n + 1) word)) place.0
+
+-- what a search for a byte finds is its first place
+pub first_at : (byte : ℕ) (text : List ℕ) (found : Option ℕ) → IsFirstByte (is_byte byte) text found → found ≡ position (λ b. eqb b byte) text
+first_at byte text (Some place) found =
+    let inside : place < length text = omega (arith, found.0.high) in
+    let same : position_or_len (λ b. eqb b byte) text ≡ place =
+    position_or_len_is (λ (b : ℕ). eqb b byte) text place 0 (omega arith) (λ k before. false_from_ne_true (eqb (get_or text k 0) byte) (found.0.before k (omega arith) before)) (λ less. found.1) in
+    sym (ap (λ n. cond (ltb n (length text)) (Some n) None) same ∙ ap (λ b. cond b (Some place) None) (lt-ltb place (length text) inside))
+first_at byte text None none =
+    let same : position_or_len (λ b. eqb b byte) text ≡ length text =
+    position_or_len_is (λ (b : ℕ). eqb b byte) text (length text) 0 (omega arith) (λ k before. false_from_ne_true (eqb (get_or text k 0) byte) (none k (omega arith) before)) (λ less. absurd (omega arith)) in
+    sym (ap (λ n. cond (ltb n (length text)) (Some n) None) same ∙ ap (λ b. cond b (Some (length text)) None) (le-ltb (length text) (length text) (omega arith)))

@@ -5,6 +5,7 @@ ghost use Rattle.std.specs.Iterator.{YieldsFirstRef, item_count};
 ghost use Rattle.std.specs.List.{position};
 ghost use Rattle.std.specs.Str.Lines.{lines, strip_carriage_return};
 
+use memchr::memchr;
 use std::marker::Model;
 
 /// What is left of a text, as its lines. A line ends at a line feed, which the last line may lack; a
@@ -62,7 +63,7 @@ fn first_line(text: &[u8]) -> (&[u8], &[u8])
 fn line_feed(text: &[u8]) -> Option<usize>
     ensures { result ≡ position (λ byte. byte == 10) text.now }
 {
-    text.iter().position(|byte| *byte == b'\n')
+    memchr(b'\n', text)
 }
 
 /// The text without the one carriage return at its end, if it has one.

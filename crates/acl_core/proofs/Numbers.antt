@@ -1,0 +1,151 @@
+-- Users and groups by their numbers: which stand among entries, and whether one stands twice.
+use Rattle.std.proofs.Common.{◌≡◌, ℕ, ◌+◌, ◌<◌, ◌≤◌, Bool, true, false, eqb, ltb, cond, not, ◌&&◌, ◌||◌, List, [], ◌∷◌, length, get_or, drop, map, refl, sym, ap, ◌∙◌, arith, IsPermutation, IsSorted}
+use Rattle.std.specs.List.{list_any, count_by, zip}
+use Rattle.std.specs.List.Sorted.{IsNonDecreasingBy}
+use Rattle.std.specs.Ordering.{nat_cmp}
+use Rattle.std.proofs.lemmas.Bool.{le-ltb, ne_eqb, or_right}
+use Rattle.std.proofs.lemmas.List.{get_or-map, length-map}
+use Rattle.std.proofs.lemmas.List.Sorted.{IsNonDecreasingBy-from_sort, IsPermutation-map}
+use Rattle.acl_core.specs.declared.entry.Tag.{Tag}
+use Rattle.acl_core.specs.declared.entry.Tag.TheVariants.{UserObj, User, GroupObj, Group, Mask, Other}
+use Rattle.acl_core.specs.declared.entry.Entry.{Entry}
+use Rattle.acl_core.specs.Entries.{entry_of}
+use Rattle.acl_core.specs.Tags.{rank, same_tag, precedes, is_user, is_group}
+use Rattle.acl_core.specs.AccessLists.{count_of, has_named, has_twice}
+use Rattle.acl_core.specs.Sorted.{IsSortedCopy, stands_beside}
+use Rattle.acl_core.specs.Tallies.{is_doubled, is_some}
+use Rattle.acl_core.proofs.Doubles.{beside-twice}
+use Rattle.acl_core.proofs.Lists.{count_by-cons}
+
+-- the users of some entries, and the groups
+abbrev pub user_before : Tag → List ℕ → List ℕ
+user_before (User id) users = id ∷ users
+user_before _ users = users
+
+abbrev pub users_in : List Entry → List ℕ
+users_in [] = []
+users_in (entry ∷ entries) = user_before entry.tag (users_in entries)
+
+abbrev pub group_before : Tag → List ℕ → List ℕ
+group_before (Group id) groups = id ∷ groups
+group_before _ groups = groups
+
+abbrev pub groups_in : List Entry → List ℕ
+groups_in [] = []
+groups_in (entry ∷ entries) = group_before entry.tag (groups_in entries)
+
+-- ---- how often a user stands
+
+one_user : (id : ℕ) (tag : Tag) (users : List ℕ) → cond (same_tag tag (User id)) 1 0 + count_by (λ other. eqb other id) users ≡ count_by (λ other. eqb other id) (user_before tag users)
+one_user id UserObj users = omega arith
+one_user id (User user) users = sym (count_by-cons (λ (other : ℕ). eqb other id) user users)
+one_user id GroupObj users = omega arith
+one_user id (Group group) users = omega arith
+one_user id Mask users = omega arith
+one_user id Other users = omega arith
+
+count_users : (id : ℕ) (entries : List Entry) → count_of (User id) entries ≡ count_by (λ other. eqb other id) (users_in entries)
+count_users id [] = refl
+count_users id (e ∷ es) =
+    count_by-cons (λ (x : Entry). same_tag x.tag (User id)) e es
+    ∙ ap (λ n. cond (same_tag e.tag (User id)) 1 0 + n) (count_users id es)
+    ∙ one_user id e.tag (users_in es)
+
+any_user : (p : Tag → Bool) (q : ℕ → Bool) → ((id : ℕ) → p (User id) ≡ q id) → (tag : Tag) (users : List ℕ) → ((is_user tag && p tag) || list_any q users) ≡ list_any q (user_before tag users)
+any_user p q same UserObj users = refl
+any_user p q same (User id) users = ap (λ b. b || list_any q users) (same id)
+any_user p q same GroupObj users = refl
+any_user p q same (Group id) users = refl
+any_user p q same Mask users = refl
+any_user p q same Other users = refl
+
+any_users : (p : Tag → Bool) (q : ℕ → Bool) → ((id : ℕ) → p (User id) ≡ q id) → (entries : List Entry) → list_any (λ e. is_user e.tag && p e.tag) entries ≡ list_any q (users_in entries)
+any_users p q same [] = refl
+any_users p q same (e ∷ es) = ap (λ b. (is_user e.tag && p e.tag) || b) (any_users p q same es) ∙ any_user p q same e.tag (users_in es)
+
+pub twice_users : (entries : List Entry) → has_twice is_user entries ≡ is_doubled (users_in entries)
+twice_users entries =
+    any_users (λ tag. ltb 1 (count_of tag entries)) (λ id. ltb 1 (count_by (λ other. eqb other id) (users_in entries))) (λ id. ap (ltb 1) (count_users id entries)) entries
+
+-- ---- how often a group stands
+
+one_group : (id : ℕ) (tag : Tag) (groups : List ℕ) → cond (same_tag tag (Group id)) 1 0 + count_by (λ other. eqb other id) groups ≡ count_by (λ other. eqb other id) (group_before tag groups)
+one_group id UserObj groups = omega arith
+one_group id (User user) groups = omega arith
+one_group id GroupObj groups = omega arith
+one_group id (Group group) groups = sym (count_by-cons (λ (other : ℕ). eqb other id) group groups)
+one_group id Mask groups = omega arith
+one_group id Other groups = omega arith
+
+count_groups : (id : ℕ) (entries : List Entry) → count_of (Group id) entries ≡ count_by (λ other. eqb other id) (groups_in entries)
+count_groups id [] = refl
+count_groups id (e ∷ es) =
+    count_by-cons (λ (x : Entry). same_tag x.tag (Group id)) e es
+    ∙ ap (λ n. cond (same_tag e.tag (Group id)) 1 0 + n) (count_groups id es)
+    ∙ one_group id e.tag (groups_in es)
+
+any_group : (p : Tag → Bool) (q : ℕ → Bool) → ((id : ℕ) → p (Group id) ≡ q id) → (tag : Tag) (groups : List ℕ) → ((is_group tag && p tag) || list_any q groups) ≡ list_any q (group_before tag groups)
+any_group p q same UserObj groups = refl
+any_group p q same (User id) groups = refl
+any_group p q same GroupObj groups = refl
+any_group p q same (Group id) groups = ap (λ b. b || list_any q groups) (same id)
+any_group p q same Mask groups = refl
+any_group p q same Other groups = refl
+
+any_groups : (p : Tag → Bool) (q : ℕ → Bool) → ((id : ℕ) → p (Group id) ≡ q id) → (entries : List Entry) → list_any (λ e. is_group e.tag && p e.tag) entries ≡ list_any q (groups_in entries)
+any_groups p q same [] = refl
+any_groups p q same (e ∷ es) = ap (λ b. (is_group e.tag && p e.tag) || b) (any_groups p q same es) ∙ any_group p q same e.tag (groups_in es)
+
+pub twice_groups : (entries : List Entry) → has_twice is_group entries ≡ is_doubled (groups_in entries)
+twice_groups entries =
+    any_groups (λ tag. ltb 1 (count_of tag entries)) (λ id. ltb 1 (count_by (λ other. eqb other id) (groups_in entries))) (λ id. ap (ltb 1) (count_groups id entries)) entries
+
+-- ---- whether there is one
+
+some_cons : (number : ℕ) (numbers : List ℕ) → is_some (number ∷ numbers) ≡ true
+some_cons number numbers = ap not (ne_eqb (length (number ∷ numbers)) 0 (λ h. omega (arith, h)))
+
+named_step : (tag : Tag) (users groups : List ℕ) → (is_some (user_before tag users) || is_some (group_before tag groups)) ≡ ((is_user tag || is_group tag) || (is_some users || is_some groups))
+named_step UserObj users groups = refl
+named_step (User id) users groups = ap (λ b. b || is_some groups) (some_cons id users)
+named_step GroupObj users groups = refl
+named_step (Group id) users groups = or_right (is_some users) (is_some (id ∷ groups)) (some_cons id groups)
+named_step Mask users groups = refl
+named_step Other users groups = refl
+
+pub named_some : (entries : List Entry) → (is_some (users_in entries) || is_some (groups_in entries)) ≡ has_named entries
+named_some [] = refl
+named_some (e ∷ es) = named_step e.tag (users_in es) (groups_in es) ∙ ap (λ b. (is_user e.tag || is_group e.tag) || b) (named_some es)
+
+-- ---- neighbours
+
+abbrev user_entry : ℕ → Entry
+user_entry id = entry_of (User id) 0
+
+users_back : (ids : List ℕ) → users_in (map user_entry ids) ≡ ids
+users_back [] = refl
+users_back (id ∷ ids) = ap (λ more. id ∷ more) (users_back ids)
+
+beside_numbers : (sorted : List ℕ) → list_any (λ pair. eqb pair.0 pair.1) (zip sorted (drop 1 sorted)) ≡ stands_beside (λ t. eqb (rank t) 1) (map user_entry sorted)
+beside_numbers [] = refl
+beside_numbers (x ∷ []) = refl
+beside_numbers (x ∷ y ∷ ys) = ap (λ b. eqb x y || b) (beside_numbers (y ∷ ys))
+
+sorted_entries : (ids sorted : List ℕ) → IsPermutation ids sorted → IsNonDecreasingBy (λ x. x) sorted → IsSortedCopy (map user_entry ids) (map user_entry sorted)
+sorted_entries ids sorted moved rises = record {
+  moved = IsPermutation-map user_entry ids sorted moved;
+  ordered = λ k d low high.
+      let same = length-map sorted user_entry in
+      let next : k + 1 < length sorted = omega (arith, high, same) in
+      let here : k < length sorted = omega (arith, next) in
+      (λ i. precedes (get_or-map user_entry sorted (k + 1) 0 d next i).tag (get_or-map user_entry sorted k 0 d here i).tag)
+      ∙ le-ltb (get_or sorted (k + 1) 0) (get_or sorted k 0) (rises k (k + 1) 0 (omega arith) next);
+}
+
+-- neighbours in rising order tell whether a number stands twice
+pub beside_doubled : (ids sorted : List ℕ) → IsPermutation ids sorted → IsSorted nat_cmp sorted → list_any (λ pair. eqb pair.0 pair.1) (zip sorted (drop 1 sorted)) ≡ is_doubled ids
+beside_doubled ids sorted moved rising =
+    beside_numbers sorted
+    ∙ beside-twice 1 (map user_entry ids) (map user_entry sorted) (sorted_entries ids sorted moved (IsNonDecreasingBy-from_sort (λ x. x) sorted rising))
+    ∙ twice_users (map user_entry ids)
+    ∙ ap is_doubled (users_back ids)
