@@ -34,6 +34,87 @@ const TABLE_ABOUT: &str = "Reads a script, plays it on one plain table, prints a
 const PLAY_ABOUT: &str =
     "Reads a script of events, plays it on servers and agents, prints a line an outcome";
 
+const TABLE_SCRIPT: &str = "A script is lines of words, with spaces or tabs between them.
+An empty line, and one that begins with #, says nothing.
+
+  root UID GID INIT                     the root folder's owner, group and list; first of all
+  user NAME UID                         a name for the lists of the lines below
+  group NAME GID
+  do UID GIDS OPERATION ; OPERATION ..  a transaction of a user who is in these groups
+
+Operations, one to eight in a transaction:
+
+  read PATH         file PATH INIT [VOTES]    getacl PATH       getvotes PATH
+  write PATH HEX    folder PATH INIT [VOTES]  setacl PATH LIST  setvotes PATH VOTES
+  list PATH         drop PATH
+
+  GIDS   the user's own group, and up to 32 others behind commas: 100,200
+  INIT   three octal digits, or a LIST
+  LIST   an access list without spaces: u::rw,u:lisa:rw,g::r,m::r,o::-
+  HEX    two digits a byte, or - for no bytes
+  VOTES  the votes of server 0, 1, .. (or - for one that is left out), and how many a read and a
+         write collect: 1,1,1/2/2
+
+Example:
+
+  root 1000 100 755
+  user lisa 1001
+  do 1000 100 file /a u::rw,u:lisa:rw,g::r,m::r,o::- ; write /a 6869
+  do 1001 300 read /a
+  do 1001 300 write /a 00
+
+prints
+
+  0 answered made 1; wrote
+  1 answered read 6869
+  2 denied op 1 suite 1 wants -w- by mask::
+
+The exit statuses are those that `suites --help` tells.";
+
+const PLAY_SCRIPT: &str = "A script is lines of words, with spaces or tabs between them.
+An empty line, and one that begins with #, says nothing.
+
+  servers N                             1 to 16 servers, numbered from 0
+  agents N                              1 to 64 agents, numbered from 0
+  votes VOTES                           the votes at first
+  root UID GID INIT                     the root folder's owner, group and list
+  cache BUDGET QUOTA SLOTS              the most bytes of an agent's cache, of a site's part of it,
+                                        and the most entries
+
+These stand first and in this order. Names may follow, and then what happens:
+
+  user NAME UID                         a name for the lists of the lines below
+  group NAME GID
+  begin A UID GIDS SITE OPERATION ; ..  agent A begins a transaction of a user, at one of its sites 0 to 15
+  sweep A S                             agent A begins to end what others have left at server S
+  step A [N]                            one step of agent A, or N
+  run A                                 steps of agent A until it has no job
+  crash S                               server S falls down
+  return S                              server S comes up again
+  forget A SITE                         agent A forgets what its cache has for a site
+  audit S                               the denials that server S recorded are printed
+
+VOTES, INIT, GIDS and operations are those that `suites table --help` tells.
+
+Example:
+
+  servers 3
+  agents 2
+  votes 1,1,1/2/2
+  root 1000 100 777
+  cache 4096 4096 16
+  begin 0 1000 100 0 file /a 644 ; write /a 6869
+  run 0
+  begin 1 2000 300 0 read /a
+  run 1
+
+prints
+
+  0.0 10 answered made 1; wrote
+  1.0 11 answered read 6869
+
+The exit statuses are those that `suites --help` tells.";
+
 const STREAMS: &str = "A command reads standard input to its end, and prints to standard output.
 
 Exit status:
@@ -58,7 +139,7 @@ fn table_command<'a>(alloc: Global) -> Command<'a>
 {
     Command::new(alloc, TABLE)
         .about(TABLE_ABOUT)
-        .after_help(STREAMS)
+        .after_help(TABLE_SCRIPT)
 }
 
 fn play_command<'a>(alloc: Global) -> Command<'a>
@@ -66,7 +147,7 @@ fn play_command<'a>(alloc: Global) -> Command<'a>
 {
     Command::new(alloc, PLAY)
         .about(PLAY_ABOUT)
-        .after_help(STREAMS)
+        .after_help(PLAY_SCRIPT)
 }
 
 /// All commands.

@@ -1,0 +1,98 @@
+#!/usr/bin/env python3
+"""Looks whether all that README.md and examples/ show is played by the gate.
+
+Each file of examples/ has to be the input of a row of crates/rows/stdin; each script, command and output that
+README.md shows has to be that of a row, and an output that of the script or the command before it. What differs is
+told, and the status is 1. The rows themselves are played by the program of crates/rows.
+"""
+import os, re, sys
+
+TOP = os.path.join(os.path.dirname(os.path.abspath(__file__)), "..")
+MARKS = {b"r": b"\r", b"t": b"\t", b"\\": b"\\"}
+
+
+def content(name):
+    with open(os.path.join(TOP, name), "rb") as file:
+        return file.read()
+
+
+def unmarked(line):
+    """A line of a row as the bytes that it stands for."""
+    end = b"" if line.endswith(b"\\c") else b"\n"
+    line = line[:-2] if end == b"" else line
+    return re.sub(rb"\\(x..|.)", lambda mark: MARKS.get(mark[1]) or bytes([int(mark[1][1:], 16)]), line) + end
+
+
+def rows():
+    """The rows: words, input and output of each."""
+    found, part = [], None
+    for line in content("crates/rows/stdin").split(b"\n")[:-1]:
+        if line.startswith(b"$"):
+            part = []
+            found.append((line[2:].decode(), part, []))
+        elif line.startswith(b"="):
+            part = None
+        elif line.startswith(b">") and part is not None:
+            part = found[-1][2]
+        elif part is not None:
+            part.append(unmarked(line))
+    return [(words, b"".join(given), b"".join(printed)) for words, given, printed in found]
+
+
+def said(text):
+    """A script without the lines that say nothing."""
+    return b"".join(line for line in text.splitlines(True) if line.strip() and not line.startswith(b"#"))
+
+
+def blocks(text):
+    """The indented blocks of a text, each with the number of its first line."""
+    block, begun = [], 0
+    for number, line in enumerate(text.split(b"\n") + [b""], 1):
+        if line.startswith(b"    "):
+            begun = begun if block else number
+            block.append(line[4:])
+        elif block:
+            yield begun, block
+            block = []
+
+
+def commands(block):
+    """The commands of the program in a block, as words and the name of their input."""
+    for line in block:
+        match = re.match(r"(?:\$ )?\./suites (.*?) < (\S+)", line.decode())
+        if match:
+            yield match[1], match[2]
+
+
+def main():
+    played, wrong = rows(), []
+    inputs = {given for _, given, _ in played}
+    for name in sorted(os.listdir(os.path.join(TOP, "examples"))):
+        if content("examples/" + name) not in inputs:
+            wrong.append(f"examples/{name} is the input of no row")
+    outputs = set()
+    for number, block in blocks(content("README.md")):
+        text = b"\n".join(block) + b"\n"
+        if re.match(rb"\$ |\./|\.ci/", block[0]):
+            outputs = set()
+            for words, name in commands(block):
+                those = {printed for word, given, printed in played if word == words and given == content(name)}
+                outputs |= those
+                if not those:
+                    wrong.append(f"README.md:{number}: no row has the words '{words}' and the input {name}")
+            text = b"\n".join(block[1:]) + b"\n" if block[0].startswith(b"$ ") else b""
+            if text and text not in outputs:
+                wrong.append(f"README.md:{number}: this output is that of no row")
+        elif text in outputs:
+            outputs = set()
+        else:
+            outputs = {printed for _, given, printed in played if said(given) == said(text)}
+            if not outputs:
+                wrong.append(f"README.md:{number}: this block is a script or an output of no row")
+    for line in wrong:
+        print(line, file=sys.stderr)
+    return 1 if wrong else 0
+
+
+if __name__ == "__main__":
+    sys.exit(main())
