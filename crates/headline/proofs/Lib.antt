@@ -1,4 +1,6 @@
 pub mod Firsts
 pub mod Together
+pub mod Parts
+pub mod Prepared
 pub mod Owing
 pub mod Keeping
