@@ -3,4 +3,14 @@ pub mod Together
 pub mod Parts
 pub mod Prepared
 pub mod Owing
+pub mod Editing
+pub mod Setting
+pub mod Fair
+pub mod Carried
+pub mod Beside
+pub mod Parts
+pub mod Prepared
 pub mod Keeping
+pub mod Conclusions
+pub mod Unbroken
+pub mod Stood
