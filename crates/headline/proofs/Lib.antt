@@ -1,7 +1,5 @@
 pub mod Firsts
 pub mod Together
-pub mod Parts
-pub mod Prepared
 pub mod Owing
 pub mod Editing
 pub mod Setting
