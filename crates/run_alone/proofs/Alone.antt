@@ -1,9 +1,8 @@
 -- What holds of every run in which jobs go one at a time.
-use Rattle.std.proofs.Common.{◌≡◌, ◌≢◌, ◌⊎◌, inl, inr, ⊎_elim, ℕ, Bool, true, List, [], ◌∷◌, ◌++◌, append_assoc, Option, Some, None, refl, sym, ap, subst, ◌∙◌}
-use Rattle.std.specs.Prelude.{◌&&◌, map, option_to_list}
-use Rattle.std.specs.List.{cons_option, filter_map}
+use Rattle.std.proofs.Common.{◌≡◌, ◌≢◌, ⊎_elim, ℕ, true, List, [], ◌∷◌, ◌++◌, append_assoc, Option, Some, None, refl, sym, ap, subst, ◌∙◌}
+use Rattle.std.specs.Prelude.{map, option_to_list}
+use Rattle.std.specs.List.{cons_option}
 use Rattle.std.proofs.lemmas.Bool.{and_parts}
-use Rattle.std.proofs.lemmas.Option.{none-some}
 use Rattle.std.proofs.lemmas.List.{map-append}
 use Rattle.std.proofs.lemmas.List.Elements.{filter_map-append}
 use Rattle.suite_prefix.specs.SettingsRules.{Opening, IsAccepted}
@@ -16,7 +15,7 @@ use Rattle.run_core.specs.Worlds.{Actor, World, opening, actor_at, step}
 use Rattle.run_core.specs.Runs.{after, dones, outcomes, run}
 use Rattle.run_core.specs.Decisions.{Decided, decided, decisions, decisions_from}
 use Rattle.run_laws.specs.Claims.{ended}
-use Rattle.run_laws.proofs.Worlds.{Holds, agent_at, agent_of, event_holds}
+use Rattle.run_laws.proofs.Worlds.{Holds, agent_of, event_holds}
 use Rattle.run_laws.proofs.Conclusions.{holds_at_first, fresh_agents}
 use Rattle.run_alone.specs.Alone.{begins_job, begins_alone, jobs_from, jobs_of, one_at_a_time_from, one_at_a_time}
 use Rattle.run_alone.specs.Endings.{decided_ending, decided_endings}
@@ -93,7 +92,7 @@ run_orderly given (event ∷ events) world ds past jobs holds orderly alone =
     let past' = past ++ option_to_list next.done.outcome in
     let jobs' = jobs ++ option_to_list (begins_job given world event) in
     let rest = run_orderly given events next.world ds' past' jobs' (event_holds fixed world event ds past holds)
-        (goes_on world next.world ds past jobs orderly (decided fixed world event) next.done.outcome (begins_job given world event) (event_goes given world ds past holds orderly.turn orderly.alone event parts.0)) parts.1 in
+    (goes_on world next.world ds past jobs orderly (decided fixed world event) next.done.outcome (begins_job given world event) (event_goes given world ds past holds orderly.turn orderly.alone event parts.0)) parts.1 in
     subst (λ ds. Orderly (after fixed next.world events) ds (past ++ outcomes (dones fixed world (event ∷ events))) (jobs ++ jobs_from given world (event ∷ events))) (joined ds (decided fixed world event) (decisions_from fixed next.world events))
     (subst (λ past. Orderly (after fixed next.world events) (ds' ++ decisions_from fixed next.world events) past (jobs ++ jobs_from given world (event ∷ events))) (joined past next.done.outcome (outcomes (dones fixed next.world events)))
     (subst (Orderly (after fixed next.world events) (ds' ++ decisions_from fixed next.world events) (past' ++ outcomes (dones fixed next.world events))) (joined jobs (begins_job given world event) (jobs_from given next.world events)) rest))

@@ -1,12 +1,12 @@
 -- As long as one transaction alone has locks and all servers are up, nothing is in its way.
-use Rattle.std.proofs.Common.{◌≡◌, ◌≢◌, ◌⊎◌, inl, inr, ⊎_elim, ℕ, zero, suc, ◌+◌, Bool, true, false, cond, List, [], ◌∷◌, Option, Some, None, refl, sym, ap, subst, ◌∙◌, arith}
-use Rattle.std.specs.Prelude.{◌*◌, ◌==◌, ◌&&◌, not, nat_lt, length, option_map, option_to_list, slice_get, slice_set}
-use Rattle.std.specs.List.{list_all, cons_option}
-use Rattle.std.proofs.lemmas.Bool.{and_parts, eqb-true, false≢true}
+use Rattle.std.proofs.Common.{◌≡◌, ◌≢◌, inl, inr, ⊎_elim, ℕ, zero, suc, ◌+◌, true, false, cond, List, [], ◌∷◌, Option, Some, None, refl, sym, ap, subst, ◌∙◌, arith}
+use Rattle.std.specs.Prelude.{◌*◌, ◌==◌, ◌&&◌, not, nat_lt, length, slice_get, slice_set}
+use Rattle.std.specs.List.{cons_option}
+use Rattle.std.proofs.lemmas.Bool.{and_parts, eqb-true}
 use Rattle.std.proofs.lemmas.Bool.Decides.{nat_tests}
 use Rattle.std.proofs.lemmas.Option.{none-some, same_Some}
 use Rattle.acl_core.specs.Identity.{Identity}
-use Rattle.suite_prefix.specs.SettingsRules.{Opening, IsAccepted}
+use Rattle.suite_prefix.specs.SettingsRules.{Opening}
 use Rattle.file_ops.specs.declared.operation.Op.{Op}
 use Rattle.rep_core.specs.declared.lock.Lock.{Lock}
 use Rattle.rep_core.specs.declared.request.Request.{Request}
@@ -19,7 +19,6 @@ use Rattle.rep_core.specs.declared.stamped.Lack.TheVariants as lack
 use Rattle.rep_core.specs.Fits.{is_busy, is_down}
 use Rattle.rep_core.specs.State.{State}
 use Rattle.rep_core.specs.Service.{reply_of}
-use Rattle.rep_core.specs.Serving as serving
 use Rattle.rep_core.specs.Serving.{is_full, served, answer_of}
 use Rattle.rep_core.proofs.Members.{Has, all_at}
 use Rattle.txn_core.specs.declared.job.Job.{Job}
@@ -34,9 +33,9 @@ use Rattle.run_core.specs.declared.event.Event.{Event}
 use Rattle.run_core.specs.declared.event.Event.TheVariants.{Begin, Step, Crash, Return, Forget, Lack}
 use Rattle.run_core.specs.declared.done.Served.{Served}
 use Rattle.run_core.specs.declared.done.Outcome.{Outcome}
-use Rattle.run_core.specs.Worlds.{Actor, World, server_at, actor_at, with_actor, serve, after_serving, moved, lacked, answered, becomes, asks_at, asks, steps_once, lacks_for, lacks, operated, operates, step}
+use Rattle.run_core.specs.Worlds.{Actor, World, server_at, actor_at, with_actor, serve, moved, answered, becomes, asks_at, asks, steps_once, lacks_for, lacks, operated, operates, step}
 use Rattle.run_core.specs.Runs.{after, run}
-use Rattle.run_core.specs.Decisions.{Decided, decided, decisions}
+use Rattle.run_core.specs.Decisions.{Decided, decisions}
 use Rattle.run_laws.specs.Naming.{names}
 use Rattle.run_laws.specs.Numbers.{begins_now}
 use Rattle.run_laws.specs.Claims.{ended}

@@ -1,5 +1,5 @@
 -- The endings are the table's.
-use Rattle.std.proofs.Common.{◌≡◌, ℕ, ◌≤◌, true, List, [], ◌∷◌, Option, Some, None, refl, sym, ap, ◌∙◌, arith}
+use Rattle.std.proofs.Common.{◌≡◌, ◌≤◌, List, [], ◌∷◌, Option, Some, None, refl, sym, ap, ◌∙◌, arith}
 use Rattle.std.specs.Prelude.{map, length}
 use Rattle.file_ops.specs.Rows as rows
 use Rattle.file_ops.specs.Rows.{PlainTable}

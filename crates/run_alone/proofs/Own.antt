@@ -3,20 +3,18 @@ use Rattle.std.proofs.Common.{◌≡◌, ⊎_elim, inl, inr, ℕ, Bool, true, fa
 use Rattle.std.specs.Prelude.{◌==◌, ◌&&◌, ◌||◌, not, find, filter, map}
 use Rattle.std.proofs.lemmas.Bool.{false≢true}
 use Rattle.std.proofs.lemmas.Bool.Decides.{nat_tests}
-use Rattle.suite_prefix.specs.LockModes.{is_exclusive}
 use Rattle.suite_prefix.specs.declared.lock_mode.LockMode.{LockMode}
 use Rattle.suite_prefix.specs.declared.lock_mode.LockMode.TheVariants.{Exclusive}
 use Rattle.rep_core.specs.declared.lock.Lock.{Lock}
 use Rattle.rep_core.specs.declared.request.Request.{Request}
 use Rattle.rep_core.specs.declared.request.Request.TheVariants as request
-use Rattle.rep_core.specs.declared.reply.Reply.{Reply}
 use Rattle.rep_core.specs.declared.reply.Reply.TheVariants as reply
 use Rattle.rep_core.specs.declared.stamped.Stamped.{Stamped}
 use Rattle.rep_core.specs.Fits.{is_busy, is_down}
-use Rattle.rep_core.specs.Locks.{conflicts, in_the_way, has_lock, locked, raised, raised_lock, with_lock, before, prepared_lock, with_prepared, released, broken, prepared_locks, is_own}
+use Rattle.rep_core.specs.Locks.{conflicts, in_the_way, has_lock, locked, raised, raised_lock, with_lock, before, prepared_lock, is_own}
 use Rattle.rep_core.specs.Store.{copy_of}
 use Rattle.rep_core.specs.State.{State}
-use Rattle.rep_core.specs.Service.{reply_of, reply_up, reply_down, locking_reply, prepare_reply, stands_prepared, can_prepare}
+use Rattle.rep_core.specs.Service.{reply_of, reply_up, reply_down, locking_reply, stands_prepared, can_prepare}
 use Rattle.rep_core.specs.Serving.{step}
 use Rattle.rep_core.proofs.Members.{Has, has_filter, has_between, has_map, any_has}
 use Rattle.rep_core.proofs.Ways.{Ways, by_step}

@@ -1,9 +1,8 @@
 -- Of two runs of the same jobs the endings are the same.
-use Rattle.std.proofs.Common.{◌≡◌, ◌≢◌, ◌⊎◌, inl, inr, ⊎_elim, ℕ, ◌+◌, ◌<◌, true, false, List, [], ◌∷◌, ◌++◌, Option, Some, None, refl, sym, ap, subst, ◌∙◌, arith, eq-eqb}
-use Rattle.std.specs.Prelude.{◌*◌, map, option_map, nat_eq, Contains, Result, Ok, Err}
+use Rattle.std.proofs.Common.{◌≡◌, inl, inr, ⊎_elim, ℕ, ◌+◌, true, false, List, [], ◌∷◌, ◌++◌, Option, Some, None, refl, sym, ap, subst, ◌∙◌, eq-eqb}
+use Rattle.std.specs.Prelude.{◌*◌, map, nat_eq, Result, Ok, Err}
 use Rattle.std.specs.List.{AllByRecursion, IsDistinct, cons_option}
 use Rattle.std.proofs.lemmas.Bool.{false≢true}
-use Rattle.std.proofs.lemmas.Bool.Decides.{nat_tests}
 use Rattle.std.proofs.lemmas.Option.{none-some, same_Some}
 use Rattle.std.proofs.lemmas.Map.Keys.{IsDistinct-head, IsDistinct-tail}
 use Rattle.suite_prefix.specs.SettingsRules.{Opening, IsAccepted}
@@ -30,7 +29,7 @@ use Rattle.run_core.specs.declared.done.Outcome.{Outcome}
 use Rattle.run_core.specs.Worlds.{Actor, World, opening, actor_at, step}
 use Rattle.run_core.specs.Runs.{run}
 use Rattle.run_core.specs.Decisions.{Decided, decisions, task_of, task_at}
-use Rattle.run_core.specs.TableOfRun.{played_on, table_with, AnswersAreTheTables}
+use Rattle.run_core.specs.TableOfRun.{table_with, AnswersAreTheTables}
 use Rattle.run_laws.specs.Numbers.{number_of, begins_now, begins_at, begun_from}
 use Rattle.run_laws.specs.Claims.{ended}
 use Rattle.run_laws.proofs.Standing.{Answer', NotIn, In, Stands, append_has_left, append_has_right}
@@ -41,7 +40,7 @@ use Rattle.run_laws.proofs.Worlds.{Holds, agent_of, agent_at}
 use Rattle.run_laws.proofs.Begun.{each_is_begun_once}
 use Rattle.run_laws.proofs.Conclusions.{holds_of}
 use Rattle.run_alone.specs.Alone.{begins_job, jobs_from, jobs_of, one_at_a_time}
-use Rattle.run_alone.specs.Endings.{AreAlike, IsTransaction, IsDecided, IsRunning, AllAreDecided, EndingsAreOne}
+use Rattle.run_alone.specs.Endings.{AreAlike, IsTransaction, IsRunning, AllAreDecided, EndingsAreOne}
 use Rattle.run_alone.proofs.Verdicts.{Asked, asked_by, asked_of, left_by, said_in, said_is, undecided}
 use Rattle.run_alone.proofs.Along.{ApartFrom, AreApart, same_asked, along_has, is_all}
 use Rattle.run_alone.proofs.Turns.{doing_of, doing_at, with_job, transaction_as, transactions_of}
@@ -299,6 +298,6 @@ endings_are_one given other accepted accepted' alike events events' answers answ
     let b = ended_so other accepted' events' alone' decided' job' (has_from (ended other events') job' there') is' in
     let same_list = is_all_begun given accepted events alone decided ∙ ap transactions_of same ∙ sym (is_all_begun other accepted' events' alone' decided') in
     let answer = same_answers (rows.opening given) (decisions given events) (decisions other events') _ _ (holds_of given accepted events).once (holds_of other accepted' events').once answers
-        (subst (λ table. AnswersAreTheTables table (decisions other events')) (same_table given other alike) answers')
-        same_list a.2.decision b.2.decision a.2.there b.2.there (a.2.of_it ∙ number ∙ sym b.2.of_it) in
+    (subst (λ table. AnswersAreTheTables table (decisions other events')) (same_table given other alike) answers')
+    same_list a.2.decision b.2.decision a.2.there b.2.there (a.2.of_it ∙ number ∙ sym b.2.of_it) in
     a.1 ∙ ap ending_of (sym a.2.answered ∙ answer ∙ b.2.answered) ∙ sym b.1

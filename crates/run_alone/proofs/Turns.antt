@@ -2,8 +2,8 @@
 use Rattle.std.proofs.Common.{◌≡◌, ◌≢◌, ◌⊎◌, inl, inr, ⊎_elim, ℕ, zero, suc, ◌+◌, Bool, true, false, cond, List, [], ◌∷◌, ◌++◌, Option, Some, None, refl, sym, ap, subst, ◌∙◌, arith}
 use Rattle.std.specs.Prelude.{◌*◌, ◌-◌, ◌==◌, ◌&&◌, ◌||◌, not, nat_lt, is_some, map, option_map, option_to_list, slice_get, slice_set}
 use Rattle.std.specs.List.{list_all, filter_map, cons_option}
-use Rattle.std.proofs.lemmas.Bool.{and_parts, false≢true}
-use Rattle.std.proofs.lemmas.Option.{none-some, same_Some}
+use Rattle.std.proofs.lemmas.Bool.{and_parts}
+use Rattle.std.proofs.lemmas.Option.{none-some}
 use Rattle.suite_prefix.specs.SettingsRules.{Opening}
 use Rattle.file_ops.specs.declared.service.Service.{Service}
 use Rattle.rep_core.specs.declared.lock.Lock.{Lock}
@@ -34,18 +34,18 @@ use Rattle.run_core.specs.declared.event.Event.{Event}
 use Rattle.run_core.specs.declared.event.Event.TheVariants.{Begin, Step, Crash, Return, Forget, Lack}
 use Rattle.run_core.specs.declared.done.Served.{Served}
 use Rattle.run_core.specs.declared.done.Outcome.{Outcome}
-use Rattle.run_core.specs.Worlds.{Actor, World, server_at, actor_at, with_actor, Stepped, serve, after_serving, moved, outcome_of, lacked, answered, becomes, asks_at, asks, steps_once, lacks_for, lacks, operated, operates, step}
+use Rattle.run_core.specs.Worlds.{Actor, World, server_at, actor_at, with_actor, serve, after_serving, moved, outcome_of, lacked, answered, becomes, asks_at, asks, steps_once, lacks_for, lacks, operated, operates, step}
 use Rattle.run_core.specs.Decisions.{Decided, task_of, task_at, task_in, decided_by, decided_at, to_decide, decided_as, answer_in}
-use Rattle.run_laws.specs.Numbers.{number_of, begins_now}
-use Rattle.run_laws.proofs.Standing.{Answer', NotIn, Stands, Recorded}
-use Rattle.run_laws.proofs.Places.{Puts, same_or}
+use Rattle.run_laws.specs.Numbers.{begins_now}
+use Rattle.run_laws.proofs.Standing.{Answer', Stands, Recorded}
+use Rattle.run_laws.proofs.Places.{same_or}
 use Rattle.run_laws.proofs.Words.{Tells, Leaves, leaves_begin, leaves_word}
 use Rattle.run_laws.proofs.Agents.{IsAt}
 use Rattle.run_laws.proofs.Asking.{sweep_decides_none}
 use Rattle.run_laws.proofs.Turns.{no_decide}
 use Rattle.run_laws.proofs.Worlds.{agent_of, Holds, puts_in}
 use Rattle.run_alone.specs.Alone.{all_idle, begins_job, begins_alone}
-use Rattle.run_alone.specs.Endings.{answer_by, decided_ending, decided_endings}
+use Rattle.run_alone.specs.Endings.{answer_by, decided_endings}
 use Rattle.run_alone.proofs.Verdicts as verdicts
 use Rattle.run_alone.proofs.Verdicts.{Asked, asked_by, asked_of, answer_to, answers_of, left_by, said_in, said_is, undecided, Turns, adds_answer, takes_asked, turns_served, ended_as, leaves_answer, leaves_asked}
 
@@ -222,7 +222,6 @@ module _ (given : Opening) (world : World) (ds : List Decided) (past : List Outc
   record Begins (t : ℕ) (job : Job) (doing : Option Doing) : Type 0 where
     unanswered : verdicts.answered doing ≡ []
     asks : (undecided doing ≡ transactions_of ((t, job) ∷ [])) ⊎ (undecided doing ≡ [])
-
 
   begins_course : (task : Task) (site : ℕ) (after : After Course) → Leaves task verdict.Aborted after → Begins task.t (Transaction task.caller site task.ops) (left Running after)
   begins_course task site (GoesOn course) leaves =

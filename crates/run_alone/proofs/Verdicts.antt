@@ -1,12 +1,10 @@
 -- What was said of a transaction, and what a word adds to it.
 use Rattle.std.proofs.Common.{◌≡◌, ◌⊎◌, inl, inr, ℕ, Bool, true, false, cond, List, [], ◌∷◌, ◌++◌, Option, Some, None, refl, sym, ap, subst, ◌∙◌}
-use Rattle.std.specs.Prelude.{is_some, map, option_map, option_to_list, Result, Ok, Err}
-use Rattle.std.proofs.lemmas.Option.{same_Some}
+use Rattle.std.specs.Prelude.{is_some, map, option_map, option_to_list, Ok, Err}
 use Rattle.acl_core.specs.Identity.{Identity}
 use Rattle.file_ops.specs.declared.operation.Op.{Op}
 use Rattle.rep_core.specs.declared.request.Request.{Request}
 use Rattle.rep_core.specs.declared.request.Request.TheVariants as request
-use Rattle.rep_core.specs.declared.reply.Reply.{Reply}
 use Rattle.rep_core.specs.declared.reply.Reply.TheVariants as reply
 use Rattle.rep_core.specs.declared.reply.Verdict.{Verdict}
 use Rattle.rep_core.specs.declared.reply.Verdict.TheVariants as verdict
@@ -23,7 +21,7 @@ use Rattle.run_core.specs.Decisions.{Decided, to_decide, decided_as, decided_at,
 use Rattle.run_laws.proofs.Standing.{Answer', NotIn, Stands, Recorded, verdict_as}
 use Rattle.run_laws.proofs.Asking.{decides}
 use Rattle.run_laws.proofs.Turns.{no_decide}
-use Rattle.run_laws.proofs.Words.{EndsAs, Tells, Leaves}
+use Rattle.run_laws.proofs.Words.{Tells, Leaves}
 use Rattle.run_alone.specs.Endings.{answer_by}
 
 -- ---- what was said

@@ -1,5 +1,5 @@
 -- Runs in which jobs go one at a time.
-use Rattle.std.specs.Prelude.{ℕ, Bool, true, ◌&&◌, ◌||◌, not, is_some, option_map, List, [], ◌∷◌, Option, Some, None}
+use Rattle.std.specs.Prelude.{ℕ, Bool, true, ◌&&◌, ◌||◌, not, is_some, option_map, List, [], ◌∷◌, Option, None}
 use Rattle.std.specs.List.{list_all, cons_option}
 use Rattle.suite_prefix.specs.SettingsRules.{Opening}
 use Rattle.txn_core.specs.declared.job.Job.{Job}

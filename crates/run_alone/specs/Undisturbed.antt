@@ -1,5 +1,5 @@
 -- A transaction that begins where every agent is idle, every server is up, and no lock is left.
-use Rattle.std.specs.Prelude.{◌≡◌, ℕ, ◌==◌, Bool, true, false, not, List, [], ◌∷◌, ◌++◌, length, Some}
+use Rattle.std.specs.Prelude.{◌≡◌, ℕ, ◌==◌, Bool, true, false, not, List, [], length, Some}
 use Rattle.std.specs.List.{list_all}
 use Rattle.acl_core.specs.Identity.{Identity}
 use Rattle.suite_prefix.specs.SettingsRules.{Opening, IsAccepted}

@@ -4,7 +4,6 @@ use Rattle.suite_prefix.specs.SettingsRules.{Opening}
 use Rattle.file_ops.specs.declared.answer.Answer.{Answer}
 use Rattle.file_ops.specs.declared.answer.Answer.TheVariants as answer
 use Rattle.file_ops.specs.declared.refusal.Refusal.{Refusal}
-use Rattle.txn_core.specs.declared.ending.Ending.{Ending}
 use Rattle.txn_core.specs.declared.ending.Ending.TheVariants.{Answered, Refused, Undecided}
 use Rattle.txn_core.specs.declared.ending.Cause.TheVariants.{Unavailable}
 use Rattle.txn_core.specs.declared.job.Job.TheVariants.{Transaction}
