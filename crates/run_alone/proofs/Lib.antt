@@ -1,0 +1,9 @@
+pub mod Verdicts
+pub mod Turns
+pub mod Alone
+pub mod Along
+pub mod Endings
+pub mod Same
+pub mod Worked
+pub mod Own
+pub mod Clear

@@ -1,0 +1,163 @@
+-- A server at which one transaction alone has locks, and that is up.
+use Rattle.std.proofs.Common.{◌≡◌, ⊎_elim, inl, inr, ℕ, Bool, true, false, cond, List, [], ◌∷◌, Option, Some, None, refl, sym, ap, ◌∙◌, arith}
+use Rattle.std.specs.Prelude.{◌==◌, ◌&&◌, ◌||◌, not, find, filter, map}
+use Rattle.std.proofs.lemmas.Bool.{false≢true}
+use Rattle.std.proofs.lemmas.Bool.Decides.{nat_tests}
+use Rattle.suite_prefix.specs.declared.lock_mode.LockMode.{LockMode}
+use Rattle.suite_prefix.specs.declared.lock_mode.LockMode.TheVariants.{Exclusive}
+use Rattle.rep_core.specs.declared.lock.Lock.{Lock}
+use Rattle.rep_core.specs.declared.request.Request.{Request}
+use Rattle.rep_core.specs.declared.request.Request.TheVariants as request
+use Rattle.rep_core.specs.declared.reply.Reply.TheVariants as reply
+use Rattle.rep_core.specs.declared.stamped.Stamped.{Stamped}
+use Rattle.rep_core.specs.Fits.{is_busy, is_down}
+use Rattle.rep_core.specs.Locks.{conflicts, in_the_way, has_lock, locked, raised, raised_lock, with_lock, before, prepared_lock, is_own}
+use Rattle.rep_core.specs.Store.{copy_of}
+use Rattle.rep_core.specs.State.{State}
+use Rattle.rep_core.specs.Service.{reply_of, reply_up, reply_down, locking_reply, stands_prepared, can_prepare}
+use Rattle.rep_core.specs.Serving.{step}
+use Rattle.rep_core.proofs.Members.{Has, has_filter, has_between, has_map, any_has}
+use Rattle.rep_core.proofs.Ways.{Ways, by_step}
+
+-- all locks are of this transaction
+abbrev pub AreOwn : ℕ → List Lock → Type 0
+AreOwn t locks = (lock : Lock) → Has locks lock → lock.t ≡ t
+
+-- a lock is asked for in its name alone
+abbrev pub PollsFor : ℕ → Request → Type 0
+PollsFor t (request.Poll named suite mode) = named ≡ t
+PollsFor t other = Unit {0}
+
+abbrev pub is_crash : Request → Bool
+is_crash request.Crash = true
+is_crash other = false
+
+own_filter : (t : ℕ) (p : Lock → Bool) (locks : List Lock) → AreOwn t locks → AreOwn t (filter p locks)
+own_filter t p locks own lock has = own lock (has_filter p locks lock has).0
+
+own_map : (t : ℕ) (f : Lock → Lock) (locks : List Lock) → ((lock : Lock) → (f lock).t ≡ lock.t) → AreOwn t locks → AreOwn t (map f locks)
+own_map t f locks same own lock has = let was = has_map f locks lock has in ap (λ (lock : Lock). lock.t) (sym was.2) ∙ same was.0 ∙ own was.0 was.1
+
+own_locked : (t named suite : ℕ) (mode : LockMode) (locks : List Lock) → named ≡ t → AreOwn t locks → AreOwn t (locked named suite mode locks)
+own_locked t named suite mode locks is own =
+    let new : Lock = record { t = named; suite = suite; mode = mode; prepared = false } in
+    elim (has_lock named suite locks) as (λ b. AreOwn t (cond b (raised named suite mode locks) (with_lock new locks))) [
+      | true ↦ own_map t (raised_lock named suite mode) locks (λ lock. refl) own
+      | false ↦ λ lock has. ⊎_elim (λ old. own lock old) (λ same. ap (λ (lock : Lock). lock.t) (sym same) ∙ is) (has_between (λ other. before other new) locks new lock has)
+    ]
+
+-- whose lock is there already is this transaction
+own_has : (t named suite : ℕ) (locks : List Lock) → AreOwn t locks → has_lock named suite locks ≡ true → named ≡ t
+own_has t named suite locks own has =
+    let is = any_has (is_own named suite) locks has in
+    let same : named ≡ is.0.t = equal is.0 is.2 in
+    same ∙ own is.0 is.1
+  where
+    equal : (lock : Lock) → is_own named suite lock ≡ true → named ≡ lock.t
+    equal lock is = grind (arith, nat_tests)
+
+-- what stays so after a request
+abbrev StaysOwn : ℕ → Request → State → Type 0
+StaysOwn t asked new = PollsFor t asked → AreOwn t new.locks
+
+abbrev StaysUp : Request → State → Type 0
+StaysUp asked new = is_crash asked ≡ false → new.up ≡ true
+
+own_ways : (t : ℕ) (st : State) → AreOwn t st.locks → Ways st (StaysOwn t)
+own_ways t st own = record {
+  same = λ asked polls. own;
+  poll = λ named suite mode free polls. own_locked t named suite mode st.locks polls own;
+  upgrade = λ named suite has free polls. own_locked t named suite Exclusive st.locks (own_has t named suite st.locks own has) own;
+  prepare = λ named parts may room polls. own_map t (prepared_lock named parts) st.locks (λ lock. refl) own;
+  decide = λ named decision free polls. own;
+  resolve = λ named free polls. own;
+  finish = λ named verdict up polls. own_filter t (λ lock. not (lock.t == named)) st.locks own;
+  break = λ named suite polls. own_filter t (λ lock. not (is_own named suite lock && not lock.prepared)) st.locks own;
+  crash = λ polls. own_filter t (λ lock. lock.prepared) st.locks own;
+  return = λ polls. own;
+}
+
+up_ways : (st : State) → st.up ≡ true → Ways st StaysUp
+up_ways st up = record {
+  same = λ asked other. up;
+  poll = λ named suite mode free other. up;
+  upgrade = λ named suite has free other. up;
+  prepare = λ named parts may room other. up;
+  decide = λ named decision free other. up;
+  resolve = λ named free other. up;
+  finish = λ named verdict is other. up;
+  break = λ named suite other. up;
+  crash = λ other. absurd (false≢true (sym other));
+  return = λ other. refl;
+}
+
+-- all locks stay this transaction's own, as long as nobody else asks for one
+pub own_stays : (t : ℕ) (st : State) (asked : Stamped Request) → PollsFor t asked.value → AreOwn t st.locks → AreOwn t (step st asked).locks
+own_stays t st asked polls own = by_step st (StaysOwn t) (own_ways t st own) (λ asked new stamp stays. stays) asked polls
+
+-- a server that is up stays so, as long as it does not crash
+pub up_stays : (st : State) (asked : Stamped Request) → is_crash asked.value ≡ false → st.up ≡ true → (step st asked).up ≡ true
+up_stays st asked other up = by_step st StaysUp (up_ways st up) (λ asked new stamp stays. stays) asked other
+
+-- ---- what such a server replies
+
+none_found : (p : Lock → Bool) (locks : List Lock) → ((lock : Lock) → Has locks lock → p lock ≡ false) → find p locks ≡ None
+none_found p [] misses = refl
+none_found p (lock ∷ locks) misses = ap (λ b. cond b (Some lock) (find p locks)) (misses lock (inl refl)) ∙ none_found p locks (λ other has. misses other (inr has))
+
+-- nothing is in the way of its transaction
+pub nothing_in_the_way : (t suite : ℕ) (mode : LockMode) (locks : List Lock) → AreOwn t locks → in_the_way t suite mode locks ≡ None
+nothing_in_the_way t suite mode locks own = none_found (conflicts t suite mode) locks (λ lock has. misses lock (own lock has))
+  where
+    misses : (lock : Lock) → lock.t ≡ t → conflicts t suite mode lock ≡ false
+    misses lock same = grind (arith, nat_tests)
+
+-- it is not told Busy, nor Down
+pub not_busy : (t : ℕ) (st : State) (asked : Request) → st.up ≡ true → PollsFor t asked → AreOwn t st.locks → is_busy (reply_of st asked) ≡ false
+not_busy t st asked up polls own = ap (λ b. is_busy (cond b (reply_up st asked) (reply_down asked))) up ∙ of asked polls
+  where
+    polled : (named suite : ℕ) (mode : LockMode) → named ≡ t → is_busy (locking_reply (in_the_way named suite mode st.locks) (copy_of st.store suite)) ≡ false
+    polled named suite mode same =
+        ap (λ named. is_busy (locking_reply (in_the_way named suite mode st.locks) (copy_of st.store suite))) same
+        ∙ ap (λ other. is_busy (locking_reply other (copy_of st.store suite))) (nothing_in_the_way t suite mode st.locks own)
+
+    of : (asked : Request) → PollsFor t asked → is_busy (reply_up st asked) ≡ false
+    of (request.Poll named suite mode) polls = polled named suite mode polls
+    of (request.Upgrade named suite) polls =
+        elim (has_lock named suite st.locks) as (λ b. has_lock named suite st.locks ≡ b → is_busy (cond b (locking_reply (in_the_way named suite Exclusive st.locks) (copy_of st.store suite)) reply.Lost) ≡ false) [
+          | true ↦ λ has. polled named suite Exclusive (own_has t named suite st.locks own has)
+          | false ↦ λ _. refl
+        ] refl
+    of (request.Fetch named suite) polls = elim (has_lock named suite st.locks) as (λ b. is_busy (cond b (reply.Given (copy_of st.store suite).dver (copy_of st.store suite).content) reply.Lost) ≡ false) [ true ↦ refl | false ↦ refl ]
+    of (request.Prepare named parts) polls = elim (stands_prepared st named parts || can_prepare st named parts) as (λ b. is_busy (cond b reply.Prepared reply.Lost) ≡ false) [ true ↦ refl | false ↦ refl ]
+    of (request.Decide named decision) polls = refl
+    of (request.Resolve named) polls = refl
+    of (request.Finish named verdict) polls = refl
+    of (request.Break named suite) polls = refl
+    of request.Locks polls = refl
+    of request.Crash polls = refl
+    of request.Return polls = refl
+
+pub not_down : (st : State) (asked : Request) → st.up ≡ true → is_down (reply_of st asked) ≡ false
+not_down st asked up = ap (λ b. is_down (cond b (reply_up st asked) (reply_down asked))) up ∙ of asked
+  where
+    locking : (other : Option Lock) (suite : ℕ) → is_down (locking_reply other (copy_of st.store suite)) ≡ false
+    locking None suite = refl
+    locking (Some other) suite = refl
+
+    of : (asked : Request) → is_down (reply_up st asked) ≡ false
+    of (request.Poll named suite mode) = locking (in_the_way named suite mode st.locks) suite
+    of (request.Upgrade named suite) =
+        elim (has_lock named suite st.locks) as (λ b. is_down (cond b (locking_reply (in_the_way named suite Exclusive st.locks) (copy_of st.store suite)) reply.Lost) ≡ false) [
+          | true ↦ locking (in_the_way named suite Exclusive st.locks) suite
+          | false ↦ refl
+        ]
+    of (request.Fetch named suite) = elim (has_lock named suite st.locks) as (λ b. is_down (cond b (reply.Given (copy_of st.store suite).dver (copy_of st.store suite).content) reply.Lost) ≡ false) [ true ↦ refl | false ↦ refl ]
+    of (request.Prepare named parts) = elim (stands_prepared st named parts || can_prepare st named parts) as (λ b. is_down (cond b reply.Prepared reply.Lost) ≡ false) [ true ↦ refl | false ↦ refl ]
+    of (request.Decide named decision) = refl
+    of (request.Resolve named) = refl
+    of (request.Finish named verdict) = refl
+    of (request.Break named suite) = refl
+    of request.Locks = refl
+    of request.Crash = refl
+    of request.Return = refl

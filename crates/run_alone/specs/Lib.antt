@@ -1,0 +1,4 @@
+pub mod Alone
+pub mod Endings
+pub mod Worked
+pub mod Undisturbed
