@@ -1,57 +1,83 @@
--- In every run agents give what they owe, and keep to their side; so its answers are the one table's. What is left to be shown stands in `Shown`.
-use Rattle.std.proofs.Common.{◌≡◌, ℕ, List, [], ◌∷◌, Some}
+-- In every run that there can be agents give what they owe, and keep to their side.
+use Rattle.std.proofs.Common.{◌≡◌, ℕ, inl, List, [], ◌∷◌, Some, refl, sym, subst}
+use Rattle.std.specs.List.{AllByRecursion}
 use Rattle.vote_core.specs.Validity.{IsValid}
-use Rattle.suite_prefix.specs.SettingsRules.{Opening, IsAccepted}
-use Rattle.file_ops.specs.Rows as rows
-use Rattle.file_ops.specs.Rows.{Row, row_of}
-use Rattle.txn_core.specs.Agents.{fixed_of}
+use Rattle.suite_prefix.specs.SettingsRules.{Opening}
+use Rattle.txn_core.specs.Agents.{Agent, fixed_of}
 use Rattle.run_core.specs.declared.event.Event as happening
 use Rattle.run_core.specs.Worlds as worlds
 use Rattle.run_core.specs.Worlds.{step}
-use Rattle.run_core.specs.Decisions.{decisions}
-use Rattle.run_core.specs.TableOfRun.{table_of, AnswersAreTheTables}
+use Rattle.run_core.specs.Runs as runs
+use Rattle.run_core.specs.Decisions.{decided}
+use Rattle.suite_machine.specs.Registers.{row}
 use Rattle.suite_machine.specs.Machine.{World, begun}
 use Rattle.server_moves.specs.Laws.{beginning}
-use Rattle.run_machine.specs.Machines.{moved}
-use Rattle.run_machine.specs.Sides.{KeepsSide, KeepSides}
+use Rattle.run_machine.specs.Machines.{moved, machine_from, machine_of}
 use Rattle.run_machine.specs.Owed.{AreOwed, AgentsOwe}
+use Rattle.run_machine.proofs.Kept.{actor_opens}
 use Rattle.one_table.specs.Tables.{AllKeepSides}
-use Rattle.one_table.specs.Effects.{IsInEffect}
-use Rattle.one_table.proofs.Running.{answers_are_one_tables, owed_is_enough}
-use Rattle.one_table.proofs.Effects.{rows_are_in_effect}
+use Rattle.one_table.proofs.Logs.{event_log}
+use Rattle.one_table.proofs.Running.{owed_is_enough}
+use Rattle.headline.specs.Premises.{EventGivesValidVotes, CanBe}
+use Rattle.headline.proofs.Carried.{AllValid, ValidOr, event_valid, came_well}
 use Rattle.headline.proofs.Together.{Together, opens, goes_on}
-use Rattle.headline.proofs.Owing.{Left, owed}
+use Rattle.headline.proofs.Owing.{Left, owed, owes_known}
+use Rattle.headline.proofs.Beside.{HoldsItsKind, opens_kind, leaves, kind_after, row_known}
+use Rattle.headline.proofs.Prepared.{AllPrepared, opens_prepared, prepared_next, prepared_left}
 
--- What is left to be shown, by whatever holds beside the rest: at the opening, after each event in which agents keep to their side, and it gives
--- what is left in each world.
-pub record Shown (given : Opening) : Type 1 where
-  pub Also : ℕ → World → worlds.World → Type 0
-  pub opens : (z : ℕ) → Also z (begun (beginning z given)) (worlds.opening given)
-  pub goes_on : (z : ℕ) (w : World) (world : worlds.World) → Together given z w world → Also z w world → (event : happening.Event) → KeepsSide given z w world event → Also z (moved given z w world event) (step (fixed_of given) world event).world
-  pub left : (z : ℕ) (w : World) (world : worlds.World) → Together given z w world → Also z w world → Left z w world
+-- what is carried beside the rest
+pub record Beside (given : Opening) (z : ℕ) (w : World) (world : worlds.World) : Type 0 where
+  pub prepared : AllPrepared z w world  -- what is prepared is the part that was sent
+  pub valid : AllValid (fixed_of given) world  -- jobs set no votes but valid ones
+  pub kind : HoldsItsKind (row (beginning z given) w.log)  -- and the register's content is of the kind of its prefix
 
-module _ (given : Opening) (shown : Shown given) where
-  owe_from : (z : ℕ) (w : World) (world : worlds.World) (events : List happening.Event) → Together given z w world → shown.Also z w world → AreOwed given z w world events × KeepSides given z w world events
-  owe_from z w world [] now also = (tt, tt)
-  owe_from z w world (event ∷ events) now also =
-      let owes = owed given z w world now (shown.left z w world now also) in
-      let one = goes_on given z w world now event owes in
-      let rest = owe_from z (moved given z w world event) (step (fixed_of given) world event).world events one.1 (shown.goes_on z w world now also event one.0) in
-      ((owes, rest.0), (one.0, rest.1))
+opens_beside : (given : Opening) (z : ℕ) → Beside given z (begun (beginning z given)) (worlds.opening given)
+opens_beside given z = record {
+  prepared = opens_prepared given z;
+  valid = λ n actor there. subst (λ (agent : Agent). ValidOr (fixed_of given) agent) (sym (actor_opens 0 given.agents n actor there).1) (inl refl);
+  kind = opens_kind given z;
+}
 
-  module _ (accepted : IsAccepted given) (valid : IsValid given.c0) where
-    -- in every run agents give what they owe
-    pub agents_owe : (z : ℕ) (events : List happening.Event) → AgentsOwe given z events
-    agents_owe z events = (owe_from z (begun (beginning z given)) (worlds.opening given) events (opens given z valid accepted.some_agents.1 accepted.some_servers.1) (shown.opens z)).0
+module _ (given : Opening) (c0 : IsValid given.c0) (z : ℕ) (w : World) (world : worlds.World) (now : Together given z w world) (beside : Beside given z w world) where
+  left : Left z w world
+  left number actor course outcome suite first there running phase undecided found had = record {
+    fair = λ change set.
+        (leaves given z w now.inv c0 beside.kind course outcome (came_well (fixed_of given) actor.agent (beside.valid number actor there) course outcome running phase) suite first change found had set
+        (row_known given z w world now number actor course outcome there running phase undecided suite first (owes_known given z w world now number actor course outcome there running phase suite found first had))).fair;
+    prepared = prepared_left given z w world now beside.prepared number actor course outcome suite there running phase found;
+  }
 
-    -- so they keep to their side
-    pub agents_keep_sides : AllKeepSides given
-    agents_keep_sides = owed_is_enough given accepted valid agents_owe
+  next_beside : (event : happening.Event) → EventGivesValidVotes event → Together given z (moved given z w world event) (step (fixed_of given) world event).world → Beside given z (moved given z w world event) (step (fixed_of given) world event).world
+  next_beside event valid later = record {
+    prepared = prepared_next given z w world now.linked beside.prepared event;
+    valid = event_valid (fixed_of given) world beside.valid event valid;
+    kind = kind_after given z w now.inv c0 beside.kind world beside.valid event (decided (fixed_of given) world event) (moved given z w world event).log (event_log given z w world now.shows event) later.inv.logged.plain;
+  }
 
-    -- every run is answered as one table answers it
-    pub answers_are_the_tables : (events : List happening.Event) → AnswersAreTheTables (rows.opening given) (decisions given events)
-    answers_are_the_tables events = answers_are_one_tables given agents_keep_sides events
+owe_from : (given : Opening) (c0 : IsValid given.c0) (z : ℕ) (w : World) (world : worlds.World) (events : List happening.Event) → AllByRecursion EventGivesValidVotes events → Together given z w world → Beside given z w world → AreOwed given z w world events
+owe_from given c0 z w world [] valid now beside = tt
+owe_from given c0 z w world (event ∷ events) valid now beside =
+    let owes = owed given z w world now (left given c0 z w world now beside) in
+    let later = (goes_on given z w world now event owes).1 in
+    (owes, owe_from given c0 z (moved given z w world event) (step (fixed_of given) world event).world events valid.1 later (next_beside given c0 z w world now beside event valid.0 later))
 
-    -- and each row of that table is in effect in every quorum
-    pub in_effect_in_every_quorum : (events : List happening.Event) (z : ℕ) (row : Row) → row_of (table_of given events).rows z ≡ Some row → IsInEffect given events z row
-    in_effect_in_every_quorum events z row is = rows_are_in_effect given agents_keep_sides events z row is
+hold_from : (given : Opening) (c0 : IsValid given.c0) (z : ℕ) (w : World) (world : worlds.World) (events : List happening.Event) → AllByRecursion EventGivesValidVotes events → Together given z w world → Beside given z w world
+    → Together given z (machine_from given z w world events) (runs.after (fixed_of given) world events)
+hold_from given c0 z w world [] valid now beside = now
+hold_from given c0 z w world (event ∷ events) valid now beside =
+    let later = (goes_on given z w world now event (owed given z w world now (left given c0 z w world now beside))).1 in
+    hold_from given c0 z (moved given z w world event) (step (fixed_of given) world event).world events valid.1 later (next_beside given c0 z w world now beside event valid.0 later)
+
+-- what holds together holds after every run that there can be
+pub holds_after : (given : Opening) (events : List happening.Event) → CanBe given events → (z : ℕ) → Together given z (machine_of given z events) (runs.run given events)
+holds_after given events can z =
+    hold_from given can.c0 z (begun (beginning z given)) (worlds.opening given) events can.votes (opens given z can.c0 can.accepted.some_agents.1 can.accepted.some_servers.1) (opens_beside given z)
+
+-- agents give what they owe
+pub agents_owe : (given : Opening) (events : List happening.Event) → CanBe given events → (z : ℕ) → AgentsOwe given z events
+agents_owe given events can z =
+    owe_from given can.c0 z (begun (beginning z given)) (worlds.opening given) events can.votes (opens given z can.c0 can.accepted.some_agents.1 can.accepted.some_servers.1) (opens_beside given z)
+
+-- so they keep to their side
+pub all_keep : (given : Opening) (events : List happening.Event) → CanBe given events → AllKeepSides given events
+all_keep given events can = owed_is_enough given events can.accepted can.c0 (agents_owe given events can)

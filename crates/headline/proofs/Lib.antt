@@ -1,7 +1,17 @@
 pub mod Firsts
 pub mod Together
 pub mod Owing
+pub mod Editing
+pub mod Setting
+pub mod Fair
+pub mod Carried
+pub mod Beside
+pub mod Parts
+pub mod Prepared
 pub mod Keeping
+pub mod Conclusions
+pub mod Unbroken
+pub mod Stood
 pub mod Asked
 pub mod Promised
 pub mod Worked

@@ -38,7 +38,7 @@ pub record LeftOf (z : ℕ) (w : World) (course : Course) (outcome : Outcome) (s
 abbrev pub Left : ℕ → World → worlds.World → Type 0
 Left z w world =
     (number : ℕ) (actor : Actor) (course : Course) (outcome : Outcome) (suite : Suite) (first : First) → actor_at world number ≡ Some actor → actor.agent.doing ≡ Some (Running course) → course.phase ≡ Deciding outcome
-    → suite_of course.suites z ≡ Some suite → suite.first ≡ Some first → LeftOf z w course outcome suite first
+    → w.verdict course.task.t ≡ None → suite_of course.suites z ≡ Some suite → suite.first ≡ Some first → LeftOf z w course outcome suite first
 
 -- ready to be decided, as every agent of a job
 is_ready : (fixed : Fixed) (agent : Agent) (z : ℕ) → IdleOr fixed agent → (course : Course) (outcome : Outcome) → agent.doing ≡ Some (Running course) → course.phase ≡ Deciding outcome → (suite : Suite) → suite_of course.suites z ≡ Some suite → IsReady suite z (changes_of outcome)
@@ -53,7 +53,7 @@ with_change start w t suite first (Err refusal) change known written = known
 with_change start w t suite first (Ok granted) None known written = known
 with_change start w t suite first (Ok granted) (Some one) known written = written one refl
 
-module _ (given : Opening) (z : ℕ) (w : World) (world : worlds.World) (now : Together given z w world) (left : Left z w world) where
+module _ (given : Opening) (z : ℕ) (w : World) (world : worlds.World) (now : Together given z w world) where
   abbrev start : Beginning
   start = beginning z given
 
@@ -66,26 +66,26 @@ module _ (given : Opening) (z : ℕ) (w : World) (world : worlds.World) (now : T
         let here : DoingAgrees z w (Some (Running course)) = subst (DoingAgrees z w) running (now.agrees number actor there) in
         subst (λ o. Agrees (told_to w t) (told_in o)) found here
 
-    owes_known : (suite : Suite) → suite_of course.suites z ≡ Some suite → (first : First) → suite.first ≡ Some first → OwesKnown start w t (known_by first suite)
+    pub owes_known : (suite : Suite) → suite_of course.suites z ≡ Some suite → (first : First) → suite.first ≡ Some first → OwesKnown start w t (known_by first suite)
     owes_known suite found first had =
         let was = suite_was z start w actor.agent course suite (now.fits number actor there) running found in
         let prefix = known_prefix z start w t suite was first had in
         knows_from_a_quorum start w t suite first (valid_was start w first.prefix now.inv prefix) (firsts_given (fixed_of given) actor.agent (now.jobs number actor there) course running z suite found first had) (agrees_on suite found) prefix (known_content z start w t suite was first had)
 
-    owes_written : (suite : Suite) → suite_of course.suites z ≡ Some suite → (first : First) → suite.first ≡ Some first → (change : executor.Change) → change_of (changes_of outcome) z ≡ Some change → OwesWritten start w t (known_by first suite) (change_to first change)
-    owes_written suite found first had change changed =
+    owes_written : Left z w world → w.verdict t ≡ None → (suite : Suite) → suite_of course.suites z ≡ Some suite → (first : First) → suite.first ≡ Some first → (change : executor.Change) → change_of (changes_of outcome) z ≡ Some change → OwesWritten start w t (known_by first suite) (change_to first change)
+    owes_written left undecided suite found first had change changed =
         let was = suite_was z start w actor.agent course suite (now.fits number actor there) running found in
-        let more = left number actor course outcome suite first there running phase found had in
+        let more = left number actor course outcome suite first there running phase undecided found had in
         writes_to_quorums start w t z suite (changes_of outcome) change first (agrees_on suite found) had changed (more.fair change changed) more.prepared (owes_known suite found first had)
         (is_ready (fixed_of given) actor.agent z (now.jobs number actor there) course outcome running phase suite found) (newest_prefix z start w t suite was now.inv)
 
-    on_first : (suite : Suite) → suite_of course.suites z ≡ Some suite → (o : Option First) → suite.first ≡ o → OwesFirst start w t outcome (written_from o (change_of (changes_of outcome) z)) suite o
-    on_first suite found None had = tt
-    on_first suite found (Some first) had = with_change start w t suite first outcome (change_of (changes_of outcome) z) (owes_known suite found first had) (owes_written suite found first had)
+    on_first : Left z w world → w.verdict t ≡ None → (suite : Suite) → suite_of course.suites z ≡ Some suite → (o : Option First) → suite.first ≡ o → OwesFirst start w t outcome (written_from o (change_of (changes_of outcome) z)) suite o
+    on_first left undecided suite found None had = tt
+    on_first left undecided suite found (Some first) had = with_change start w t suite first outcome (change_of (changes_of outcome) z) (owes_known suite found first had) (owes_written left undecided suite found first had)
 
-    on_suite : (o : Option Suite) → suite_of course.suites z ≡ o → Owes start w t outcome (written_from (first_of o) (change_of (changes_of outcome) z)) o
-    on_suite None found = tt
-    on_suite (Some suite) found = on_first suite found suite.first refl
+    on_suite : Left z w world → w.verdict t ≡ None → (o : Option Suite) → suite_of course.suites z ≡ o → Owes start w t outcome (written_from (first_of o) (change_of (changes_of outcome) z)) o
+    on_suite left undecided None found = tt
+    on_suite left undecided (Some suite) found = on_first left undecided suite found suite.first refl
 
-  pub owed : Owed given z w world
-  owed = record { decides = λ number actor course outcome there running phase undecided. on_suite number actor course outcome there running phase (suite_of course.suites z) refl }
+  pub owed : Left z w world → Owed given z w world
+  owed left = record { decides = λ number actor course outcome there running phase undecided. on_suite number actor course outcome there running phase left undecided (suite_of course.suites z) refl }

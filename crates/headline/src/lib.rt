@@ -1,18 +1,64 @@
-//! The last join: what is left to be shown for every run to be answered as one table answers it.
+//! What holds of every run that there can be: it is answered as one table answers it.
 //!
-//! There is no code here but a law. What holds together event by event stands in `proofs/Together`, what is owed at each
-//! decision in `proofs/Owing`, and what follows in `proofs/Keeping`, whose `Shown` names what is left to be shown.
+//! There is no code here but laws. Which runs there can be stands in `specs/Premises`, and the laws in `specs/Laws`. What
+//! holds together event by event stands in `proofs/Together` and `proofs/Keeping`, what is owed at each decision in
+//! `proofs/Owing`, and that operations leave what they do not set in `proofs/Fair`. What all this promises of a world is
+//! [`promise`].
 #![tactic(auto)]
 
 mod promises;
 mod witnesses;
 
-ghost use Rattle.headline.specs.Laws.{FirstsAreGiven};
+ghost use Rattle.headline.specs.Laws.{AnswersAreTheTables, AuditIsTheDenials, AnsweredBefore, RevocationsAreMet, LocksStand, InEffectInEveryQuorum, ReplacedIsKnown, AgentsKeepSides, FirstsAreGiven};
 
 pub use promises::{promise, votes_are_valid};
 pub use witnesses::{some_run_moves_votes, some_run_revokes};
 
-/// A law: whatever an agent is told, what it keeps as the first quorum of a suite was given by that suite's collector. It does nothing.
+/// A law: every run is answered as one unreplicated table answers it that takes the decided transactions one at a time, in
+/// the order of their decisions. It does nothing.
+pub fn answers_are_the_tables()
+    ensures { AnswersAreTheTables }
+{}
+
+/// A law: what servers keep of denials is what that table denied, each server that of which it is the home. It does
+/// nothing.
+pub fn audit_is_the_denials()
+    ensures { AuditIsTheDenials }
+{}
+
+/// A law: of two decisions the one whose job ended before the other's began stands first. It does nothing.
+pub fn answered_before_decided_before()
+    ensures { AnsweredBefore }
+{}
+
+/// A law: so a change that was answered, as one that revokes a permission, is met by every request that begins later. It
+/// does nothing.
+pub fn revocations_are_met()
+    ensures { RevocationsAreMet }
+{}
+
+/// A law: where a transaction is decided, each lock that it was told of has stood after every event since. It does nothing.
+pub fn locks_stand()
+    ensures { LocksStand }
+{}
+
+/// A law: each row of that table is in effect in every read and every write quorum of its votes. It does nothing.
+pub fn in_effect_in_every_quorum()
+    ensures { InEffectInEveryQuorum }
+{}
+
+/// A law: every quorum of votes that were replaced has a copy in effect that is newer. It does nothing.
+pub fn replaced_is_known()
+    ensures { ReplacedIsKnown }
+{}
+
+/// A law: agents keep to their side of the machine of each suite. It does nothing.
+pub fn agents_keep_sides()
+    ensures { AgentsKeepSides }
+{}
+
+/// A law: whatever an agent is told, what it keeps as the first quorum of a suite was given by that suite's collector. It
+/// does nothing.
 pub fn firsts_are_given()
     ensures { FirstsAreGiven }
 {}

@@ -42,7 +42,7 @@ use Rattle.run_machine.proofs.Following.{machines_follow}
 use Rattle.one_table.specs.Tables.{register, AllKeepSides}
 use Rattle.one_table.specs.Effects.{was_answered, answered_in, copy_at, HasOne, HasHead, IsInEffect, RowsAreInEffect, ReplacedIsKnown}
 use Rattle.one_table.proofs.Shown.{FitsAs}
-use Rattle.one_table.proofs.Running.{all_shown}
+use Rattle.one_table.proofs.Running.{earlier, all_shown}
 
 -- ---- the copy in effect
 
@@ -97,9 +97,9 @@ has_head prefix content row copy of is = record {
 
 -- ---- the machine of a suite, after a run
 
-module _ (given : Opening) (kept : AllKeepSides given) (events : List happening.Event) (z : ℕ) where
+module _ (given : Opening) (events : List happening.Event) (kept : AllKeepSides given events) (z : ℕ) where
   follows : Follows given z events
-  follows = machines_follow given z events kept.valid (kept.keep z events)
+  follows = machines_follow given z events kept.valid (kept.keep z)
 
   current : QuorumsShowRow (beginning z given) (machine_of given z events)
   current = subst (QuorumsShowRow (beginning z given)) (sym follows.is) (always_current (beginning z given) follows.begins (history_of given z events) follows.obeys)
@@ -130,10 +130,10 @@ module _ (given : Opening) (kept : AllKeepSides given) (events : List happening.
       }
 
 pub rows_are_in_effect : RowsAreInEffect
-rows_are_in_effect given kept events z row is =
+rows_are_in_effect given events kept z row is =
     let held = register given z events in
-    let shown = all_shown given kept events z in
-    in_effect given kept events z row (of_row held.prefix.kind held.prefix held.content row shown.fits (shown.shows ∙ is))
+    let shown = all_shown given events kept z in
+    in_effect given events kept z row (of_row held.prefix.kind held.prefix held.content row shown.fits (shown.shows ∙ is))
 
 -- ---- a run goes on
 
@@ -149,7 +149,10 @@ obeys_later : (start : Beginning) (w : World) (first later : List Event) → Obe
 obeys_later start w [] later obeys = obeys
 obeys_later start w (event ∷ first) later obeys = obeys_later start (happens start w event) first later obeys.1
 
-module _ (given : Opening) (kept : AllKeepSides given) (events later : List happening.Event) (z : ℕ) where
+module _ (given : Opening) (events later : List happening.Event) (kept : AllKeepSides given (events ++ later)) (z : ℕ) where
+  abbrev before : AllKeepSides given events
+  before = earlier given events later kept
+
   abbrev start : Beginning
   start = beginning z given
 
@@ -161,13 +164,13 @@ module _ (given : Opening) (kept : AllKeepSides given) (events later : List happ
 
   goes_on : Stays start (machine_of given z events) (machine_of given z (events ++ later))
   goes_on =
-      let before = follows given kept events z in
-      let now = follows given kept (events ++ later) z in
+      let was = follows given events before z in
+      let now = follows given (events ++ later) kept z in
       let joined : history_of given z (events ++ later) ≡ first ++ rest = history_more given z (begun start) (opening given) events later in
       let obeys = subst (Obeys start (begun start)) joined now.obeys in
       let is : machine_of given z (events ++ later) ≡ run start (run start (begun start) first) rest = now.is ∙ ap (run start (begun start)) joined ∙ run-append start (begun start) first rest in
-      subst (λ (w : World). Stays start w (machine_of given z (events ++ later))) (sym before.is)
-      (subst (Stays start (run start (begun start) first)) (sym is) (what_was_stays start before.begins first rest before.obeys (obeys_later start (begun start) first rest obeys)))
+      subst (λ (w : World). Stays start w (machine_of given z (events ++ later))) (sym was.is)
+      (subst (Stays start (run start (begun start) first)) (sym is) (what_was_stays start was.begins first rest was.obeys (obeys_later start (begun start) first rest obeys)))
 
   replaced : (prefix : Prefix) (other : ℕ) (set : ℕ → Bool) → WasPrefix start (machine_of given z events).log prefix → IsQuorum prefix.votes set
       → prefix.pver < (copy_at given (events ++ later) z other).prefix.pver → HasOne given (events ++ later) z set (λ copy. prefix.pver < copy.prefix.pver)
@@ -175,15 +178,15 @@ module _ (given : Opening) (kept : AllKeepSides given) (events later : List happ
       let now = machine_of given z (events ++ later) in
       let still = goes_on.prefixes prefix was in
       let top : (copy_at given (events ++ later) z other).prefix.pver ≤ (row start now.log).prefix.pver =
-      subst (λ (copy : Replica). copy.prefix.pver ≤ (row start now.log).prefix.pver) (effect_at given kept (events ++ later) z other) ((current given kept (events ++ later) z).greatest other).0 in
-      has_one given (events ++ later) z now (follows given kept (events ++ later) z).shows set (λ copy. prefix.pver < copy.prefix.pver)
-      (superseded given kept (events ++ later) z prefix.pver (below prefix.pver (copy_at given (events ++ later) z other).prefix.pver (row start now.log).prefix.pver newer top) set (subst (λ (prefix : Prefix). IsQuorum prefix.votes set) (sym still.1) quorum))
+      subst (λ (copy : Replica). copy.prefix.pver ≤ (row start now.log).prefix.pver) (effect_at given (events ++ later) kept z other) ((current given (events ++ later) kept z).greatest other).0 in
+      has_one given (events ++ later) z now (follows given (events ++ later) kept z).shows set (λ copy. prefix.pver < copy.prefix.pver)
+      (superseded given (events ++ later) kept z prefix.pver (below prefix.pver (copy_at given (events ++ later) z other).prefix.pver (row start now.log).prefix.pver newer top) set (subst (λ (prefix : Prefix). IsQuorum prefix.votes set) (sym still.1) quorum))
     where
       below : (a b c : ℕ) → a < b → b ≤ c → a < c
       below a b c less most = omega (arith, less, most)
 
 pub replaced_is_known : ReplacedIsKnown
-replaced_is_known given kept events later z server other set quorum newer =
-    replaced given kept events later z (copy_at given events z server).prefix other set
-    (subst (λ (copy : Replica). WasPrefix (beginning z given) (machine_of given z events).log copy.prefix) (effect_at given kept events z server) ((were given kept events z).in_effect server).0)
+replaced_is_known given events later kept z server other set quorum newer =
+    replaced given events later kept z (copy_at given events z server).prefix other set
+    (subst (λ (copy : Replica). WasPrefix (beginning z given) (machine_of given z events).log copy.prefix) (effect_at given events (earlier given events later kept) z server) ((were given events (earlier given events later kept) z).in_effect server).0)
     quorum newer

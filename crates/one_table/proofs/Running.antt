@@ -1,6 +1,7 @@
 -- Each row of the table of a run is what the register of its suite holds, event by event.
 use Rattle.std.proofs.Common.{◌≡◌, ℕ, zero, suc, false, cond, Less, Equal, Greater, List, [], ◌∷◌, ◌++◌, Option, Some, None, refl, sym, ap, subst, ◌∙◌, arith}
 use Rattle.std.specs.Prelude.{◌==◌, option_to_list, Result, Ok, Err}
+use Rattle.std.specs.List.{cons_option}
 use Rattle.std.specs.declared.cmp.Ordering.{Ordering}
 use Rattle.std.specs.Ordering.{nat_cmp, is_eq}
 use Rattle.std.proofs.lemmas.Bool.Decides.{nat_tests}
@@ -12,7 +13,7 @@ use Rattle.file_ops.specs.declared.answer.Answer.{Answer}
 use Rattle.file_ops.specs.declared.refusal.Refusal.{Refusal}
 use Rattle.file_ops.specs.Rows as rows
 use Rattle.file_ops.specs.Rows.{PlainTable, row_of}
-use Rattle.file_ops.specs.Transactions.{transaction, table_after}
+use Rattle.file_ops.specs.Transactions.{transaction, replies, table_after}
 use Rattle.file_exec.specs.Following.{Ended}
 use Rattle.file_exec.specs.Known.{AgreesWith, on_table}
 use Rattle.file_exec.proofs.More.{done_is_the_tables}
@@ -24,13 +25,13 @@ use Rattle.run_core.specs.declared.event.Event.TheVariants.{Step}
 use Rattle.run_core.specs.Worlds as worlds
 use Rattle.run_core.specs.Worlds.{actor_at, opening, step}
 use Rattle.run_core.specs.Runs as runs
-use Rattle.run_core.specs.Decisions.{Decided, decided, decisions}
-use Rattle.run_core.specs.TableOfRun.{played_on, table_after_all, table_of}
+use Rattle.run_core.specs.Decisions.{Decided, decided, decisions, decisions_from}
+use Rattle.run_core.specs.TableOfRun.{played_on, table_after_all, table_of, AnswersAreTheTables}
 use Rattle.run_laws.specs.Answers.{IsAnsweredAsKnown}
 use Rattle.run_laws.proofs.Worlds.{agent_of}
 use Rattle.run_laws.proofs.Executed.{Came, Keeps}
 use Rattle.run_laws.proofs.Answering.{answers_follow_knowledge, always_knows, Knows}
-use Rattle.run_laws.proofs.Table.{service_stays, table_one, one_more, known_answers, tables_audit}
+use Rattle.run_laws.proofs.Table.{service_stays, run_one, table_one, one_more, tables_audit}
 use Rattle.suite_machine.specs.Registers.{IsPlain, IsKnown, row}
 use Rattle.suite_machine.specs.Machine.{World, begun}
 use Rattle.suite_machine.specs.Events.{happens}
@@ -38,6 +39,7 @@ use Rattle.suite_machine.proofs.Conclusions.{one_register}
 use Rattle.server_moves.specs.Laws.{beginning}
 use Rattle.run_machine.specs.Deciding.{known_by, to_write, decision_in, decision_by, decision_with}
 use Rattle.run_machine.specs.Machines.{moved, machine_from, machine_of, history_of}
+use Rattle.run_machine.specs.Sides.{KeepSides}
 use Rattle.run_machine.proofs.Following.{machines_follow}
 use Rattle.run_machine.proofs.Kept.{sides_are_kept}
 use Rattle.one_table.specs.Tables.{register, AllKeepSides, RowsAreTheRegisters, AgentsKnowTheTable, AnswersAreOneTables, AuditIsOneTables, OwedIsEnough}
@@ -80,27 +82,38 @@ opens_shown given (suc z) =
 
 -- ---- what a step decides
 
-module _ (given : Opening) (kept : AllKeepSides given) (events : List happening.Event) (shown : AllShown given events) where
+-- agents that keep to their side in a run kept to it before
+keeps_before : (given : Opening) (z : ℕ) (w : World) (world : worlds.World) (events later : List happening.Event) → KeepSides given z w world (events ++ later) → KeepSides given z w world events
+keeps_before given z w world [] later keeps = tt
+keeps_before given z w world (event ∷ events) later keeps = (keeps.0, keeps_before given z (moved given z w world event) (step (fixed_of given) world event).world events later keeps.1)
+
+pub earlier : (given : Opening) (events later : List happening.Event) → AllKeepSides given (events ++ later) → AllKeepSides given events
+earlier given events later kept = record { valid = kept.valid; keep = λ z. keeps_before given z (begun (beginning z given)) (opening given) events later (kept.keep z) }
+
+module _ (given : Opening) (events : List happening.Event) (event : happening.Event) (kept : AllKeepSides given (events ++ event ∷ [])) (shown : AllShown given events) where
+  abbrev before : AllKeepSides given events
+  before = earlier given events (event ∷ []) kept
+
   abbrev world : worlds.World
   world = runs.run given events
 
   abbrev machine : ℕ → World
   machine z = machine_of given z events
 
-  log_so : (z : ℕ) (event : happening.Event) → LogIs (beginning z given) (decision_at z (machine z) world event) (machine z) (decided (fixed_of given) world event) (machine_of given z (events ++ event ∷ [])).log
-  log_so z event =
+  log_so : (z : ℕ) → LogIs (beginning z given) (decision_at z (machine z) world event) (machine z) (decided (fixed_of given) world event) (machine_of given z (events ++ event ∷ [])).log
+  log_so z =
       subst (λ (w : World). LogIs (beginning z given) (decision_at z (machine z) world event) (machine z) (decided (fixed_of given) world event) w.log) (sym (machine_one given z events event))
-      (event_log given z (machine z) world (machines_follow given z events kept.valid (kept.keep z events)).shows event)
+      (event_log given z (machine z) world (machines_follow given z events kept.valid (before.keep z)).shows event)
 
-  log_decided : (z : ℕ) (event : happening.Event) (one : Decided) → decided (fixed_of given) world event ≡ Some one → (machine_of given z (events ++ event ∷ [])).log ≡ (happens (beginning z given) (machine z) (decision_at z (machine z) world event)).log
-  log_decided z event one is = subst (λ one. LogIs (beginning z given) (decision_at z (machine z) world event) (machine z) one (machine_of given z (events ++ event ∷ [])).log) is (log_so z event)
+  log_decided : (z : ℕ) (one : Decided) → decided (fixed_of given) world event ≡ Some one → (machine_of given z (events ++ event ∷ [])).log ≡ (happens (beginning z given) (machine z) (decision_at z (machine z) world event)).log
+  log_decided z one is = subst (λ one. LogIs (beginning z given) (decision_at z (machine z) world event) (machine z) one (machine_of given z (events ++ event ∷ [])).log) is (log_so z)
 
-  plain_after : (z : ℕ) (event : happening.Event) → IsPlain (beginning z given) (machine_of given z (events ++ event ∷ [])).log
-  plain_after z event =
-      let follows = machines_follow given z (events ++ event ∷ []) kept.valid (kept.keep z (events ++ event ∷ [])) in
+  plain_after : (z : ℕ) → IsPlain (beginning z given) (machine_of given z (events ++ event ∷ [])).log
+  plain_after z =
+      let follows = machines_follow given z (events ++ event ∷ []) kept.valid (kept.keep z) in
       subst (λ (w : World). IsPlain (beginning z given) w.log) (sym follows.is) (one_register (beginning z given) follows.begins (history_of given z (events ++ event ∷ [])) follows.obeys)
 
-  module _ (event : happening.Event) (one : Decided) (is : decided (fixed_of given) world event ≡ Some one) (so : IsAnsweredAsKnown given world event one) where
+  module _ (one : Decided) (is : decided (fixed_of given) world event ≡ Some one) (so : IsAnsweredAsKnown given world event one) where
     decides_so : (z : ℕ) → decision_at z (machine z) world event ≡ decision_with z (machine z) so.course.task so.course.suites so.outcome
     decides_so z =
         ap (decision_at z (machine z) world) so.step
@@ -112,14 +125,14 @@ module _ (given : Opening) (kept : AllKeepSides given) (events : List happening.
     came = subst (Keeps (fixed_of given) so.course.task so.course.suites) so.deciding (subst (Knows (fixed_of given)) so.running (always_knows given events so.number so.actor.agent (ap agent_of so.there)))
 
     log_with : (z : ℕ) → (machine_of given z (events ++ event ∷ [])).log ≡ (happens (beginning z given) (machine z) (decision_with z (machine z) so.course.task so.course.suites so.outcome)).log
-    log_with z = log_decided z event one is ∙ ap (λ decision. (happens (beginning z given) (machine z) decision).log) (decides_so z)
+    log_with z = log_decided z one is ∙ ap (λ decision. (happens (beginning z given) (machine z) decision).log) (decides_so z)
 
     knows : (z : ℕ) (suite : Suite) (first : First) → suite_of so.course.suites z ≡ Some suite → suite.first ≡ Some first → IsKnown (register given z events) (known_by first suite)
     knows z suite first there was =
         known_by_plain (beginning z given) (machine z) so.course.task.t (known_by first suite) so.outcome (to_write z so.course.suites so.outcome)
         (subst (λ log. IsPlain (beginning z given) log)
         (log_with z ∙ ap (λ decision. (happens (beginning z given) (machine z) decision).log) (decision_is z (machine z) so.course.task so.course.suites so.outcome suite first there was))
-        (plain_after z event))
+        (plain_after z))
 
     agrees_so : AgreesWith (known_of so.course.suites) (row_of (table_of given events).rows)
     agrees_so = agrees so.course.suites (table_of given events).rows (λ z. register given z events) came.fit.ordered shown knows
@@ -151,38 +164,43 @@ module _ (given : Opening) (kept : AllKeepSides given) (events : List happening.
 
   -- ---- any event
 
-  shown_after : (event : happening.Event) (o : Option Decided) → decided (fixed_of given) world event ≡ o → AllShown given (events ++ event ∷ [])
-  shown_after event (Some one) is = shown_so event one is (answers_follow_knowledge given events event one is)
-  shown_after event None is = λ z.
+  shown_after : (o : Option Decided) → decided (fixed_of given) world event ≡ o → AllShown given (events ++ event ∷ [])
+  shown_after (Some one) is = shown_so one is (answers_follow_knowledge given events event one is)
+  shown_after None is = λ z.
       subst (λ (table : PlainTable). IsShown (register given z (events ++ event ∷ [])) (row_of table.rows z)) (sym (table_one given events event ∙ ap (λ one. table_after_all (table_of given events) (option_to_list one)) is))
-      (subst (λ log. IsShown (row (beginning z given) log) (row_of (table_of given events).rows z)) (sym (subst (λ one. LogIs (beginning z given) (decision_at z (machine z) world event) (machine z) one (machine_of given z (events ++ event ∷ [])).log) is (log_so z event)))
+      (subst (λ log. IsShown (row (beginning z given) log) (row_of (table_of given events).rows z)) (sym (subst (λ one. LogIs (beginning z given) (decision_at z (machine z) world event) (machine z) one (machine_of given z (events ++ event ∷ [])).log) is (log_so z)))
       (shown z))
 
 -- ---- all events
 
-shown_from : (given : Opening) → AllKeepSides given → (later events : List happening.Event) → AllShown given events → AllShown given (events ++ later)
-shown_from given kept [] events shown = subst (AllShown given) (sym (nothing events)) shown
-  where
-    nothing : (events : List happening.Event) → events ++ [] ≡ events
-    nothing [] = refl
-    nothing (event ∷ events) = ap (λ rest. event ∷ rest) (nothing events)
-shown_from given kept (event ∷ later) events shown =
-    subst (AllShown given) (one_more events event later)
-    (shown_from given kept later (events ++ event ∷ []) (shown_after given kept events shown event (decided (fixed_of given) (runs.run given events) event) refl))
+nothing_more : (events : List happening.Event) → events ++ [] ≡ events
+nothing_more [] = refl
+nothing_more (event ∷ events) = ap (λ rest. event ∷ rest) (nothing_more events)
 
-pub all_shown : (given : Opening) → AllKeepSides given → (events : List happening.Event) → AllShown given events
-all_shown given kept events = shown_from given kept events [] (opens_shown given)
+-- of a run that goes on, up to the next event
+pub next_kept : (given : Opening) (events : List happening.Event) (event : happening.Event) (later : List happening.Event) → AllKeepSides given (events ++ event ∷ later) → AllKeepSides given ((events ++ event ∷ []) ++ later)
+next_kept given events event later kept = subst (AllKeepSides given) (sym (one_more events event later)) kept
+
+shown_from : (given : Opening) (later events : List happening.Event) → AllKeepSides given (events ++ later) → AllShown given events → AllShown given (events ++ later)
+shown_from given [] events kept shown = subst (AllShown given) (sym (nothing_more events)) shown
+shown_from given (event ∷ later) events kept shown =
+    let goes = next_kept given events event later kept in
+    subst (AllShown given) (one_more events event later)
+    (shown_from given later (events ++ event ∷ []) goes (shown_after given events event (earlier given (events ++ event ∷ []) later goes) shown (decided (fixed_of given) (runs.run given events) event) refl))
+
+pub all_shown : (given : Opening) (events : List happening.Event) → AllKeepSides given events → AllShown given events
+all_shown given events kept = shown_from given events [] kept (opens_shown given)
 
 -- ---- the laws
 
 pub rows_are_the_registers : RowsAreTheRegisters
-rows_are_the_registers given kept events z = sym (all_shown given kept events z).shows
+rows_are_the_registers given events kept z = sym (all_shown given events kept z).shows
 
 pub agents_know_the_table : AgentsKnowTheTable
-agents_know_the_table given kept events number one actor course is there running =
+agents_know_the_table given events number one actor course kept is there running =
     let so = answers_follow_knowledge given events (Step number) one is in
     subst (λ (course : Course). AgreesWith (known_of course.suites) (row_of (table_of given events).rows)) (same_course so)
-    (agrees_so given kept events (all_shown given kept events) (Step number) one is so)
+    (agrees_so given events (Step number) kept (all_shown given events (earlier given events (Step number ∷ []) kept)) one is so)
   where
     same_number : (a b : ℕ) → Step a ≡ Step b → a ≡ b
     same_number a b is = cc
@@ -196,11 +214,34 @@ agents_know_the_table given kept events number one actor course is there running
         of : (a b : Course) → ◌≡◌ {A = Option Doing} (Some (Running a)) (Some (Running b)) → a ≡ b
         of a b is = cc
 
+-- the answer of a decision is the table's
+answered_so : (given : Opening) (events : List happening.Event) (event : happening.Event) (one : Decided) → AllKeepSides given (events ++ event ∷ []) → decided (fixed_of given) (runs.run given events) event ≡ Some one → one.answer ≡ replies (played_on (table_of given events) one)
+answered_so given events event one kept is =
+    let so = answers_follow_knowledge given events event one is in
+    so.answered (table_of given events).rows (agrees_so given events event kept (all_shown given events (earlier given events (event ∷ []) kept)) one is so)
+    ∙ ap (λ service. replies (transaction service (table_of given events).rows one.t one.caller one.ops)) (sym (service_stays (rows.opening given) (decisions given events)))
+
+answers_from : (given : Opening) (later events : List happening.Event) → AllKeepSides given (events ++ later) → AnswersAreTheTables (table_of given events) (decisions_from (fixed_of given) (runs.run given events) later)
+answers_from given [] events kept = tt
+answers_from given (event ∷ later) events kept =
+    let goes = next_kept given events event later kept in
+    of goes (decided (fixed_of given) (runs.run given events) event) refl
+    (subst (λ world. AnswersAreTheTables (table_after_all (table_of given events) (option_to_list (decided (fixed_of given) (runs.run given events) event))) (decisions_from (fixed_of given) world later)) (run_one given events event)
+    (subst (λ table. AnswersAreTheTables table (decisions_from (fixed_of given) (runs.run given (events ++ event ∷ [])) later)) (table_one given events event)
+    (answers_from given later (events ++ event ∷ []) goes)))
+  where
+    rest : List Decided
+    rest = decisions_from (fixed_of given) (step (fixed_of given) (runs.run given events) event).world later
+
+    of : AllKeepSides given ((events ++ event ∷ []) ++ later) → (one : Option Decided) → decided (fixed_of given) (runs.run given events) event ≡ one → AnswersAreTheTables (table_after_all (table_of given events) (option_to_list (decided (fixed_of given) (runs.run given events) event))) rest → AnswersAreTheTables (table_of given events) (cons_option one rest)
+    of goes None is answers = subst (λ one. AnswersAreTheTables (table_after_all (table_of given events) (option_to_list one)) rest) is answers
+    of goes (Some one) is answers = (answered_so given events event one (earlier given (events ++ event ∷ []) later goes) is, subst (λ one. AnswersAreTheTables (table_after_all (table_of given events) (option_to_list one)) rest) is answers)
+
 pub answers_are_one_tables : AnswersAreOneTables
-answers_are_one_tables given kept events = known_answers given (agents_know_the_table given kept) events
+answers_are_one_tables given events kept = answers_from given events [] kept
 
 pub audit_is_one_tables : AuditIsOneTables
-audit_is_one_tables given kept events = tables_audit given events (answers_are_one_tables given kept events)
+audit_is_one_tables given events kept = tables_audit given events (answers_are_one_tables given events kept)
 
 pub owed_is_enough : OwedIsEnough
-owed_is_enough given accepted valid owed = record { valid = valid; keep = λ z events. sides_are_kept given z events valid accepted.some_agents.1 accepted.some_servers.1 (owed z events) }
+owed_is_enough given events accepted valid owed = record { valid = valid; keep = λ z. sides_are_kept given z events valid accepted.some_agents.1 accepted.some_servers.1 (owed z) }

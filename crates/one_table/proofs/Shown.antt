@@ -80,7 +80,7 @@ made_is_set [] suite is = is
 made_is_set (e ∷ edits) suite is = made_if (e.0 == suite) e.1 (some makes edits suite) (is_set edits suite) (made_is_set edits suite) is
 
 -- what edits tell of a suite with this row after them
-abbrev told_as : Edits → ℕ → Row → executor.Change
+abbrev pub told_as : Edits → ℕ → Row → executor.Change
 told_as edits suite row = record { made = some makes edits suite; acl = some changes.sets_acl edits suite; votes = some changes.sets_votes edits suite; content = is_set edits suite; row = row }
 
 pub made_sets : (known : Known) (edits : Edits) (suite : ℕ) (change : executor.Change) → get nat_cmp (changes.changes_of known edits) suite ≡ Some change → change.made ≡ true → change.content ≡ true

@@ -56,14 +56,14 @@ pub record IsInEffect (given : Opening) (events : List Event) (z : ℕ) (row : R
 -- It is so of each row of the table of a run.
 abbrev pub RowsAreInEffect : Type 0
 RowsAreInEffect =
-    (given : Opening) → AllKeepSides given → (events : List Event) (z : ℕ) (row : Row)
+    (given : Opening) (events : List Event) → AllKeepSides given events → (z : ℕ) (row : Row)
     → row_of (table_of given events).rows z ≡ Some row → IsInEffect given events z row
 
 -- And where a prefix that was in effect has been replaced, since a newer one is in effect at some server now, every read quorum and every write
 -- quorum of its votes has a copy in effect that is newer. What was never made has a prefix too, with the first votes.
 abbrev pub ReplacedIsKnown : Type 0
 ReplacedIsKnown =
-    (given : Opening) → AllKeepSides given → (events later : List Event) (z server other : ℕ) (set : ℕ → Bool)
+    (given : Opening) (events later : List Event) → AllKeepSides given (events ++ later) → (z server other : ℕ) (set : ℕ → Bool)
     → IsQuorum (copy_at given events z server).prefix.votes set
     → (copy_at given events z server).prefix.pver < (copy_at given (events ++ later) z other).prefix.pver
     → HasOne given (events ++ later) z set (λ copy. (copy_at given events z server).prefix.pver < copy.prefix.pver)

@@ -1,0 +1,257 @@
+-- Where a transaction is decided, the locks that it was told of have stood ever since.
+use Rattle.std.proofs.Common.{◌≡◌, ℕ, Bool, true, false, cond, List, [], ◌∷◌, ◌++◌, append_assoc, Option, Some, None, is_some, refl, sym, ap, subst, ◌∙◌, arith}
+use Rattle.std.specs.Prelude.{◌==◌, ◌&&◌, ◌||◌, find}
+use Rattle.std.specs.List.{list_any}
+use Rattle.std.proofs.lemmas.Bool.{false≢true}
+use Rattle.std.proofs.lemmas.Bool.Decides.{nat_tests}
+use Rattle.std.proofs.lemmas.Option.{none-some, same_Some}
+use Rattle.suite_prefix.specs.SettingsRules.{Opening}
+use Rattle.suite_prefix.specs.LockModes.{is_exclusive}
+use Rattle.suite_prefix.specs.declared.lock_mode.LockMode.{LockMode}
+use Rattle.suite_prefix.specs.declared.copies.Prefix.{Prefix}
+use Rattle.rep_core.specs.declared.lock.Lock.{Lock}
+use Rattle.rep_core.specs.declared.request.Request.{Request}
+use Rattle.rep_core.specs.declared.request.Request.TheVariants as request
+use Rattle.rep_core.specs.declared.reply.Reply.{Reply}
+use Rattle.rep_core.specs.declared.reply.Reply.TheVariants as reply
+use Rattle.rep_core.specs.declared.reply.Verdict.{Verdict}
+use Rattle.rep_core.specs.declared.stamped.Lack.TheVariants as lack
+use Rattle.rep_core.specs.Locks.{is_own, lock_at, has_lock}
+use Rattle.rep_core.specs.State.{State, record_of}
+use Rattle.rep_core.specs.Serving.{is_full, answer_of}
+use Rattle.txn_core.specs.declared.word.Word.TheVariants.{Replied, Lacked}
+use Rattle.txn_core.specs.Doing.{Task, home_of, Outcome, Deciding, Doing, Running}
+use Rattle.txn_core.specs.Transactions.{decision_of, request_in}
+use Rattle.txn_core.specs.Agents.{Agent, fixed_of, next_in, next_of}
+use Rattle.run_core.specs.declared.event.Event as happening
+use Rattle.run_core.specs.declared.event.Event.TheVariants.{Begin, Step, Crash, Return, Forget, Lack}
+use Rattle.run_core.specs.declared.done.Served.{Served}
+use Rattle.run_core.specs.Worlds as worlds
+use Rattle.run_core.specs.Worlds.{Actor, Stepped, server_at, actor_at, serve, becomes, answered, asks_at, asks, steps_once, lacks_for, lacks, operated, operates, step}
+use Rattle.run_core.specs.Runs as runs
+use Rattle.run_core.specs.Decisions.{Decided, to_decide, answer_in, decided_as, decided_at, decided_by, decided, task_of, task_at}
+use Rattle.run_laws.specs.Answers.{IsAnsweredAsKnown}
+use Rattle.run_laws.proofs.Answering.{answers_follow_knowledge}
+use Rattle.suite_machine.specs.Registers.{Beginning}
+use Rattle.suite_machine.specs.Machine.{Hold, Told, World, begun, set2}
+use Rattle.suite_machine.specs.Events.{Event, Held, happens, run}
+use Rattle.suite_machine.proofs.Invariant.{Inv}
+use Rattle.suite_machine.proofs.Knowing.{still_locked}
+use Rattle.suite_machine.proofs.Places.{at2}
+use Rattle.suite_machine.proofs.Steps.{all_steps}
+use Rattle.server_moves.specs.Views.{Shows, hold_of, verdict_of}
+use Rattle.server_moves.specs.Moves.{moves}
+use Rattle.server_moves.specs.Laws.{beginning}
+use Rattle.run_machine.specs.Deciding.{decision_by}
+use Rattle.run_machine.specs.Machines.{servers_of, home_in, word_events, served_events, answered_events, asked_at_events, asked_events, step_events, operated_events, operator_events, events_of, moved, machine_from, machine_of}
+use Rattle.run_machine.specs.Sides.{KeepSides}
+use Rattle.run_machine.proofs.Consistent.{AllConsistent}
+use Rattle.run_machine.proofs.Following.{event_comes}
+use Rattle.run_machine.proofs.Joining.{run-append}
+use Rattle.run_machine.proofs.Servers.{server_there}
+use Rattle.headline.specs.Premises.{EventGivesValidVotes, VotesAreValid, CanBe}
+use Rattle.headline.specs.Laws.{TellsOfLock, has_lock_after, LocksStand}
+use Rattle.headline.proofs.Unbroken.{told_stays, stood}
+use Rattle.headline.proofs.Beside.{is_ready_now}
+use Rattle.headline.proofs.Together.{Together}
+use Rattle.headline.proofs.Keeping.{holds_after, all_keep}
+
+-- ---- what the event told
+
+module _ (given : Opening) (z : ℕ) (w : World) (world : worlds.World) (t : ℕ) (mode : LockMode) (prefix : Prefix) (dver : ℕ) where
+  abbrev start : Beginning
+  start = beginning z given
+
+  self : (n : ℕ) → (n == n) ≡ true
+  self n = grind (arith, nat_tests)
+
+  told_first : (decision : Event) (i : ℕ) → is_some ((run start w (moves z (home_in given) decision i w (request.Poll t z mode) (reply.Held prefix dver))).told i t) ≡ true
+  told_first decision i =
+      subst (λ b. is_some ((run start w (cond b (Held i t (is_exclusive mode) ∷ []) [])).told i t) ≡ true) (sym (self z))
+      (at2 (λ o. is_some o ≡ true) w.told i t _ i t (λ _. refl) (λ other. absurd (other (refl, refl))))
+
+  told_served : (doing : Option Doing) (what : Served) (later : List Event) → what.request.value ≡ request.Poll t z mode → what.reply.value ≡ reply.Held prefix dver → is_some ((run start w (served_events given z w doing what ++ later)).told what.server t) ≡ true
+  told_served doing what later asked said =
+      let first = served_events given z w doing what in
+      subst (λ (w : World). is_some (w.told what.server t) ≡ true) (sym (run-append start w first later))
+      (told_stays start (run start w first) later what.server t
+      (subst (λ asked. is_some ((run start w (moves z (home_in given) (decision_by z w doing) what.server w asked what.reply.value)).told what.server t) ≡ true) (sym asked)
+      (subst (λ said. is_some ((run start w (moves z (home_in given) (decision_by z w doing) what.server w (request.Poll t z mode) said)).told what.server t) ≡ true) (sym said)
+      (told_first (decision_by z w doing) what.server))))
+
+  abbrev IsTold : Option Served → List Event → Type 0
+  IsTold served events = (what : Served) → served ≡ Some what → what.request.value ≡ request.Poll t z mode → what.reply.value ≡ reply.Held prefix dver → is_some ((run start w events).told what.server t) ≡ true
+
+  at_served : (number : ℕ) (actor : Actor) (st : State) (what : Option Served) → IsTold (answered (fixed_of given) world number actor st what).done.served (answered_events given z w actor what)
+  at_served number actor st (Some this) what is asked said =
+      let same = same_Some this what is in
+      subst (λ (it : Served). is_some ((run start w (answered_events given z w actor (Some this))).told it.server t) ≡ true) same
+      (told_served actor.agent.doing this (word_events given z actor (Replied this.reply.value)) (ap (λ (it : Served). it.request.value) same ∙ asked) (ap (λ (it : Served). it.reply.value) same ∙ said))
+  at_served number actor st None what is asked said = absurd (none-some what is)
+
+  at_server : (number : ℕ) (actor : Actor) (asked : ℕ × Request) (found : Option State) → IsTold (asks_at (fixed_of given) world number actor asked found).done.served (asked_at_events given z w actor asked found)
+  at_server number actor asked (Some st) = at_served number actor st (serve asked.0 st (record { stamp = actor.stamp; value = asked.1 }))
+  at_server number actor asked None = λ what is _ said. absurd (none-some what is)
+
+  at_asked : (number : ℕ) (actor : Actor) (asked : Option (ℕ × Request)) → IsTold (asks (fixed_of given) world number actor asked).done.served (asked_events given z w world actor asked)
+  at_asked number actor (Some asked) = at_server number actor asked (server_at world asked.0)
+  at_asked number actor None = λ what is _ said. absurd (none-some what is)
+
+  at_step : (number : ℕ) (found : Option Actor) → IsTold (steps_once (fixed_of given) world number found).done.served (step_events given z w world found)
+  at_step number (Some actor) = at_asked number actor (next_of (fixed_of given) actor.agent)
+  at_step number None = λ what is asked said. absurd (none-some what is)
+
+  at_operated : (asked : Request) (st : State) (what : Option Served) → IsTold (operated world st what).done.served (operated_events given z w what)
+  at_operated asked st (Some this) what is value said =
+      let same = same_Some this what is in
+      subst (λ (it : Served). is_some ((run start w (served_events given z w None this)).told it.server t) ≡ true) same
+      (subst (λ events. is_some ((run start w events).told this.server t) ≡ true) (none_more (served_events given z w None this))
+      (told_served None this [] (ap (λ (it : Served). it.request.value) same ∙ value) (ap (λ (it : Served). it.reply.value) same ∙ said)))
+    where
+      none_more : (events : List Event) → events ++ [] ≡ events
+      none_more [] = refl
+      none_more (event ∷ events) = ap (λ rest. event ∷ rest) (none_more events)
+  at_operated asked st None what is value said = absurd (none-some what is)
+
+  at_operator : (i : ℕ) (asked : Request) (found : Option State) → IsTold (operates world i asked found).done.served (operator_events given z w i asked found)
+  at_operator i asked (Some st) = at_operated asked st (serve i st (record { stamp = 0; value = asked }))
+  at_operator i asked None = λ what is value said. absurd (none-some what is)
+
+  becomes_none : (number : ℕ) (change : Agent → Agent) (found : Option Actor) → (becomes world number change found).done.served ≡ None
+  becomes_none number change (Some actor) = refl
+  becomes_none number change None = refl
+
+  lacks_none : (number : ℕ) (why : _) (found : Option Actor) → (lacks (fixed_of given) world number (Lacked why) found).done.served ≡ None
+  lacks_none number why None = refl
+  lacks_none number why (Some actor) = of (next_of (fixed_of given) actor.agent)
+    where
+      of : (asked : Option (ℕ × Request)) → (lacks_for (fixed_of given) world number actor (Lacked why) asked).done.served ≡ None
+      of (Some asked) = refl
+      of None = refl
+
+  told_in_event : (event : happening.Event) → IsTold (step (fixed_of given) world event).done.served (events_of given z w world event)
+  told_in_event (Step number) = at_step number (actor_at world number)
+  told_in_event (Crash server) = at_operator server request.Crash (server_at world server)
+  told_in_event (Return server) = at_operator server request.Return (server_at world server)
+  told_in_event (Begin number job) = λ what is asked said. absurd (none-some what (sym (becomes_none number _ (actor_at world number)) ∙ is))
+  told_in_event (Forget number site) = λ what is asked said. absurd (none-some what (sym (becomes_none number _ (actor_at world number)) ∙ is))
+  told_in_event (Lack number why) = λ what is asked said. absurd (none-some what (sym (lacks_none number why (actor_at world number)) ∙ is))
+
+-- ---- later on
+
+told_all : (given : Opening) (z : ℕ) (w : World) (world : worlds.World) (events : List happening.Event) (i t : ℕ) → is_some (w.told i t) ≡ true → is_some ((machine_from given z w world events).told i t) ≡ true
+told_all given z w world [] i t is = is
+told_all given z w world (event ∷ events) i t is =
+    told_all given z (moved given z w world event) (step (fixed_of given) world event).world events i t (told_stays (beginning z given) w (events_of given z w world event) i t is)
+
+stood_all : (given : Opening) (z : ℕ) (w : World) (world : worlds.World) (events : List happening.Event) → Inv (beginning z given) w → Shows z (home_in given) (servers_of given world) w → AllConsistent (servers_of given world) → KeepSides given z w world events
+    → (i t : ℕ) → is_some (w.told i t) ≡ true → is_some ((machine_from given z w world events).lock i t) ≡ true → is_some (w.lock i t) ≡ true
+stood_all given z w world [] inv shows all keep i t told is = is
+stood_all given z w world (event ∷ events) inv shows all keep i t told is =
+    let start = beginning z given in
+    let moves = events_of given z w world event in
+    let one = event_comes given z w world inv shows all event keep.0 in
+    stood start w moves one.obeys i t told
+    (stood_all given z (run start w moves) (step (fixed_of given) world event).world events (all_steps start w inv moves one.obeys) one.shows one.consistent keep.1 i t (told_stays start w moves i t told) is)
+
+machine_on : (given : Opening) (z : ℕ) (w : World) (world : worlds.World) (events later : List happening.Event) → machine_from given z w world (events ++ later) ≡ machine_from given z (machine_from given z w world events) (runs.after (fixed_of given) world events) later
+machine_on given z w world [] later = refl
+machine_on given z w world (event ∷ events) later = machine_on given z (moved given z w world event) (step (fixed_of given) world event).world events later
+
+keeps_later : (given : Opening) (z : ℕ) (w : World) (world : worlds.World) (events later : List happening.Event) → KeepSides given z w world (events ++ later) → KeepSides given z (machine_from given z w world events) (runs.after (fixed_of given) world events) later
+keeps_later given z w world [] later keeps = keeps
+keeps_later given z w world (event ∷ events) later keeps = keeps_later given z (moved given z w world event) (step (fixed_of given) world event).world events later keeps.1
+
+-- ---- at the decision
+
+-- its home has no record of it
+module _ (given : Opening) (z : ℕ) (w : World) (world : worlds.World) (shows : Shows z (home_in given) (servers_of given world) w) (number : ℕ) (one : Decided) (is : decided (fixed_of given) world (Step number) ≡ Some one) (so : IsAnsweredAsKnown given world (Step number) one) where
+  same_number : so.number ≡ number
+  same_number = of so.number number (sym so.step)
+    where
+      of : (a b : ℕ) → Step a ≡ Step b → a ≡ b
+      of a b same = cc
+
+  there : actor_at world number ≡ Some so.actor
+  there = ap (actor_at world) (sym same_number) ∙ so.there
+
+  abbrev t : ℕ
+  t = so.course.task.t
+
+  asked : next_of (fixed_of given) so.actor.agent ≡ Some (home_in given t, request.Decide t (decision_of so.course.task so.outcome))
+  asked = ap (next_in (fixed_of given)) so.running ∙ ap (request_in (fixed_of given) so.course.task so.course.suites) so.deciding
+
+  no_record : (st : State) (task : Option Task) (said : Reply) → decided_at (Some st) (Some t) (decided_as task (answer_in said)) ≡ Some one → record_of st t ≡ None
+  no_record st task said = of (record_of st t)
+    where
+      of : (found : Option Verdict) → cond (is_some found) None (decided_as task (answer_in said)) ≡ Some one → found ≡ None
+      of (Some v) is = absurd (none-some one is)
+      of None is = refl
+
+  by_server : (task : Option Task) (found : Option State) → server_at world (home_in given t) ≡ found
+      → decided_by world task (asks_at (fixed_of given) world number so.actor (home_in given t, request.Decide t (decision_of so.course.task so.outcome)) found).done.served ≡ Some one → w.verdict t ≡ None
+  by_server task None at is = absurd (none-some one is)
+  by_server task (Some st) at is = of (is_full st (record { stamp = so.actor.stamp; value = request.Decide t (decision_of so.course.task so.outcome) })) is
+    where
+      of : (full : Bool)
+          → decided_by world task (answered (fixed_of given) world number so.actor st (cond full None (Some (record { server = home_in given t; request = record { stamp = so.actor.stamp; value = request.Decide t (decision_of so.course.task so.outcome) }; reply = answer_of st (record { stamp = so.actor.stamp; value = request.Decide t (decision_of so.course.task so.outcome) }) })))).done.served ≡ Some one
+          → w.verdict t ≡ None
+      of true is = absurd (none-some one is)
+      of false is =
+          shows.verdict t ∙ ap (λ st. verdict_of (record_of st t)) (server_there given world (home_in given t) st at)
+          ∙ ap verdict_of (no_record st task (answer_of st (record { stamp = so.actor.stamp; value = request.Decide t (decision_of so.course.task so.outcome) })).value
+          (sym (ap (λ found. decided_at found (Some t) (decided_as task (answer_in (answer_of st (record { stamp = so.actor.stamp; value = request.Decide t (decision_of so.course.task so.outcome) })).value))) at) ∙ is))
+
+  pub undecided : w.verdict t ≡ None
+  undecided =
+      by_server (task_of so.actor.agent.doing) (server_at world (home_in given t)) refl
+      (sym (ap (λ asked. decided_by world (task_of so.actor.agent.doing) (asks (fixed_of given) world number so.actor asked).done.served) asked)
+      ∙ sym (ap (λ found. decided_by world (task_at found) (steps_once (fixed_of given) world number found).done.served) there) ∙ is)
+
+-- ---- the law
+
+front : (events later : List happening.Event) → VotesAreValid (events ++ later) → VotesAreValid events
+front [] later valid = tt
+front (event ∷ events) later valid = (valid.0, front events later valid.1)
+
+can_before : (given : Opening) (events later : List happening.Event) → CanBe given (events ++ later) → CanBe given events
+can_before given events later can = record { accepted = can.accepted; c0 = can.c0; votes = front events later can.votes }
+
+found_any : (p : Lock → Bool) (locks : List Lock) → is_some (hold_of (find p locks)) ≡ true → list_any p locks ≡ true
+found_any p [] is = absurd (false≢true is)
+found_any p (lock ∷ locks) is = elim (p lock) as (λ b. is_some (hold_of (cond b (Some lock) (find p locks))) ≡ true → (b || list_any p locks) ≡ true) [ true ↦ λ _. refl | false ↦ λ is. found_any p locks is ] is
+
+some_of : {X : Type 0} (o : Option X) → is_some o ≡ true → (x : X) × (o ≡ Some x)
+some_of None is = absurd (false≢true is)
+some_of (Some x) is = (x, refl)
+
+pub locks_stand : LocksStand
+locks_stand given events event later number one suite server can tells is between after parts =
+    let z = suite in
+    let begin = begun (beginning z given) in
+    let early = events ++ event ∷ between in
+    let all_is : events ++ event ∷ later ≡ early ++ after = ap (λ later. events ++ event ∷ later) parts ∙ sym (append_assoc events (event ∷ between) after) in
+    let can' : CanBe given (early ++ after) = subst (CanBe given) all_is can in
+    let now = holds_after given early (can_before given early after can') z in
+    let wb = machine_of given z early in
+    let world = runs.run given early in
+    let last = holds_after given (events ++ event ∷ later) can z in
+    let decision = runs.run given (events ++ event ∷ later) in
+    let wd = machine_of given z (events ++ event ∷ later) in
+    let so = answers_follow_knowledge given (events ++ event ∷ later) (Step number) one is in
+    let t = so.course.task.t in
+    let none = undecided given z wd decision last.shows number one is so in
+    let told : is_some (wb.told server one.t) ≡ true =
+    subst (λ (w : World). is_some (w.told server one.t) ≡ true) (sym (machine_on given z begin (worlds.opening given) events (event ∷ between)))
+    (told_all given z (moved given z (machine_of given z events) (runs.run given events) event) (step (fixed_of given) (runs.run given events) event).world between server one.t
+    (subst (λ server. is_some ((moved given z (machine_of given z events) (runs.run given events) event).told server one.t) ≡ true) tells.at
+    (told_in_event given z (machine_of given z events) (runs.run given events) one.t tells.mode tells.prefix tells.dver event tells.what tells.served tells.asked tells.told))) in
+    let joined : wd ≡ machine_from given z wb world after = ap (machine_of given z) all_is ∙ machine_on given z begin (worlds.opening given) early after in
+    let told_last : is_some (wd.told server one.t) ≡ true = subst (λ (w : World). is_some (w.told server one.t) ≡ true) (sym joined) (told_all given z wb world after server one.t told) in
+    let a = some_of (wd.told server t) (subst (λ t. is_some (wd.told server t) ≡ true) so.t told_last) in
+    let ready = is_ready_now given z wd decision last so.number so.actor so.course so.outcome so.there so.running so.deciding none in
+    let lock = still_locked wd last.inv.sound t ready server a.0 a.1 in
+    let stands : is_some (wd.lock server one.t) ≡ true = subst (λ t. is_some (wd.lock server t) ≡ true) (sym so.t) (ap is_some lock.1) in
+    let keeps = keeps_later given z begin (worlds.opening given) early after ((all_keep given (early ++ after) can').keep z) in
+    let before = stood_all given z wb world after now.inv now.shows now.all keeps server one.t told (subst (λ (w : World). is_some (w.lock server one.t) ≡ true) joined stands) in
+    found_any (is_own one.t z) (servers_of given world server).locks (sym (ap is_some ((now.shows.at server).lock one.t)) ∙ before)
