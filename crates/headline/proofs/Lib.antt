@@ -12,3 +12,6 @@ pub mod Keeping
 pub mod Conclusions
 pub mod Unbroken
 pub mod Stood
+pub mod Asked
+pub mod Promised
+pub mod Worked

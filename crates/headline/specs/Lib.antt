@@ -1,2 +1,4 @@
 pub mod Premises
 pub mod Laws
+pub mod Promises
+pub mod Worked

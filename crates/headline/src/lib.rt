@@ -2,10 +2,17 @@
 //!
 //! There is no code here but laws. Which runs there can be stands in `specs/Premises`, and the laws in `specs/Laws`. What
 //! holds together event by event stands in `proofs/Together` and `proofs/Keeping`, what is owed at each decision in
-//! `proofs/Owing`, and that operations leave what they do not set in `proofs/Fair`.
+//! `proofs/Owing`, and that operations leave what they do not set in `proofs/Fair`. What all this promises of a world is
+//! [`promise`].
 #![tactic(auto)]
 
+mod promises;
+mod witnesses;
+
 ghost use Rattle.headline.specs.Laws.{AnswersAreTheTables, AuditIsTheDenials, AnsweredBefore, RevocationsAreMet, LocksStand, InEffectInEveryQuorum, ReplacedIsKnown, AgentsKeepSides, FirstsAreGiven};
+
+pub use promises::{promise, votes_are_valid};
+pub use witnesses::{some_run_moves_votes, some_run_revokes};
 
 /// A law: every run is answered as one unreplicated table answers it that takes the decided transactions one at a time, in
 /// the order of their decisions. It does nothing.

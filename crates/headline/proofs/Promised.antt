@@ -1,0 +1,84 @@
+-- What a world promises, from the laws of its run.
+use Rattle.std.proofs.Common.{◌≡◌, ◌<◌, List, [], ◌∷◌, ◌++◌, sym, ap, subst, ◌∙◌}
+use Rattle.std.specs.Prelude.{Contains, Ok}
+use Rattle.vote_core.specs.Validity.{IsValid}
+use Rattle.suite_prefix.specs.SettingsRules.{Opening, IsAccepted}
+use Rattle.txn_core.specs.Agents.{fixed_of}
+use Rattle.run_core.specs.declared.event.Event.{Event}
+use Rattle.run_core.specs.declared.event.Event.TheVariants.{Begin}
+use Rattle.run_core.specs.Worlds.{World, opening}
+use Rattle.run_core.specs.Runs.{after}
+use Rattle.run_core.specs.Decisions.{decisions}
+use Rattle.run_core.specs.Opened.{Opened}
+use Rattle.run_core.proofs.Appending.{after-append}
+use Rattle.run_laws.specs.Numbers.{number_of}
+use Rattle.run_laws.specs.Claims.{StandsBefore}
+use Rattle.run_laws.proofs.Conclusions.{decided_once}
+use Rattle.one_table.specs.Effects.{copy_at, HasOne}
+use Rattle.headline.specs.Premises.{CanBe, VotesAreValid}
+use Rattle.headline.proofs.Asked.{are_as_begun}
+use Rattle.headline.specs.Laws.{MeetsChange}
+use Rattle.headline.specs.Promises.{StandInOrder, MeetsChanges, KnowsReplaced, IsPromised, IsRunOf, Promises}
+use Rattle.headline.proofs.Conclusions.{answers_are_the_tables, audit_is_the_denials, answered_before, revocations_are_met, in_effect_in_every_quorum, replaced_is_known}
+
+-- ---- events that can be, and those of them that came first
+
+pub front : (given : Opening) (before later : List Event) → CanBe given (before ++ later) → CanBe given before
+front given before later can = record { accepted = can.accepted; c0 = can.c0; votes = of before can.votes }
+  where
+    of : (before : List Event) → VotesAreValid (before ++ later) → VotesAreValid before
+    of [] votes = tt
+    of (event ∷ before) votes = (votes.0, of before votes.1)
+
+pub both : (before later : List Event) → VotesAreValid before → VotesAreValid later → VotesAreValid (before ++ later)
+both [] later first second = second
+both (event ∷ before) later first second = (first.0, both before later first.1 second)
+
+-- ---- a world as it opens, and as it goes on
+
+pub opens : (opened : Opened) → IsAccepted opened.given → IsValid opened.given.c0 → opened.world ≡ opening opened.given → IsRunOf opened []
+opens opened accepted c0 is = record { can_be = record { accepted = accepted; c0 = c0; votes = tt }; is = is }
+
+pub goes_on : (opened : Opened) (events later : List Event) (world : World) → IsRunOf opened events → VotesAreValid later → world ≡ after (fixed_of opened.given) opened.world later
+    → IsRunOf (record opened { world = world }) (events ++ later)
+goes_on opened events later world so valid is = record {
+  can_be = record { accepted = so.can_be.accepted; c0 = so.can_be.c0; votes = both events later so.can_be.votes valid };
+  is = is ∙ ap (λ world. after (fixed_of opened.given) world later) so.is ∙ sym (after-append (fixed_of opened.given) (opening opened.given) events later);
+}
+
+-- ---- what is promised
+
+module _ (given : Opening) (events : List Event) (can : CanBe given events) where
+  can_so : (all : List Event) → events ≡ all → CanBe given all
+  can_so all is = subst (CanBe given) is can
+
+  in_order : StandInOrder given events
+  in_order before later job first second is there number not_begun decided =
+      subst (λ all. Contains (decisions given all) first → StandsBefore (decisions given all) first second) (sym is)
+      (answered_before given before later job first second (can_so (before ++ later) is) there number not_begun) decided
+
+  changes : MeetsChanges given events
+  changes before later job answers agent t asked request is there answered begins same stands =
+      subst (λ all. Contains (decisions given all) request → MeetsChange given (decisions given all) (number_of job) (Ok answers) request) (sym is)
+      (revocations_are_met given before later job answers agent t asked request (can_so (before ++ Begin agent asked ∷ later) is) there answered begins same) stands
+
+  replaced : KnowsReplaced given events
+  replaced before later z server other set is quorum newer =
+      subst (λ all. (copy_at given before z server).prefix.pver < (copy_at given all z other).prefix.pver → HasOne given all z set (λ copy. (copy_at given before z server).prefix.pver < copy.prefix.pver)) (sym is)
+      (replaced_is_known given before later (can_so (before ++ later) is) z server other set quorum) newer
+
+  pub promised : IsPromised given events
+  promised = record {
+    answers = answers_are_the_tables given events can;
+    begun = are_as_begun given can.accepted events;
+    in_order = in_order;
+    changes = changes;
+    in_effect = in_effect_in_every_quorum given events can;
+    replaced = replaced;
+    once = decided_once given can.accepted events;
+    audits = (audit_is_the_denials given events can).1;
+    audit = (audit_is_the_denials given events can).0;
+  }
+
+pub promises : (opened : Opened) → Promises opened
+promises opened before later is = promised opened.given before (front opened.given before later is.can_be)

@@ -1,0 +1,96 @@
+-- What is promised of a run at each of its moments, and what a world so promises.
+use Rattle.std.specs.Prelude.{◌≡◌, ℕ, ◌<◌, Bool, false, List, ◌∷◌, ◌++◌, Contains, Some, Ok}
+use Rattle.suite_prefix.specs.SettingsRules.{Opening}
+use Rattle.acl_core.specs.Identity.{Identity}
+use Rattle.file_ops.specs.declared.answer.Answer.{Answer}
+use Rattle.file_ops.specs.declared.operation.Op.{Op}
+use Rattle.file_ops.specs.Rows as rows
+use Rattle.file_ops.specs.Rows.{Row, row_of}
+use Rattle.txn_core.specs.declared.ending.Ending.TheVariants.{Answered}
+use Rattle.txn_core.specs.declared.job.Job.{Job}
+use Rattle.txn_core.specs.declared.job.Job.TheVariants.{Transaction}
+use Rattle.txn_core.specs.Agents.{fixed_of}
+use Rattle.run_core.specs.declared.event.Event.{Event}
+use Rattle.run_core.specs.declared.event.Event.TheVariants.{Begin}
+use Rattle.run_core.specs.declared.done.Outcome.{Outcome}
+use Rattle.run_core.specs.Worlds.{audit_of}
+use Rattle.run_core.specs.Runs.{run}
+use Rattle.run_core.specs.Decisions.{Decided, decisions}
+use Rattle.run_core.specs.TableOfRun.{table_of, AnswersAreTheTables}
+use Rattle.run_core.specs.Opened.{Opened}
+use Rattle.run_laws.specs.Numbers.{number_of, was_begun, begins_at}
+use Rattle.run_laws.specs.Answers.{all_denials}
+use Rattle.run_laws.specs.Claims.{ended, IsDecidedOnce, denials_at, StandsBefore}
+use Rattle.suite_machine.specs.Machine.{IsQuorum}
+use Rattle.one_table.specs.Effects.{copy_at, HasOne, IsInEffect}
+use Rattle.headline.specs.Premises.{CanBe}
+use Rattle.headline.specs.Laws.{MeetsChange}
+
+-- A transaction was begun with this number, for this caller, and with these operations.
+pub record WasBegun (given : Opening) (events : List Event) (t : ℕ) (caller : Identity) (ops : List Op) : Type 0 where
+  pub agent : ℕ
+  pub site : ℕ
+  pub before : List Event
+  pub later : List Event
+  pub split : events ≡ before ++ Begin agent (Transaction caller site ops) ∷ later
+  pub number : begins_at given (run given before) (Begin agent (Transaction caller site ops)) ≡ Some t
+
+-- What is decided was begun so.
+abbrev pub AreAsBegun : Opening → List Event → Type 0
+AreAsBegun given events = (one : Decided) → Contains (decisions given events) one → WasBegun given events one.t one.caller one.ops
+
+-- Of two decisions of a run the one whose job ended before the other's began stands first.
+abbrev pub StandInOrder : Opening → List Event → Type 0
+StandInOrder given events =
+    (before later : List Event) (job : Outcome) (first second : Decided) → events ≡ before ++ later
+    → Contains (ended given before) job → number_of job ≡ first.t → was_begun (run given before) second.t ≡ false
+    → Contains (decisions given events) first → StandsBefore (decisions given events) first second
+
+-- A change that was answered, as one that takes a permission away, is met by every request that began later.
+abbrev pub MeetsChanges : Opening → List Event → Type 0
+MeetsChanges given events =
+    (before later : List Event) (job : Outcome) (answers : List Answer) (agent t : ℕ) (asked : Job) (request : Decided) → events ≡ before ++ Begin agent asked ∷ later
+    → Contains (ended given before) job → job.ending ≡ Answered answers → begins_at given (run given before) (Begin agent asked) ≡ Some t → request.t ≡ t
+    → Contains (decisions given events) request → MeetsChange given (decisions given events) (number_of job) (Ok answers) request
+
+-- Where a prefix that was in effect has been replaced, every read and every write quorum of its votes has a newer one in effect.
+abbrev pub KnowsReplaced : Opening → List Event → Type 0
+KnowsReplaced given events =
+    (before later : List Event) (z server other : ℕ) (set : ℕ → Bool) → events ≡ before ++ later
+    → IsQuorum (copy_at given before z server).prefix.votes set
+    → (copy_at given before z server).prefix.pver < (copy_at given events z other).prefix.pver
+    → HasOne given events z set (λ copy. (copy_at given before z server).prefix.pver < copy.prefix.pver)
+
+-- after these events of a run
+pub record IsPromised (given : Opening) (events : List Event) : Type 0 where
+  -- each decided transaction was answered as one table answers it that takes them one at a time, in the order of their decisions
+  pub answers : AnswersAreTheTables (rows.opening given) (decisions given events)
+  -- it was begun by that caller with those operations
+  pub begun : AreAsBegun given events
+  -- and that is an order in which what was answered stands before all that began later
+  pub in_order : StandInOrder given events
+  pub changes : MeetsChanges given events
+  -- each row of that table is in effect in every read and every write quorum of its votes, and what was replaced is seen to be so
+  pub in_effect : (z : ℕ) (row : Row) → row_of (table_of given events).rows z ≡ Some row → IsInEffect given events z row
+  pub replaced : KnowsReplaced given events
+  -- each transaction is decided once at most: as its job ended, where that was answered or refused, and never, where it ended undecided
+  pub once : IsDecidedOnce given events
+  -- each server's audit is the denials of the decisions whose home it is, and the table's audit is all denials
+  pub audits : (server : ℕ) → audit_of (run given events) server ≡ denials_at (fixed_of given).service server (decisions given events)
+  pub audit : (table_of given events).audit ≡ all_denials (decisions given events)
+
+-- ---- of a world
+
+-- what these events made of what was opened with these settings
+pub record IsRunOf (opened : Opened) (events : List Event) : Type 0 where
+  pub can_be : CanBe opened.given events
+  pub is : opened.world ≡ run opened.given events
+
+-- what some events made of it
+pub record IsOfRun (opened : Opened) : Type 0 where
+  pub events : List Event
+  pub of_them : IsRunOf opened events
+
+-- A world promises this of every list of events that made it, at each moment: after those of them that came before some later ones.
+abbrev pub Promises : Opened → Type 0
+Promises opened = (before later : List Event) → IsRunOf opened (before ++ later) → IsPromised opened.given before

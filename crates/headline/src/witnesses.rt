@@ -1,0 +1,14 @@
+//! Runs in which the promise says something.
+
+ghost use Rattle.headline.specs.Worked.{SomeRunRevokes, SomeRunMovesVotes};
+
+/// A law: a run in which a permission is taken away while a server is down, so that old copies, hints and contents
+/// remain; and they are met. It does nothing.
+pub fn some_run_revokes()
+    ensures { SomeRunRevokes }
+{}
+
+/// A law: a run in which the votes of a file are moved away from its servers, and every old server falls down. It does nothing.
+pub fn some_run_moves_votes()
+    ensures { SomeRunMovesVotes }
+{}
