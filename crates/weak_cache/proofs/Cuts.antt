@@ -1,6 +1,8 @@
 -- A list that is cut at an entry.
-use Rattle.std.proofs.Common.{◌≡◌, ℕ, ◌+◌, ◌-◌, ◌≤◌, Bool, true, false, cond, not, None, Some, [], ◌∷◌, ◌++◌, length, take, drop, get_or, refl, sym, ap, ◌∙◌, arith, length-append, eq-eqb}
-use Rattle.std.specs.Prelude.{◌==◌, filter, find}
+use Rattle.std.proofs.Common.{subst, ◌≡◌, ℕ, ◌+◌, ◌-◌, ◌≤◌, Bool, true, false, cond, not, None, Some, [], ◌∷◌, ◌++◌, length, take, drop, get_or, refl, sym, ap, ◌∙◌, arith, length-append, eq-eqb}
+use Rattle.std.specs.Prelude.{◌==◌, filter, find, option_map, Option, IfSome}
+use Rattle.std.specs.Option.{option_or}
+use Rattle.std.proofs.lemmas.List.Folds.{find-append}
 use Rattle.std.specs.List.{position_from}
 use Rattle.std.proofs.lemmas.Bool.{eqb-true}
 use Rattle.std.proofs.lemmas.List.Elements.{filter-append}
@@ -128,3 +130,80 @@ cut_searched site suite dver c newer e older cut once =
 -- what is not found moves nothing
 pub not_searched : (site suite dver : ℕ) (c : Cache) → content_at c site suite dver ≡ None → searched site suite dver c ≡ c
 not_searched site suite dver c h = rw h refl
+
+-- ---- places in two parts
+
+position_shift : (test : Entry → Bool) (from by : ℕ) (c : Cache) → position_from test (by + from) c ≡ option_map (λ at. by + at) (position_from test from c)
+position_shift test from by [] = refl
+position_shift test from by (e ∷ c) =
+    elim (test e) as (λ t. cond t (Some (by + from)) (position_from test (by + from + 1) c) ≡ option_map (λ at. by + at) (cond t (Some from) (position_from test (from + 1) c))) [
+      | true ↦ refl
+      | false ↦ ap (λ n. position_from test n c) (omega arith) ∙ position_shift test (from + 1) by c
+    ]
+
+pub position_first : (test : Entry → Bool) (from at : ℕ) (a b : Cache) → position_from test from a ≡ Some at → position_from test from (a ++ b) ≡ Some at
+position_first test from at [] b h = absurd (cc h)
+position_first test from at (e ∷ a) b h =
+    elim (test e) as (λ t. cond t (Some from) (position_from test (from + 1) a) ≡ Some at → cond t (Some from) (position_from test (from + 1) (a ++ b)) ≡ Some at) [
+      | true ↦ λ h. h
+      | false ↦ λ h. position_first test (from + 1) at a b h
+    ] h
+
+position_past : (test : Entry → Bool) (from : ℕ) (a b : Cache) → position_from test from a ≡ None → position_from test from (a ++ b) ≡ position_from test (length a + from) b
+position_past test from [] b h = ap (λ n. position_from test n b) (omega arith)
+position_past test from (e ∷ a) b h =
+    elim (test e) as (λ t. cond t (Some from) (position_from test (from + 1) a) ≡ None → cond t (Some from) (position_from test (from + 1) (a ++ b)) ≡ position_from test (length (e ∷ a) + from) b) [
+      | true ↦ λ h. absurd (cc h)
+      | false ↦ λ h. position_past test (from + 1) a b h ∙ ap (λ n. position_from test n b) (omega arith)
+    ] h
+
+pub position_second : (test : Entry → Bool) (a b : Cache) → position_from test 0 a ≡ None → position_from test 0 (a ++ b) ≡ option_map (λ at. length a + at) (position_from test 0 b)
+position_second test a b h = position_past test 0 a b h ∙ position_shift test 0 (length a) b
+
+-- ---- a list without what stands at a place
+
+pub without_cut : (site suite : ℕ) (c : Cache) (at : ℕ) → position_from (is_of site suite) 0 c ≡ Some at → length (filter (is_of site suite) c) ≤ 1 → (newer : Cache) × (e : Entry) × (older : Cache) × (c ≡ newer ++ e ∷ older) × (at ≡ length newer) × (without site suite c ≡ newer ++ older)
+without_cut site suite c at place once =
+    let cut = first_of (is_of site suite) 0 c at place in (
+      cut.0,
+      cut.1,
+      cut.2,
+      cut.3.parts,
+      omega (arith, cut.4),
+      cut_without site suite cut.1.dver c cut.0 cut.1 cut.2 (record { parts = cut.3.parts; own = cut.3.own; found = cut.3.found; first = cut.3.first; version = refl }) once,
+    )
+
+none_counted : (p : Entry → Bool) (c : Cache) → find p c ≡ None → length (filter p c) ≤ 0
+none_counted p [] h = omega arith
+none_counted p (e ∷ c) h =
+    elim (p e) as (λ t. cond t (Some e) (find p c) ≡ None → length (cond t (e ∷ filter p c) (filter p c)) ≤ 0) [
+      | true ↦ λ h. absurd (cc h)
+      | false ↦ λ h. none_counted p c h
+    ] h
+
+pub without_none : (site suite : ℕ) (c : Cache) → position_from (is_of site suite) 0 c ≡ None → without site suite c ≡ c
+without_none site suite c h = none_passes (is_of site suite) c (none_counted (is_of site suite) c (none_of (is_of site suite) 0 c h))
+
+-- ---- what is found in two parts
+
+pub found_first : (p : Entry → Bool) (a b all : Cache) (e : Entry) → a ++ b ≡ all → find p a ≡ Some e → Some e ≡ find p all
+found_first p a b all e parts found = sym (ap (find p) (sym parts) ∙ find-append p a b ∙ ap (λ o. option_or o (find p b)) found)
+
+pub found_second : (p : Entry → Bool) (a b all : Cache) (o : Option Entry) → a ++ b ≡ all → find p a ≡ None → o ≡ find p b → o ≡ find p all
+found_second p a b all o parts none is = is ∙ sym (ap (find p) (sym parts) ∙ find-append p a b ∙ ap (λ o. option_or o (find p b)) none)
+
+-- ---- the last entry
+
+pub last_cut : (c : Cache) (at : ℕ) → at + 1 ≡ length c → (newer : Cache) × (e : Entry) × (c ≡ newer ++ e ∷ []) × (at ≡ length newer)
+last_cut [] at h = absurd (omega (arith, h))
+last_cut (x ∷ []) at h = ([], x, refl, omega (arith, h))
+last_cut (x ∷ y ∷ c) at h =
+    let rest = last_cut (y ∷ c) (at - 1) (omega (arith, h)) in
+    (x ∷ rest.0, rest.1, ap (λ l. x ∷ l) rest.2, omega (arith, rest.3, h))
+
+pub if_some : {X : Type 0} → (o : Option X) (P : X → Type 0) → ((x : X) → o ≡ Some x → P x) → IfSome o P
+if_some None P f = tt
+if_some (Some x) P f = f x refl
+
+pub of_some : {X : Type 0} → (o : Option X) (P : X → Type 0) (x : X) → o ≡ Some x → IfSome o P → P x
+of_some o P x is h = subst (λ o. IfSome o P) is h

@@ -8,3 +8,4 @@ pub mod SiteLists
 pub mod Beside
 pub mod Room
 pub mod Origins
+pub mod Counting

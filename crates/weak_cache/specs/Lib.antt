@@ -10,3 +10,4 @@ pub mod Laws
 pub mod LettingGo
 pub mod SiteLists
 pub mod Beside
+pub mod Counts

@@ -55,6 +55,13 @@ impl SizedEntry {
         self.site == site && self.suite == suite
     }
 
+    /// Its site.
+    pub(crate) fn site(&self) -> u8
+        ensures { result ≡ self.now.site }
+    {
+        self.site
+    }
+
     /// Its site and its suite.
     pub(crate) fn key(&self) -> (u8, u64)
         ensures { result ≡ (self.now.site, self.now.suite) }

@@ -21,6 +21,7 @@ mod cache;
 mod entry;
 mod laws;
 mod list;
+mod tally;
 
 pub use cache::{MAX_SITES, NewEntry, WeakCache};
 pub use laws::{a_search_keeps_all, entries_come_from_puts, found_was_put, oldest_go, site_lists};

@@ -1,15 +1,19 @@
-//! The list of a cache's entries, the newest first. Nothing else knows that it is a vector.
+//! The list of a cache's entries, the newest first. Nothing else knows that it is a queue, and what is counted of it.
 
-ghost use Rattle.std.specs.Prelude.{◌≡◌, ◌≤◌, ◌<◌, ◌+◌, ◌^◌, ◌⊎◌, ◌∷◌, ◌++◌, [], length, vec_len, vec_capacity, None, IfSome, IfNone, IfOk, OnOk, OnErr, IsOk, IsSome, MatchOption, get_or, true, false};
-ghost use Rattle.std.specs.List.{position_from};
+ghost use Rattle.std.specs.Prelude.{◌≡◌, ◌≤◌, ◌<◌, ◌+◌, ◌^◌, ◌⊎◌, ◌∷◌, ◌++◌, [], length, None, IfSome, IfNone, IfOk, OnOk, OnErr, IsOk, IsSome, MatchOption, get_or, true, false};
+ghost use Rattle.std.specs.List.{position_from, filter};
 ghost use Rattle.std.specs.Option.{option_copied};
-ghost use Rattle.weak_cache.specs.Entries.{Entry, Cache, is_of, sum_of, list_of, forgotten, entry_of, without, keys_of};
+ghost use Rattle.std.specs.VecDeque.{deque_len, deque_capacity};
+ghost use Rattle.weak_cache.specs.Entries.{Entry, Cache, is_of, size_of, sum_of, list_of, forgotten, entry_of, without, keys_of};
 ghost use Rattle.weak_cache.specs.Cache.{content_at, within_quota, within_budget};
 ghost use Rattle.weak_cache.specs.Beside.{room_after, stays};
+ghost use Rattle.weak_cache.specs.Counts.{IsTally};
 ghost use Rattle.weak_cache.specs.Places.{IsPlaceOf, IsLastOf, EvictsLast, EvictsLastOf};
 
 use crate::entry::SizedEntry;
+use crate::tally::Tally;
 use std::alloc::{AllocError, Global};
+use std::collections::VecDeque;
 use std::marker::Model;
 
 /// For how many entries there is room at once.
@@ -19,15 +23,16 @@ const FIRST_ROOM: usize = 16;
 #[derive(Drop)]
 pub struct Entries<'a> {
     left: &'a [SizedEntry],
+    older: &'a [SizedEntry],
 }
 
 impl<'a> Model for Entries<'a> {
-    ghost use Rattle.std.specs.Prelude.{ℕ, List};
+    ghost use Rattle.std.specs.Prelude.{ℕ, List, ◌++◌};
     ghost use Rattle.weak_cache.specs.Entries.{keys_of};
 
     ghost Value = { List (ℕ × ℕ) };
 
-    ghost view = { λ entries. keys_of entries.left.now };
+    ghost view = { λ entries. keys_of (entries.left.now ++ entries.older.now) };
 }
 
 impl<'a> Iterator for Entries<'a> {
@@ -40,8 +45,12 @@ impl<'a> Iterator for Entries<'a> {
     ghost remaining = { item_count (λ entries. entries) };
 
     fn next(&mut self) -> Option<(u8, u64)> {
-        let (first, rest) = self.left.split_first()?;
-        self.left = rest;
+        if let Some((first, rest)) = self.left.split_first() {
+            self.left = rest;
+            return Some(first.key());
+        }
+        let (first, rest) = self.older.split_first()?;
+        self.older = rest;
         Some(first.key())
     }
 }
@@ -57,18 +66,22 @@ pub(crate) struct Beside {
     pub(crate) slots: usize,
 }
 
-/// The entries of a cache, the newest first.
+/// The entries of a cache, the newest first, and their counts.
 #[derive(Drop)]
 pub(crate) struct EntryList {
-    entries: Vec<SizedEntry>,
+    entries: VecDeque<SizedEntry>,
+    tally: Tally,
 }
 
 impl Model for EntryList {
+    ghost use Rattle.weak_cache.specs.Counts.{IsTally};
     ghost use Rattle.weak_cache.specs.Entries.{Cache};
 
     ghost Value = { Cache };
 
     ghost view = { λ list. list.entries.items };
+
+    ghost invariant = { λ list. IsTally list.tally list.entries.items };
 }
 
 impl EntryList {
@@ -76,35 +89,44 @@ impl EntryList {
     pub(crate) fn new(alloc: Global, slots: usize) -> Result<EntryList, AllocError>
         ensures { IfOk result (λ list. list ≡ []) }
     {
-        let entries = Vec::with_capacity(alloc, slots.min(FIRST_ROOM))?;
-        Ok(EntryList { entries })
+        let entries = VecDeque::with_capacity(alloc, slots.min(FIRST_ROOM))?;
+        Ok(EntryList {
+            entries,
+            tally: Tally::new(),
+        })
     }
 
     /// The sites and suites of the entries.
     pub(crate) fn keys(&self) -> Entries<'_>
         ensures { result ≡ keys_of self.now }
     {
-        Entries {
-            left: &self.entries,
-        }
+        let (left, older) = self.entries.as_slices();
+        Entries { left, older }
     }
 
     /// What a site keeps of a suite.
     pub(crate) fn find(&self, site: u8, suite: u64) -> Option<&SizedEntry>
         ensures { option_copied result ≡ entry_of self.now site suite }
     {
-        self.entries.iter().find(|entry| entry.is_of(site, suite))
+        let (newer, older) = self.entries.as_slices();
+        match find_in(newer, site, suite) {
+            Some(entry) => Some(entry),
+            None => find_in(older, site, suite),
+        }
     }
 
     /// What a site would keep of a suite beside an entry that is put.
     pub(crate) fn find_beside(&self, new: Beside, site: u8, suite: u64) -> Option<&SizedEntry>
         ensures { option_copied result ≡ entry_of (stays new.site new.suite new.quota new.budget new.slots self.now) site suite }
     {
-        let entries = self.entries.as_slice();
+        let entries = &self.entries;
         let mut quota = Some(new.quota);
         let mut budget = new.budget;
         let mut slots = new.slots;
-        for entry in entries {
+        let mut at = 0;
+        while at < entries.len() {
+            let entry = &entries[at];
+            at += 1;
             if entry.is_of(new.site, new.suite) {
                 continue;
             }
@@ -130,7 +152,7 @@ impl EntryList {
     pub(crate) fn place_at(&self, site: u8, suite: u64, dver: u64) -> Option<usize>
         ensures { MatchOption result (content_at self.now site suite dver ≡ None) (IsPlaceOf site suite dver self.now) }
     {
-        let entries = self.entries.as_slice();
+        let entries = &self.entries;
         let at = place_of(entries, site, suite)?;
         if !entries[at].is_at_version(dver) {
             return None;
@@ -143,7 +165,9 @@ impl EntryList {
         requires { at < length self.old }
         ensures { (newer : Cache) (entry : Entry) (older : Cache) → self.old ≡ newer ++ entry ∷ older → at ≡ length newer → self.new ≡ entry ∷ newer ++ older }
     {
-        to_front(&mut self.entries, at);
+        if let Some(entry) = self.entries.remove(at) {
+            self.entries.push_front_reserved(entry);
+        }
     }
 
     /// The newest entry.
@@ -156,9 +180,10 @@ impl EntryList {
 
     /// Lets go what a site keeps of a suite.
     pub(crate) fn remove(&mut self, site: u8, suite: u64)
+        requires { length (filter (is_of site suite) self.old) ≤ 1 }
         ensures { self.new ≡ without site suite self.old }
     {
-        remove(&mut self.entries, site, suite);
+        remove(&mut self.entries, &mut self.tally, site, suite);
     }
 
     /// Lets go what a site keeps.
@@ -166,25 +191,35 @@ impl EntryList {
         ensures { self.new ≡ forgotten site self.old }
     {
         self.entries.retain(|entry| !entry.is_at(site));
+        self.tally.forget(site, self.entries.len());
     }
 
     /// Makes an entry the newest; what has no room beside it goes. Room is made only for an entry that adds
     /// to their number.
     pub(crate) fn put(&mut self, entry: SizedEntry, new: Beside) -> Result<(), AllocError>
-        requires { sum_of self.old < 2 ^ 64 }
+        requires room { size_of entry.content + new.budget < 2 ^ 64 }
+        requires once { length (filter (is_of new.site new.suite) self.old) ≤ 1 }
         ensures ok { OnOk result (self.new ≡ entry ∷ stays new.site new.suite new.quota new.budget new.slots self.old) }
         ensures err { OnErr result (self.new ≡ self.old) }
         ensures full { new.slots < length self.old → IsOk result }
         ensures kept { IsSome (entry_of self.old new.site new.suite) → IsOk result }
     {
         let entries = &mut self.entries;
+        let tally = &mut self.tally;
         make_room(entries, new)?;
-        remove(entries, new.site, new.suite);
-        keep_in_quota(entries, new.site, new.quota);
-        keep_in_budget(entries, new.budget, new.slots);
-        put_first(entries, entry);
+        remove(entries, tally, new.site, new.suite);
+        keep_in_quota(entries, tally, new.site, new.quota);
+        keep_in_budget(entries, tally, new.budget, new.slots);
+        put_first(entries, tally, entry);
         Ok(())
     }
+}
+
+/// What a site keeps of a suite.
+fn find_in(entries: &[SizedEntry], site: u8, suite: u64) -> Option<&SizedEntry>
+    ensures { option_copied result ≡ entry_of entries.now site suite }
+{
+    entries.iter().find(|entry| entry.is_of(site, suite))
 }
 
 /// What so many bytes leave of a room, if there is still one and they have room there.
@@ -198,26 +233,30 @@ const fn quota_after(room: Option<usize>, size: usize) -> Option<usize>
 }
 
 /// The place of what a site keeps of a suite.
-fn place_of(entries: &[SizedEntry], site: u8, suite: u64) -> Option<usize>
+fn place_of(entries: &VecDeque<SizedEntry>, site: u8, suite: u64) -> Option<usize>
+    ensures place { result ≡ position_from (is_of site suite) 0 entries.now.items }
+    ensures within { IfSome result (λ at. at < length entries.now.items) }
+{
+    let (newer, older) = entries.as_slices();
+    if let Some(at) = place_in(newer, site, suite) {
+        return Some(at);
+    }
+    let at = place_in(older, site, suite)?;
+    Some(newer.len() + at)
+}
+
+/// The place of what a site keeps of a suite.
+fn place_in(entries: &[SizedEntry], site: u8, suite: u64) -> Option<usize>
     ensures place { result ≡ position_from (is_of site suite) 0 entries.now }
     ensures within { IfSome result (λ at. at < length entries.now) }
 {
     entries.iter().position(|entry| entry.is_of(site, suite))
 }
 
-/// Makes an entry the newest: those before it move back by one place.
-fn to_front(entries: &mut [SizedEntry], at: usize)
-    requires { at < length entries.old }
-    ensures { (newer : Cache) (entry : Entry) (older : Cache) → entries.old ≡ newer ++ entry ∷ older → at ≡ length newer → entries.new ≡ entry ∷ newer ++ older }
-{
-    let newest = &mut entries[..=at];
-    newest.rotate_right(1);
-}
-
 /// Makes room for an entry where it adds to their number.
-fn make_room(entries: &mut Vec<SizedEntry>, new: Beside) -> Result<(), AllocError>
+fn make_room(entries: &mut VecDeque<SizedEntry>, new: Beside) -> Result<(), AllocError>
     ensures items { entries.new.items ≡ entries.old.items }
-    ensures room { OnOk result (length (stays new.site new.suite new.quota new.budget new.slots entries.old.items) < vec_capacity entries.new) }
+    ensures room { OnOk result (length (stays new.site new.suite new.quota new.budget new.slots entries.old.items) < deque_capacity entries.new) }
     ensures full { new.slots < length entries.old.items → IsOk result }
     ensures kept { IsSome (entry_of entries.old.items new.site new.suite) → IsOk result }
 {
@@ -230,25 +269,53 @@ fn make_room(entries: &mut Vec<SizedEntry>, new: Beside) -> Result<(), AllocErro
     entries.reserve(1)
 }
 
-/// Lets go what a site keeps of a suite.
-fn remove(entries: &mut Vec<SizedEntry>, site: u8, suite: u64)
-    ensures items { entries.new.items ≡ without site suite entries.old.items }
-    ensures fewer { vec_len entries.new ≤ vec_len entries.old }
-    ensures capacity { vec_capacity entries.new ≡ vec_capacity entries.old }
+/// Takes out the entry at a place, and answers its size.
+fn let_go(entries: &mut VecDeque<SizedEntry>, tally: &mut Tally, at: usize) -> Option<usize>
+    requires counted { IsTally tally.old entries.old.items }
+    ensures counted { IsTally tally.new entries.new.items }
+    ensures gone { (newer : Cache) (entry : Entry) (older : Cache) → entries.old.items ≡ newer ++ entry ∷ older → at ≡ length newer → (entries.new.items ≡ newer ++ older) × (result ≡ Some (size_of entry.content)) }
+    ensures none { IfNone result (length entries.old.items ≤ at) }
+    ensures fewer { IfSome result (λ size. length entries.new.items + 1 ≡ length entries.old.items) }
+    ensures same { IfNone result (entries.new.items ≡ entries.old.items) }
+    ensures capacity { deque_capacity entries.new ≡ deque_capacity entries.old }
 {
-    entries.retain(|entry| !entry.is_of(site, suite));
+    if at >= entries.len() {
+        return None;
+    }
+    match entries.remove(at) {
+        Some(entry) => {
+            let site = entry.site();
+            let size = entry.size();
+            tally.sub(site, size);
+            Some(size)
+        }
+        None => None,
+    }
+}
+
+/// Lets go what a site keeps of a suite.
+fn remove(entries: &mut VecDeque<SizedEntry>, tally: &mut Tally, site: u8, suite: u64)
+    requires counted { IsTally tally.old entries.old.items }
+    requires once { length (filter (is_of site suite) entries.old.items) ≤ 1 }
+    ensures counted { IsTally tally.new entries.new.items }
+    ensures items { entries.new.items ≡ without site suite entries.old.items }
+    ensures capacity { deque_capacity entries.new ≡ deque_capacity entries.old }
+{
+    if let Some(at) = place_of(entries, site, suite) {
+        let_go(entries, tally, at);
+    }
 }
 
 /// Lets a site's oldest entries go until its others have this room together.
-fn keep_in_quota(entries: &mut Vec<SizedEntry>, site: u8, room: usize)
-    requires { sum_of (list_of site entries.old.items) < 2 ^ 64 }
+fn keep_in_quota(entries: &mut VecDeque<SizedEntry>, tally: &mut Tally, site: u8, room: usize)
+    requires counted { IsTally tally.old entries.old.items }
+    ensures counted { IsTally tally.new entries.new.items }
     ensures items { entries.new.items ≡ within_quota site room entries.old.items }
-    ensures fewer { vec_len entries.new ≤ vec_len entries.old }
-    ensures capacity { vec_capacity entries.new ≡ vec_capacity entries.old }
+    ensures capacity { deque_capacity entries.new ≡ deque_capacity entries.old }
 {
-    let mut sum = sum_at(entries, site);
+    let mut sum = tally.sum_at(site);
     while sum > room {
-        let Some(size) = evict_oldest_of(entries, site) else {
+        let Some(size) = evict_oldest_of(entries, tally, site) else {
             return;
         };
         sum -= size;
@@ -256,15 +323,15 @@ fn keep_in_quota(entries: &mut Vec<SizedEntry>, site: u8, room: usize)
 }
 
 /// Lets the oldest entries go until the others have this room together, and these slots.
-fn keep_in_budget(entries: &mut Vec<SizedEntry>, room: usize, slots: usize)
-    requires { sum_of entries.old.items < 2 ^ 64 }
+fn keep_in_budget(entries: &mut VecDeque<SizedEntry>, tally: &mut Tally, room: usize, slots: usize)
+    requires counted { IsTally tally.old entries.old.items }
+    ensures counted { IsTally tally.new entries.new.items }
     ensures items { entries.new.items ≡ within_budget room slots entries.old.items }
-    ensures fewer { vec_len entries.new ≤ vec_len entries.old }
-    ensures capacity { vec_capacity entries.new ≡ vec_capacity entries.old }
+    ensures capacity { deque_capacity entries.new ≡ deque_capacity entries.old }
 {
-    let mut sum = sum(entries);
+    let mut sum = tally.sum;
     while is_too_much(sum, room, entries.len(), slots) {
-        let Some(size) = evict_oldest(entries) else {
+        let Some(size) = evict_oldest(entries, tally) else {
             return;
         };
         sum -= size;
@@ -272,11 +339,18 @@ fn keep_in_budget(entries: &mut Vec<SizedEntry>, room: usize, slots: usize)
 }
 
 /// Makes an entry the newest, in room that there is.
-fn put_first(entries: &mut Vec<SizedEntry>, entry: SizedEntry)
-    requires { vec_len entries.old < vec_capacity entries.old }
-    ensures { entries.new.items ≡ entry ∷ entries.old.items }
+fn put_first(entries: &mut VecDeque<SizedEntry>, tally: &mut Tally, entry: SizedEntry)
+    requires counted { IsTally tally.old entries.old.items }
+    requires sum { size_of entry.content + sum_of entries.old.items < 2 ^ 64 }
+    requires room { length entries.old.items < deque_capacity entries.old }
+    ensures counted { IsTally tally.new entries.new.items }
+    ensures items { entries.new.items ≡ entry ∷ entries.old.items }
 {
-    let _ = entries.insert(0, entry);
+    let site = entry.site();
+    let size = entry.size();
+    entries.push_front_reserved(entry);
+    let count = entries.len();
+    tally.add(site, size, count);
 }
 
 /// Whether so many bytes or so many entries are more than there may be.
@@ -288,30 +362,36 @@ const fn is_too_much(sum: usize, room: usize, count: usize, slots: usize) -> boo
 }
 
 /// Lets the oldest entry of all go, and answers its size.
-fn evict_oldest(entries: &mut Vec<SizedEntry>) -> Option<usize>
+fn evict_oldest(entries: &mut VecDeque<SizedEntry>, tally: &mut Tally) -> Option<usize>
+    requires counted { IsTally tally.old entries.old.items }
+    ensures counted { IsTally tally.new entries.new.items }
     ensures evicted { IfSome result (EvictsLast entries.old.items entries.new.items) }
     ensures none { IfNone result (entries.old.items ≡ []) }
-    ensures fewer { IfSome result (λ size. vec_len entries.new + 1 ≡ vec_len entries.old) }
-    ensures capacity { vec_capacity entries.new ≡ vec_capacity entries.old }
+    ensures same { IfNone result (entries.new.items ≡ entries.old.items) }
+    ensures fewer { IfSome result (λ size. length entries.new.items + 1 ≡ length entries.old.items) }
+    ensures capacity { deque_capacity entries.new ≡ deque_capacity entries.old }
 {
-    let oldest = entries.pop()?;
-    Some(oldest.size())
+    let at = entries.len().saturating_sub(1);
+    let_go(entries, tally, at)
 }
 
 /// Lets the oldest entry of a site go, and answers its size.
-fn evict_oldest_of(entries: &mut Vec<SizedEntry>, site: u8) -> Option<usize>
+fn evict_oldest_of(entries: &mut VecDeque<SizedEntry>, tally: &mut Tally, site: u8) -> Option<usize>
+    requires counted { IsTally tally.old entries.old.items }
+    ensures counted { IsTally tally.new entries.new.items }
     ensures evicted { IfSome result (EvictsLastOf site entries.old.items entries.new.items) }
     ensures none { IfNone result (list_of site entries.old.items ≡ []) }
-    ensures fewer { IfSome result (λ size. vec_len entries.new + 1 ≡ vec_len entries.old) }
-    ensures capacity { vec_capacity entries.new ≡ vec_capacity entries.old }
+    ensures same { IfNone result (entries.new.items ≡ entries.old.items) }
+    ensures fewer { IfSome result (λ size. length entries.new.items + 1 ≡ length entries.old.items) }
+    ensures capacity { deque_capacity entries.new ≡ deque_capacity entries.old }
 {
     let at = last_of(entries, site)?;
-    Some(entries.remove(at).size())
+    let_go(entries, tally, at)
 }
 
 /// The place of a site's oldest entry.
-fn last_of(entries: &[SizedEntry], site: u8) -> Option<usize>
-    ensures { MatchOption result (list_of site entries.now ≡ []) (IsLastOf site entries.now) }
+fn last_of(entries: &VecDeque<SizedEntry>, site: u8) -> Option<usize>
+    ensures { MatchOption result (list_of site entries.now.items ≡ []) (IsLastOf site entries.now.items) }
 {
     let mut at = entries.len();
     while at > 0 {
@@ -321,30 +401,4 @@ fn last_of(entries: &[SizedEntry], site: u8) -> Option<usize>
         }
     }
     None
-}
-
-/// How many bytes the contents of a site's entries take.
-fn sum_at(entries: &[SizedEntry], site: u8) -> usize
-    requires { sum_of (list_of site entries.now) < 2 ^ 64 }
-    ensures { result ≡ sum_of (list_of site entries.now) }
-{
-    let mut sum = 0;
-    for entry in entries {
-        if entry.is_at(site) {
-            sum += entry.size();
-        }
-    }
-    sum
-}
-
-/// How many bytes the contents of all entries take.
-fn sum(entries: &[SizedEntry]) -> usize
-    requires { sum_of entries.now < 2 ^ 64 }
-    ensures { result ≡ sum_of entries.now }
-{
-    let mut sum = 0;
-    for entry in entries {
-        sum += entry.size();
-    }
-    sum
 }

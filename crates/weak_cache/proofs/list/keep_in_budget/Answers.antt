@@ -20,7 +20,7 @@ loop-entries-preserved c =
     record {
       sum = omega (arith, c.loop-entries.invariant.sum, step.0, e.2);
       same = step.1 ∙ c.loop-entries.invariant.same;
-      fewer = omega (arith, c.loop-entries.invariant.fewer, c.in-Some.ensures.fewer);
+      counted = c.evict_oldest.ensures.counted;
       capacity = c.evict_oldest.ensures.capacity ∙ c.loop-entries.invariant.capacity;
     }
 

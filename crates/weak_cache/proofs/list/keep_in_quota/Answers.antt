@@ -13,7 +13,7 @@ loop-sum-preserved c =
     record {
       sum = omega (arith, c.loop-sum.invariant.sum, step.0);
       same = step.1 ∙ c.loop-sum.invariant.same;
-      fewer = omega (arith, c.loop-sum.invariant.fewer, c.in-Some.ensures.fewer);
+      counted = c.evict_oldest_of.ensures.counted;
       capacity = c.evict_oldest_of.ensures.capacity ∙ c.loop-sum.invariant.capacity;
     }
 

@@ -8,14 +8,14 @@ use Rattle.weak_cache.proofs.list.make_room.Goals as goal
 
 pub returns-then-len-new-clause-room : goal.returns-then-len-new-clause-room
 returns-then-len-new-clause-room c =
-    omega (arith, slots_stay c.args.new.site c.args.new.suite c.args.new.quota c.args.new.budget c.args.new.slots c.args.entries.now.items, c.len.ensures, c.if-len-new.true, c.args.entries.now.ok.0, c.args.entries.now.ok.1)
+    omega (arith, slots_stay c.args.new.site c.args.new.suite c.args.new.quota c.args.new.budget c.args.new.slots c.args.entries.now.items, c.len.ensures, c.if-len-new.true, c.args.entries.now.ok.0, c.args.entries.now.small.1)
 
 pub returns-then-is_some-clause-room : goal.returns-then-is_some-clause-room
 returns-then-is_some-clause-room c =
     let items = c.args.entries.now.items in
     let there : is_some (position_from (is_of c.args.new.site c.args.new.suite) 0 items) ≡ true =
-    ap (λ (l : Cache). is_some (position_from (is_of c.args.new.site c.args.new.suite) 0 l)) (sym c.deref.ensures.value) ∙ ap is_some (sym c.place_of.ensures.place) ∙ sym c.is_some.ensures ∙ c.if-is_some.true in
-    omega (arith, few_stay c.args.new.site c.args.new.suite c.args.new.quota c.args.new.budget c.args.new.slots items, found_less c.args.new.site c.args.new.suite 0 items there, c.args.entries.now.ok.0, c.args.entries.now.ok.1)
+    ap is_some (sym c.place_of.ensures.place) ∙ sym c.is_some.ensures ∙ c.if-is_some.true in
+    omega (arith, few_stay c.args.new.site c.args.new.suite c.args.new.quota c.args.new.budget c.args.new.slots items, found_less c.args.new.site c.args.new.suite 0 items there, c.args.entries.now.ok.0, c.args.entries.now.small.1)
 
 pub returns-clause-room : goal.returns-clause-room
 returns-clause-room c =
@@ -26,5 +26,5 @@ pub returns-clause-kept : goal.returns-clause-kept
 returns-clause-kept c = λ kept.
     let items = c.args.entries.now.items in
     let absent : is_some (position_from (is_of c.args.new.site c.args.new.suite) 0 items) ≡ false =
-    ap (λ (l : Cache). is_some (position_from (is_of c.args.new.site c.args.new.suite) 0 l)) (sym c.deref.ensures.value) ∙ ap is_some (sym c.place_of.ensures.place) ∙ sym c.is_some.ensures ∙ c.if-is_some.false in
+    ap is_some (sym c.place_of.ensures.place) ∙ sym c.is_some.ensures ∙ c.if-is_some.false in
     absurd (false≢true (sym absent ∙ find_same c.args.new.site c.args.new.suite 0 items ∙ kept))
