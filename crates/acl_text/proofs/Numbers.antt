@@ -22,10 +22,9 @@ pub value_of_digit : (d : ℕ) → is_ascii_digit d ≡ true → digit_value d �
 value_of_digit d digit = grind (arith, nat_tests)
 
 -- one digit more
-pub number_more : (digits : List ℕ) (i : ℕ) → list_all is_ascii_digit digits ≡ true → i < length digits
+pub number_more : (digits : List ℕ) (i : ℕ) → is_ascii_digit (get_or digits i 0) ≡ true → i < length digits
     → digits_value 10 (take (i + 1) digits) ≡ digits_value 10 (take i digits) * 10 + (get_or digits i 0 - 48)
-number_more digits i all inside =
-    digits_value_more 10 digits i inside ∙ ap (λ v. digits_value 10 (take i digits) * 10 + v) (value_of_digit (get_or digits i 0) (digit_at digits i all inside))
+number_more digits i digit inside = digits_value_more 10 digits i inside ∙ ap (λ v. digits_value 10 (take i digits) * 10 + v) (value_of_digit (get_or digits i 0) digit)
 
 -- a number that is too big after some digits is too big
 pub too_big : (digits : List ℕ) (i n : ℕ) → n ≡ digits_value 10 (take i digits) → most_id < n → id_of digits ≡ None

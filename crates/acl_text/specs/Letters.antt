@@ -1,7 +1,11 @@
--- What is read of permissions, byte by byte.
-use Rattle.std.specs.Prelude.{ℕ, ◌+◌, nat_le, Bool, ◌&&◌, ◌||◌, if◌then◌else◌, List, Option, Some, None}
+-- What is read of permissions and of numbers, byte by byte.
+use Rattle.std.specs.Prelude.{◌≡◌, ℕ, ◌+◌, nat_le, Bool, true, false, ◌&&◌, ◌||◌, if◌then◌else◌, List, Option, Some, None}
+use Rattle.std.specs.Char.{is_ascii_digit}
 use Rattle.std.specs.List.{list_all}
 use Rattle.acl_text.specs.declared.item.Letters.{Letters}
+use Rattle.acl_text.specs.declared.qualifier.Digits.{Digits}
+use Rattle.acl_text.specs.declared.qualifier.Digits.TheVariants.{Number, TooBig, Other}
+use Rattle.acl_text.specs.Qualifiers.{id_of}
 use Rattle.acl_text.specs.Grammar.{read, write, execute, hyphen, has, count_of, are_permissions, is_permission_byte}
 
 -- which permissions are granted
@@ -35,3 +39,9 @@ granted_after letters rest =
       executes = letters.executes || has execute rest;
     })
     else None
+
+-- digits alone with their number, or with none that a user or a group can have; or not digits alone
+abbrev pub AreDigits : Digits → List ℕ → Type 0
+AreDigits (Number id) bytes = (list_all is_ascii_digit bytes ≡ true) × (id_of bytes ≡ Some id)
+AreDigits TooBig bytes = (list_all is_ascii_digit bytes ≡ true) × (id_of bytes ≡ None)
+AreDigits Other bytes = list_all is_ascii_digit bytes ≡ false

@@ -10,7 +10,7 @@ ghost use Rattle.acl_text.specs.Qualifiers.{is_name_byte};
 use crate::cut::{cut, is_blank, trimmed};
 use crate::keyword::{Keyword, is_default};
 use crate::names::{NameTable, Names};
-use crate::qualifier::{is_number, is_qualifier, number};
+use crate::qualifier::{Digits, is_qualifier, number_in};
 use acl_core::{Entry, Tag};
 
 /// What keeps an item from being an entry.
@@ -81,12 +81,13 @@ fn permissions(field: &[u8]) -> Option<Letters>
 fn numbered(qualifier: &[u8], table: &NameTable) -> Result<u32, ItemFault>
     ensures { result ≡ (if list_all is_name_byte qualifier.now then numbered table.now qualifier.now else Err ItemFault.Syntax) }
 {
-    if is_number(qualifier) {
-        number(qualifier).ok_or(ItemFault::NumberTooBig)
-    } else if is_qualifier(qualifier) {
-        table.number_of(qualifier).ok_or(ItemFault::UnknownName)
-    } else {
-        Err(ItemFault::Syntax)
+    match number_in(qualifier) {
+        Digits::Number(id) => Ok(id),
+        Digits::TooBig => Err(ItemFault::NumberTooBig),
+        Digits::Other if is_qualifier(qualifier) => {
+            table.number_of(qualifier).ok_or(ItemFault::UnknownName)
+        }
+        Digits::Other => Err(ItemFault::Syntax),
     }
 }
 

@@ -1,8 +1,10 @@
 //! The qualifier of an entry: bytes of a name, or a number.
 
-ghost use Rattle.std.specs.Prelude.{◌≡◌, IsTrue};
+ghost use Rattle.std.specs.Prelude.{◌≡◌, ◌+◌, ◌*◌, ◌^◌, ◌<◌, None};
 ghost use Rattle.std.specs.Char.{is_ascii_digit};
 ghost use Rattle.std.specs.List.{list_all};
+ghost use Rattle.std.specs.Option.{SomeIff};
+ghost use Rattle.acl_text.specs.Letters.{AreDigits};
 ghost use Rattle.acl_text.specs.Qualifiers.{is_name_byte, id_of};
 
 /// Whether a byte may stand in a name: printing, and without a meaning of its own in a list's text.
@@ -26,15 +28,49 @@ pub(crate) fn is_number(bytes: &[u8]) -> bool
     bytes.iter().all(|byte| byte.is_ascii_digit())
 }
 
-/// The number that some digits write, if a user or a group can have it.
-pub(crate) fn number(digits: &[u8]) -> Option<u32>
-    requires { IsTrue (list_all is_ascii_digit digits.now) }
-    ensures { result ≡ id_of digits.now }
+/// What the bytes of a qualifier are.
+#[derive(Clone, Copy)]
+pub(crate) enum Digits {
+    /// Digits alone, and the number that they write.
+    Number(u32),
+    /// Digits alone, which write a number that no user and no group can have.
+    TooBig,
+    /// Not digits alone.
+    Other,
+}
+
+/// What some bytes are as digits.
+pub(crate) fn number_in(bytes: &[u8]) -> Digits
+    ensures { AreDigits result bytes.now }
 {
     let mut number: u32 = 0;
-    for digit in digits {
-        let shifted = number.checked_mul(10)?;
-        number = shifted.checked_add(u32::from(*digit - b'0'))?;
+    for byte in bytes {
+        if !byte.is_ascii_digit() {
+            return Digits::Other;
+        }
+        let Some(longer) = with_digit(number, *byte - b'0') else {
+            return unfit(bytes);
+        };
+        number = longer;
     }
-    Some(number)
+    Digits::Number(number)
+}
+
+/// The number with one digit more, where a user or a group can have it.
+fn with_digit(number: u32, digit: u8) -> Option<u32>
+    ensures { SomeIff result (number * 10 + digit < 2 ^ 32) (number * 10 + digit) }
+{
+    number.checked_mul(10)?.checked_add(u32::from(digit))
+}
+
+/// What bytes are that begin with a number that is too big.
+fn unfit(bytes: &[u8]) -> Digits
+    requires { id_of bytes.now ≡ None }
+    ensures { AreDigits result bytes.now }
+{
+    if is_number(bytes) {
+        Digits::TooBig
+    } else {
+        Digits::Other
+    }
 }
