@@ -1,11 +1,12 @@
 //! An agent.
 
-ghost use Rattle.std.specs.Prelude.{◌≡◌, ◌<◌, ◌≤◌, [], IfOk, OnOk, OnErr, Some};
+ghost use Rattle.std.specs.Prelude.{◌≡◌, ◌<◌, ◌≤◌, [], IfOk, IfErr, OnOk, OnErr, IsTrue, Some, option_map};
 ghost use Rattle.weak_cache.specs.Cache.{Limits};
 ghost use Rattle.txn_core.specs.AgentFields.{doing_of};
 ghost use Rattle.txn_core.specs.Agents as agents;
 ghost use Rattle.txn_core.specs.Standing.{FitsAsked, left_by};
 ghost use Rattle.txn_core.specs.Transactions as course;
+ghost use Rattle.txn_core.specs.Wanting as wanting;
 
 use crate::course::Course;
 use crate::ending::Ending;
@@ -80,9 +81,11 @@ impl Agent {
 
     /// Begins a job. Where it does a job already, where the job has no sense (there is no such site, or no
     /// such server), or where it began too many, nothing changes. An error leaves the agent as it was.
+    /// Only a transaction that begins may want memory.
     pub fn begin(&mut self, job: &Job) -> Result<(), AllocError>
         ensures ok { OnOk result (self.new ≡ record self.old { state = agents.begin self.old.fixed self.old.state job.now }) }
         ensures err { OnErr result (self.new ≡ self.old) }
+        ensures memory { IfErr result (λ _. IsTrue (wanting.by_job self.old.fixed self.old.state job.now)) }
     {
         if !self.is_idle() || self.count >= MOST_JOBS || !self.has_sense(job) {
             return Ok(());
@@ -126,10 +129,11 @@ impl Agent {
         Ok(())
     }
 
-    /// What it asks next, and of which server: nothing, where it is idle. A list of what is to be prepared
-    /// wants memory, and so may a copy of answers.
+    /// What it asks next, and of which server: nothing, where it is idle. Only the list of a Prepare may
+    /// want memory, and the answers of a Decide or a Finish.
     pub fn next(&self) -> Result<Option<(u8, Request)>, AllocError>
-        ensures { IfOk result (λ asked. asked ≡ agents.next_of self.now.fixed self.now.state) }
+        ensures ok { IfOk result (λ asked. asked ≡ agents.next_of self.now.fixed self.now.state) }
+        ensures memory { IfErr result (λ _. IsTrue (wanting.by_asking (agents.next_of self.now.fixed self.now.state))) }
     {
         match &self.doing {
             Some(doing) => doing.next(self.alloc, &self.service),
@@ -137,13 +141,26 @@ impl Agent {
         }
     }
 
+    /// Of which server it asks next: none, where it is idle. It takes no memory.
+    pub fn asked(&self) -> Option<u8>
+        ensures { result ≡ option_map (λ asked. asked.0) (agents.next_of self.now.fixed self.now.state) }
+    {
+        match &self.doing {
+            Some(doing) => doing.asked(&self.service),
+            None => None,
+        }
+    }
+
     /// Takes what came of what it asks next, and gives the ending of its job, where that is at its end.
-    /// An error leaves the agent as it was, and the same may be taken again.
+    /// An error leaves the agent as it was, and the same may be taken again. Memory may be wanting for
+    /// what a suite is told, a content, answers and a list of locks, and for nothing else: never where a
+    /// request was not served, at a Prepare, a Finish or a Break, or where a lock or a decision was lost.
     pub fn take(&mut self, word: &Word) -> Result<Option<Ending>, AllocError>
         requires { FitsAsked (agents.next_of self.old.fixed self.old.state) word.now }
         ensures ok { IfOk result (λ ending. ending ≡ (agents.take self.old.fixed self.old.state word.now).ending) }
         ensures new { OnOk result (self.new ≡ record self.old { state = (agents.take self.old.fixed self.old.state word.now).agent }) }
         ensures err { OnErr result (self.new ≡ self.old) }
+        ensures memory { IfErr result (λ _. IsTrue (wanting.by_taking (agents.next_of self.old.fixed self.old.state) word.now)) }
     {
         match &mut self.doing {
             Some(Doing::Running(course)) => {
@@ -191,10 +208,22 @@ impl Agent {
 }
 
 impl Doing {
+    /// The server that is asked next.
+    fn asked(&self, service: &Service) -> Option<u8>
+        requires { (0 < service.now.servers) × (service.now.servers ≤ MAX_SERVERS) }
+        ensures { (limits : Limits) → result ≡ option_map (λ asked. asked.0) (agents.next_in (record { service = service.now; limits = limits }) (Some (doing_of self.now))) }
+    {
+        match self {
+            Doing::Running(course) => course.asked(service),
+            Doing::Rounding(round) => Some(round.asked(service)),
+        }
+    }
+
     /// What is asked next, and of which server.
     fn next(&self, alloc: Global, service: &Service) -> Result<Option<(u8, Request)>, AllocError>
         requires { (0 < service.now.servers) × (service.now.servers ≤ MAX_SERVERS) }
-        ensures { IfOk result (λ asked. (limits : Limits) → asked ≡ agents.next_in (record { service = service.now; limits = limits }) (Some (doing_of self.now))) }
+        ensures ok { IfOk result (λ asked. (limits : Limits) → asked ≡ agents.next_in (record { service = service.now; limits = limits }) (Some (doing_of self.now))) }
+        ensures memory { IfErr result (λ _. (limits : Limits) → IsTrue (wanting.by_asking (agents.next_in (record { service = service.now; limits = limits }) (Some (doing_of self.now))))) }
     {
         match self {
             Doing::Running(course) => course.next(alloc, service),

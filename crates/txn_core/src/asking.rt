@@ -1,10 +1,11 @@
 //! What a transaction asks next.
 
-ghost use Rattle.std.specs.Prelude.{◌≡◌, ◌<◌, ◌≤◌, IfOk, OnErr, option_map};
+ghost use Rattle.std.specs.Prelude.{◌≡◌, ◌<◌, ◌≤◌, IfOk, IfErr, OnErr, IsTrue, option_map};
 ghost use Rattle.weak_cache.specs.Cache.{Limits};
 ghost use Rattle.txn_core.specs.Doing as doing;
 ghost use Rattle.txn_core.specs.Suites.{suite_of};
 ghost use Rattle.txn_core.specs.Transactions as course;
+ghost use Rattle.txn_core.specs.Wanting as wanting;
 ghost use Rattle.txn_core.specs.declared.ending.Ending.{Ending};
 
 use crate::coming::Coming;
@@ -14,6 +15,7 @@ use crate::home::home_of;
 use crate::phase::Phase;
 use crate::servers::Servers;
 use crate::task::Task;
+use crate::verdicts::verdict_again;
 use crate::writing::parts_at;
 use file_ops::Service;
 use rep_core::{Decision, Request, Verdict};
@@ -29,7 +31,8 @@ impl Course {
         service: &Service,
     ) -> Result<Option<(u8, Request)>, AllocError>
         requires { (0 < service.now.servers) × (service.now.servers ≤ MAX_SERVERS) }
-        ensures { IfOk result (λ asked. (limits : Limits) → asked ≡ course.request_of (record { service = service.now; limits = limits }) self.now) }
+        ensures ok { IfOk result (λ asked. (limits : Limits) → asked ≡ course.request_of (record { service = service.now; limits = limits }) self.now) }
+        ensures memory { IfErr result (λ _. (limits : Limits) → IsTrue (wanting.by_asking (course.request_of (record { service = service.now; limits = limits }) self.now))) }
     {
         match &self.phase {
             Phase::Gathering(number) | Phase::Widening { number, .. } => {
@@ -87,7 +90,8 @@ impl Course {
         servers: &Servers,
         outcome: &Outcome,
     ) -> Result<Option<(u8, Request)>, AllocError>
-        ensures { IfOk result (λ asked. (fixed : doing.Fixed) → asked ≡ course.request_in fixed self.now.task self.now.suites (doing.Preparing servers.now outcome.now)) }
+        ensures ok { IfOk result (λ asked. (fixed : doing.Fixed) → asked ≡ course.request_in fixed self.now.task self.now.suites (doing.Preparing servers.now outcome.now)) }
+        ensures memory { IfErr result (λ _. (fixed : doing.Fixed) → IsTrue (wanting.by_asking (course.request_in fixed self.now.task self.now.suites (doing.Preparing servers.now outcome.now)))) }
     {
         let Some(server) = servers.first() else {
             return Ok(None);
@@ -109,12 +113,13 @@ impl Course {
         servers: &Servers,
         verdict: &Verdict,
     ) -> Result<Option<(u8, Request)>, AllocError>
-        ensures { IfOk result (λ asked. (fixed : doing.Fixed) (ending : Ending) → asked ≡ course.request_in fixed self.now.task self.now.suites (doing.Finishing servers.now verdict.now ending)) }
+        ensures ok { IfOk result (λ asked. (fixed : doing.Fixed) (ending : Ending) → asked ≡ course.request_in fixed self.now.task self.now.suites (doing.Finishing servers.now verdict.now ending)) }
+        ensures memory { IfErr result (λ _. (fixed : doing.Fixed) (ending : Ending) → IsTrue (wanting.by_asking (course.request_in fixed self.now.task self.now.suites (doing.Finishing servers.now verdict.now ending)))) }
     {
         let Some(server) = servers.first() else {
             return Ok(None);
         };
-        let verdict = verdict.clone()?;
+        let verdict = verdict_again(verdict)?;
         Ok(Some((
             server,
             Request::Finish {
@@ -127,7 +132,8 @@ impl Course {
 
 /// What is to be recorded of an outcome.
 fn decision_of(task: &Task, outcome: &Outcome) -> Result<Decision, AllocError>
-    ensures { IfOk result (λ decision. decision ≡ course.decision_of task.now outcome.now) }
+    ensures ok { IfOk result (λ decision. decision ≡ course.decision_of task.now outcome.now) }
+    ensures memory { IfErr result (λ _. IsTrue (wanting.records_answers (course.decision_of task.now outcome.now))) }
 {
     Ok(match outcome {
         Ok(granted) => Decision::Answered(granted.answers.clone()?),

@@ -1,6 +1,7 @@
 //! The course of a transaction.
 
-ghost use Rattle.std.specs.Prelude.{◌≡◌, ◌<◌, ◌≤◌, ℕ, List, true, IfOk, OnErr, IsSome, Some, [], ◌∷◌, option_map};
+ghost use Rattle.std.specs.Prelude.{◌≡◌, ◌<◌, ◌≤◌, ℕ, List, true, IfOk, IfErr, OnErr, IsSome, IsTrue, Some, [], ◌∷◌, is_some, option_map};
+ghost use Rattle.suite_collect.specs.Collecting as collecting;
 ghost use Rattle.weak_cache.specs.Entries.{Cache};
 ghost use Rattle.txn_core.specs.Agents.{left};
 ghost use Rattle.txn_core.specs.Doing as doing;
@@ -12,6 +13,7 @@ ghost use Rattle.txn_core.specs.Steps.{Steps, taken};
 ghost use Rattle.txn_core.specs.Suites as gathering;
 ghost use Rattle.txn_core.specs.Transactions as course;
 ghost use Rattle.txn_core.specs.Unused.{HasUnused, shows_unused};
+ghost use Rattle.txn_core.specs.Wanting as wanting;
 ghost use Rattle.txn_core.specs.declared.word.Word.TheVariants.{Replied};
 
 use crate::coming::Coming;
@@ -107,6 +109,7 @@ impl Course {
         ensures err { OnErr result ((self.new ≡ self.old) × (cache.new ≡ cache.old)) }
         ensures limits { cache.new.limits ≡ cache.old.limits }
         ensures unused { HasUnused cache.new.entries }
+        ensures memory { IfErr result (λ _. IsTrue (wanting.by_taking (course.request_of (record { service = service.now; limits = cache.old.limits }) self.old) word.now)) }
     {
         let Some(server) = self.asked(service) else {
             return Ok(None);
@@ -134,6 +137,7 @@ impl Course {
         ensures err { OnErr result ((self.new ≡ self.old) × (cache.new ≡ cache.old)) }
         ensures limits { cache.new.limits ≡ cache.old.limits }
         ensures unused { HasUnused cache.new.entries }
+        ensures memory { IfErr result (λ _. IsTrue (wanting.by_taking (course.request_of (record { service = service.now; limits = cache.old.limits }) self.old) (Replied said.now))) }
     {
         match &self.phase {
             Phase::Gathering(number) => {
@@ -171,6 +175,7 @@ impl Course {
         ensures err { OnErr result ((self.new ≡ self.old) × (cache.new ≡ cache.old)) }
         ensures limits { cache.new.limits ≡ cache.old.limits }
         ensures unused { HasUnused cache.new.entries }
+        ensures memory { (suite : gathering.Suite) → gathering.suite_of self.old.suites number ≡ Some suite → IfErr result (λ _. IsTrue (is_some (collecting.told_by (collecting.next suite.collector) said.now))) }
     {
         let suite = match self.hear(number, server, said)? {
             Heard::Settled(suite) => suite,
@@ -196,6 +201,7 @@ impl Course {
         requires there { IsSome (gathering.suite_of self.old.suites number) }
         ensures ok { (suite : gathering.Suite) (left : List ℕ) (granted : doing.Granted) (cache : Cache) → gathering.suite_of self.old.suites number ≡ Some suite → self.old.phase ≡ doing.Widening (number ∷ left) granted → IfOk result (λ ending. Steps (on_hearing self.old.task cache self.old.suites self.old.phase number server (heard suite said.now) (λ suite. course.widen_all self.old.task cache (gathering.with_suite number suite self.old.suites) granted left)) ending self.new cache) }
         ensures err { OnErr result (self.new ≡ self.old) }
+        ensures memory { (suite : gathering.Suite) → gathering.suite_of self.old.suites number ≡ Some suite → IfErr result (λ _. IsTrue (is_some (collecting.told_by (collecting.next suite.collector) said.now))) }
     {
         let suite = match self.hear(number, server, said)? {
             Heard::Settled(suite) => suite,
@@ -217,6 +223,7 @@ impl Course {
         requires there { IsSome (gathering.suite_of self.old.suites number) }
         ensures ok { (suite : gathering.Suite) → gathering.suite_of self.old.suites number ≡ Some suite → IfOk result (λ what. Hears self.old number server (heard suite said.now) what self.new) }
         ensures err { OnErr result (self.new ≡ self.old) }
+        ensures memory { (suite : gathering.Suite) → gathering.suite_of self.old.suites number ≡ Some suite → IfErr result (λ _. IsTrue (is_some (collecting.told_by (collecting.next suite.collector) said.now))) }
     {
         let Some(suite) = self.suites.get(&number) else {
             return Ok(Heard::Through(None));
@@ -259,6 +266,7 @@ impl Course {
         ensures err { OnErr result ((self.new ≡ self.old) × (cache.new ≡ cache.old)) }
         ensures limits { cache.new.limits ≡ cache.old.limits }
         ensures unused { HasUnused cache.new.entries }
+        ensures memory { IfErr result (λ _. IsTrue (is_some (course.given_in said.now))) }
     {
         let Reply::Given { content, .. } = said else {
             return Ok(self.give_up(Cause::Lost { server }));

@@ -1,6 +1,7 @@
 //! What comes of a reply to what a suite asks.
 
-ghost use Rattle.std.specs.Prelude.{◌≡◌, IfOk, true};
+ghost use Rattle.std.specs.Prelude.{◌≡◌, IfOk, IfErr, IsTrue, is_some, true};
+ghost use Rattle.suite_collect.specs.Collecting.{next, told_by};
 ghost use Rattle.txn_core.specs.Hearing.{heard};
 ghost use Rattle.txn_core.specs.Unused.{shows_unused};
 
@@ -31,7 +32,8 @@ impl Suite {
     /// What comes of the reply to what is asked next. The suite stays as it was.
     pub(crate) fn hear(&self, reply: &Reply) -> Result<Hearing, AllocError>
         requires { shows_unused reply.now ≡ true }
-        ensures { IfOk result (λ hearing. hearing ≡ heard self.now reply.now) }
+        ensures ok { IfOk result (λ hearing. hearing ≡ heard self.now reply.now) }
+        ensures memory { IfErr result (λ _. IsTrue (is_some (told_by (next self.now.collector) reply.now))) }
     {
         if !self.accepts(reply) {
             return Ok(Hearing::Lost);

@@ -25,6 +25,7 @@ mod sorting;
 mod suites;
 mod sweep;
 mod task;
+mod verdicts;
 mod widening;
 mod word;
 mod writing;
@@ -39,6 +40,3 @@ pub use laws::{
     sweep_ends_in_time, what_is_written_is_fixed, worked_runs,
 };
 pub use word::Word;
-
-#[cfg(test)]
-mod tests;

@@ -1,16 +1,18 @@
 //! A sweep's round: for each transaction that has a lock at a server, what its home says is told there,
 //! or, where it has prepared nothing, its locks are broken.
 
-ghost use Rattle.std.specs.Prelude.{◌≡◌, ◌==◌, ◌<◌, ◌≤◌, ◌^◌, ◌%◌, ◌+◌, ◌/◌, length, IfOk, OnErr, OnSome, option_map, None, Some, IfSome, IfNone, [], ◌∷◌};
+ghost use Rattle.std.specs.Prelude.{◌≡◌, ◌==◌, ◌<◌, ◌≤◌, ◌^◌, ◌%◌, ◌+◌, ◌/◌, length, IfOk, IfErr, OnErr, OnSome, IsTrue, option_map, None, Some, IfSome, IfNone, [], ◌∷◌};
 ghost use Rattle.rep_core.specs.Locks as locking;
 ghost use Rattle.txn_core.specs.Doing as doing;
 ghost use Rattle.txn_core.specs.Sweeps as sweeping;
 ghost use Rattle.txn_core.specs.Transactions as course;
+ghost use Rattle.txn_core.specs.Wanting as wanting;
 ghost use Rattle.txn_core.specs.RoundFields.{sweeping_of, with_counts, total, left_in, first_of, Comes};
 
 use crate::ending::{Cause, Ending};
 use crate::home::home_of;
 use crate::sorting::rising;
+use crate::verdicts::verdict_again;
 use crate::word::Word;
 use file_ops::Service;
 use rep_core::{Lack, Lock, Reply, Request, Verdict};
@@ -81,14 +83,15 @@ impl Round {
     /// What is asked next, and of which server. Only to copy a verdict it may want memory.
     pub(crate) fn next(&self, service: &Service) -> Result<(u8, Request), AllocError>
         requires { (0 < service.now.servers) × (service.now.servers ≤ MAX_SERVERS) }
-        ensures { IfOk result (λ asked. asked ≡ sweeping.asked_now service.now self.now self.now.now) }
+        ensures ok { IfOk result (λ asked. asked ≡ sweeping.asked_now service.now self.now self.now.now) }
+        ensures memory { IfErr result (λ _. IsTrue (wanting.by_request (sweeping.asked_now service.now self.now self.now.now).1)) }
     {
         let server = self.asked(service);
         let request = match &self.asking {
             Asking::Locks => Request::Locks,
             Asking::Resolve(t) => Request::Resolve { t: *t },
             Asking::Finish(t, verdict) => {
-                let verdict = verdict.clone()?;
+                let verdict = verdict_again(verdict)?;
                 Request::Finish { t: *t, verdict }
             }
             Asking::Break(lock) => Request::Break {
@@ -121,6 +124,7 @@ impl Round {
         requires { (0 < service.now.servers) × (service.now.servers ≤ MAX_SERVERS) }
         ensures ok { IfOk result (λ ending. Comes (sweeping.after_word service.now self.old (sweeping.asked_now service.now self.old self.old.now).0 word.now) ending self.new) }
         ensures err { OnErr result (self.new ≡ self.old) }
+        ensures memory { IfErr result (λ _. IsTrue (wanting.by_taking (Some (sweeping.asked_now service.now self.old self.old.now)) word.now)) }
     {
         match word {
             Word::Replied(said) => self.answer(alloc, service, said),
@@ -140,11 +144,12 @@ impl Round {
         requires { (0 < service.now.servers) × (service.now.servers ≤ MAX_SERVERS) }
         ensures ok { IfOk result (λ ending. Comes (sweeping.after_answer service.now self.old self.old.now said.now) ending self.new) }
         ensures err { OnErr result (self.new ≡ self.old) }
+        ensures memory { IfErr result (λ _. IsTrue (wanting.by_reply (sweeping.asked_now service.now self.old self.old.now).1 said.now)) }
     {
         match (&self.asking, said) {
             (Asking::Locks, Reply::Locked(locks)) => self.list(alloc, locks.as_slice()),
             (Asking::Resolve(t), Reply::Verdict(verdict)) => {
-                let (t, verdict) = (*t, verdict.clone()?);
+                let (t, verdict) = (*t, verdict_again(verdict)?);
                 self.asking = Asking::Finish(t, verdict);
                 Ok(None)
             }

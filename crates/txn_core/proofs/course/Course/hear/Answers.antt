@@ -13,7 +13,7 @@ returns-in-Short-clause-ok c = λ suite there cache go_on.
     let short = c.in-Short in
     let held : c.self.inside.suites.pairs ≡ now.suites = ap (λ (course : Course). course.suites) c.self.view_is in
     let found : c.in-Some.suite.now ≡ suite = same_Some _ _ (c.in-Some.ensures ∙ ap (λ l. suite_of l c.args.number) held ∙ there) in
-    let what : heard suite c.args.said.now ≡ hearing.Short short.suite short.got short.needed short.busy = ap (λ s. heard s c.args.said.now) (sym found) ∙ sym c.in_ok-suite.ensures ∙ short.is in
+    let what : heard suite c.args.said.now ≡ hearing.Short short.suite short.got short.needed short.busy = ap (λ s. heard s c.args.said.now) (sym found) ∙ sym c.in_ok-suite.ensures.ok ∙ short.is in
     hears_short now cache c.args.number c.args.server (heard suite c.args.said.now) go_on short.suite short.got short.needed short.busy c.self.inside.task c.insert_in_room-in-Short.new.self.pairs c.of_short.result
     c.give_up-ending-in-Short.result c.give_up-ending-in-Short.new.self what (ap (λ (course : Course). course.task) c.self.view_is)
     (c.insert_in_room-in-Short.ensures.pairs ∙ ap (λ l. with_suite c.args.number short.suite l) held) c.of_short.ensures (c.give_up-ending-in-Short.ensures cache)

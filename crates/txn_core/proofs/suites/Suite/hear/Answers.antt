@@ -7,15 +7,15 @@ use Rattle.txn_core.specs.Hearing.{heard_next}
 use Rattle.txn_core.proofs.Heard.{heard_by}
 use Rattle.txn_core.proofs.suites.Suite.hear.Goals as goal
 
-pub returns-in-Ask : goal.returns-in-Ask
-returns-in-Ask c =
+pub returns-in-Ask-clause-ok : goal.returns-in-Ask-clause-ok
+returns-in-Ask-clause-ok c =
     let accepted : is_some (told_by (next c.args.self.now.collector) c.args.reply.now) ≡ true = search rules in
     let suite : c.in_ok-suite.suite ≡ c.args.self.now = search rules in
     let reply : c.in_ok-clone.field-0 ≡ c.args.reply.now = search rules in
     sym (heard_by _ _ c.take.new.self _ _ accepted suite reply c.take.ensures ∙ ap (heard_next c.take.new.self) c.in-Ask.ensures)
 
-pub returns-in_ok-settle-in-Current : goal.returns-in_ok-settle-in-Current
-returns-in_ok-settle-in-Current c =
+pub returns-in_ok-settle-in-Current-clause-ok : goal.returns-in_ok-settle-in-Current-clause-ok
+returns-in_ok-settle-in-Current-clause-ok c =
     let accepted : is_some (told_by (next c.args.self.now.collector) c.args.reply.now) ≡ true = search rules in
     let suite : c.in_ok-suite.suite ≡ c.args.self.now = search rules in
     let reply : c.in_ok-clone.field-0 ≡ c.args.reply.now = search rules in

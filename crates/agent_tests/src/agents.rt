@@ -1,15 +1,34 @@
 //! Runs of agents against servers. Each line is a job of an agent, with the steps that it takes and how it
 //! ends, or what befalls a server.
+//!
+//! What memory was refused to is called again, so that each allocation can be refused in turn.
 
-ghost use Rattle.std.specs.Prelude.{◌≡◌, true};
+ghost use Rattle.std.specs.Prelude.{◌≡◌, true, Some};
+ghost use Rattle.txn_core.specs.Agents.{next_of};
 ghost use Rattle.txn_core.specs.Laws.{fits_word};
+ghost use Rattle.txn_core.specs.Standing.{FitsAsked};
 
-use super::read::{caller, ops, small, votes};
-use crate::{Agent, Ending, Job, Ops, Word};
+mod crowd;
+mod read;
+mod sweeps;
+
+use self::crowd::crowd;
+use self::read::{caller, ops, small, votes};
 use acl_core::{Acl, Mode};
-use rep_core::{Request, Server, Stamped};
+use rep_core::{Lack, Request, Server, Stamped};
 use std::process::Abort;
 use suite_prefix::Settings;
+use txn_core::{Agent, Ending, Job, Ops, Word};
+
+/// What a call gives, where memory may be refused to it once.
+macro_rules! again {
+    ($rt:expr, $call:expr) => {
+        match $call {
+            Ok(given) => given,
+            Err(_) => $call.ok().expect($rt, "memory"),
+        }
+    };
+}
 
 /// The servers, and two agents.
 #[derive(Drop)]
@@ -35,7 +54,7 @@ fn settings(rt: &(impl Abort + AllocGlobal), text: &str) -> Settings {
 }
 
 fn agent(rt: &(impl Abort + AllocGlobal), index: u8, settings: &Settings) -> Agent {
-    Agent::new(rt.alloc(), index % 64, settings).expect(rt, "memory")
+    again!(rt, Agent::new(rt.alloc(), index % 64, settings))
 }
 
 fn opened(rt: &(impl Abort + AllocGlobal), text: &str) -> World {
@@ -63,12 +82,31 @@ fn served(rt: &impl Abort, servers: &mut [Server], at: u8, value: Request) -> Wo
     }
 }
 
-/// A step of an agent: what it asks is served, and it takes what comes of it.
+/// What an agent asks, and of which server.
+fn asked(rt: &impl Abort, agent: &Agent) -> (u8, Request)
+    ensures { next_of agent.now.fixed agent.now.state ≡ Some result }
+{
+    again!(rt, agent.next()).expect(rt, "a request")
+}
+
+/// An agent takes what came of what it asked.
+fn told(rt: &impl Abort, agent: &mut Agent, word: &Word) -> Option<Ending>
+    requires { FitsAsked (next_of agent.old.fixed agent.old.state) word.now }
+{
+    again!(rt, agent.take(word))
+}
+
+/// A step of an agent: what it asks is served, and it takes what comes of it. A server that wants memory
+/// is asked again.
 fn step(rt: &impl Abort, servers: &mut [Server], agent: &mut Agent) -> Option<Ending> {
-    let asked = agent.next().expect(rt, "memory");
-    let (at, request) = asked.expect(rt, "a request");
+    let (at, request) = asked(rt, agent);
     let word = served(rt, servers, at, request);
-    agent.take(&word).expect(rt, "memory")
+    if !matches!(&word, Word::Lacked(Lack::Memory)) {
+        return told(rt, agent, &word);
+    }
+    let (at, request) = asked(rt, agent);
+    let word = served(rt, servers, at, request);
+    told(rt, agent, &word)
 }
 
 /// How many steps a job took, and how it ended.
@@ -120,9 +158,32 @@ fn job(rt: &(impl Abort + AllocGlobal), text: &str) -> Job {
     }
 }
 
+fn begin(rt: &(impl Abort + AllocGlobal), agent: &mut Agent, text: &str) {
+    let job = job(rt, text);
+    again!(rt, agent.begin(&job));
+}
+
 /// A server falls down, or comes up again.
 fn befalls(rt: &impl Abort, servers: &mut [Server], at: &str, what: Request) {
     served(rt, servers, small(rt, at), what);
+}
+
+/// A server has so many suites more prepared.
+fn fills(rt: &(impl Abort + AllocGlobal), servers: &mut [Server], text: &str) {
+    let (at, count) = text.split_once(' ').expect(rt, "a count");
+    let count = count.parse::<u16>().ok().expect(rt, "a count");
+    let at = usize::from(small(rt, at));
+    let server = servers.get_mut(at).expect(rt, "a server");
+    crowd(rt, server, count);
+}
+
+/// What an agent asks is not served for want of memory.
+fn lacks(rt: &(impl Abort + AllocGlobal), agent: &mut Agent) -> String {
+    asked(rt, agent);
+    match told(rt, agent, &Word::Lacked(Lack::Memory)) {
+        Some(ending) => ending_text(rt, 1, &ending),
+        None => String::new(rt.alloc()),
+    }
 }
 
 /// Plays a line; its answer is empty where no job was run.
@@ -131,7 +192,9 @@ fn play(rt: &(impl Abort + AllocGlobal), world: &mut World, line: &str) -> Strin
     match word {
         "crash" => befalls(rt, &mut world.servers, rest, Request::Crash),
         "return" => befalls(rt, &mut world.servers, rest, Request::Return),
+        "fill" => fills(rt, &mut world.servers, rest),
         "forget" => world.first.forget(small(rt, rest)),
+        "lack" => return lacks(rt, &mut world.first),
         "go" => return run(rt, &mut world.servers, &mut world.first, small(rt, rest)),
         "second" => {
             begin(rt, &mut world.second, rest);
@@ -144,11 +207,6 @@ fn play(rt: &(impl Abort + AllocGlobal), world: &mut World, line: &str) -> Strin
         }
     }
     String::new(rt.alloc())
-}
-
-fn begin(rt: &(impl Abort + AllocGlobal), agent: &mut Agent, text: &str) {
-    let job = job(rt, text);
-    agent.begin(&job).expect(rt, "memory");
 }
 
 /// Plays the lines of a text, the settings first. What is to come of a line stands after an arrow.
@@ -254,5 +312,42 @@ go 5 -> goes on
 second 1000 0 write '/a' y -> 9 Busy { server: 0, holder: 128 }
 crash 2
 go 9 -> 5 HomeDown",
+    );
+}
+
+/// A server has copies or intentions of 4,096 suites at most. Where it has them a new one is made nowhere,
+/// and one that it has is written.
+#[test]
+fn a_server_is_full(rt: HostRuntime) {
+    plays(
+        &rt,
+        "3 0 1,1,1/2/2",
+        "
+first 1000 0 file '/a' 644 -> 10 [Made(1)]
+fill 0 4094
+first 1000 0 file '/b' 644 -> 8 Full { server: 0 }
+first 1000 0 write '/a' x -> 10 [Wrote]",
+    );
+}
+
+/// A server wants memory: before the decision that ends a transaction, and after it changes nothing.
+#[test]
+fn a_server_wants_memory(rt: HostRuntime) {
+    plays(
+        &rt,
+        "3 0 1,1,1/2/2",
+        "
+first 1000 0 file '/a' 644; write '/a' hi -> 10 [Made(1), Wrote]
+begin 1000 0 write '/a' no
+go 4 -> goes on
+lack memory
+go 9 -> 2 Memory
+begin 1000 0 write '/a' ho
+go 8 -> goes on
+lack memory
+lack memory -> 1 [Wrote]
+second sweep 0 -> 3 swept 0 1 0
+second sweep 1 -> 3 swept 0 1 0
+first 2000 0 read '/a' -> 11 [Read(FileBytes { shared: Some([104, 111]) })]",
     );
 }

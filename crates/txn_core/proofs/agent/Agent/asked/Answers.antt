@@ -1,0 +1,15 @@
+use Rattle.std.proofs.Common.{◌≡◌, Some, ap, sym, ◌∙◌}
+use Rattle.std.specs.Prelude.{option_map}
+use Rattle.txn_core.specs.AgentFields.{doing_of, standing_of}
+use Rattle.txn_core.specs.Agents.{next_in, next_of}
+use Rattle.txn_core.specs.Standing.{Standing}
+use Rattle.txn_core.proofs.Replies.{server_of}
+use Rattle.txn_core.proofs.agent.Agent.asked.Goals as goal
+
+pub returns-in-Some : goal.returns-in-Some
+returns-in-Some c =
+    let was : Standing = standing_of c.self.inside in
+    let doing : was.state.doing ≡ Some (doing_of c.in-Some.doing) = ap (option_map doing_of) c.in-Some.is in
+    c.asked.ensures was.fixed.limits
+    ∙ ap (λ doing. server_of (next_in was.fixed doing)) (sym doing)
+    ∙ ap (λ (s : Standing). server_of (next_of s.fixed s.state)) c.self.view_is

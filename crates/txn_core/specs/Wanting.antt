@@ -1,0 +1,67 @@
+-- When a call on an agent may want memory. Everywhere else it never answers that memory was refused.
+use Rattle.std.specs.Prelude.{ℕ, nat_lt, Bool, true, false, ◌&&◌, is_some, Option, Some, None}
+use Rattle.rep_core.specs.declared.request.Decision.{Decision}
+use Rattle.rep_core.specs.declared.request.Decision.TheVariants as decision
+use Rattle.rep_core.specs.declared.request.Request.{Request}
+use Rattle.rep_core.specs.declared.request.Request.TheVariants as request
+use Rattle.rep_core.specs.declared.reply.Verdict.{Verdict}
+use Rattle.rep_core.specs.declared.reply.Verdict.TheVariants as verdict
+use Rattle.rep_core.specs.declared.reply.Reply.{Reply}
+use Rattle.rep_core.specs.Fits.{is_locked}
+use Rattle.txn_core.specs.declared.word.Word.{Word}
+use Rattle.txn_core.specs.declared.word.Word.TheVariants.{Replied, Lacked}
+use Rattle.txn_core.specs.declared.job.Job.{Job}
+use Rattle.txn_core.specs.declared.job.Job.TheVariants.{Transaction, Sweep}
+use Rattle.txn_core.specs.Doing.{Fixed}
+use Rattle.txn_core.specs.Agents.{Agent, is_idle, has_sense, most_jobs}
+use Rattle.txn_core.specs.Transactions.{said_to, given_in, verdict_in}
+
+-- ---- begin
+
+-- only a transaction that begins
+abbrev pub by_job : Fixed → Agent → Job → Bool
+by_job fixed agent (Transaction caller site ops) = is_idle agent.doing && has_sense fixed (Transaction caller site ops) && nat_lt agent.count most_jobs
+by_job fixed agent (Sweep server) = false
+
+-- ---- next
+
+abbrev pub is_answered : Verdict → Bool
+is_answered (verdict.Answered answers) = true
+is_answered (verdict.Refused refusal) = false
+is_answered verdict.Aborted = false
+
+abbrev pub records_answers : Decision → Bool
+records_answers (decision.Answered answers) = true
+records_answers (decision.Refused uid refusal) = false
+
+-- only the list of a Prepare, and answers
+abbrev pub by_request : Request → Bool
+by_request (request.Prepare t parts) = true
+by_request (request.Decide t asked) = records_answers asked
+by_request (request.Finish t told) = is_answered told
+by_request other = false
+
+abbrev pub by_asking : Option (ℕ × Request) → Bool
+by_asking (Some asked) = by_request asked.1
+by_asking None = false
+
+-- ---- take
+
+-- only what a collector is told, a content, answers, and a list of locks
+abbrev pub by_reply : Request → Reply → Bool
+by_reply (request.Poll t suite mode) said = is_some (said_to (request.Poll t suite mode) said)
+by_reply (request.Upgrade t suite) said = is_some (said_to (request.Upgrade t suite) said)
+by_reply (request.Fetch t suite) said = is_some (given_in said)
+by_reply (request.Decide t asked) said = is_answered (verdict_in said verdict.Aborted)
+by_reply (request.Resolve t) said = is_answered (verdict_in said verdict.Aborted)
+by_reply request.Locks said = is_locked said
+by_reply other said = false
+
+abbrev pub by_said : Reply → Option (ℕ × Request) → Bool
+by_said said (Some asked) = by_reply asked.1 said
+by_said said None = false
+
+-- and nothing where the request was not served
+abbrev pub by_taking : Option (ℕ × Request) → Word → Bool
+by_taking asked (Replied said) = by_said said asked
+by_taking asked (Lacked lack) = false
