@@ -5,7 +5,7 @@
 //! `proofs/Owing`, and that operations leave what they do not set in `proofs/Fair`.
 #![tactic(auto)]
 
-ghost use Rattle.headline.specs.Laws.{AnswersAreTheTables, AuditIsTheDenials, AnsweredBefore, RevocationsAreMet, LocksStand, InEffectInEveryQuorum, ReplacedIsKnown, AgentsKeepSides, FirstsAreGiven};
+ghost use Rattle.headline.specs.Laws.{AnswersAreTheTables, AuditIsTheDenials, AnsweredBefore, RevocationsAreMet, LocksStand, InEffectInEveryQuorum, ReplacedIsKnown, RowsAreTheRegisters, KnowledgeWas, AgentsKeepSides, FirstsAreGiven};
 
 /// A law: every run is answered as one unreplicated table answers it that takes the decided transactions one at a time, in
 /// the order of their decisions. It does nothing.
@@ -43,6 +43,16 @@ pub fn in_effect_in_every_quorum()
 /// A law: every quorum of votes that were replaced has a copy in effect that is newer. It does nothing.
 pub fn replaced_is_known()
     ensures { ReplacedIsKnown }
+{}
+
+/// A law: each row of that table is what the register of its suite's machine holds. It does nothing.
+pub fn rows_are_the_registers()
+    ensures { RowsAreTheRegisters }
+{}
+
+/// A law: a cache may be old, but what is in it was once so; and so of all that a transaction knows. It does nothing.
+pub fn knowledge_was()
+    ensures { KnowledgeWas }
 {}
 
 /// A law: agents keep to their side of the machine of each suite. It does nothing.
