@@ -1,9 +1,8 @@
 -- What holds beside the rest, event by event: jobs set valid votes, the register's row holds a content of its kind, and what is prepared is what was sent. It gives what is left.
-use Rattle.std.proofs.Common.{◌≡◌, ℕ, ◌≤◌, zero, suc, Bool, true, false, cond, List, [], ◌∷◌, Option, Some, None, is_some, Ok, Err, refl, sym, ap, subst, ◌∙◌, arith}
+use Rattle.std.proofs.Common.{◌≡◌, ℕ, ◌≤◌, zero, suc, Bool, true, false, cond, List, [], Option, Some, None, is_some, Ok, Err, refl, sym, ap, subst, ◌∙◌, arith}
 use Rattle.std.specs.Prelude.{◌==◌, nat_le, ◌&&◌, ◌||◌, unwrap_or}
 use Rattle.std.proofs.lemmas.Bool.{false≢true}
 use Rattle.std.proofs.lemmas.Bool.Decides.{nat_tests}
-use Rattle.std.proofs.lemmas.Option.{none-some}
 use Rattle.vote_core.specs.Validity.{IsValid}
 use Rattle.suite_content.specs.declared.content.Content.{Content}
 use Rattle.suite_content.specs.declared.content.Kind.{Kind}
@@ -15,7 +14,7 @@ use Rattle.suite_prefix.specs.declared.copies.Prefix.{Prefix}
 use Rattle.suite_prefix.specs.declared.copies.Replica.{Replica}
 use Rattle.rep_core.specs.Store.{root_copy}
 use Rattle.file_exec.specs.declared.changes.Change as executor
-use Rattle.txn_core.specs.Suites.{First, Suite, Suites, suite_of}
+use Rattle.txn_core.specs.Suites.{First, Suite, suite_of}
 use Rattle.txn_core.specs.Writing.{change_of, prefix_kind, new_prefix}
 use Rattle.txn_core.specs.Doing.{Outcome, Deciding, Phase, Gathering, Fetching, Widening, Preparing, Finishing, Course, Doing, Running, Rounding}
 use Rattle.txn_core.specs.Transactions.{changes_of}
@@ -24,24 +23,22 @@ use Rattle.run_core.specs.declared.event.Event as happening
 use Rattle.run_core.specs.declared.event.Event.TheVariants.{Begin, Step, Crash, Return, Forget, Lack}
 use Rattle.run_core.specs.Worlds as worlds
 use Rattle.run_core.specs.Worlds.{Actor, actor_at, step}
-use Rattle.run_core.specs.Decisions.{Decided, decided}
+use Rattle.run_core.specs.Decisions.{Decided}
 use Rattle.suite_machine.specs.Registers.{Beginning, Known, Entry, IsKnown, IsPlain, changed, row}
-use Rattle.suite_machine.specs.Machine.{Told, World, begun}
+use Rattle.suite_machine.specs.Machine.{Told, World}
 use Rattle.suite_machine.specs.Events.{Event, happens}
 use Rattle.suite_machine.specs.Conditions.{IsReady, Knows}
 use Rattle.suite_machine.proofs.Invariant.{Inv}
 use Rattle.suite_machine.proofs.Knowing.{all_known}
 use Rattle.server_moves.specs.Laws.{beginning}
-use Rattle.run_machine.specs.Deciding.{showed, showed_to, content_to, known_by, change_to, written_from, first_of, to_write, decides_with, decides_without, decides_first, decides_on, decision_with, decision_in, decision_by}
-use Rattle.run_machine.specs.Machines.{moved}
+use Rattle.run_machine.specs.Deciding.{showed, showed_to, known_by, change_to, written_from, first_of, decides_with, decides_without, decides_first, decides_on, decision_in, decision_by}
 use Rattle.run_machine.specs.Owed.{OwesKnown}
 use Rattle.run_machine.proofs.Stages.{Stage}
 use Rattle.run_machine.proofs.Readying.{ReadyIn, IsReadying}
 use Rattle.run_machine.proofs.Linked.{InCourse, IsDoing}
-use Rattle.one_table.proofs.Logs.{LogIs, decision_of_actor, decision_at, event_log}
+use Rattle.one_table.proofs.Logs.{LogIs, decision_of_actor, decision_at}
 use Rattle.one_table.proofs.Shown.{FitsAs}
-use Rattle.headline.specs.Premises.{EventGivesValidVotes}
-use Rattle.headline.proofs.Carried.{AllValid, ValidOr, CameWell, event_valid, came_well}
+use Rattle.headline.proofs.Carried.{AllValid, ValidOr, CameWell, came_well}
 use Rattle.headline.proofs.Fair.{Leaves, came_fair}
 use Rattle.headline.proofs.Together.{Together}
 

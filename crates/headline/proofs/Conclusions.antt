@@ -1,8 +1,6 @@
 -- A change that was answered is met by every request that begins later: the laws of runs, joined.
-use Rattle.std.proofs.Common.{◌≡◌, inl, inr, ⊎_elim, ℕ, List, [], ◌∷◌, ◌++◌, Ok, refl, sym, ap, subst, ◌∙◌}
-use Rattle.std.specs.Prelude.{Contains}
+use Rattle.std.proofs.Common.{◌≡◌, ⊎_elim, List, [], ◌∷◌, ◌++◌, ap, subst}
 use Rattle.rep_core.proofs.Members.{Has, has_from}
-use Rattle.suite_prefix.specs.SettingsRules.{Opening}
 use Rattle.file_ops.specs.Rows as rows
 use Rattle.file_ops.specs.Rows.{PlainTable}
 use Rattle.file_ops.specs.Transactions.{replies}
@@ -14,7 +12,7 @@ use Rattle.run_laws.proofs.Conclusions as of_runs
 use Rattle.run_laws.proofs.Begun.{changes_are_met}
 use Rattle.one_table.proofs.Running.{answers_are_one_tables, audit_is_one_tables}
 use Rattle.one_table.proofs.Effects as effects
-use Rattle.headline.specs.Laws.{AnswersAreTheTables, AuditIsTheDenials, AnsweredBefore, MeetsChange, RevocationsAreMet, InEffectInEveryQuorum, ReplacedIsKnown, AgentsKeepSides}
+use Rattle.headline.specs.Laws.{AnswersAreTheTables, AuditIsTheDenials, AnsweredBefore, RevocationsAreMet, InEffectInEveryQuorum, ReplacedIsKnown, AgentsKeepSides}
 use Rattle.headline.proofs.Keeping.{all_keep}
 
 -- ---- the laws that follow at once

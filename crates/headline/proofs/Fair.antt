@@ -36,7 +36,7 @@ use Rattle.run_laws.proofs.Executed.{set_by, Came}
 use Rattle.run_quorums.specs.Fairness.{IsFair}
 use Rattle.one_table.proofs.Shown.{FitsAs, is_so, told_as}
 use Rattle.headline.specs.Premises.{AllGiveValidVotes}
-use Rattle.headline.proofs.Editing.{AllFit, edits_fit}
+use Rattle.headline.proofs.Editing.{edits_fit}
 use Rattle.headline.proofs.Setting.{fair, same_content, content_kind}
 
 self : (n : ℕ) → (n == n) ≡ true

@@ -1,5 +1,5 @@
 -- In every run that there can be agents give what they owe, and keep to their side.
-use Rattle.std.proofs.Common.{◌≡◌, ℕ, inl, List, [], ◌∷◌, Some, refl, sym, subst}
+use Rattle.std.proofs.Common.{ℕ, inl, List, [], ◌∷◌, refl, sym, subst}
 use Rattle.std.specs.List.{AllByRecursion}
 use Rattle.vote_core.specs.Validity.{IsValid}
 use Rattle.suite_prefix.specs.SettingsRules.{Opening}

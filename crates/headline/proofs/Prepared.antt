@@ -1,5 +1,5 @@
 -- In every run what is prepared at a decision is the part that the transaction sent: event by event.
-use Rattle.std.proofs.Common.{◌≡◌, ℕ, ◌+◌, ◌<◌, Bool, IsTrue, true, false, cond, List, [], ◌∷◌, ◌++◌, Option, Some, None, is_some, Ok, Err, refl, sym, ap, subst, ◌∙◌}
+use Rattle.std.proofs.Common.{◌≡◌, ℕ, ◌+◌, ◌<◌, Bool, IsTrue, true, false, cond, List, [], ◌∷◌, Option, Some, None, is_some, Ok, Err, refl, sym, ap, subst, ◌∙◌}
 use Rattle.std.specs.Prelude.{◌*◌, ◌==◌, ◌&&◌, nat_lt, slice_get, slice_set}
 use Rattle.std.proofs.lemmas.Bool.{false≢true}
 use Rattle.std.proofs.lemmas.Option.{same_Some}
@@ -17,13 +17,13 @@ use Rattle.rep_core.specs.Serving.{answer_of, is_full}
 use Rattle.suite_collect.specs.Telling.{holds}
 use Rattle.suite_prefix.specs.declared.lock_mode.LockMode.TheVariants.{Shared}
 use Rattle.txn_core.proofs.Locks.{told_at}
-use Rattle.txn_core.specs.Suites.{First, Suite, Suites, suite_of}
+use Rattle.txn_core.specs.Suites.{First, Suite, suite_of}
 use Rattle.txn_core.specs.Writing.{part_of, parts_at}
 use Rattle.txn_core.specs.declared.word.Word.{Word}
 use Rattle.txn_core.specs.declared.word.Word.TheVariants.{Replied, Lacked}
 use Rattle.txn_core.specs.declared.job.Job.{Job}
 use Rattle.txn_core.specs.declared.job.Job.TheVariants.{Transaction, Sweep}
-use Rattle.txn_core.specs.Doing.{Task, Outcome, Phase, Gathering, Fetching, Widening, Preparing, Deciding, Finishing, Course, Doing, Running, Rounding}
+use Rattle.txn_core.specs.Doing.{Outcome, Phase, Gathering, Fetching, Widening, Preparing, Deciding, Finishing, Course, Doing, Running, Rounding}
 use Rattle.txn_core.specs.Transactions.{request_in, changes_of}
 use Rattle.txn_core.specs.Agents.{Agent, fixed_of, next_in, next_of, take, take_in, begin, started, forget, is_idle, has_sense, most_jobs}
 use Rattle.txn_core.specs.Agents as agents

@@ -1,6 +1,6 @@
 -- What edits leave of a row that they do not set.
 use Rattle.std.proofs.Common.{◌≡◌, ℕ, ◌+◌, Bool, true, false, cond, List, [], ◌∷◌, Option, Some, None, refl, sym, ap, subst, ◌∙◌, arith}
-use Rattle.std.specs.Prelude.{◌==◌, ◌&&◌, ◌||◌, option_map, is_some, unwrap_or}
+use Rattle.std.specs.Prelude.{◌==◌, ◌&&◌, ◌||◌, option_map, unwrap_or}
 use Rattle.std.proofs.lemmas.Bool.{false≢true, eqb-true}
 use Rattle.std.proofs.lemmas.Option.{none-some, same_Some}
 use Rattle.acl_core.specs.declared.entry.Entry.{Entry}
@@ -10,7 +10,6 @@ use Rattle.suite_content.specs.declared.content.Content.{Content}
 use Rattle.suite_content.specs.declared.content.Kind.{Kind}
 use Rattle.suite_content.specs.declared.content.Kind.TheVariants as holds
 use Rattle.suite_content.specs.Contents.{kind_of, empty_content}
-use Rattle.suite_prefix.specs.Copies.{held_by}
 use Rattle.suite_prefix.specs.declared.copies.Prefix.{Prefix}
 use Rattle.suite_prefix.specs.declared.copies.PrefixKind.{PrefixKind}
 use Rattle.suite_prefix.specs.declared.copies.PrefixKind.TheVariants as kind
@@ -19,7 +18,7 @@ use Rattle.file_exec.specs.declared.changes.Change as executor
 use Rattle.file_exec.specs.declared.log.Edit.{Edit}
 use Rattle.file_exec.specs.declared.log.Edit.TheVariants.{SetAcl, SetVotes, SetContent, Make}
 use Rattle.file_exec.specs.Changes.{makes, sets_acl, sets_votes, some}
-use Rattle.file_exec.specs.Following.{Edits, changed, seen, sets_content, is_set, emptied, head}
+use Rattle.file_exec.specs.Following.{Edits, changed, seen, sets_content, emptied, head}
 use Rattle.txn_core.specs.Suites.{First, Suite, row_with}
 use Rattle.txn_core.specs.Writing.{sets_prefix, new_prefix, prefix_kind, one_if}
 use Rattle.run_quorums.specs.Fairness.{IsFair}

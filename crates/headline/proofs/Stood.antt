@@ -1,6 +1,6 @@
 -- Where a transaction is decided, the locks that it was told of have stood ever since.
 use Rattle.std.proofs.Common.{◌≡◌, ℕ, Bool, true, false, cond, List, [], ◌∷◌, ◌++◌, append_assoc, Option, Some, None, is_some, refl, sym, ap, subst, ◌∙◌, arith}
-use Rattle.std.specs.Prelude.{◌==◌, ◌&&◌, ◌||◌, find}
+use Rattle.std.specs.Prelude.{◌==◌, ◌||◌, find}
 use Rattle.std.specs.List.{list_any}
 use Rattle.std.proofs.lemmas.Bool.{false≢true}
 use Rattle.std.proofs.lemmas.Bool.Decides.{nat_tests}
@@ -15,12 +15,11 @@ use Rattle.rep_core.specs.declared.request.Request.TheVariants as request
 use Rattle.rep_core.specs.declared.reply.Reply.{Reply}
 use Rattle.rep_core.specs.declared.reply.Reply.TheVariants as reply
 use Rattle.rep_core.specs.declared.reply.Verdict.{Verdict}
-use Rattle.rep_core.specs.declared.stamped.Lack.TheVariants as lack
-use Rattle.rep_core.specs.Locks.{is_own, lock_at, has_lock}
+use Rattle.rep_core.specs.Locks.{is_own}
 use Rattle.rep_core.specs.State.{State, record_of}
 use Rattle.rep_core.specs.Serving.{is_full, answer_of}
 use Rattle.txn_core.specs.declared.word.Word.TheVariants.{Replied, Lacked}
-use Rattle.txn_core.specs.Doing.{Task, home_of, Outcome, Deciding, Doing, Running}
+use Rattle.txn_core.specs.Doing.{Task, Doing}
 use Rattle.txn_core.specs.Transactions.{decision_of, request_in}
 use Rattle.txn_core.specs.Agents.{Agent, fixed_of, next_in, next_of}
 use Rattle.run_core.specs.declared.event.Event as happening
@@ -29,12 +28,12 @@ use Rattle.run_core.specs.declared.done.Served.{Served}
 use Rattle.run_core.specs.Worlds as worlds
 use Rattle.run_core.specs.Worlds.{Actor, Stepped, server_at, actor_at, serve, becomes, answered, asks_at, asks, steps_once, lacks_for, lacks, operated, operates, step}
 use Rattle.run_core.specs.Runs as runs
-use Rattle.run_core.specs.Decisions.{Decided, to_decide, answer_in, decided_as, decided_at, decided_by, decided, task_of, task_at}
+use Rattle.run_core.specs.Decisions.{Decided, answer_in, decided_as, decided_at, decided_by, decided, task_of, task_at}
 use Rattle.run_laws.specs.Answers.{IsAnsweredAsKnown}
 use Rattle.run_laws.proofs.Answering.{answers_follow_knowledge}
 use Rattle.suite_machine.specs.Registers.{Beginning}
-use Rattle.suite_machine.specs.Machine.{Hold, Told, World, begun, set2}
-use Rattle.suite_machine.specs.Events.{Event, Held, happens, run}
+use Rattle.suite_machine.specs.Machine.{World, begun}
+use Rattle.suite_machine.specs.Events.{Event, Held, run}
 use Rattle.suite_machine.proofs.Invariant.{Inv}
 use Rattle.suite_machine.proofs.Knowing.{still_locked}
 use Rattle.suite_machine.proofs.Places.{at2}
@@ -49,11 +48,10 @@ use Rattle.run_machine.proofs.Consistent.{AllConsistent}
 use Rattle.run_machine.proofs.Following.{event_comes}
 use Rattle.run_machine.proofs.Joining.{run-append}
 use Rattle.run_machine.proofs.Servers.{server_there}
-use Rattle.headline.specs.Premises.{EventGivesValidVotes, VotesAreValid, CanBe}
-use Rattle.headline.specs.Laws.{TellsOfLock, has_lock_after, LocksStand}
+use Rattle.headline.specs.Premises.{VotesAreValid, CanBe}
+use Rattle.headline.specs.Laws.{LocksStand}
 use Rattle.headline.proofs.Unbroken.{told_stays, stood}
 use Rattle.headline.proofs.Beside.{is_ready_now}
-use Rattle.headline.proofs.Together.{Together}
 use Rattle.headline.proofs.Keeping.{holds_after, all_keep}
 
 -- ---- what the event told
