@@ -7,7 +7,6 @@ use Rattle.std.proofs.lemmas.List.{append-nil}
 use Rattle.suite_prefix.specs.SettingsRules.{Opening}
 use Rattle.txn_core.specs.Doing.{Fixed}
 use Rattle.txn_core.specs.Agents.{fixed_of}
-use Rattle.run_core.specs.declared.event.Event as happening
 use Rattle.run_core.specs.declared.event.Event.TheVariants.{Step}
 use Rattle.run_core.specs.declared.done.Done.{Done}
 use Rattle.run_core.specs.declared.done.Outcome.{Outcome}
@@ -18,12 +17,12 @@ use Rattle.headline.specs.Premises.{VotesAreValid}
 use Rattle.headline.specs.Promises.{IsRunOf, IsOfRun, IsPromised, Promises}
 use Rattle.headline.proofs.Promised.{goes_on}
 use Rattle.suite_script.specs.declared.fault.ScriptFault.{ScriptFault}
-use Rattle.suite_script.specs.Scripts.{Headed, Pending, Script, owns, script_of, scripted, whole, with_own}
+use Rattle.suite_script.specs.Scripts.{Pending, Script, owns, script_of, scripted, whole, with_own}
 use Rattle.suite_play.specs.declared.command.Command.{Command}
 use Rattle.suite_play.specs.declared.command.Command.TheVariants as line
 use Rattle.suite_play.specs.Headers.{header}
 use Rattle.suite_play.specs.Outputs.{language, script_in}
-use Rattle.suite_play.specs.Playing.{endless, played, steps, of_event}
+use Rattle.suite_play.specs.Playing.{endless, played, steps}
 use Rattle.suite_play.specs.Promised.{steps_in, events_in, events_of, is_audit, LinesAreEvents, PlayIsPromised}
 use Rattle.suite_play.specs.Texts.{outcome_line, outcome_text}
 
