@@ -1,5 +1,5 @@
 -- What is decided was begun so: by whom, and with which operations.
-use Rattle.std.proofs.Common.{◌≡◌, ⊎_elim, inl, inr, ℕ, ◌+◌, true, false, cond, List, [], ◌∷◌, ◌++◌, append_assoc, Option, Some, None, refl, sym, ap, subst, ◌∙◌}
+use Rattle.std.proofs.Common.{◌≡◌, ⊎_elim, ℕ, ◌+◌, true, false, cond, List, [], ◌∷◌, ◌++◌, append_assoc, Option, Some, None, refl, sym, ap, subst, ◌∙◌}
 use Rattle.std.specs.Prelude.{◌*◌, ◌&&◌, nat_lt, Contains, slice_get, slice_set}
 use Rattle.std.specs.List.{cons_option}
 use Rattle.std.proofs.lemmas.List.{append-nil}
@@ -41,7 +41,7 @@ use Rattle.run_core.specs.Worlds.{World, Actor, server_at, actor_at, serve, answ
 use Rattle.run_core.specs.Runs.{run}
 use Rattle.run_core.specs.Decisions.{Decided, task_of, decided, decisions, decisions_from}
 use Rattle.run_core.proofs.Appending.{after-append, decisions_from-append}
-use Rattle.run_laws.specs.Numbers.{begins_now, begins_at}
+use Rattle.run_laws.specs.Numbers.{begins_now}
 use Rattle.run_laws.proofs.Worlds.{agent_of}
 use Rattle.run_laws.proofs.Conclusions.{holds_of}
 use Rattle.run_laws.proofs.Answering.{answers_follow_knowledge}

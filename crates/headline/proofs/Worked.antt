@@ -1,10 +1,10 @@
 -- They hold by computation.
-use Rattle.std.proofs.Common.{◌≡◌, [], ◌∷◌, Some, refl, sym, ap, subst}
+use Rattle.std.proofs.Common.{◌≡◌, refl, sym, ap, subst}
 use Rattle.file_ops.specs.Rows as rows
 use Rattle.file_ops.specs.Rows.{row_of}
 use Rattle.run_core.specs.Decisions.{decisions}
-use Rattle.run_core.specs.TableOfRun.{table_of, table_after_all, AnswersAreTheTables}
-use Rattle.headline.specs.Worked.{with_caches, revoked, item, revoked_decisions, SomeRunRevokes, six_servers, moved, moved_decisions, SomeRunMovesVotes}
+use Rattle.run_core.specs.TableOfRun.{table_after_all, AnswersAreTheTables}
+use Rattle.headline.specs.Worked.{with_caches, revoked, revoked_decisions, SomeRunRevokes, six_servers, moved, moved_decisions, SomeRunMovesVotes}
 
 revoked_in_order : decisions with_caches revoked ≡ revoked_decisions
 revoked_in_order = refl

@@ -1,3 +1,4 @@
 pub mod Idle
 pub mod Lines
+pub mod Promised
 pub mod Until

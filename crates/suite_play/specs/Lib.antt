@@ -3,4 +3,5 @@ pub mod Commands
 pub mod Texts
 pub mod Playing
 pub mod Outputs
+pub mod Promised
 pub mod Laws

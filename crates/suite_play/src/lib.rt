@@ -11,5 +11,5 @@ mod places;
 mod player;
 mod verb;
 
-pub use laws::run_is_until_idle;
+pub use laws::{lines_are_events, run_is_until_idle};
 pub use player::{check_events, play_events};

@@ -2,8 +2,10 @@
 
 ghost use Rattle.std.specs.Prelude.{◌≡◌, ◌<◌, ◌^◌, ◌++◌, true, length, OnOk};
 ghost use Rattle.std.specs.List.{flat_map};
+ghost use Rattle.headline.specs.Premises.{VotesAreValid};
 ghost use Rattle.suite_play.specs.Outputs.{places_of, play_output};
 ghost use Rattle.suite_play.specs.Playing.{endless, of_event, played, steps};
+ghost use Rattle.suite_play.specs.Promised.{PlayIsPromised, events_in, steps_in};
 ghost use Rattle.suite_play.specs.Texts.{audit_lines, item_line};
 ghost use Rattle.run_core.specs.Worlds.{step};
 ghost use Rattle.txn_core.specs.Agents.{fixed_of};
@@ -16,6 +18,7 @@ use crate::outcome::{push_item, push_outcome};
 use crate::places::Places;
 use byte_streams::ByteOut;
 use file_ops::AuditItem;
+use headline::{promise, votes_are_valid};
 use run_core::{Event, World};
 use script_text::push_number;
 use std::alloc::{AllocError, Global};
@@ -42,12 +45,14 @@ fn places_of(settings: &Settings) -> Places
     }
 }
 
-/// Plays a script of events that has no fault, and writes what it prints.
+/// Plays a script of events that has no fault, and writes what it prints. What is played is promised: of the run of its
+/// events, at each moment, what a world promises (`headline::promise`).
 pub fn play_events<O: ByteOut>(alloc: Global, text: &[u8], writer: &mut O) -> Result<(), PlayError>
     requires short { length text.now < 2 ^ 60 }
     requires faultless { is_done (play_output text.now) ≡ true }
-    ensures { Plays result (text_of (play_output text.now)) (O.written writer.old) (O.written writer.new)
+    ensures plays { Plays result (text_of (play_output text.now)) (O.written writer.old) (O.written writer.new)
         (O.failed_writes writer.old) (O.failed_writes writer.new) }
+    ensures promised { OnOk result (PlayIsPromised text.now) }
 {
     let mut script = ScriptReader::new(alloc, text);
     let settings = match read_header(alloc, &mut script) {
@@ -56,6 +61,7 @@ pub fn play_events<O: ByteOut>(alloc: Global, text: &[u8], writer: &mut O) -> Re
         Err(ScriptError::Faulty(_)) => unreachable!(),
     };
     let places = places_of(&settings);
+    settings.fits();
     let mut world = World::opening(alloc, &settings)?;
     let mut gathered = Vec::new(alloc);
     loop {
@@ -65,10 +71,29 @@ pub fn play_events<O: ByteOut>(alloc: Global, text: &[u8], writer: &mut O) -> Re
             Err(ScriptError::Memory) => return Err(PlayError::Memory),
             Err(ScriptError::Faulty(_)) => unreachable!(),
         };
+        command_is_valid(&command);
         play_command(alloc, &mut world, command, &mut gathered, writer)?;
     }
+    promise(&world);
     write_gathered(writer, &mut gathered)
 }
+
+/// A law: the votes of the events of a line are valid, by their type. It does nothing.
+fn command_is_valid(command: &Command)
+    ensures { VotesAreValid (events_in command.now) }
+{
+    match command {
+        Command::Event(event) => votes_are_valid(event),
+        Command::Steps { agent, count } => steps_are_valid(*agent, *count),
+        Command::Run { agent } => steps_are_valid(*agent, u64::MAX),
+        Command::Audit { .. } => {}
+    }
+}
+
+/// A law: steps have no votes. It does nothing.
+fn steps_are_valid(agent: u8, count: u64)
+    ensures { VotesAreValid (steps_in agent count) }
+{}
 
 /// Plays a line, and adds what it prints to the text.
 fn play_command<O: ByteOut>(

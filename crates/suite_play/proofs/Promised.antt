@@ -1,0 +1,122 @@
+-- The run of a script, line by line.
+use Rattle.std.proofs.Common.{◌≡◌, ℕ, zero, suc, true, false, List, [], ◌∷◌, ◌++◌, append_assoc, Option, Some, None, Result, Ok, Err, refl, ◌∙◌, ap, sym, subst}
+use Rattle.std.specs.Prelude.{OnOk}
+use Rattle.std.specs.List.{flat_map}
+use Rattle.std.proofs.lemmas.Bool.{false≢true}
+use Rattle.std.proofs.lemmas.List.{append-nil}
+use Rattle.suite_prefix.specs.SettingsRules.{Opening}
+use Rattle.txn_core.specs.Doing.{Fixed}
+use Rattle.txn_core.specs.Agents.{fixed_of}
+use Rattle.run_core.specs.declared.event.Event.TheVariants.{Step}
+use Rattle.run_core.specs.declared.done.Done.{Done}
+use Rattle.run_core.specs.declared.done.Outcome.{Outcome}
+use Rattle.run_core.specs.Worlds.{World, step}
+use Rattle.run_core.specs.Runs.{after, dones, outcomes}
+use Rattle.run_core.specs.Opened.{Opened}
+use Rattle.headline.specs.Premises.{VotesAreValid}
+use Rattle.headline.specs.Promises.{IsRunOf, IsOfRun, IsPromised, Promises}
+use Rattle.headline.proofs.Promised.{goes_on}
+use Rattle.suite_script.specs.declared.fault.ScriptFault.{ScriptFault}
+use Rattle.suite_script.specs.Scripts.{Pending, Script, owns, script_of, scripted, whole, with_own}
+use Rattle.suite_play.specs.declared.command.Command.{Command}
+use Rattle.suite_play.specs.declared.command.Command.TheVariants as line
+use Rattle.suite_play.specs.Headers.{header}
+use Rattle.suite_play.specs.Outputs.{language, script_in}
+use Rattle.suite_play.specs.Playing.{endless, played, steps}
+use Rattle.suite_play.specs.Promised.{steps_in, events_in, events_of, is_audit, LinesAreEvents, PlayIsPromised}
+use Rattle.suite_play.specs.Texts.{outcome_line, outcome_text}
+
+-- ---- what a line makes of a world
+
+steps_world : (fixed : Fixed) (world : World) (agent count : ℕ) → (steps fixed world agent count).world ≡ after fixed world (steps_in agent count)
+unfolding steps steps_in
+steps_world fixed world agent zero = refl
+steps_world fixed world agent (suc more) = steps_world fixed (step fixed world (Step agent)).world agent more
+
+pub line_world : (fixed : Fixed) (world : World) (command : Command) → (played fixed world command).world ≡ after fixed world (events_in command)
+line_world fixed world (line.Event event) = refl
+line_world fixed world (line.Steps agent count) = steps_world fixed world agent count
+line_world fixed world (line.Run agent) = steps_world fixed world agent endless
+line_world fixed world (line.Audit server) = refl
+
+-- ---- and what it prints
+
+one_text : (o : Option Outcome) (served : _) (later : List Done) → outcome_text o ++ flat_map outcome_line (outcomes later) ≡ flat_map outcome_line (outcomes (record { served = served; outcome = o } ∷ later))
+one_text None served later = refl
+one_text (Some outcome) served later = refl
+
+steps_text : (fixed : Fixed) (world : World) (agent count : ℕ) → (steps fixed world agent count).text ≡ flat_map outcome_line (outcomes (dones fixed world (steps_in agent count)))
+unfolding steps steps_in
+steps_text fixed world agent zero = refl
+steps_text fixed world agent (suc more) =
+    let once = step fixed world (Step agent) in
+    ap (λ rest. outcome_text once.done.outcome ++ rest) (steps_text fixed once.world agent more)
+    ∙ one_text once.done.outcome once.done.served (dones fixed once.world (steps_in agent more))
+
+line_jobs : (fixed : Fixed) (world : World) (command : Command) → is_audit command ≡ false → (played fixed world command).text ≡ flat_map outcome_line (outcomes (dones fixed world (events_in command)))
+line_jobs fixed world (line.Event event) is =
+    let once = step fixed world event in
+    sym (append-nil (outcome_text once.done.outcome)) ∙ one_text once.done.outcome once.done.served []
+line_jobs fixed world (line.Steps agent count) is = steps_text fixed world agent count
+line_jobs fixed world (line.Run agent) is = steps_text fixed world agent endless
+line_jobs fixed world (line.Audit server) is = absurd (false≢true (sym is))
+
+pub lines_are_events : LinesAreEvents
+lines_are_events = record { world = line_world; jobs = line_jobs }
+
+-- steps give no votes
+pub steps_valid : (agent count : ℕ) → VotesAreValid (steps_in agent count)
+unfolding steps_in
+steps_valid agent zero = tt
+steps_valid agent (suc more) = (tt, steps_valid agent more)
+
+-- ---- the lines that were played so far
+
+pub record IsPlayed (text : List ℕ) (left : Result (List Command) ScriptFault) (opened : Opened) : Type 0 where
+  pub done : List Command
+  pub of_them : IsRunOf opened (events_of done)
+  pub script : (later : List Command) → left ≡ Ok later → script_in text ≡ Ok (record { header = opened.given; owns = done ++ later })
+
+events_more : (done : List Command) (command : Command) → events_of (done ++ command ∷ []) ≡ events_of done ++ events_in command
+events_more [] command = append-nil (events_in command)
+events_more (one ∷ done) command = ap (λ rest. events_in one ++ rest) (events_more done command) ∙ sym (append_assoc (events_in one) (events_of done) (events_in command))
+
+pub begins : (text : List ℕ) (opened : Opened) (rest : Pending) → header (whole text) ≡ Ok (record { value = opened.given; rest = rest }) → IsRunOf opened [] → IsPlayed text (owns (language opened.given) rest) opened
+begins text opened rest read so = record {
+  done = [];
+  of_them = so;
+  script = λ later is. ap (script_of language) read ∙ ap (scripted opened.given) is;
+}
+
+pub plays_on : (text : List ℕ) (left after_it : Result (List Command) ScriptFault) (opened next : Opened) (command : Command) → IsPlayed text left opened → left ≡ with_own command after_it
+    → VotesAreValid (events_in command) → next ≡ record opened { world = (played (fixed_of opened.given) opened.world command).world } → IsPlayed text after_it next
+plays_on text left after_it opened next command so is valid becomes =
+    subst (IsPlayed text after_it) (sym becomes) (record {
+      done = so.done ++ command ∷ [];
+      of_them = subst (IsRunOf (record opened { world = (played (fixed_of opened.given) opened.world command).world })) (sym (events_more so.done command))
+          (goes_on opened (events_of so.done) (events_in command) (played (fixed_of opened.given) opened.world command).world so.of_them valid (line_world (fixed_of opened.given) opened.world command));
+      script = λ later ends. so.script (command ∷ later) (is ∙ ap (with_own command) ends) ∙ ap (λ owns. Ok (record { header = opened.given; owns = owns })) (sym (append_assoc so.done (command ∷ []) later));
+    })
+
+pub ends_promised : (text : List ℕ) (left : Result (List Command) ScriptFault) (opened : Opened) → IsPlayed text left opened → left ≡ Ok [] → Promises opened → PlayIsPromised text
+ends_promised text left opened so none promises script is before later events =
+    of script (sym (so.script [] none) ∙ is) events
+  where
+    all : List Command
+    all = so.done ++ []
+
+    same_script : (a b : Script Opening Command) → ◌≡◌ {A = Result (Script Opening Command) ScriptFault} (Ok a) (Ok b) → a ≡ b
+    same_script a b is = cc
+
+    of : (script : Script Opening Command) → ◌≡◌ {A = Result (Script Opening Command) ScriptFault} (Ok (record { header = opened.given; owns = all })) (Ok script) → events_of script.owns ≡ before ++ later → IsPromised script.header before
+    of script same events =
+        let it = same_script (record { header = opened.given; owns = all }) script same in
+        subst (λ (script : Script Opening Command). IsPromised script.header before) it
+        (promises before later (subst (IsRunOf opened) (ap events_of (sym (append-nil so.done)) ∙ ap (λ (script : Script Opening Command). events_of script.owns) it ∙ events) so.of_them))
+
+pub of_run : (text : List ℕ) (left : Result (List Command) ScriptFault) (opened : Opened) → IsPlayed text left opened → IsOfRun opened
+of_run text left opened so = record { events = events_of so.done; of_them = so.of_them }
+
+pub either_way : {E : Type 0} (result : Result (Unit {0}) E) (P : Type 0) → P → OnOk result P
+either_way (Ok nothing) P so = so
+either_way (Err why) P so = tt
