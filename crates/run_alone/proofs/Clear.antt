@@ -71,7 +71,7 @@ IsFree None = Unit {0}
 
 -- ---- what it asks
 
-polls_named : (t : ℕ) (asked : Request) → names t asked ≡ true → PollsFor t asked
+pub polls_named : (t : ℕ) (asked : Request) → names t asked ≡ true → PollsFor t asked
 polls_named t (request.Poll named suite mode) is = equal is
   where
     equal : (named == t) ≡ true → named ≡ t
@@ -100,7 +100,7 @@ never_crashes t (request.Break named suite) is = refl
 never_crashes t request.Locks is = refl
 never_crashes t request.Return is = refl
 
-names_mine : (fixed : Fixed) (t : ℕ) (doing : Option Doing) (asked : ℕ × Request) → IsMine t doing → next_in fixed doing ≡ Some asked → names t asked.1 ≡ true
+pub names_mine : (fixed : Fixed) (t : ℕ) (doing : Option Doing) (asked : ℕ × Request) → IsMine t doing → next_in fixed doing ≡ Some asked → names t asked.1 ≡ true
 names_mine fixed t None asked mine next = cc
 names_mine fixed t (Some (Rounding round)) asked mine next = absurd mine
 names_mine fixed t (Some (Running course)) asked mine next =
@@ -190,10 +190,10 @@ module _ (given : Opening) (t turn : ℕ) (world : World) (ds : List Decided) (p
       what = record { server = server; request = stamped; reply = answer_of st stamped }
 
   -- only its agent asks anything
-  is_turn : (i : ℕ) (actor : Actor) (asked : ℕ × Request) → actor_at world i ≡ Some actor → next_of fixed actor.agent ≡ Some asked → i ≡ turn
+  pub is_turn : (i : ℕ) (actor : Actor) (asked : ℕ × Request) → actor_at world i ≡ Some actor → next_of fixed actor.agent ≡ Some asked → i ≡ turn
   is_turn i actor asked is next = ⊎_elim (λ at. at) (λ apart. absurd (none-some asked (sym (ap (next_in fixed) (sym (ap doing_of is) ∙ clear.alone i apart)) ∙ next))) (same_or i turn)
 
-  is_mine : (i : ℕ) (actor : Actor) (asked : ℕ × Request) → actor_at world i ≡ Some actor → next_of fixed actor.agent ≡ Some asked → IsMine t actor.agent.doing
+  pub is_mine : (i : ℕ) (actor : Actor) (asked : ℕ × Request) → actor_at world i ≡ Some actor → next_of fixed actor.agent ≡ Some asked → IsMine t actor.agent.doing
   is_mine i actor asked is next = subst (IsMine t) (ap (doing_at world) (sym (is_turn i actor asked is next)) ∙ ap doing_of is) clear.mine
 
   took_clear : (servers : List State) (i : ℕ) (actor : Actor) (asked : ℕ × Request) (word : Word) (stamp : ℕ) → actor_at world i ≡ Some actor → next_of fixed actor.agent ≡ Some asked → ((s : ℕ) (st : State) → slice_get servers s ≡ Some st → (st.up ≡ true) × AreOwn t st.locks)
@@ -281,14 +281,14 @@ module _ (given : Opening) (t turn : ℕ) (world : World) (ds : List Decided) (p
 -- ---- from the begin on
 
 -- none is begun now, and none later
-none_now : (begun : Option (ℕ × Job)) (later : List (ℕ × Job)) → cons_option begun later ≡ [] → (begun ≡ None) × (later ≡ [])
+pub none_now : (begun : Option (ℕ × Job)) (later : List (ℕ × Job)) → cons_option begun later ≡ [] → (begun ≡ None) × (later ≡ [])
 none_now None later is = (refl, is)
 none_now (Some job) later is = absurd (some_job is)
   where
     some_job : job ∷ later ≡ [] → ⊥
     some_job is = cc
 
-crash_not : (event : Event) → not (is_crash event) ≡ true → is_crash event ≡ false
+pub crash_not : (event : Event) → not (is_crash event) ≡ true → is_crash event ≡ false
 crash_not (Crash server) is = cc
 crash_not (Begin i job) is = refl
 crash_not (Step i) is = refl
@@ -321,7 +321,7 @@ clear_servers t world up locks s st at =
     let has = at_has world.servers s st at in
     (all_at (λ (st : State). st.up) world.servers st up has, none_own t st.locks (all_at (λ (st : State). length st.locks == 0) world.servers st locks has))
 
-begun_clear : (given : Opening) (world : World) (ds : List Decided) (past : List Outcome) → Holds (fixed_of given) world ds past → (i t : ℕ) (caller : Identity) (site : ℕ) (ops : List Op) → all_idle world ≡ true → all_up world ≡ true → no_locks world ≡ true
+pub begun_clear : (given : Opening) (world : World) (ds : List Decided) (past : List Outcome) → Holds (fixed_of given) world ds past → (i t : ℕ) (caller : Identity) (site : ℕ) (ops : List Op) → all_idle world ≡ true → all_up world ≡ true → no_locks world ≡ true
     → (found : Option Actor) → actor_at world i ≡ found → with_job (Transaction caller site ops) (begins_now (fixed_of given) i (Transaction caller site ops) found) ≡ Some (t, Transaction caller site ops)
     → Clear (becomes world i (λ agent. begin (fixed_of given) agent (Transaction caller site ops)) found).world t i
 begun_clear given world ds past holds i t caller site ops idle up locks None is begins = absurd (none-some (t, Transaction caller site ops) begins)

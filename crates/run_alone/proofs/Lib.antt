@@ -7,3 +7,5 @@ pub mod Same
 pub mod Worked
 pub mod Own
 pub mod Clear
+pub mod Exchanged
+pub mod Unhindered
