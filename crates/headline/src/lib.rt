@@ -14,9 +14,6 @@ ghost use Rattle.headline.specs.Laws.{AnswersAreTheTables, AuditIsTheDenials, An
 pub use promises::{promise, votes_are_valid};
 pub use witnesses::{some_run_moves_votes, some_run_revokes};
 
-pub use promises::{promise, votes_are_valid};
-pub use witnesses::{some_run_moves_votes, some_run_revokes};
-
 /// A law: every run is answered as one unreplicated table answers it that takes the decided transactions one at a time, in
 /// the order of their decisions. It does nothing.
 pub fn answers_are_the_tables()
