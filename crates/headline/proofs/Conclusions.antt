@@ -10,9 +10,11 @@ use Rattle.run_core.specs.TableOfRun as table
 use Rattle.run_core.specs.TableOfRun.{played_on, table_with, table_after_all}
 use Rattle.run_laws.proofs.Conclusions as of_runs
 use Rattle.run_laws.proofs.Begun.{changes_are_met}
+use Rattle.run_knowledge.proofs.Events as knowledge
+use Rattle.one_table.proofs.Running as tables
 use Rattle.one_table.proofs.Running.{answers_are_one_tables, audit_is_one_tables}
 use Rattle.one_table.proofs.Effects as effects
-use Rattle.headline.specs.Laws.{AnswersAreTheTables, AuditIsTheDenials, AnsweredBefore, RevocationsAreMet, InEffectInEveryQuorum, ReplacedIsKnown, AgentsKeepSides}
+use Rattle.headline.specs.Laws.{AnswersAreTheTables, AuditIsTheDenials, AnsweredBefore, RevocationsAreMet, InEffectInEveryQuorum, ReplacedIsKnown, RowsAreTheRegisters, KnowledgeWas, AgentsKeepSides}
 use Rattle.headline.proofs.Keeping.{all_keep}
 
 -- ---- the laws that follow at once
@@ -31,6 +33,12 @@ in_effect_in_every_quorum given events can = effects.rows_are_in_effect given ev
 
 pub replaced_is_known : ReplacedIsKnown
 replaced_is_known given events later can = effects.replaced_is_known given events later (all_keep given (events ++ later) can)
+
+pub rows_are_the_registers : RowsAreTheRegisters
+rows_are_the_registers given events can = tables.rows_are_the_registers given events (all_keep given events can)
+
+pub knowledge_was : KnowledgeWas
+knowledge_was given events can z = knowledge.knowledge_was given z events can.c0 ((all_keep given events can).keep z)
 
 pub agents_keep_sides : AgentsKeepSides
 agents_keep_sides given events can z = (all_keep given events can).keep z

@@ -32,8 +32,11 @@ use Rattle.run_laws.specs.Numbers.{number_of, was_begun, begins_at}
 use Rattle.run_laws.specs.Answers.{all_denials}
 use Rattle.run_quorums.specs.Firsts.{FirstFrom}
 use Rattle.suite_machine.specs.Machine.{IsQuorum}
-use Rattle.run_machine.specs.Machines.{servers_of}
+use Rattle.run_machine.specs.Machines.{servers_of, machine_of}
 use Rattle.run_machine.specs.Sides as sides
+use Rattle.run_knowledge.specs.Knowledge.{AllWere}
+use Rattle.server_moves.specs.Laws.{beginning}
+use Rattle.one_table.specs.Tables.{row_shown, register}
 use Rattle.one_table.specs.Effects.{copy_at, HasOne, IsInEffect}
 use Rattle.headline.specs.Premises.{CanBe}
 
@@ -123,7 +126,16 @@ ReplacedIsKnown =
     → (copy_at given events z server).prefix.pver < (copy_at given (events ++ later) z other).prefix.pver
     → HasOne given (events ++ later) z set (λ (copy : Replica). (copy_at given events z server).prefix.pver < copy.prefix.pver)
 
+-- Each row of the table is what the register of its suite's machine holds.
+abbrev pub RowsAreTheRegisters : Type 0
+RowsAreTheRegisters = (given : Opening) (events : List Event) → CanBe given events → (z : ℕ) → row_of (table_of given events).rows z ≡ row_shown (register given z events)
+
 -- ---- agents
+
+-- What agents keep in their caches, and what transactions know, was once so: each hint was the prefix that the suite's register had at its version, and each
+-- content the one that it had.
+abbrev pub KnowledgeWas : Type 0
+KnowledgeWas = (given : Opening) (events : List Event) → CanBe given events → (z : ℕ) → AllWere z (beginning z given) (machine_of given z events) (run given events)
 
 -- Agents keep to their side of the machine of each suite.
 abbrev pub AgentsKeepSides : Type 0

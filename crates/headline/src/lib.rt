@@ -9,9 +9,9 @@
 mod promises;
 mod witnesses;
 
-ghost use Rattle.headline.specs.Laws.{AnswersAreTheTables, AuditIsTheDenials, AnsweredBefore, RevocationsAreMet, LocksStand, InEffectInEveryQuorum, ReplacedIsKnown, AgentsKeepSides, FirstsAreGiven};
+ghost use Rattle.headline.specs.Laws.{AnswersAreTheTables, AuditIsTheDenials, AnsweredBefore, RevocationsAreMet, LocksStand, InEffectInEveryQuorum, ReplacedIsKnown, RowsAreTheRegisters, KnowledgeWas, AgentsKeepSides, FirstsAreGiven};
 
-pub use promises::{promise, votes_are_valid};
+pub use promises::{decided_as_begun, promise, votes_are_valid};
 pub use witnesses::{some_run_moves_votes, some_run_revokes};
 
 /// A law: every run is answered as one unreplicated table answers it that takes the decided transactions one at a time, in
@@ -50,6 +50,16 @@ pub fn in_effect_in_every_quorum()
 /// A law: every quorum of votes that were replaced has a copy in effect that is newer. It does nothing.
 pub fn replaced_is_known()
     ensures { ReplacedIsKnown }
+{}
+
+/// A law: each row of that table is what the register of its suite's machine holds. It does nothing.
+pub fn rows_are_the_registers()
+    ensures { RowsAreTheRegisters }
+{}
+
+/// A law: a cache may be old, but what is in it was once so; and so of all that a transaction knows. It does nothing.
+pub fn knowledge_was()
+    ensures { KnowledgeWas }
 {}
 
 /// A law: agents keep to their side of the machine of each suite. It does nothing.
