@@ -39,6 +39,9 @@ pub record WasBegun (given : Opening) (events : List Event) (t : ℕ) (caller : 
 abbrev pub AreAsBegun : Opening → List Event → Type 0
 AreAsBegun given events = (one : Decided) → Contains (decisions given events) one → WasBegun given events one.t one.caller one.ops
 
+abbrev pub DecidedAsBegun : Type 0
+DecidedAsBegun = (given : Opening) (events : List Event) → CanBe given events → AreAsBegun given events
+
 -- Of two decisions of a run the one whose job ended before the other's began stands first.
 abbrev pub StandInOrder : Opening → List Event → Type 0
 StandInOrder given events =

@@ -1,7 +1,7 @@
 //! What a world promises.
 
 ghost use Rattle.headline.specs.Premises.{AllGiveValidVotes, AreValid, EventGivesValidVotes, GivesValidVotes, JobGivesValidVotes};
-ghost use Rattle.headline.specs.Promises.{IsOfRun, Promises};
+ghost use Rattle.headline.specs.Promises.{DecidedAsBegun, IsOfRun, Promises};
 
 use file_ops::{Action, Op};
 use run_core::{Event, World};
@@ -15,6 +15,11 @@ use vote_core::Votes;
 pub fn promise(world: &World)
     requires { IsOfRun world.now }
     ensures { Promises world.now }
+{}
+
+/// A law: what is decided was begun in one of the events, by that caller and with those operations. It does nothing.
+pub fn decided_as_begun()
+    ensures { DecidedAsBegun }
 {}
 
 /// A law: the votes that an event has are valid, by their type. It does nothing.
