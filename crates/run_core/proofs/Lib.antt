@@ -5,3 +5,4 @@ pub mod Moving
 pub mod Operating
 pub mod Playing
 mod Worked
+pub mod Wanting

@@ -22,7 +22,7 @@ abbrev actor_of : Seated → Actor
 actor_of seat = seat.actor
 
 -- an agent of the code at a place, and in the definitions
-actor_there : (seats : List Seated) (place : ℕ) (found : Option Seated) → slice_get seats place ≡ found → slice_get (actors_in seats) place ≡ option_map actor_of found
+pub actor_there : (seats : List Seated) (place : ℕ) (found : Option Seated) → slice_get seats place ≡ found → slice_get (actors_in seats) place ≡ option_map actor_of found
 actor_there seats place found is = slice_get-map actor_of seats place ∙ ap (option_map actor_of) is
 
 actors_set : (seats : List Seated) (place : ℕ) (seat : Seated) → actors_in (slice_set seats place seat) ≡ slice_set (actors_in seats) place seat.actor
@@ -31,7 +31,7 @@ actors_set seats place seat = map-set actor_of seats place seat
 abbrev IsOf : Fixed → Seated → Type 0
 IsOf fixed seat = seat.fixed ≡ fixed
 
-fixed_there : (fixed : Fixed) (seats : List Seated) (place : ℕ) (seat : Seated) → AreOf fixed seats → slice_get seats place ≡ Some seat → seat.fixed ≡ fixed
+pub fixed_there : (fixed : Fixed) (seats : List Seated) (place : ℕ) (seat : Seated) → AreOf fixed seats → slice_get seats place ≡ Some seat → seat.fixed ≡ fixed
 fixed_there fixed seats place seat all is = subst (IsOf fixed) (get_or_from_slice_get seats place seat seat is) (all place seat (slice_get_within seats place seat is))
 
 pub of_set : (fixed : Fixed) (seats : List Seated) (place : ℕ) (seat seat' : Seated) → AreOf fixed seats → slice_get seats place ≡ Some seat → seat'.fixed ≡ seat.fixed → AreOf fixed (slice_set seats place seat')

@@ -10,3 +10,4 @@ pub mod SeatFields
 pub mod Exchanges
 pub mod Orders
 pub mod WorldFields
+pub mod Wanting

@@ -1,9 +1,10 @@
 //! What an agent of a world does in an event.
 
-ghost use Rattle.std.specs.Prelude.{◌≡◌, IfOk, OnOk, OnErr, List, slice_get};
+ghost use Rattle.std.specs.Prelude.{◌≡◌, IfOk, IfErr, IsTrue, OnOk, OnErr, List, slice_get};
 ghost use Rattle.txn_core.specs.Agents as agents;
 ghost use Rattle.txn_core.specs.Doing.{Fixed};
 ghost use Rattle.txn_core.specs.declared.word.Word.TheVariants.{Lacked};
+ghost use Rattle.run_core.specs.Wanting as wanting;
 ghost use Rattle.run_core.specs.Worlds as worlds;
 ghost use Rattle.run_core.specs.Seats.{AreOf, Becomes, actors_in, changed, world_of};
 ghost use Rattle.rep_core.specs.State.{State};
@@ -19,6 +20,7 @@ use txn_core::{Job, Word};
 pub(crate) fn begin(seats: &mut Vec<Seat>, number: u8, job: &Job) -> Result<(), AllocError>
     ensures ok { OnOk result (Becomes (slice_get seats.old.items number) (λ seat. changed seat (agents.begin seat.fixed seat.actor.agent job.now)) number seats.old.items seats.new.items) }
     ensures err { OnErr result (seats.new.items ≡ seats.old.items) }
+    ensures memory { IfErr result (λ _. (fixed : Fixed) → AreOf fixed seats.old.items → IsTrue (wanting.by_begin fixed job.now (slice_get (actors_in seats.old.items) number))) }
 {
     match seats.get_mut(usize::from(number)) {
         Some(seat) => seat.begin(job),
@@ -44,6 +46,7 @@ pub(crate) fn ask(
     ensures of { (fixed : Fixed) → AreOf fixed seats.old.items → AreOf fixed seats.new.items }
     ensures ok { IfOk result (λ done. (fixed : Fixed) → AreOf fixed seats.old.items → worlds.steps_once fixed (world_of servers.old.items seats.old.items) number (slice_get (actors_in seats.old.items) number) ≡ record { world = world_of servers.new.items seats.new.items; done = done }) }
     ensures err { OnErr result ((servers.new.items ≡ servers.old.items) × (seats.new.items ≡ seats.old.items)) }
+    ensures memory { IfErr result (λ _. (fixed : Fixed) → AreOf fixed seats.old.items → IsTrue (wanting.by_step fixed (slice_get (actors_in seats.old.items) number))) }
 {
     let Some(seat) = seats.get_mut(usize::from(number)) else {
         return Ok(Done::nothing());
@@ -59,22 +62,23 @@ pub(crate) fn ask(
     Ok(done)
 }
 
-/// The agent of this number is told that its request is not served.
-pub(crate) fn lack(seats: &mut Vec<Seat>, number: u8, lack: Lack) -> Result<Done, AllocError>
+/// The agent of this number is told that its request is not served, which takes no memory.
+pub(crate) fn lack(seats: &mut Vec<Seat>, number: u8, lack: Lack) -> Done
     ensures of { (fixed : Fixed) → AreOf fixed seats.old.items → AreOf fixed seats.new.items }
-    ensures ok { IfOk result (λ done. (fixed : Fixed) (servers : List State) → AreOf fixed seats.old.items → worlds.lacks fixed (world_of servers seats.old.items) number (Lacked lack) (slice_get (actors_in seats.old.items) number) ≡ record { world = world_of servers seats.new.items; done = done }) }
-    ensures err { OnErr result (seats.new.items ≡ seats.old.items) }
+    ensures told { (fixed : Fixed) (servers : List State) → AreOf fixed seats.old.items → worlds.lacks fixed (world_of servers seats.old.items) number (Lacked lack) (slice_get (actors_in seats.old.items) number) ≡ record { world = world_of servers seats.new.items; done = result } }
 {
     let Some(seat) = seats.get_mut(usize::from(number)) else {
-        return Ok(Done::nothing());
+        return Done::nothing();
     };
-    let Some(_asked) = seat.next()? else {
-        return Ok(Done::nothing());
+    let Some(_server) = seat.asked() else {
+        return Done::nothing();
     };
     let stamp = seat.stamp();
-    let outcome = seat.take(number, stamp, &Word::Lacked(lack))?;
-    Ok(Done {
+    let Ok(outcome) = seat.take(number, stamp, &Word::Lacked(lack)) else {
+        return Done::nothing();
+    };
+    Done {
         served: None,
         outcome,
-    })
+    }
 }

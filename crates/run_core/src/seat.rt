@@ -1,7 +1,8 @@
 //! An agent in a world.
 
-ghost use Rattle.std.specs.Prelude.{◌≡◌, ◌<◌, IfOk, OnOk, OnErr};
+ghost use Rattle.std.specs.Prelude.{◌≡◌, ◌<◌, IfOk, IfErr, IsTrue, OnOk, OnErr, option_map};
 ghost use Rattle.txn_core.specs.Agents as agents;
+ghost use Rattle.txn_core.specs.Wanting as wanting;
 ghost use Rattle.txn_core.specs.declared.word.Word.TheVariants.{Replied};
 ghost use Rattle.run_core.specs.Worlds.{outcome_of};
 ghost use Rattle.run_core.specs.Seats as seats;
@@ -58,9 +59,17 @@ impl Seat {
         self.agent.is_idle()
     }
 
+    /// Of which server it asks next. It takes no memory.
+    pub(crate) fn asked(&self) -> Option<u8>
+        ensures { result ≡ option_map (λ asked. asked.0) (agents.next_of self.now.fixed self.now.actor.agent) }
+    {
+        self.agent.asked()
+    }
+
     /// What it asks, and of which server.
     pub(crate) fn next(&self) -> Result<Option<(u8, Request)>, AllocError>
-        ensures { IfOk result (λ asked. asked ≡ agents.next_of self.now.fixed self.now.actor.agent) }
+        ensures ok { IfOk result (λ asked. asked ≡ agents.next_of self.now.fixed self.now.actor.agent) }
+        ensures memory { IfErr result (λ _. IsTrue (wanting.by_asking (agents.next_of self.now.fixed self.now.actor.agent))) }
     {
         self.agent.next()
     }
@@ -69,6 +78,7 @@ impl Seat {
     pub(crate) fn begin(&mut self, job: &Job) -> Result<(), AllocError>
         ensures ok { OnOk result (self.new ≡ seats.changed self.old (agents.begin self.old.fixed self.old.actor.agent job.now)) }
         ensures err { OnErr result (self.new ≡ self.old) }
+        ensures memory { IfErr result (λ _. IsTrue (wanting.by_job self.old.fixed self.old.actor.agent job.now)) }
     {
         self.agent.begin(job)
     }
@@ -91,6 +101,7 @@ impl Seat {
         ensures outcome { IfOk result (λ outcome. outcome ≡ outcome_of number self.old.actor (agents.take self.old.fixed self.old.actor.agent word.now).ending) }
         ensures state { OnOk result (self.new ≡ seats.after_word self.old stamp word.now) }
         ensures err { OnErr result (self.new ≡ self.old) }
+        ensures memory { IfErr result (λ _. IsTrue (wanting.by_taking (agents.next_of self.old.fixed self.old.actor.agent) word.now)) }
     {
         let count = self.agent.count().saturating_sub(1);
         let ended = self.agent.take(word)?;

@@ -1,9 +1,10 @@
 //! A world: the servers and the agents of a service, event by event.
 
-ghost use Rattle.std.specs.Prelude.{◌≡◌, ◌≤◌, ◌++◌, [], take, length, IfOk, IfErr, OnOk, OnErr};
-ghost use Rattle.std.specs.List.{cons_option};
+ghost use Rattle.std.specs.Prelude.{◌≡◌, ◌≤◌, ◌++◌, [], take, length, IfOk, IfErr, IsSome, IsTrue, OnOk, OnErr};
+ghost use Rattle.std.specs.List.{cons_option, list_any};
 ghost use Rattle.txn_core.specs.Agents.{fixed_of};
 ghost use Rattle.run_core.specs.Runs as runs;
+ghost use Rattle.run_core.specs.Wanting as wanting;
 ghost use Rattle.run_core.specs.Worlds as worlds;
 
 use crate::done::{Done, Outcome};
@@ -61,11 +62,13 @@ impl World {
     }
 
     /// Plays one event. Where it has no sense nothing comes of it. Where memory runs out nothing has
-    /// changed, and the same event may be played again.
+    /// changed, and the same event may be played again. Only a transaction that begins may want memory,
+    /// and a step of an agent that asks something.
     pub fn step(&mut self, event: &Event) -> Result<Done, AllocError>
         ensures given { self.new.given ≡ self.old.given }
         ensures ok { IfOk result (λ done. worlds.step (fixed_of self.old.given) self.old.world event.now ≡ record { world = self.new.world; done = done }) }
         ensures err { OnErr result (self.new ≡ self.old) }
+        ensures memory { IfErr result (λ _. IsTrue (wanting.by_event (fixed_of self.old.given) self.old.world event.now)) }
     {
         match event {
             Event::Begin { agent, job } => {
@@ -79,18 +82,20 @@ impl World {
                 moves::forget(&mut self.seats, *agent, *site);
                 Ok(Done::nothing())
             }
-            Event::Lack { agent, lack } => moves::lack(&mut self.seats, *agent, *lack),
+            Event::Lack { agent, lack } => Ok(moves::lack(&mut self.seats, *agent, *lack)),
         }
     }
 
     /// Plays events, one after the other, and answers how jobs ended. Where memory runs out the world is
-    /// as after the events that are told, and the others may be played next.
+    /// as after the events that are told, and the others may be played next. Crashes, returns, forgets and
+    /// sweeps that begin are played however little memory there is.
     pub fn play(&mut self, events: &[Event]) -> Result<Vec<Outcome>, Stopped>
         ensures given { self.new.given ≡ self.old.given }
         ensures outcomes { IfOk result (λ outcomes. outcomes.items ≡ runs.outcomes (runs.dones (fixed_of self.old.given) self.old.world events.now)) }
         ensures world { OnOk result (self.new.world ≡ runs.after (fixed_of self.old.given) self.old.world events.now) }
         ensures stopped { IfErr result (λ stopped. self.new.world ≡ runs.after (fixed_of self.old.given) self.old.world (take stopped.done events.now)) }
         ensures within { IfErr result (λ stopped. stopped.done ≤ length events.now) }
+        ensures memory { IfErr result (λ _. IsTrue (list_any wanting.by_playing events.now)) }
     {
         let mut outcomes = Vec::new(self.alloc);
         let mut played = 0;
@@ -129,7 +134,8 @@ impl World {
 
 /// The outcome of what was done is kept, if there is one.
 fn keep(outcomes: &mut Vec<Outcome>, done: Done) -> Result<(), AllocError>
-    ensures { OnOk result (outcomes.new.items ≡ outcomes.old.items ++ cons_option done.outcome []) }
+    ensures ok { OnOk result (outcomes.new.items ≡ outcomes.old.items ++ cons_option done.outcome []) }
+    ensures memory { IfErr result (λ _. IsSome done.outcome) }
 {
     let Done { outcome, .. } = done;
     if let Some(outcome) = outcome {

@@ -1,7 +1,9 @@
-use Rattle.std.proofs.Common.{refl, sym, ◌∙◌, vec_len}
+use Rattle.std.proofs.Common.{refl, sym, ap, ◌∙◌, vec_len}
+use Rattle.std.specs.Prelude.{is_some}
 use Rattle.std.proofs.lemmas.Option.{slice_get_read}
 use Rattle.run_core.proofs.Moving.{ask_nothing, ask_nowhere, ask_there}
 use Rattle.run_core.proofs.Operating.{none_there}
+use Rattle.run_core.proofs.Wanting.{held, steps_there, asking_is_some}
 use Rattle.run_core.proofs.moves.ask.Goals as goal
 
 pub returns-in_default-2-clause-ok : goal.returns-in_default-2-clause-ok
@@ -9,7 +11,7 @@ returns-in_default-2-clause-ok c =
     let item = c.in-Some.ensures.item in
     let found = slice_get_read _ _ _ _ refl item.3.0 item.1 in
     let there = rw c.from.ensures at found in
-    let next = c.in_ok-asked.ensures in
+    let next = c.in_ok-asked.ensures.ok in
     λ fixed all. rw (c.from.ensures, c.nothing-in_default-2.ensures)
     (ask_nothing fixed c.args.servers.now.items c.args.seats.now.items c.args.number c.in-Some.seat.now all there (sym next ∙ c.in_default-2.is))
 
@@ -18,7 +20,7 @@ returns-in_default-get_mut-clause-ok c =
     let item = c.in-Some.ensures.item in
     let found = slice_get_read _ _ _ _ refl item.3.0 item.1 in
     let there = rw c.from.ensures at found in
-    let next = c.in_ok-asked.ensures in
+    let next = c.in_ok-asked.ensures.ok in
     let left = c.in_default-get_mut.ensures in
     let none = none_there c.args.servers.now.items (vec_len c.args.servers.now) c.from-2.result c.args.servers.now.ok.0 left.variant.1 in
     let nowhere = rw c.from-2.ensures at none in
@@ -30,7 +32,7 @@ returns-clause-ok c =
     let item = c.in-Some.ensures.item in
     let found = slice_get_read _ _ _ _ refl item.3.0 item.1 in
     let there = rw c.from.ensures at found in
-    let next = c.in_ok-asked.ensures in
+    let next = c.in_ok-asked.ensures.ok in
     let host_item = c.in-Some-get_mut.ensures.item in
     let host_found = slice_get_read _ _ _ _ refl host_item.3.0 host_item.1 in
     let host_there = rw c.from-2.ensures at host_found in
@@ -38,3 +40,20 @@ returns-clause-ok c =
     λ fixed all. rw (c.from.ensures, c.from-2.ensures)
     (ask_there fixed c.args.servers.now.items c.args.seats.now.items c.args.number c.in-Some-2.asked.0 c.in-Some.seat.now c.exchange.new.seat c.in-Some-get_mut.host.now c.exchange.new.host c.in-Some-2.asked.1 c.in_ok-done.done
     all there (sym next ∙ c.in-Some-2.is) host_there left.ok)
+
+pub returns-in_err-asked-clause-memory : goal.returns-in_err-asked-clause-memory
+returns-in_err-asked-clause-memory c =
+    let item = c.in-Some.ensures.item in
+    let found = slice_get_read _ _ _ _ refl item.3.0 item.1 in
+    let there = rw c.from.ensures at found in
+    held c.from_residual.result
+    (λ fixed all. (steps_there fixed c.args.seats.now.items c.args.number c.in-Some.seat.now all there (asking_is_some _ c.in_err-asked.ensures.memory)))
+
+pub returns-in_err-done-clause-memory : goal.returns-in_err-done-clause-memory
+returns-in_err-done-clause-memory c =
+    let item = c.in-Some.ensures.item in
+    let found = slice_get_read _ _ _ _ refl item.3.0 item.1 in
+    let there = rw c.from.ensures at found in
+    let next = c.in_ok-asked.ensures.ok in
+    held c.from_residual-in_err-done.result
+    (λ fixed all. (steps_there fixed c.args.seats.now.items c.args.number c.in-Some.seat.now all there (ap is_some (sym next ∙ c.in-Some-2.is))))

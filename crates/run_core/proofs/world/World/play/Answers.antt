@@ -1,12 +1,16 @@
-use Rattle.std.proofs.Common.{◌<◌, length, ◌∙◌, refl, arith}
+use Rattle.std.proofs.Common.{◌<◌, length, IsSome, ap, subst, sym, ◌∙◌, refl, arith}
+use Rattle.txn_core.specs.Agents.{fixed_of}
+use Rattle.run_core.specs.Wanting.{by_playing}
+use Rattle.run_core.specs.Worlds.{Stepped, step}
 use Rattle.run_core.proofs.Playing.{world_played, outcomes_played}
+use Rattle.run_core.proofs.Wanting.{event_wants, ending_wants, one_wants}
 use Rattle.run_core.proofs.world.World.play.Goals as goal
 
 pub loop-event-preserved : goal.loop-event-preserved
 loop-event-preserved c =
     let so_far = c.loop-event.invariant in
     let stepped = c.in-Ok.ensures in
-    let kept = c.in-Ok-keep.ensures in
+    let kept = c.in-Ok-keep.ensures.ok in
     let within : c.loop-event.event-index < length c.args.events.now = omega arith in
     record {
       given = stepped.given ∙ so_far.given;
@@ -24,3 +28,18 @@ returns-in_default-keep-clause-stopped c =
     let within : c.loop-event.event-index < length c.args.events.now = omega arith in
     world_played c.args.self.now.given c.loop-event.self.given c.args.self.now.world c.loop-event.self.world c.step.new.self.world c.args.events.now c.loop-event.event-index c.loop-event.played c.event-item.result c.in-Ok.done
     within so_far.given so_far.played so_far.world c.event-item.is stepped.ok
+
+pub returns-in_default-clause-memory : goal.returns-in_default-clause-memory
+returns-in_default-clause-memory c =
+    let within : c.loop-event.event-index < length c.args.events.now = omega arith in
+    one_wants c.args.events.now c.loop-event.event-index c.event-item.result within
+    (ap by_playing (sym c.event-item.is) ∙ event_wants (fixed_of c.loop-event.self.given) c.loop-event.self.world c.event-item.result c.in_default.ensures.memory)
+
+pub returns-in_default-keep-clause-memory : goal.returns-in_default-keep-clause-memory
+returns-in_default-keep-clause-memory c =
+    let stepped = c.in-Ok.ensures in
+    let within : c.loop-event.event-index < length c.args.events.now = omega arith in
+    let some : IsSome (step (fixed_of c.loop-event.self.given) c.loop-event.self.world c.event-item.result).done.outcome =
+    subst (λ (all : Stepped). IsSome all.done.outcome) (sym stepped.ok) c.in_default-keep.ensures.memory in
+    one_wants c.args.events.now c.loop-event.event-index c.event-item.result within
+    (ap by_playing (sym c.event-item.is) ∙ ending_wants (fixed_of c.loop-event.self.given) c.loop-event.self.world c.event-item.result some)

@@ -1,0 +1,13 @@
+use Rattle.std.proofs.Common.{refl}
+use Rattle.std.proofs.lemmas.Option.{slice_get_read}
+use Rattle.std.proofs.lemmas.Result.{IfErr-weaker}
+use Rattle.run_core.proofs.Wanting.{begins_there}
+use Rattle.run_core.proofs.moves.begin.Goals as goal
+
+pub returns-in-Some-clause-memory : goal.returns-in-Some-clause-memory
+returns-in-Some-clause-memory c =
+    let item = c.in-Some.ensures.item in
+    let found = slice_get_read _ _ _ _ refl item.3.0 item.1 in
+    let there = rw c.from.ensures at found in
+    IfErr-weaker c.begin.result _ _
+    (λ _ wants. λ fixed all. (begins_there fixed c.args.seats.now.items c.args.number c.in-Some.seat.now c.args.job.now all there wants)) c.begin.ensures.memory
