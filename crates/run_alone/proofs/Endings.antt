@@ -12,6 +12,7 @@ use Rattle.run_core.specs.TableOfRun.{table_with, AnswersAreTheTables}
 use Rattle.run_alone.specs.Endings.{tables_endings, EndingsAreTheTables}
 use Rattle.run_alone.proofs.Verdicts.{answer_to, answers_of, said_in, answered}
 use Rattle.run_alone.proofs.Turns.{doing_at, all_none}
+use Rattle.headline.proofs.Conclusions.{answers_are_the_tables}
 use Rattle.run_alone.proofs.Alone.{orderly}
 
 as_answered : (table : PlainTable) (ds : List Decided) → AnswersAreTheTables table ds → tables_endings table ds ≡ map answer_to ds
@@ -30,8 +31,9 @@ one_answer (Some (Running course)) = of (said_in course.phase)
     of verdict.Aborted = omega arith
 
 pub endings_are_the_tables : EndingsAreTheTables
-endings_are_the_tables given accepted events answers alone =
-    let is = orderly given accepted events alone in
+endings_are_the_tables given events can alone =
+    let is = orderly given can.accepted events alone in
+    let answers = answers_are_the_tables given events can in
     record {
       telling = answered (doing_at (run given events) is.turn);
       are = as_answered (rows.opening given) (decisions given events) answers ∙ is.listed;

@@ -39,6 +39,7 @@ use Rattle.run_laws.proofs.Worlds as worlds
 use Rattle.run_laws.proofs.Worlds.{Holds, agent_of, agent_at}
 use Rattle.run_laws.proofs.Begun.{each_is_begun_once}
 use Rattle.run_laws.proofs.Conclusions.{holds_of}
+use Rattle.headline.proofs.Conclusions.{answers_are_the_tables}
 use Rattle.run_alone.specs.Alone.{begins_job, jobs_from, jobs_of, one_at_a_time}
 use Rattle.run_alone.specs.Endings.{AreAlike, IsTransaction, IsRunning, AllAreDecided, EndingsAreOne}
 use Rattle.run_alone.proofs.Verdicts.{Asked, asked_by, asked_of, left_by, said_in, said_is, undecided}
@@ -292,7 +293,11 @@ same_table given other alike =
     ∙ ap (opened given.servers given.c0 given.root_owner given.root_group) alike.root_acl
 
 pub endings_are_one : EndingsAreOne
-endings_are_one given other accepted accepted' alike events events' answers answers' alone alone' same decided decided' job job' there there' number is =
+endings_are_one given other alike events events' can can' alone alone' same decided decided' job job' there there' number is =
+    let accepted = can.accepted in
+    let accepted' = can'.accepted in
+    let answers = answers_are_the_tables given events can in
+    let answers' = answers_are_the_tables other events' can' in
     let a = ended_so given accepted events alone decided job (has_from (ended given events) job there) is in
     let is' : IsTransaction (jobs_of other events') (number_of job') = subst (IsTransaction (jobs_of other events')) number (subst (λ jobs. IsTransaction jobs (number_of job)) same is) in
     let b = ended_so other accepted' events' alone' decided' job' (has_from (ended other events') job' there') is' in

@@ -22,6 +22,7 @@ use Rattle.run_core.specs.Decisions.{Decided, decisions, task_at}
 use Rattle.run_core.specs.TableOfRun.{played_on, table_with, AnswersAreTheTables}
 use Rattle.run_laws.specs.Numbers.{number_of}
 use Rattle.run_laws.specs.Claims.{ended}
+use Rattle.headline.specs.Premises.{CanBe}
 use Rattle.run_alone.specs.Alone.{all_idle, jobs_of, one_at_a_time}
 
 -- ---- the endings of decided transactions
@@ -52,11 +53,10 @@ pub record EndAsTheTable (given : Opening) (events : List Event) : Type 0 where
   pub one : length telling ≤ 1
   pub none_where_idle : all_idle (run given events) ≡ true → telling ≡ []
 
--- It is so of every run in which a job begins only when every agent is idle, where decisions are answered as the one table answers them.
+-- It is so of every run that there can be, in which a job begins only when every agent is idle.
 abbrev pub EndingsAreTheTables : Type 0
 EndingsAreTheTables =
-    (given : Opening) → IsAccepted given → (events : List Event) → AnswersAreTheTables (rows.opening given) (decisions given events)
-    → one_at_a_time given events ≡ true → EndAsTheTable given events
+    (given : Opening) (events : List Event) → CanBe given events → one_at_a_time given events ≡ true → EndAsTheTable given events
 
 -- ---- two runs of the same jobs
 
@@ -96,8 +96,7 @@ AllAreDecided given events = (t : ℕ) → IsTransaction (jobs_of given events) 
 -- transaction that ended was decided: each transaction that ended in both has one ending.
 abbrev pub EndingsAreOne : Type 0
 EndingsAreOne =
-    (given other : Opening) → IsAccepted given → IsAccepted other → AreAlike given other → (events events' : List Event)
-    → AnswersAreTheTables (rows.opening given) (decisions given events) → AnswersAreTheTables (rows.opening other) (decisions other events')
+    (given other : Opening) → AreAlike given other → (events events' : List Event) → CanBe given events → CanBe other events'
     → one_at_a_time given events ≡ true → one_at_a_time other events' ≡ true → jobs_of given events ≡ jobs_of other events'
     → AllAreDecided given events → AllAreDecided other events'
     → (job job' : Outcome) → Contains (ended given events) job → Contains (ended other events') job' → number_of job ≡ number_of job'
