@@ -30,7 +30,6 @@ use Rattle.txn_core.specs.Suites.{Suites}
 use Rattle.txn_core.specs.Doing.{Fixed, Task, Outcome, Phase, Gathering, Fetching, Widening, Preparing, Deciding, Finishing, Course, Round, Doing, Running, Rounding, After, GoesOn, Ends}
 use Rattle.txn_core.specs.Transactions.{execute, tell_end, give_up, prepare, prepared, locked_at, lack_cause, after_word, verdict_in, ending_by, cause_of_abort}
 use Rattle.txn_core.specs.Sweeps as sweep
-use Rattle.txn_core.specs.Agents as agents
 use Rattle.txn_core.specs.Agents.{Agent, left as left_doing, fixed_of, next_of, take_in, take, begin, started, forget, is_idle, has_sense, most_jobs}
 use Rattle.txn_core.proofs.Walk.{IsEarly, goes_word, goes_execute}
 use Rattle.run_core.specs.declared.event.Event.{Event}

@@ -168,8 +168,8 @@ showed_told known (Some told) is =
     let parts = both (nat_le told.copy.prefix.pver known.prefix.pver) (nat_le told.copy.dver known.dver) is in
     (told, refl, at_most told.copy.prefix.pver known.prefix.pver parts.0, at_most told.copy.dver known.dver parts.1)
 
-knows_from : (start : Beginning) (w : World) (t : ℕ) (known : Known) → OwesKnown start w t known → Knows start w t (showed_to w t known) known
-knows_from start w t known owes = record {
+knows_from : (origin : Beginning) (w : World) (t : ℕ) (known : Known) → OwesKnown origin w t known → Knows origin w t (showed_to w t known) known
+knows_from origin w t known owes = record {
   told = λ i inside. let is = showed_told known (w.told i t) inside in (is.0, is.1);
   quorum = owes.quorum;
   was = owes.was;
