@@ -2,7 +2,7 @@
 use Rattle.std.specs.Prelude.{◌≡◌, ◌⊎◌, ℕ, ◌≤◌, true, List, [], ◌∷◌, ◌++◌, length, option_map, Contains, Option, Some, None, Result, Ok, Err}
 use Rattle.std.specs.List.{filter_map}
 use Rattle.acl_core.specs.Identity.{Identity}
-use Rattle.suite_prefix.specs.SettingsRules.{Opening, IsAccepted}
+use Rattle.suite_prefix.specs.SettingsRules.{Opening}
 use Rattle.file_ops.specs.declared.answer.Answer.{Answer}
 use Rattle.file_ops.specs.declared.operation.Op.{Op}
 use Rattle.file_ops.specs.declared.refusal.Refusal.{Refusal}
@@ -19,7 +19,7 @@ use Rattle.run_core.specs.declared.done.Outcome.{Outcome}
 use Rattle.run_core.specs.Worlds.{World, actor_at}
 use Rattle.run_core.specs.Runs.{run}
 use Rattle.run_core.specs.Decisions.{Decided, decisions, task_at}
-use Rattle.run_core.specs.TableOfRun.{played_on, table_with, AnswersAreTheTables}
+use Rattle.run_core.specs.TableOfRun.{played_on, table_with}
 use Rattle.run_laws.specs.Numbers.{number_of}
 use Rattle.run_laws.specs.Claims.{ended}
 use Rattle.headline.specs.Premises.{CanBe}
