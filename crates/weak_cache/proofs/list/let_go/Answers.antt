@@ -1,4 +1,4 @@
-use Rattle.std.proofs.Common.{◌≡◌, ◌<◌, ◌∙◌, ap, sym, arith, length}
+use Rattle.std.proofs.Common.{◌<◌, ap, arith, length}
 use Rattle.std.specs.Prelude.{slice_index}
 use Rattle.weak_cache.proofs.Counting.{counted_at, tally_removed}
 use Rattle.weak_cache.proofs.list.let_go.Goals as goal

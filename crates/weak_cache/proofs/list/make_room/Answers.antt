@@ -2,7 +2,7 @@ use Rattle.std.proofs.Common.{◌≡◌, true, false, sym, ap, ◌∙◌, arith}
 use Rattle.std.proofs.lemmas.Bool.{false≢true}
 use Rattle.std.specs.Prelude.{is_some}
 use Rattle.std.specs.List.{position_from}
-use Rattle.weak_cache.specs.Entries.{Cache, is_of}
+use Rattle.weak_cache.specs.Entries.{is_of}
 use Rattle.weak_cache.proofs.Room.{few_stay, few_left, slots_stay, found_less, find_same, on_ok}
 use Rattle.weak_cache.proofs.list.make_room.Goals as goal
 

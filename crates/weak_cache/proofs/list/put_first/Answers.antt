@@ -1,4 +1,4 @@
-use Rattle.std.proofs.Common.{◌≡◌, ◌<◌, ◌∙◌, ap, sym, arith}
+use Rattle.std.proofs.Common.{◌<◌, ap, arith}
 use Rattle.std.specs.Prelude.{slice_index}
 use Rattle.weak_cache.proofs.Counting.{sites_within, tally_put}
 use Rattle.weak_cache.proofs.list.put_first.Goals as goal

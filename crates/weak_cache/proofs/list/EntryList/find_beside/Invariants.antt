@@ -1,4 +1,4 @@
-use Rattle.std.proofs.Common.{◌≡◌, ◌≤◌, ◌-◌, drop, length}
+use Rattle.std.proofs.Common.{◌≡◌, ◌-◌, drop, length}
 use Rattle.weak_cache.specs.Entries.{entry_of, without}
 use Rattle.weak_cache.specs.Cache.{within_quota, within_budget}
 use Rattle.weak_cache.proofs.Beside.{within_room}

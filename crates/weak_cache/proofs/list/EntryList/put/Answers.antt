@@ -1,6 +1,5 @@
-use Rattle.std.proofs.Common.{◌≡◌, ◌≤◌, ◌∙◌, ap, arith}
-use Rattle.weak_cache.specs.Entries.{Cache, sum_of, without}
-use Rattle.weak_cache.specs.Cache.{within_quota, within_budget}
+use Rattle.std.proofs.Common.{◌≤◌, ap, arith}
+use Rattle.weak_cache.specs.Entries.{sum_of}
 use Rattle.weak_cache.proofs.Keeping.{budget_sum}
 use Rattle.weak_cache.proofs.list.EntryList.put.Goals as goal
 

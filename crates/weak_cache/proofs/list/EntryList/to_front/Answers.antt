@@ -1,4 +1,4 @@
-use Rattle.std.proofs.Common.{◌≡◌, ◌<◌, ◌∷◌, ◌++◌, ◌∙◌, ap, sym, arith, length}
+use Rattle.std.proofs.Common.{◌≡◌, ◌<◌, ◌∷◌, ◌++◌, ◌∙◌, ap, arith, length}
 use Rattle.weak_cache.specs.Entries.{Entry, Cache}
 use Rattle.weak_cache.proofs.Counting.{tally_turned, removed_at, got_at}
 use Rattle.weak_cache.proofs.list.EntryList.to_front.Goals as goal
