@@ -1,9 +1,8 @@
 -- Steps of an agent that has no job change nothing.
-use Rattle.std.proofs.Common.{◌≡◌, ℕ, zero, suc, ◌-◌, ◌<◌, Bool, true, false, List, [], ◌++◌, Option, Some, None, refl, ◌∙◌, ap, sym, arith}
+use Rattle.std.proofs.Common.{◌≡◌, ℕ, zero, suc, ◌-◌, ◌<◌, true, List, [], ◌++◌, Option, Some, None, refl, ◌∙◌, ap, sym, arith}
 use Rattle.std.proofs.lemmas.List.{append-nil}
-use Rattle.rep_core.specs.declared.request.Request.{Request}
 use Rattle.txn_core.specs.Doing.{Doing, Fixed}
-use Rattle.txn_core.specs.Agents.{Agent, is_idle, next_in, next_of}
+use Rattle.txn_core.specs.Agents.{is_idle, next_in}
 use Rattle.run_core.specs.Worlds.{Actor, World, actor_at, asks, has_no_job, quiet, step, steps_once}
 use Rattle.run_core.specs.declared.event.Event.TheVariants.{Step}
 use Rattle.run_core.specs.Opened.{Opened}

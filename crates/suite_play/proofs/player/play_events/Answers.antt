@@ -1,4 +1,4 @@
-use Rattle.std.proofs.Common.{◌≡◌, ◌∙◌, ◌<◌, ◌++◌, length, ap, refl, sym}
+use Rattle.std.proofs.Common.{◌≡◌, ◌∙◌, ◌++◌, ap, refl, sym}
 use Rattle.suite_play.specs.Headers.{header}
 use Rattle.suite_play.specs.Outputs.{language, lines_of, play_output}
 use Rattle.txn_core.specs.Agents.{fixed_of}
