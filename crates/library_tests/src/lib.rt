@@ -5,9 +5,13 @@
 #![tactic(auto)]
 
 #[cfg(test)]
+mod caches;
+#[cfg(test)]
 mod contents;
 #[cfg(test)]
 mod copies;
+#[cfg(test)]
+mod executor;
 #[cfg(test)]
 mod list_text;
 #[cfg(test)]

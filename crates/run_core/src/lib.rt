@@ -32,6 +32,3 @@ pub use done::{Done, Outcome, Served};
 pub use event::Event;
 pub use laws::{runs_go_on, worked_runs};
 pub use world::{Stopped, World};
-
-#[cfg(test)]
-mod tests;

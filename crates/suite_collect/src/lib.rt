@@ -25,6 +25,3 @@ pub use laws::{
 };
 pub use next::{Members, Next};
 pub use told::{Said, Told};
-
-#[cfg(test)]
-mod tests;

@@ -26,8 +26,3 @@ mod tally;
 pub use cache::{MAX_SITES, NewEntry, WeakCache};
 pub use laws::{a_search_keeps_all, entries_come_from_puts, found_was_put, oldest_go, site_lists};
 pub use list::Entries;
-
-#[cfg(test)]
-mod tests;
-#[cfg(test)]
-mod uses;

@@ -3,7 +3,7 @@
 ghost use Rattle.std.specs.Prelude.{◌≡◌, ◌↔◌, IsTrue, IsSome};
 ghost use Rattle.weak_cache.specs.Cache.{searched, content_at};
 
-use crate::WeakCache;
+use weak_cache::WeakCache;
 
 /// Whether a site keeps a content of a suite at this version. What it keeps there is the newest then.
 pub fn touch(cache: &mut WeakCache, site: u8, suite: u64, dver: u64) -> bool

@@ -3,7 +3,7 @@
 //!
 //! What memory was refused to is done again, so that each allocation can be refused in turn.
 
-use crate::{
+use file_exec::{
     Known, Need, Outcome, a_met_need_is_progress, changes_are_held, changes_by_suite,
     changes_lead_on, done_is_the_tables, exec, exec_runs, goes_as_on_the_table, holding_meets,
     is_the_transaction, more_known_changes_nothing, needs_what_is_unmet, opening_meets,

@@ -1,7 +1,9 @@
 //! A cache as its users meet it: a table of calls with the entries that each leaves, memory that is
 //! refused, and the most entries that there may be, turned over.
 
-use crate::{
+mod uses;
+
+use weak_cache::{
     MAX_SITES, NewEntry, WeakCache, a_search_keeps_all, entries_come_from_puts, found_was_put,
     oldest_go, site_lists,
 };

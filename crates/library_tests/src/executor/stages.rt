@@ -4,7 +4,7 @@
 use super::read::{caller, mode, ops};
 use super::show::{answers_text, end_text};
 use super::{c0, executed, same, service};
-use crate::{Changes, Known, KnownRow, Outcome};
+use file_exec::{Changes, Known, KnownRow, Outcome};
 use acl_core::Acl;
 use file_ops::made_number;
 use std::alloc::{AllocError, Global};

@@ -1,6 +1,6 @@
 //! Needs and ends as text.
 
-use crate::{Change, Need, Outcome};
+use file_exec::{Change, Need, Outcome};
 use acl_core::Acl;
 use file_ops::{Answer, Answers, Refusal, Why};
 use std::alloc::{AllocError, Global};
