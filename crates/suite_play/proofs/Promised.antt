@@ -2,8 +2,10 @@
 use Rattle.std.proofs.Common.{◌≡◌, ℕ, zero, suc, false, List, [], ◌∷◌, ◌++◌, append_assoc, Option, Some, None, Result, Ok, Err, refl, ◌∙◌, ap, sym, subst}
 use Rattle.std.specs.Prelude.{OnOk}
 use Rattle.std.specs.List.{flat_map}
-use Rattle.std.proofs.lemmas.Bool.{false≢true}
-use Rattle.std.proofs.lemmas.List.{append-nil}
+use Rattle.std.specs.Prelude.{true, not}
+use Rattle.std.specs.List.{list_all}
+use Rattle.std.proofs.lemmas.Bool.{and_parts, false≢true}
+use Rattle.std.proofs.lemmas.List.{append-nil, flat_map-append}
 use Rattle.suite_prefix.specs.SettingsRules.{Opening}
 use Rattle.txn_core.specs.Doing.{Fixed}
 use Rattle.txn_core.specs.Agents.{fixed_of}
@@ -13,6 +15,7 @@ use Rattle.run_core.specs.declared.done.Outcome.{Outcome}
 use Rattle.run_core.specs.Worlds.{World, step}
 use Rattle.run_core.specs.Runs.{after, dones, outcomes}
 use Rattle.run_core.specs.Opened.{Opened}
+use Rattle.run_core.proofs.Appending.{dones-append, outcomes-append}
 use Rattle.headline.specs.Premises.{VotesAreValid}
 use Rattle.headline.specs.Promises.{IsRunOf, IsOfRun, IsPromised, Promises}
 use Rattle.headline.proofs.Promised.{goes_on}
@@ -22,14 +25,14 @@ use Rattle.suite_play.specs.declared.command.Command.{Command}
 use Rattle.suite_play.specs.declared.command.Command.TheVariants as line
 use Rattle.suite_play.specs.Headers.{header}
 use Rattle.suite_play.specs.Outputs.{language, script_in}
-use Rattle.suite_play.specs.Playing.{endless, played, steps}
-use Rattle.suite_play.specs.Promised.{steps_in, events_in, events_of, is_audit, LinesAreEvents, PlayIsPromised}
+use Rattle.suite_play.specs.Playing.{all_lines, endless, played, steps}
+use Rattle.suite_play.specs.Promised.{steps_of, events_in, events_of, is_audit, LinesAreEvents, PlayIsPromised}
 use Rattle.suite_play.specs.Texts.{outcome_line, outcome_text}
 
 -- ---- what a line makes of a world
 
-steps_world : (fixed : Fixed) (world : World) (agent count : ℕ) → (steps fixed world agent count).world ≡ after fixed world (steps_in agent count)
-unfolding steps steps_in
+steps_world : (fixed : Fixed) (world : World) (agent count : ℕ) → (steps fixed world agent count).world ≡ after fixed world (steps_of agent count)
+unfolding steps steps_of
 steps_world fixed world agent zero = refl
 steps_world fixed world agent (suc more) = steps_world fixed (step fixed world (Step agent)).world agent more
 
@@ -45,13 +48,13 @@ one_text : (o : Option Outcome) (served : _) (later : List Done) → outcome_tex
 one_text None served later = refl
 one_text (Some outcome) served later = refl
 
-steps_text : (fixed : Fixed) (world : World) (agent count : ℕ) → (steps fixed world agent count).text ≡ flat_map outcome_line (outcomes (dones fixed world (steps_in agent count)))
-unfolding steps steps_in
+steps_text : (fixed : Fixed) (world : World) (agent count : ℕ) → (steps fixed world agent count).text ≡ flat_map outcome_line (outcomes (dones fixed world (steps_of agent count)))
+unfolding steps steps_of
 steps_text fixed world agent zero = refl
 steps_text fixed world agent (suc more) =
     let once = step fixed world (Step agent) in
     ap (λ rest. outcome_text once.done.outcome ++ rest) (steps_text fixed once.world agent more)
-    ∙ one_text once.done.outcome once.done.served (dones fixed once.world (steps_in agent more))
+    ∙ one_text once.done.outcome once.done.served (dones fixed once.world (steps_of agent more))
 
 line_jobs : (fixed : Fixed) (world : World) (command : Command) → is_audit command ≡ false → (played fixed world command).text ≡ flat_map outcome_line (outcomes (dones fixed world (events_in command)))
 line_jobs fixed world (line.Event event) is =
@@ -61,12 +64,34 @@ line_jobs fixed world (line.Steps agent count) is = steps_text fixed world agent
 line_jobs fixed world (line.Run agent) is = steps_text fixed world agent endless
 line_jobs fixed world (line.Audit server) is = absurd (false≢true (sym is))
 
+abbrev printed : Fixed → World → List _ → List ℕ
+printed fixed world events = flat_map outcome_line (outcomes (dones fixed world events))
+
+printed_more : (fixed : Fixed) (world : World) (events later : List _) → printed fixed world (events ++ later) ≡ printed fixed world events ++ printed fixed (after fixed world events) later
+printed_more fixed world events later =
+    ap (λ done. flat_map outcome_line (outcomes done)) (dones-append fixed world events later)
+    ∙ ap (flat_map outcome_line) (outcomes-append (dones fixed world events) (dones fixed (after fixed world events) later))
+    ∙ flat_map-append outcome_line (outcomes (dones fixed world events)) (outcomes (dones fixed (after fixed world events) later))
+
+asks_none : (b : Bool) → not b ≡ true → b ≡ false
+asks_none true is = absurd (false≢true is)
+asks_none false is = refl
+
+lines_jobs : (fixed : Fixed) (world : World) (lines : List Command) → list_all (λ line. not (is_audit line)) lines ≡ true → all_lines fixed world lines ≡ printed fixed world (events_of lines)
+lines_jobs fixed world [] none = refl
+lines_jobs fixed world (command ∷ later) none =
+    let parts = and_parts (not (is_audit command)) (list_all (λ line. not (is_audit line)) later) none in
+    let next = (played fixed world command).world in
+    ap (λ text. text ++ all_lines fixed next later) (line_jobs fixed world command (asks_none (is_audit command) parts.0))
+    ∙ ap (λ text. printed fixed world (events_in command) ++ text) (lines_jobs fixed next later parts.1 ∙ ap (λ world. printed fixed world (events_of later)) (line_world fixed world command))
+    ∙ sym (printed_more fixed world (events_in command) (events_of later))
+
 pub lines_are_events : LinesAreEvents
-lines_are_events = record { world = line_world; jobs = line_jobs }
+lines_are_events = record { world = line_world; jobs = line_jobs; audits = λ fixed world server. refl; lines = lines_jobs }
 
 -- steps give no votes
-pub steps_valid : (agent count : ℕ) → VotesAreValid (steps_in agent count)
-unfolding steps_in
+pub steps_valid : (agent count : ℕ) → VotesAreValid (steps_of agent count)
+unfolding steps_of
 steps_valid agent zero = tt
 steps_valid agent (suc more) = (tt, steps_valid agent more)
 

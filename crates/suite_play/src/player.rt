@@ -5,7 +5,7 @@ ghost use Rattle.std.specs.List.{flat_map};
 ghost use Rattle.headline.specs.Premises.{VotesAreValid};
 ghost use Rattle.suite_play.specs.Outputs.{places_of, play_output};
 ghost use Rattle.suite_play.specs.Playing.{endless, of_event, played, steps};
-ghost use Rattle.suite_play.specs.Promised.{PlayIsPromised, events_in, steps_in};
+ghost use Rattle.suite_play.specs.Promised.{PlayIsPromised, events_in, steps_of};
 ghost use Rattle.suite_play.specs.Texts.{audit_lines, item_line};
 ghost use Rattle.run_core.specs.Worlds.{step};
 ghost use Rattle.txn_core.specs.Agents.{fixed_of};
@@ -92,7 +92,7 @@ fn command_is_valid(command: &Command)
 
 /// A law: steps have no votes. It does nothing.
 fn steps_are_valid(agent: u8, count: u64)
-    ensures { VotesAreValid (steps_in agent count) }
+    ensures { VotesAreValid (steps_of agent count) }
 {}
 
 /// Plays a line, and adds what it prints to the text.
