@@ -38,7 +38,7 @@ const TABLE_SCRIPT: &str = "A script is lines of words, with spaces or tabs betw
 An empty line, and one that begins with #, says nothing.
 
   root UID GID INIT                     the root folder's owner, group and list; first of all
-  user NAME UID                         a name for the lists of the lines below
+  user NAME UID                         a name for lists; names stand before the first do
   group NAME GID
   do UID GIDS OPERATION ; OPERATION ..  a transaction of a user who is in these groups
 
