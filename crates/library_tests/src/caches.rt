@@ -3,10 +3,6 @@
 
 mod uses;
 
-use weak_cache::{
-    MAX_SITES, NewEntry, WeakCache, a_search_keeps_all, entries_come_from_puts, found_was_put,
-    oldest_go, site_lists,
-};
 use acl_core::{Acl, Mode};
 use std::alloc::{AllocError, Global};
 use std::process::Abort;
@@ -14,6 +10,10 @@ use std::test::Fail;
 use suite_content::{Content, FileBytes};
 use suite_prefix::{Prefix, PrefixKind};
 use vote_core::Votes;
+use weak_cache::{
+    MAX_SITES, NewEntry, WeakCache, a_search_keeps_all, entries_come_from_puts, found_was_put,
+    oldest_go, site_lists,
+};
 
 /// The prefix of a file with this version.
 fn prefix(rt: &impl Abort, alloc: Global, pver: u64) -> Result<Prefix, AllocError> {

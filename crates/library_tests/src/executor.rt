@@ -3,13 +3,13 @@
 //!
 //! What memory was refused to is done again, so that each allocation can be refused in turn.
 
+use acl_core::{Acl, Caller};
 use file_exec::{
     Known, Need, Outcome, a_met_need_is_progress, changes_are_held, changes_by_suite,
     changes_lead_on, done_is_the_tables, exec, exec_runs, goes_as_on_the_table, holding_meets,
     is_the_transaction, more_known_changes_nothing, needs_what_is_unmet, opening_meets,
     sets_what_is_held, unset_votes_stay,
 };
-use acl_core::{Acl, Caller};
 use file_ops::{Op, Service};
 use read::{bytes, caller, mode, number, ops, votes};
 use show::{end_text, need_text};

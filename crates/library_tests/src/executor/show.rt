@@ -1,7 +1,7 @@
 //! Needs and ends as text.
 
-use file_exec::{Change, Need, Outcome};
 use acl_core::Acl;
+use file_exec::{Change, Need, Outcome};
 use file_ops::{Answer, Answers, Refusal, Why};
 use std::alloc::{AllocError, Global};
 use suite_content::NameList;

@@ -4,8 +4,8 @@
 use super::read::{caller, mode, ops};
 use super::show::{answers_text, end_text};
 use super::{c0, executed, same, service};
-use file_exec::{Changes, Known, KnownRow, Outcome};
 use acl_core::Acl;
+use file_exec::{Changes, Known, KnownRow, Outcome};
 use file_ops::made_number;
 use std::alloc::{AllocError, Global};
 use std::process::Abort;
