@@ -6,3 +6,4 @@ pub mod CapacityLaws
 pub mod TakingBack
 pub mod LaterRefusals
 pub mod Permitting
+pub mod Listing

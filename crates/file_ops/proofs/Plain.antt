@@ -74,6 +74,14 @@ pub same_content : (rows : StoredRows) (suite : ℕ) (before : StoredRow) (held 
 same_content rows suite before held there is =
     unchanged rows suite before (record before { content = held }) there (ap (with_content (plain_row before)) is)
 
+-- a row that holds what it held
+pub kept_row : (rows : StoredRows) (suite : ℕ) (before : StoredRow) (held : StoredContent) → get nat_cmp rows suite ≡ Some before → held ≡ before.content → replace nat_cmp rows suite (record before { content = held }) ≡ rows
+kept_row rows suite before held there same =
+    replace_same nat_cmp_total rows suite (record before { content = held }) (there ∙ ap Some (ap (λ h. record before { content = h }) (sym same)))
+
+pub same_row : (a b : Row) → Some a ≡ Some b → a ≡ b
+same_row a b h = cc h
+
 -- no name where there is no row
 pub no_number : (rows : StoredRows) (suite : ℕ) (name : List ℕ) (number : ℕ) → get nat_cmp rows suite ≡ None → number_at (plain rows) suite name ≡ Some number → ⊥
 no_number rows suite name number absent there =

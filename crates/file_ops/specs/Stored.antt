@@ -1,5 +1,5 @@
 -- The rows that a table stores, and the table that is seen of them.
-use Rattle.std.specs.Prelude.{ℕ, List, map, Option, Some, None}
+use Rattle.std.specs.Prelude.{ℕ, List, [], map, Option, Some, None}
 use Rattle.std.specs.Option.{option_map_or}
 use Rattle.std.specs.Ordering.{nat_cmp}
 use Rattle.sorted_map.specs.SortedMap.{get, replace, remove}
@@ -7,6 +7,7 @@ use Rattle.acl_core.specs.declared.entry.Entry.{Entry}
 use Rattle.vote_core.specs.Quorums.{Configuration}
 use Rattle.suite_content.specs.declared.content.Content.{Content}
 use Rattle.suite_content.specs.declared.content.Content.TheVariants as content
+use Rattle.suite_content.specs.Folders.{names_in}
 use Rattle.file_ops.specs.declared.stored.StoredContent.{StoredContent}
 use Rattle.file_ops.specs.declared.stored.StoredContent.TheVariants.{Bytes, Names}
 use Rattle.file_ops.specs.declared.stored.StoredRow.{StoredRow}
@@ -19,6 +20,11 @@ StoredRows = List (ℕ × StoredRow)
 abbrev pub plain_content : StoredContent → Content
 plain_content (Bytes bytes) = content.Bytes bytes
 plain_content (Names names) = content.Names names.pairs
+
+-- the names of a folder, as they are listed; of a file, none
+abbrev pub listed_in : Content → List (List ℕ)
+listed_in (content.Names names) = names_in names
+listed_in (content.Bytes bytes) = []
 
 abbrev pub plain_row : StoredRow → Row
 plain_row row =

@@ -3,7 +3,6 @@
 ghost use Rattle.std.specs.Prelude.{◌≡◌, ◌+◌, ◌<◌, ◌^◌, IfOk, OnErr};
 ghost use Rattle.acl_core.specs.declared.perms.Perms.{Perms};
 ghost use Rattle.file_ops.specs.declared.act.OpError.TheVariants as stopped;
-ghost use Rattle.suite_content.specs.Folders.{names_in};
 ghost use Rattle.file_ops.specs.Lists.{list_of};
 ghost use Rattle.file_ops.specs.Rows.{row_of, new_row};
 ghost use Rattle.file_ops.specs.Stored.{plain, plain_row};
@@ -12,6 +11,7 @@ ghost use Rattle.file_ops.specs.Restored.{Restores};
 ghost use Rattle.file_ops.specs.Done.{Does, Acts};
 
 use crate::answer::Answer;
+use crate::edit::list_names;
 use crate::operation::{Action, Init, Op, made_number};
 use crate::path::Path;
 use crate::refusal::Why;
@@ -20,9 +20,8 @@ use crate::stored::{StoredContent, StoredRow, StoredRows};
 use crate::undo::{Undo, make_row, replace_acl, replace_content, replace_votes, take_out_name};
 use crate::walk::{last_name, owned, parent_of, permit, reach, shown};
 use acl_core::{Acl, Caller, Perms};
-use sorted_map::RoomyMap;
 use std::alloc::{AllocError, Global};
-use suite_content::{FileBytes, FolderNames, Kind, MOST_NAMES, Name, NameList};
+use suite_content::{FileBytes, Kind, MOST_NAMES, Name};
 use vote_core::Votes;
 
 /// What the operations of a transaction share: memory, the service, the transaction's number, and its
@@ -76,27 +75,23 @@ fn read(rows: &StoredRows, caller: &Caller, names: &[Name]) -> Result<Answer, Op
 
 /// The names of a folder.
 fn list(
-    rows: &StoredRows,
+    rows: &mut StoredRows,
     alloc: Global,
     caller: &Caller,
     names: &[Name],
-) -> Result<Answer, OpError>
-    ensures { Does result (plain rows.now) (names_listed (plain rows.now) caller.now names.now) }
+) -> Result<Done, OpError>
+    ensures acts { Acts result rows.old rows.new (names_listed (plain rows.old) caller.now names.now) }
+    ensures err { OnErr result (Restores rows.old rows.new) }
 {
     let place = reach(rows, caller, names)?;
     permit(caller, place, Perms::READ)?;
-    let entries = place.row.content.names()?;
-    let list = listed(alloc, entries)?;
-    Ok(Answer::List(list))
-}
-
-/// A folder's names as a reply.
-fn listed(alloc: Global, entries: &RoomyMap<Name, u64>) -> Result<NameList, AllocError>
-    ensures { IfOk result (λ list. list ≡ names_in entries.now.pairs) }
-{
-    let entries = entries.clone()?;
-    let folder = FolderNames::from_map(alloc, entries)?;
-    Ok(NameList::from(folder))
+    place.row.content.names()?;
+    let folder = place.suite;
+    let list = list_names(rows, alloc, folder)?;
+    Ok(Done {
+        answer: Answer::List(list),
+        undo: Undo::Nothing,
+    })
 }
 
 /// The access list of a file or folder.
@@ -287,9 +282,9 @@ pub(crate) fn operate(
     } = transaction;
     let answer = match &op.action {
         Action::Read => read(rows, caller, names)?,
-        Action::List => list(rows, alloc, caller, names)?,
         Action::GetAcl => get_acl(rows, caller, names)?,
         Action::GetVotes => get_votes(rows, caller, names)?,
+        Action::List => return list(rows, alloc, caller, names),
         Action::Write(bytes) => return write(rows, caller, names, bytes),
         Action::SetAcl(acl) => return set_acl(rows, caller, names, acl),
         Action::SetVotes(votes) => return set_votes(rows, service, caller, names, votes),

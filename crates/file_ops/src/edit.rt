@@ -5,15 +5,16 @@ ghost use Rattle.std.specs.Option.{option_map};
 ghost use Rattle.std.specs.Ordering.{nat_cmp};
 ghost use Rattle.sorted_map.specs.SortedMap.{IsOrdered, get};
 ghost use Rattle.file_ops.specs.Capacity.{KeepsCapacity, HasRoom};
-ghost use Rattle.file_ops.specs.Stored.{plain, exchanged, restored_row, with_stored_content, with_stored_acl, with_stored_votes};
+ghost use Rattle.file_ops.specs.Rows.{Row, row_of};
+ghost use Rattle.file_ops.specs.Stored.{listed_in, plain, exchanged, restored_row, with_stored_content, with_stored_acl, with_stored_votes};
 ghost use Rattle.file_ops.specs.Edits.{edited, number_at, put_name, drop_name};
 ghost use Rattle.file_ops.specs.Restored.{Restores, Makes};
 
 use crate::stored::{StoredContent, StoredRow, StoredRows};
 use acl_core::Acl;
-use std::alloc::AllocError;
+use std::alloc::{AllocError, Global};
 use std::mem;
-use suite_content::Name;
+use suite_content::{FolderNames, Name, NameList};
 use vote_core::Votes;
 
 /// Gives a suite other content, where it has a row, and answers the content before.
@@ -100,6 +101,21 @@ fn put_name(rows: &mut StoredRows, folder: u64, name: Name, number: u64) -> Resu
     match rows.get_mut(&folder) {
         Some(row) => row.content.put_name(name, number),
         None => Ok(()),
+    }
+}
+
+/// The names of a folder as a reply.
+pub(crate) fn list_names(
+    rows: &mut StoredRows,
+    alloc: Global,
+    folder: u64,
+) -> Result<NameList, AllocError>
+    ensures list { IfOk result (λ list. (row : Row) → row_of (plain rows.old) folder ≡ Some row → list ≡ listed_in row.content) }
+    ensures same { rows.new ≡ rows.old }
+{
+    match rows.get_mut(&folder) {
+        Some(row) => row.content.list(alloc),
+        None => Ok(NameList::from(FolderNames::new(alloc))),
     }
 }
 

@@ -19,6 +19,7 @@ mod play;
 mod refusal;
 mod service;
 mod stored;
+mod stored_names;
 mod table;
 mod undo;
 mod walk;

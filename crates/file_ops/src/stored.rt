@@ -1,20 +1,21 @@
 //! Rows as the table stores them.
 
-ghost use Rattle.std.specs.Prelude.{◌≡◌, ℕ, ◌≤◌, Some, OnOk, OnErr};
+ghost use Rattle.std.specs.Prelude.{◌≡◌, ℕ, ◌≤◌, Some, IfOk, OnOk, OnErr};
 ghost use Rattle.suite_content.specs.Contents.{empty_content};
 ghost use Rattle.suite_content.specs.Folders.{with_name, without_name};
 ghost use Rattle.file_ops.specs.Steps.{ok_map};
-ghost use Rattle.file_ops.specs.Stored.{plain_content};
+ghost use Rattle.file_ops.specs.Stored.{listed_in, plain_content};
 ghost use Rattle.file_ops.specs.Walks.{bytes_in, names_in};
 ghost use Rattle.file_ops.specs.Operations.{is_used};
 ghost use Rattle.file_ops.specs.Edits.{in_names, number_in};
 ghost use Rattle.file_ops.specs.Capacity.{capacity_in, has_room_for};
 
 use crate::refusal::Why;
+use crate::stored_names::StoredNames;
 use acl_core::Acl;
 use sorted_map::{RoomyMap, SortedMap};
 use std::alloc::{AllocError, Global};
-use suite_content::{FileBytes, Kind, Name};
+use suite_content::{FileBytes, FolderNames, Kind, Name, NameList};
 use vote_core::Votes;
 
 /// The rows with their suites' numbers, which rise.
@@ -34,7 +35,7 @@ pub(crate) struct StoredRow {
 #[derive(Drop)]
 pub(crate) enum StoredContent {
     Bytes(FileBytes),
-    Names(RoomyMap<Name, u64>),
+    Names(StoredNames),
 }
 
 impl StoredContent {
@@ -44,7 +45,7 @@ impl StoredContent {
     {
         match kind {
             Kind::File => StoredContent::Bytes(FileBytes::empty()),
-            Kind::Folder => StoredContent::Names(RoomyMap::new(alloc)),
+            Kind::Folder => StoredContent::Names(StoredNames::new(alloc)),
         }
     }
 
@@ -63,7 +64,7 @@ impl StoredContent {
         ensures { result ≡ is_used (plain_content self.now) }
     {
         match self {
-            StoredContent::Names(names) => !names.is_empty(),
+            StoredContent::Names(names) => !names.map().is_empty(),
             StoredContent::Bytes(_) => false,
         }
     }
@@ -73,8 +74,19 @@ impl StoredContent {
         ensures { ok_map (λ names. names.now.pairs) result ≡ names_in (plain_content self.now) }
     {
         match self {
-            StoredContent::Names(names) => Ok(names),
+            StoredContent::Names(names) => Ok(names.map()),
             StoredContent::Bytes(_) => Err(Why::NotFolder),
+        }
+    }
+
+    /// The names of a folder as a reply; of a file, none.
+    pub(crate) fn list(&mut self, alloc: Global) -> Result<NameList, AllocError>
+        ensures list { IfOk result (λ list. list ≡ listed_in (plain_content self.old)) }
+        ensures same { self.new ≡ self.old }
+    {
+        match self {
+            StoredContent::Names(names) => names.list(alloc),
+            StoredContent::Bytes(_) => Ok(NameList::from(FolderNames::new(alloc))),
         }
     }
 

@@ -14,6 +14,9 @@ use std::cmp::Ord;
 use std::marker::Model;
 use std::mem;
 
+/// How many new keys a clone has room for at once: it is mostly made to be changed.
+const CLONED_ROOM: usize = 8;
+
 /// A map from `K` to `V`, in the order of its keys, that shows how many new keys it takes without
 /// memory.
 #[derive(Drop)]
@@ -39,7 +42,9 @@ impl<K: Ord + Copy, V: Copy> Clone for RoomyMap<K, V> {
     ghost is_clone = { λ map copy. copy.pairs ≡ map.pairs };
 
     fn clone(&self) -> Result<Self, AllocError> {
-        let pairs = Vec::from_slice(*self.pairs.allocator(), &self.pairs)?;
+        let room = self.pairs.len().saturating_add(CLONED_ROOM);
+        let mut pairs = Vec::with_capacity(*self.pairs.allocator(), room)?;
+        pairs.extend_from_slice(&self.pairs)?;
         Ok(RoomyMap { pairs })
     }
 }

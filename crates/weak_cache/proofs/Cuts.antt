@@ -91,15 +91,6 @@ other_version site suite dver c at e place is version =
 pub no_place : (site suite dver : ℕ) (c : Cache) → position_from (is_of site suite) 0 c ≡ None → content_at c site suite dver ≡ None
 no_place site suite dver c h = rw (none_of (is_of site suite) 0 c h) refl
 
--- a list whose front was turned by one place
-pub turned : (xs s new newer : Cache) (e : Entry) (older : Cache) (at : ℕ) → s ≡ take (at + 1) xs → new ≡ drop (length s - 1) s ++ take (length s - 1) s → xs ≡ newer ++ e ∷ older → at ≡ length newer → new ++ drop (at + 1) xs ≡ e ∷ newer ++ older
-turned xs s new newer e older at front turn parts place =
-    let s_is : s ≡ newer ++ e ∷ [] = rw (front, parts, place) (take-append-add newer (e ∷ older) 1) in
-    let count : length s - 1 ≡ length newer = omega (arith, ap length s_is, length-append newer (e ∷ [])) in
-    let new_is : new ≡ e ∷ newer = rw (turn, count, s_is, drop-append_seam newer (e ∷ []), take-append_seam newer (e ∷ [])) refl in
-    let rest : drop (at + 1) xs ≡ older = rw (parts, place) (drop-append-add newer (e ∷ older) 1) in
-    rw (new_is, rest) refl
-
 -- where nothing passes a test, all that fails it is all
 none_passes : (p : Entry → Bool) (c : Cache) → length (filter p c) ≤ 0 → filter (λ e. not (p e)) c ≡ c
 none_passes p [] h = refl
@@ -126,10 +117,6 @@ pub cut_searched : (site suite dver : ℕ) (c newer : Cache) (e : Entry) (older 
 cut_searched site suite dver c newer e older cut once =
     let version : (e.dver == dver) ≡ true = eq-eqb _ _ cut.version in
     rw (cut.found, version) (ap (λ l. e ∷ l) (cut_without site suite dver c newer e older cut once))
-
--- what is not found moves nothing
-pub not_searched : (site suite dver : ℕ) (c : Cache) → content_at c site suite dver ≡ None → searched site suite dver c ≡ c
-not_searched site suite dver c h = rw h refl
 
 -- ---- places in two parts
 

@@ -5,6 +5,7 @@ use Rattle.std.specs.List.{list_all}
 use Rattle.std.proofs.lemmas.Bool.{eqb-true, false≢true}
 use Rattle.weak_cache.specs.Entries.{Entry, Cache, size_of, is_at, is_of, forgotten, entry_of, without}
 use Rattle.weak_cache.specs.Cache.{Limits, content_at, at_version, in_front, used, searched, has_room, put, within_quota, within_budget}
+use Rattle.weak_cache.specs.Beside.{stays}
 use Rattle.weak_cache.specs.Calls.{Call, ContentAt, Put, Forget, after, run, spares, WasPut}
 use Rattle.weak_cache.specs.Laws.{HintWasPut, ContentWasPut, FoundWasPut}
 use Rattle.weak_cache.proofs.Keeping.{both}
@@ -94,6 +95,17 @@ budget_found site suite room slots e (x ∷ c) h =
       | true ↦ elim (p x) as (λ t. cond t (Some x) (find p (within_budget (room - size_of x.content) (slots - 1) c)) ≡ Some e → cond t (Some x) (find p c) ≡ Some e) [ true ↦ λ h. h | false ↦ λ h. budget_found site suite (room - size_of x.content) (slots - 1) e c h ]
       | false ↦ λ h. absurd (none_is_no_entry e h)
     ] h
+
+pub none_stays : (site suite new_site new_suite quota budget slots : ℕ) (c : Cache) → entry_of c site suite ≡ None → None ≡ entry_of (stays new_site new_suite quota budget slots c) site suite
+none_stays site suite new_site new_suite quota budget slots c none =
+    let left : Cache = stays new_site new_suite quota budget slots c in
+    elim (entry_of left site suite) as (λ o. entry_of left site suite ≡ o → None ≡ o) [
+      | None ↦ λ _. refl
+      | Some e ↦ λ there.
+          let in_quota = budget_found site suite budget slots e (within_quota new_site quota (without new_site new_suite c)) there in
+          let others = quota_found site suite new_site quota e (without new_site new_suite c) in_quota in
+          absurd (none_is_no_entry e (sym none ∙ (found_without site suite new_site new_suite e c others).0))
+    ] refl
 
 -- ---- calls
 

@@ -1,11 +1,11 @@
 -- What is left where the oldest entries go.
-use Rattle.std.proofs.Common.{◌≡◌, ℕ, ◌+◌, ◌-◌, ◌<◌, ◌≤◌, leb, ltb, Bool, true, false, cond, not, ◌&&◌, ◌⊎◌, inl, inr, [], ◌∷◌, ◌++◌, length, refl, sym, ap, ◌∙◌, arith}
+use Rattle.std.proofs.Common.{◌≡◌, ℕ, ◌+◌, ◌-◌, ◌<◌, ◌≤◌, leb, ltb, Bool, true, false, cond, not, ◌&&◌, ◌⊎◌, inl, inr, [], ◌∷◌, ◌++◌, length, refl, sym, ap, ◌∙◌, arith, append-nil, length-append}
 use Rattle.std.specs.Prelude.{filter}
 use Rattle.std.proofs.lemmas.List.Elements.{filter-append}
 use Rattle.std.proofs.lemmas.Bool.{le-leb, leb-true, lt-ltb, ltb-true}
 use Rattle.weak_cache.specs.Entries.{Entry, Cache, size_of, sum_of, is_at, list_of, forgotten}
 use Rattle.weak_cache.specs.Cache.{within_quota, within_budget}
-use Rattle.weak_cache.specs.Places.{EvictsLastOf}
+use Rattle.weak_cache.specs.Places.{EndsAt}
 use Rattle.weak_cache.proofs.Fewer.{Fewer, fewer_same, fewer_none, fewer_more, fewer_without, fewer_filter}
 
 abbrev with' : Entry → Cache → Cache
@@ -146,27 +146,28 @@ budget_sum room slots (e ∷ c) =
 
 -- ---- steps of the loops
 
-evict_sum : (site : ℕ) (newer : Cache) (e : Entry) (older : Cache) → is_at site e ≡ true → sum_of (list_of site (newer ++ e ∷ older)) ≡ size_of e.content + sum_of (list_of site (newer ++ older))
-evict_sum site newer e older own =
-    let a = list_of site newer in
-    let b = list_of site older in
-    let with_e : list_of site (newer ++ e ∷ older) ≡ a ++ e ∷ b = rw (filter-append (is_at site) newer (e ∷ older), own) refl in
-    let without_e : list_of site (newer ++ older) ≡ a ++ b = filter-append (is_at site) newer older in
-    omega (arith, ap sum_of with_e, ap sum_of without_e, sum_of-append a (e ∷ b), sum_of-append a b)
+pub place_within : (c newer : Cache) (e : Entry) (older : Cache) (at : ℕ) → c ≡ newer ++ e ∷ older → at ≡ length newer → at < length c
+place_within c newer e older at parts place = omega (arith, place, ap length parts, length-append newer (e ∷ older))
 
-pub quota_step : (site room : ℕ) (before after : Cache) (size : ℕ) → EvictsLastOf site before after size → room < sum_of (list_of site before)
-    → (sum_of (list_of site before) ≡ size + sum_of (list_of site after)) × (within_quota site room after ≡ within_quota site room before)
-quota_step site room before after size ev above =
-    let cut = ev.3 in
-    let above' : room < sum_of (list_of site (ev.0 ++ ev.1 ∷ ev.2)) = omega (arith, above, ap (λ c. sum_of (list_of site c)) cut.parts) in (
-      omega (arith, ap (λ c. sum_of (list_of site c)) cut.parts, ap (λ c. sum_of (list_of site c)) ev.4, ev.5, evict_sum site ev.0 ev.1 ev.2 cut.own),
-      rw (cut.parts, ev.4) (sym (quota_evicts site room ev.0 ev.1 ev.2 cut.own cut.last above')),
-    )
+pub quota_step : (site room : ℕ) (before after newer : Cache) (e : Entry) (older : Cache) → EndsAt site before newer e older → after ≡ newer ++ older → room < sum_of (list_of site before) → within_quota site room after ≡ within_quota site room before
+quota_step site room before after newer e older cut left above =
+    let above' : room < sum_of (list_of site (newer ++ e ∷ older)) = omega (arith, above, ap (λ c. sum_of (list_of site c)) cut.parts) in
+    rw (cut.parts, left) (sym (quota_evicts site room newer e older cut.own cut.last above'))
 
-pub budget_step : (room slots : ℕ) (before after : Cache) (e : Entry) → before ≡ after ++ e ∷ [] → (room < sum_of before) ⊎ (slots < length before)
-    → (sum_of before ≡ size_of e.content + sum_of after) × (within_budget room slots after ≡ within_budget room slots before)
-budget_step room slots before after e parts above =
-    let above' : (room < sum_of (after ++ e ∷ [])) ⊎ (slots < length (after ++ e ∷ [])) = elim above [ inl sum ↦ inl (omega (arith, sum, ap sum_of parts)) | inr count ↦ inr (omega (arith, count, ap length parts)) ] in (
-      omega (arith, ap sum_of parts, sum_of-append after (e ∷ [])),
-      rw parts (sym (budget_evicts room slots after e above')),
-    )
+pub budget_step : (room slots : ℕ) (before after newer : Cache) (e : Entry) → before ≡ newer ++ e ∷ [] → after ≡ newer ++ [] → (room < sum_of before) ⊎ (slots < length before) → within_budget room slots after ≡ within_budget room slots before
+budget_step room slots before after newer e parts left above =
+    let above' : (room < sum_of (newer ++ e ∷ [])) ⊎ (slots < length (newer ++ e ∷ [])) = elim above [ inl sum ↦ inl (omega (arith, sum, ap sum_of parts)) | inr count ↦ inr (omega (arith, count, ap length parts)) ] in
+    rw (parts, left, append-nil newer) (sym (budget_evicts room slots newer e above'))
+
+pub above_some : (room slots : ℕ) (c : Cache) → (room < sum_of c) ⊎ (slots < length c) → 0 < length c
+above_some room slots [] above = absurd (elim above [ inl sum ↦ omega (arith, sum) | inr count ↦ omega (arith, count) ])
+above_some room slots (e ∷ c) above = omega arith
+
+pub forgotten_step : (site : ℕ) (before after newer : Cache) (e : Entry) (older : Cache) → EndsAt site before newer e older → after ≡ newer ++ older → forgotten site after ≡ forgotten site before
+forgotten_step site before after newer e older cut left =
+    let others : Entry → Bool = λ e. not (is_at site e) in
+    ap (forgotten site) left
+    ∙ filter-append others newer older
+    ∙ ap (λ l. forgotten site newer ++ l) (sym (forgotten_own site e older cut.own))
+    ∙ sym (filter-append others newer (e ∷ older))
+    ∙ ap (forgotten site) (sym cut.parts)

@@ -9,3 +9,4 @@ pub mod Beside
 pub mod Room
 pub mod Origins
 pub mod Counting
+pub mod Falling

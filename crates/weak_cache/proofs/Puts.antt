@@ -71,8 +71,3 @@ within_put limits e c room h =
         | false ↦ λ _. omega (arith, h.once site suite, once_fewer site suite x c fewer)
       ] refl;
     }
-
--- the steps of a put
-pub put_steps : (limits : Limits) (e : Entry) (c left quota budget all : Cache) (size : ℕ) → size ≡ size_of e.content → left ≡ without e.site e.suite c → quota ≡ within_quota e.site (limits.quota - size) left
-    → budget ≡ within_budget (limits.budget - size) (limits.slots - 1) quota → all ≡ e ∷ budget → all ≡ e ∷ beside limits e c
-put_steps limits e c left quota budget all size s l q b a = rw (a, b, q, l, s) refl

@@ -10,4 +10,5 @@ pub mod Laws
 pub mod LettingGo
 pub mod SiteLists
 pub mod Beside
+pub mod Buckets
 pub mod Counts

@@ -1,6 +1,6 @@
 -- Entries as they stand in the list.
 use Rattle.std.specs.Prelude.{◌≡◌, ℕ, true, Some, [], ◌∷◌, ◌++◌, length}
-use Rattle.weak_cache.specs.Entries.{Entry, Cache, size_of, is_at, is_of, list_of, entry_of, without}
+use Rattle.weak_cache.specs.Entries.{Entry, Cache, is_at, is_of, list_of, entry_of, without}
 
 -- a list that is cut at an entry of a site and a suite at a version, before which there is none of them
 pub record CutAt (site suite dver : ℕ) (cache newer : Cache) (entry : Entry) (older : Cache) : Type 0 where
@@ -24,12 +24,3 @@ pub record EndsAt (site : ℕ) (cache newer : Cache) (entry : Entry) (older : Ca
 -- the place of the last entry of a site
 abbrev pub IsLastOf : ℕ → Cache → ℕ → Type 0
 IsLastOf site cache at = (newer : Cache) × (entry : Entry) × (older : Cache) × EndsAt site cache newer entry older × (at ≡ length newer)
-
--- the last entry is gone, which had this size
-abbrev pub EvictsLast : Cache → Cache → ℕ → Type 0
-EvictsLast cache after size = (entry : Entry) × (cache ≡ after ++ entry ∷ []) × (size ≡ size_of entry.content)
-
--- the last entry of a site is gone, which had this size
-abbrev pub EvictsLastOf : ℕ → Cache → Cache → ℕ → Type 0
-EvictsLastOf site cache after size =
-    (newer : Cache) × (entry : Entry) × (older : Cache) × EndsAt site cache newer entry older × (after ≡ newer ++ older) × (size ≡ size_of entry.content)

@@ -62,6 +62,13 @@ impl SizedEntry {
         self.site
     }
 
+    /// Its suite.
+    pub(crate) fn suite(&self) -> u64
+        ensures { result ≡ self.now.suite }
+    {
+        self.suite
+    }
+
     /// Its site and its suite.
     pub(crate) fn key(&self) -> (u8, u64)
         ensures { result ≡ (self.now.site, self.now.suite) }

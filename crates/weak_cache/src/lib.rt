@@ -17,6 +17,7 @@
 //! What a caller owes: the number of a site that puts is below [`MAX_SITES`].
 #![tactic(auto)]
 
+mod buckets;
 mod cache;
 mod entry;
 mod laws;

@@ -8,7 +8,7 @@ ghost use Rattle.weak_cache.specs.Entries.{Entry, Cache, is_of, size_of, sum_of,
 ghost use Rattle.weak_cache.specs.Cache.{content_at, within_quota, within_budget};
 ghost use Rattle.weak_cache.specs.Beside.{room_after, stays};
 ghost use Rattle.weak_cache.specs.Counts.{IsTally};
-ghost use Rattle.weak_cache.specs.Places.{IsPlaceOf, IsLastOf, EvictsLast, EvictsLastOf};
+ghost use Rattle.weak_cache.specs.Places.{IsPlaceOf, IsLastOf};
 
 use crate::entry::SizedEntry;
 use crate::tally::Tally;
@@ -90,10 +90,8 @@ impl EntryList {
         ensures { IfOk result (λ list. list ≡ []) }
     {
         let entries = VecDeque::with_capacity(alloc, slots.min(FIRST_ROOM))?;
-        Ok(EntryList {
-            entries,
-            tally: Tally::new(),
-        })
+        let tally = Tally::new(alloc, slots)?;
+        Ok(EntryList { entries, tally })
     }
 
     /// The sites and suites of the entries.
@@ -108,6 +106,9 @@ impl EntryList {
     pub(crate) fn find(&self, site: u8, suite: u64) -> Option<&SizedEntry>
         ensures { option_copied result ≡ entry_of self.now site suite }
     {
+        if self.tally.lacks(site, suite) {
+            return None;
+        }
         let (newer, older) = self.entries.as_slices();
         match find_in(newer, site, suite) {
             Some(entry) => Some(entry),
@@ -119,6 +120,9 @@ impl EntryList {
     pub(crate) fn find_beside(&self, new: Beside, site: u8, suite: u64) -> Option<&SizedEntry>
         ensures { option_copied result ≡ entry_of (stays new.site new.suite new.quota new.budget new.slots self.now) site suite }
     {
+        if self.tally.lacks(site, suite) {
+            return None;
+        }
         let entries = &self.entries;
         let mut quota = Some(new.quota);
         let mut budget = new.budget;
@@ -153,7 +157,7 @@ impl EntryList {
         ensures { MatchOption result (content_at self.now site suite dver ≡ None) (IsPlaceOf site suite dver self.now) }
     {
         let entries = &self.entries;
-        let at = place_of(entries, site, suite)?;
+        let at = place_of(entries, &self.tally, site, suite)?;
         if !entries[at].is_at_version(dver) {
             return None;
         }
@@ -183,15 +187,15 @@ impl EntryList {
         requires { length (filter (is_of site suite) self.old) ≤ 1 }
         ensures { self.new ≡ without site suite self.old }
     {
-        remove(&mut self.entries, &mut self.tally, site, suite);
+        let place = place_of(&self.entries, &self.tally, site, suite);
+        remove(&mut self.entries, &mut self.tally, place, site, suite);
     }
 
     /// Lets go what a site keeps.
     pub(crate) fn forget(&mut self, site: u8)
         ensures { self.new ≡ forgotten site self.old }
     {
-        self.entries.retain(|entry| !entry.is_at(site));
-        self.tally.forget(site, self.entries.len());
+        forget(&mut self.entries, &mut self.tally, site);
     }
 
     /// Makes an entry the newest; what has no room beside it goes. Room is made only for an entry that adds
@@ -206,8 +210,9 @@ impl EntryList {
     {
         let entries = &mut self.entries;
         let tally = &mut self.tally;
-        make_room(entries, new)?;
-        remove(entries, tally, new.site, new.suite);
+        let place = place_of(entries, tally, new.site, new.suite);
+        make_room(entries, place, new)?;
+        remove(entries, tally, place, new.site, new.suite);
         keep_in_quota(entries, tally, new.site, new.quota);
         keep_in_budget(entries, tally, new.budget, new.slots);
         put_first(entries, tally, entry);
@@ -232,11 +237,15 @@ const fn quota_after(room: Option<usize>, size: usize) -> Option<usize>
     }
 }
 
-/// The place of what a site keeps of a suite.
-fn place_of(entries: &VecDeque<SizedEntry>, site: u8, suite: u64) -> Option<usize>
+/// The place of what a site keeps of a suite. Where none of its keys' hash is kept, none is looked for.
+fn place_of(entries: &VecDeque<SizedEntry>, tally: &Tally, site: u8, suite: u64) -> Option<usize>
+    requires { IsTally tally.now entries.now.items }
     ensures place { result ≡ position_from (is_of site suite) 0 entries.now.items }
     ensures within { IfSome result (λ at. at < length entries.now.items) }
 {
+    if tally.lacks(site, suite) {
+        return None;
+    }
     let (newer, older) = entries.as_slices();
     if let Some(at) = place_in(newer, site, suite) {
         return Some(at);
@@ -253,8 +262,14 @@ fn place_in(entries: &[SizedEntry], site: u8, suite: u64) -> Option<usize>
     entries.iter().position(|entry| entry.is_of(site, suite))
 }
 
-/// Makes room for an entry where it adds to their number.
-fn make_room(entries: &mut VecDeque<SizedEntry>, new: Beside) -> Result<(), AllocError>
+/// Makes room for an entry where it adds to their number: where there is a place of what it replaces, and where
+/// an older one goes for it, it does not.
+fn make_room(
+    entries: &mut VecDeque<SizedEntry>,
+    place: Option<usize>,
+    new: Beside,
+) -> Result<(), AllocError>
+    requires { place ≡ position_from (is_of new.site new.suite) 0 entries.old.items }
     ensures items { entries.new.items ≡ entries.old.items }
     ensures room { OnOk result (length (stays new.site new.suite new.quota new.budget new.slots entries.old.items) < deque_capacity entries.new) }
     ensures full { new.slots < length entries.old.items → IsOk result }
@@ -263,46 +278,55 @@ fn make_room(entries: &mut VecDeque<SizedEntry>, new: Beside) -> Result<(), Allo
     if entries.len() > new.slots {
         return Ok(());
     }
-    if place_of(entries, new.site, new.suite).is_some() {
+    if place.is_some() {
         return Ok(());
     }
     entries.reserve(1)
 }
 
-/// Takes out the entry at a place, and answers its size.
-fn let_go(entries: &mut VecDeque<SizedEntry>, tally: &mut Tally, at: usize) -> Option<usize>
+/// Takes out the entry at a place.
+fn let_go(entries: &mut VecDeque<SizedEntry>, tally: &mut Tally, at: usize)
     requires counted { IsTally tally.old entries.old.items }
+    requires within { at < length entries.old.items }
     ensures counted { IsTally tally.new entries.new.items }
-    ensures gone { (newer : Cache) (entry : Entry) (older : Cache) → entries.old.items ≡ newer ++ entry ∷ older → at ≡ length newer → (entries.new.items ≡ newer ++ older) × (result ≡ Some (size_of entry.content)) }
-    ensures none { IfNone result (length entries.old.items ≤ at) }
-    ensures fewer { IfSome result (λ size. length entries.new.items + 1 ≡ length entries.old.items) }
-    ensures same { IfNone result (entries.new.items ≡ entries.old.items) }
+    ensures gone { (newer : Cache) (entry : Entry) (older : Cache) → entries.old.items ≡ newer ++ entry ∷ older → at ≡ length newer → entries.new.items ≡ newer ++ older }
+    ensures fewer { length entries.new.items + 1 ≡ length entries.old.items }
     ensures capacity { deque_capacity entries.new ≡ deque_capacity entries.old }
 {
-    if at >= entries.len() {
-        return None;
-    }
-    match entries.remove(at) {
-        Some(entry) => {
-            let site = entry.site();
-            let size = entry.size();
-            tally.sub(site, size);
-            Some(size)
-        }
-        None => None,
-    }
+    let Some(entry) = entries.remove(at) else {
+        unreachable!();
+    };
+    tally.sub(entry.site(), entry.suite(), entry.size());
 }
 
-/// Lets go what a site keeps of a suite.
-fn remove(entries: &mut VecDeque<SizedEntry>, tally: &mut Tally, site: u8, suite: u64)
+/// Lets go what a site keeps of a suite, which stands at this place.
+fn remove(
+    entries: &mut VecDeque<SizedEntry>,
+    tally: &mut Tally,
+    place: Option<usize>,
+    site: u8,
+    suite: u64,
+)
     requires counted { IsTally tally.old entries.old.items }
+    requires place { place ≡ position_from (is_of site suite) 0 entries.old.items }
     requires once { length (filter (is_of site suite) entries.old.items) ≤ 1 }
     ensures counted { IsTally tally.new entries.new.items }
     ensures items { entries.new.items ≡ without site suite entries.old.items }
     ensures capacity { deque_capacity entries.new ≡ deque_capacity entries.old }
 {
-    if let Some(at) = place_of(entries, site, suite) {
+    if let Some(at) = place {
         let_go(entries, tally, at);
+    }
+}
+
+/// Lets go what a site keeps.
+fn forget(entries: &mut VecDeque<SizedEntry>, tally: &mut Tally, site: u8)
+    requires { IsTally tally.old entries.old.items }
+    ensures counted { IsTally tally.new entries.new.items }
+    ensures items { entries.new.items ≡ forgotten site entries.old.items }
+{
+    while let Some(last) = last_of(entries, site) {
+        let_go(entries, tally, last);
     }
 }
 
@@ -313,12 +337,11 @@ fn keep_in_quota(entries: &mut VecDeque<SizedEntry>, tally: &mut Tally, site: u8
     ensures items { entries.new.items ≡ within_quota site room entries.old.items }
     ensures capacity { deque_capacity entries.new ≡ deque_capacity entries.old }
 {
-    let mut sum = tally.sum_at(site);
-    while sum > room {
-        let Some(size) = evict_oldest_of(entries, tally, site) else {
+    while tally.sum_at(site) > room {
+        let Some(last) = last_of(entries, site) else {
             return;
         };
-        sum -= size;
+        let_go(entries, tally, last);
     }
 }
 
@@ -329,12 +352,9 @@ fn keep_in_budget(entries: &mut VecDeque<SizedEntry>, tally: &mut Tally, room: u
     ensures items { entries.new.items ≡ within_budget room slots entries.old.items }
     ensures capacity { deque_capacity entries.new ≡ deque_capacity entries.old }
 {
-    let mut sum = tally.sum;
-    while is_too_much(sum, room, entries.len(), slots) {
-        let Some(size) = evict_oldest(entries, tally) else {
-            return;
-        };
-        sum -= size;
+    while is_too_much(tally.sum, room, entries.len(), slots) {
+        let last = entries.len() - 1;
+        let_go(entries, tally, last);
     }
 }
 
@@ -346,11 +366,8 @@ fn put_first(entries: &mut VecDeque<SizedEntry>, tally: &mut Tally, entry: Sized
     ensures counted { IsTally tally.new entries.new.items }
     ensures items { entries.new.items ≡ entry ∷ entries.old.items }
 {
-    let site = entry.site();
-    let size = entry.size();
+    tally.add(entry.site(), entry.suite(), entry.size());
     entries.push_front_reserved(entry);
-    let count = entries.len();
-    tally.add(site, size, count);
 }
 
 /// Whether so many bytes or so many entries are more than there may be.
@@ -359,34 +376,6 @@ const fn is_too_much(sum: usize, room: usize, count: usize, slots: usize) -> boo
     ensures within { result ≡ false → (sum ≤ room) × (count ≤ slots) }
 {
     sum > room || count > slots
-}
-
-/// Lets the oldest entry of all go, and answers its size.
-fn evict_oldest(entries: &mut VecDeque<SizedEntry>, tally: &mut Tally) -> Option<usize>
-    requires counted { IsTally tally.old entries.old.items }
-    ensures counted { IsTally tally.new entries.new.items }
-    ensures evicted { IfSome result (EvictsLast entries.old.items entries.new.items) }
-    ensures none { IfNone result (entries.old.items ≡ []) }
-    ensures same { IfNone result (entries.new.items ≡ entries.old.items) }
-    ensures fewer { IfSome result (λ size. length entries.new.items + 1 ≡ length entries.old.items) }
-    ensures capacity { deque_capacity entries.new ≡ deque_capacity entries.old }
-{
-    let at = entries.len().saturating_sub(1);
-    let_go(entries, tally, at)
-}
-
-/// Lets the oldest entry of a site go, and answers its size.
-fn evict_oldest_of(entries: &mut VecDeque<SizedEntry>, tally: &mut Tally, site: u8) -> Option<usize>
-    requires counted { IsTally tally.old entries.old.items }
-    ensures counted { IsTally tally.new entries.new.items }
-    ensures evicted { IfSome result (EvictsLastOf site entries.old.items entries.new.items) }
-    ensures none { IfNone result (list_of site entries.old.items ≡ []) }
-    ensures same { IfNone result (entries.new.items ≡ entries.old.items) }
-    ensures fewer { IfSome result (λ size. length entries.new.items + 1 ≡ length entries.old.items) }
-    ensures capacity { deque_capacity entries.new ≡ deque_capacity entries.old }
-{
-    let at = last_of(entries, site)?;
-    let_go(entries, tally, at)
 }
 
 /// The place of a site's oldest entry.

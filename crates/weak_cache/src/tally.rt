@@ -1,30 +1,36 @@
-//! How many entries there are, and how many bytes their contents take.
+//! How many bytes the contents of entries take, and how many entries have keys of each hash.
 
-ghost use Rattle.std.specs.Prelude.{◌≡◌, ◌+◌, ◌≤◌, ◌<◌, ◌^◌, [], slice_index, length};
-ghost use Rattle.weak_cache.specs.Entries.{Cache, list_of, sum_of};
-ghost use Rattle.weak_cache.specs.Counts.{IsTally, added, dropped, without_site};
+ghost use Rattle.std.specs.Prelude.{◌≡◌, ◌+◌, ◌<◌, ◌^◌, ◌++◌, ◌∷◌, [], None, IfOk, IsTrue, length};
+ghost use Rattle.std.specs.List.{position_from};
+ghost use Rattle.weak_cache.specs.Entries.{Cache, Entry, entry_of, is_of, list_of, sum_of};
+ghost use Rattle.weak_cache.specs.Counts.{Counts, IsEntry, IsTally};
 
-/// As many as the numbers that a site may have.
+use crate::buckets::Buckets;
+use std::alloc::{AllocError, Global};
+
+/// As many as the numbers that a site's type has.
 const SITES: usize = 256;
 
-/// How many entries there are, and how many bytes the contents of all take together, and of each site.
+/// How many bytes the contents of all entries take together, and of each site, and how many entries have keys
+/// of each hash.
 #[derive(Drop)]
 pub(crate) struct Tally {
-    pub(crate) count: usize,
     pub(crate) sum: usize,
     pub(crate) sites: [usize; SITES],
+    pub(crate) keys: Buckets,
 }
 
 impl Tally {
-    /// Of no entries.
-    pub(crate) fn new() -> Tally
-        ensures { IsTally result [] }
+    /// That of no entries, in a cache of so many slots.
+    pub(crate) fn new(alloc: Global, slots: usize) -> Result<Tally, AllocError>
+        ensures { IfOk result (λ tally. IsTally tally []) }
     {
-        Tally {
-            count: 0,
+        let keys = Buckets::new(alloc, slots)?;
+        Ok(Tally {
             sum: 0,
             sites: [0; SITES],
-        }
+            keys,
+        })
     }
 
     /// How many bytes the contents of a site take.
@@ -35,40 +41,31 @@ impl Tally {
         self.sites[usize::from(site)]
     }
 
-    /// One entry more, with which there are so many.
-    pub(crate) fn add(&mut self, site: u8, size: usize, count: usize)
-        requires count { count ≡ self.old.count + 1 }
-        requires sum { self.old.sum + size < 2 ^ 64 }
-        requires own { slice_index self.old.sites site + size < 2 ^ 64 }
-        requires all { length self.old.sites ≡ 256 }
-        ensures { self.new ≡ added self.old site size }
+    /// Whether no entry has a key of this one's hash, so that none has this key.
+    pub(crate) fn lacks(&self, site: u8, suite: u64) -> bool
+        ensures entry { (cache : Cache) → IsTally self.now cache → IsTrue result → entry_of cache site suite ≡ None }
+        ensures place { (cache : Cache) → IsTally self.now cache → IsTrue result → position_from (is_of site suite) 0 cache ≡ None }
     {
-        self.count = count;
+        self.keys.count(site, suite) == 0
+    }
+
+    /// One entry more.
+    pub(crate) fn add(&mut self, site: u8, suite: u64, size: usize)
+        requires { (cache : Cache) × IsTally self.old cache × (sum_of cache + size < 2 ^ 64) × (length cache + 1 < 2 ^ 64) }
+        ensures { (cache : Cache) (entry : Entry) → IsTally self.old cache → IsEntry entry site suite size → IsTally self.new (entry ∷ cache) }
+    {
         self.sum += size;
         self.sites[usize::from(site)] += size;
+        self.keys.add(site, suite);
     }
 
     /// One entry less.
-    pub(crate) fn sub(&mut self, site: u8, size: usize)
-        requires count { 1 ≤ self.old.count }
-        requires sum { size ≤ self.old.sum }
-        requires own { size ≤ slice_index self.old.sites site }
-        requires all { length self.old.sites ≡ 256 }
-        ensures { self.new ≡ dropped self.old site size }
+    pub(crate) fn sub(&mut self, site: u8, suite: u64, size: usize)
+        requires { Counts self.old site suite size }
+        ensures { (newer : Cache) (entry : Entry) (older : Cache) → IsTally self.old (newer ++ entry ∷ older) → IsEntry entry site suite size → IsTally self.new (newer ++ older) }
     {
-        self.count -= 1;
         self.sum -= size;
         self.sites[usize::from(site)] -= size;
-    }
-
-    /// None of a site; so many are left.
-    pub(crate) fn forget(&mut self, site: u8, count: usize)
-        requires own { slice_index self.old.sites site ≤ self.old.sum }
-        requires all { length self.old.sites ≡ 256 }
-        ensures { self.new ≡ without_site self.old site count }
-    {
-        self.count = count;
-        self.sum -= self.sites[usize::from(site)];
-        self.sites[usize::from(site)] = 0;
+        self.keys.sub(site, suite);
     }
 }

@@ -1,13 +1,11 @@
 use Rattle.std.proofs.Common.{◌≡◌, length}
 use Rattle.std.specs.VecDeque.{deque_capacity}
 use Rattle.weak_cache.specs.Counts.{IsTally}
-use Rattle.weak_cache.specs.Entries.{sum_of}
 use Rattle.weak_cache.specs.Cache.{within_budget}
 use Rattle.weak_cache.proofs.list.keep_in_budget.Given as goal
 
 abbrev pub invariant-loop-entries : goal.invariant-loop-entries
 invariant-loop-entries l = record {
-  sum : l.sum ≡ sum_of l.entries.items;
   same : within_budget l.room l.slots l.entries.items ≡ within_budget l.room l.slots l.initial.entries.items;
   counted : IsTally l.tally l.entries.items;
   capacity : deque_capacity l.entries ≡ deque_capacity l.initial.entries;

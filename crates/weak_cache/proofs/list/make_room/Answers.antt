@@ -14,7 +14,7 @@ pub returns-then-is_some-clause-room : goal.returns-then-is_some-clause-room
 returns-then-is_some-clause-room c =
     let items = c.args.entries.now.items in
     let there : is_some (position_from (is_of c.args.new.site c.args.new.suite) 0 items) ≡ true =
-    ap is_some (sym c.place_of.ensures.place) ∙ sym c.is_some.ensures ∙ c.if-is_some.true in
+    ap is_some (sym c.requires) ∙ sym c.is_some.ensures ∙ c.if-is_some.true in
     omega (arith, few_stay c.args.new.site c.args.new.suite c.args.new.quota c.args.new.budget c.args.new.slots items, found_less c.args.new.site c.args.new.suite 0 items there, c.args.entries.now.ok.0, c.args.entries.now.small.1)
 
 pub returns-clause-room : goal.returns-clause-room
@@ -26,5 +26,5 @@ pub returns-clause-kept : goal.returns-clause-kept
 returns-clause-kept c = λ kept.
     let items = c.args.entries.now.items in
     let absent : is_some (position_from (is_of c.args.new.site c.args.new.suite) 0 items) ≡ false =
-    ap is_some (sym c.place_of.ensures.place) ∙ sym c.is_some.ensures ∙ c.if-is_some.false in
+    ap is_some (sym c.requires) ∙ sym c.is_some.ensures ∙ c.if-is_some.false in
     absurd (false≢true (sym absent ∙ find_same c.args.new.site c.args.new.suite 0 items ∙ kept))
