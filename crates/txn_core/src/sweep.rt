@@ -3,6 +3,7 @@
 
 ghost use Rattle.std.specs.Prelude.{◌≡◌, ◌==◌, ◌<◌, ◌≤◌, ◌^◌, ◌%◌, ◌+◌, ◌/◌, length, IfOk, IfErr, OnErr, OnSome, IsTrue, option_map, None, Some, IfSome, IfNone, [], ◌∷◌};
 ghost use Rattle.rep_core.specs.Locks as locking;
+ghost use Rattle.rep_core.specs.Wanting.{by_request};
 ghost use Rattle.txn_core.specs.Doing as doing;
 ghost use Rattle.txn_core.specs.Sweeps as sweeping;
 ghost use Rattle.txn_core.specs.Transactions as course;
@@ -12,7 +13,6 @@ ghost use Rattle.txn_core.specs.RoundFields.{sweeping_of, with_counts, total, le
 use crate::ending::{Cause, Ending};
 use crate::home::home_of;
 use crate::sorting::rising;
-use crate::verdicts::verdict_again;
 use crate::word::Word;
 use file_ops::Service;
 use rep_core::{Lack, Lock, Reply, Request, Verdict};
@@ -80,18 +80,18 @@ impl Round {
         }
     }
 
-    /// What is asked next, and of which server. Only to copy a verdict it may want memory.
+    /// What is asked next, and of which server. Only to tell answers again it may want memory.
     pub(crate) fn next(&self, service: &Service) -> Result<(u8, Request), AllocError>
         requires { (0 < service.now.servers) × (service.now.servers ≤ MAX_SERVERS) }
         ensures ok { IfOk result (λ asked. asked ≡ sweeping.asked_now service.now self.now self.now.now) }
-        ensures memory { IfErr result (λ _. IsTrue (wanting.by_request (sweeping.asked_now service.now self.now self.now.now).1)) }
+        ensures memory { IfErr result (λ _. IsTrue (by_request (sweeping.asked_now service.now self.now self.now.now).1)) }
     {
         let server = self.asked(service);
         let request = match &self.asking {
             Asking::Locks => Request::Locks,
             Asking::Resolve(t) => Request::Resolve { t: *t },
             Asking::Finish(t, verdict) => {
-                let verdict = verdict_again(verdict)?;
+                let verdict = verdict.clone()?;
                 Request::Finish { t: *t, verdict }
             }
             Asking::Break(lock) => Request::Break {
@@ -114,7 +114,7 @@ impl Round {
     }
 
     /// Takes what was said to what was asked next, and gives the ending, where the round is at its end.
-    /// A list of locks wants memory. Where it is refused, the round is as it was.
+    /// A list of locks and answers may want memory. Where it is refused, the round is as it was.
     pub(crate) fn take(
         &mut self,
         alloc: Global,
@@ -149,7 +149,7 @@ impl Round {
         match (&self.asking, said) {
             (Asking::Locks, Reply::Locked(locks)) => self.list(alloc, locks.as_slice()),
             (Asking::Resolve(t), Reply::Verdict(verdict)) => {
-                let (t, verdict) = (*t, verdict_again(verdict)?);
+                let (t, verdict) = (*t, verdict.clone()?);
                 self.asking = Asking::Finish(t, verdict);
                 Ok(None)
             }
