@@ -1,5 +1,5 @@
 -- When a call on an agent may want memory. Everywhere else it never answers that memory was refused.
-use Rattle.std.specs.Prelude.{ℕ, nat_lt, Bool, false, ◌&&◌, is_some, Option, Some, None}
+use Rattle.std.specs.Prelude.{ℕ, Bool, false, is_some, Option, Some, None}
 use Rattle.rep_core.specs.declared.request.Request.{Request}
 use Rattle.rep_core.specs.declared.request.Request.TheVariants as request
 use Rattle.rep_core.specs.declared.reply.Verdict.TheVariants as verdict
@@ -12,14 +12,14 @@ use Rattle.txn_core.specs.declared.word.Word.TheVariants.{Replied, Lacked}
 use Rattle.txn_core.specs.declared.job.Job.{Job}
 use Rattle.txn_core.specs.declared.job.Job.TheVariants.{Transaction, Sweep}
 use Rattle.txn_core.specs.Doing.{Fixed}
-use Rattle.txn_core.specs.Agents.{Agent, is_idle, has_sense, most_jobs}
+use Rattle.txn_core.specs.Agents.{Agent, begins}
 use Rattle.txn_core.specs.Transactions.{said_to, given_in, verdict_in}
 
 -- ---- begin
 
 -- only a transaction that begins
 abbrev pub by_job : Fixed → Agent → Job → Bool
-by_job fixed agent (Transaction caller site ops) = is_idle agent.doing && has_sense fixed (Transaction caller site ops) && nat_lt agent.count most_jobs
+by_job fixed agent (Transaction caller site ops) = begins fixed agent (Transaction caller site ops)
 by_job fixed agent (Sweep server) = false
 
 -- ---- next
