@@ -252,5 +252,12 @@ fn is_prepared(lock: &Lock, others: &VecDeque<Lock>, own: usize) -> bool
     requires { own ≤ length others.now.items }
     ensures { result ≡ (lock.now.prepared || list_any (λ other. other.prepared) (take own others.now.items)) }
 {
-    lock.prepared || others.range(..own).any(|other| other.prepared)
+    lock.prepared || has_prepared(others, own)
+}
+
+fn has_prepared(others: &VecDeque<Lock>, own: usize) -> bool
+    requires { own ≤ length others.now.items }
+    ensures { result ≡ list_any (λ other. other.prepared) (take own others.now.items) }
+{
+    others.range(..own).any(|other| other.prepared)
 }
