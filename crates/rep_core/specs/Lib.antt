@@ -15,3 +15,4 @@ pub mod ValidCopies
 pub mod Equality
 pub mod Given
 pub mod Changing
+pub mod Wanting

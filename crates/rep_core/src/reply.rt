@@ -18,11 +18,16 @@ pub enum Verdict {
 }
 
 impl Clone for Verdict {
-    ghost use Rattle.std.specs.Prelude.{◌≡◌};
+    ghost use Rattle.std.specs.Prelude.{◌≡◌, IfOk, IfErr, IsTrue};
+    ghost use Rattle.rep_core.specs.Service.{is_answered};
 
     ghost is_clone = { λ verdict copy. copy ≡ verdict };
 
-    fn clone(&self) -> Result<Verdict, AllocError> {
+    /// The same verdict. Only to share answers it may want memory.
+    fn clone(&self) -> Result<Verdict, AllocError>
+        ensures ok { IfOk result (λ copy. copy ≡ self.now) }
+        ensures memory { IfErr result (λ _. IsTrue (is_answered self.now)) }
+    {
         match self {
             Verdict::Answered(replies) => Ok(Verdict::Answered(replies.clone()?)),
             Verdict::Refused(refusal) => Ok(Verdict::Refused(*refusal)),

@@ -176,11 +176,16 @@ pub enum Decision {
 }
 
 impl Clone for Decision {
-    ghost use Rattle.std.specs.Prelude.{◌≡◌};
+    ghost use Rattle.std.specs.Prelude.{◌≡◌, IfOk, IfErr, IsTrue};
+    ghost use Rattle.rep_core.specs.Wanting.{records_answers};
 
     ghost is_clone = { λ decision copy. copy ≡ decision };
 
-    fn clone(&self) -> Result<Decision, AllocError> {
+    /// The same decision. Only to share answers it may want memory.
+    fn clone(&self) -> Result<Decision, AllocError>
+        ensures ok { IfOk result (λ copy. copy ≡ self.now) }
+        ensures memory { IfErr result (λ _. IsTrue (records_answers self.now)) }
+    {
         match self {
             Decision::Answered(replies) => Ok(Decision::Answered(replies.clone()?)),
             Decision::Refused { uid, refusal } => Ok(Decision::Refused {
@@ -247,11 +252,16 @@ pub enum Request {
 }
 
 impl Clone for Request {
-    ghost use Rattle.std.specs.Prelude.{◌≡◌};
+    ghost use Rattle.std.specs.Prelude.{◌≡◌, IfOk, IfErr, IsTrue};
+    ghost use Rattle.rep_core.specs.Wanting.{by_request};
 
     ghost is_clone = { λ request copy. copy ≡ request };
 
-    fn clone(&self) -> Result<Request, AllocError> {
+    /// The same request. Only the list of a Prepare may want memory, and answers.
+    fn clone(&self) -> Result<Request, AllocError>
+        ensures ok { IfOk result (λ copy. copy ≡ self.now) }
+        ensures memory { IfErr result (λ _. IsTrue (by_request self.now)) }
+    {
         Ok(match self {
             Request::Poll { t, suite, mode } => Request::Poll {
                 t: *t,

@@ -4,6 +4,7 @@ use Rattle.std.specs.Prelude.{List, ◌∷◌, is_some, option_map, IfErr}
 use Rattle.std.specs.declared.alloc.AllocError.{AllocError}
 use Rattle.rep_core.specs.declared.reply.Reply.{Reply}
 use Rattle.rep_core.specs.declared.reply.Verdict.TheVariants as verdict
+use Rattle.rep_core.specs.Service.{is_answered}
 use Rattle.suite_collect.specs.declared.told.Told.{Told}
 use Rattle.suite_collect.specs.declared.told.Said.{Said}
 use Rattle.suite_collect.specs.Collecting as collecting
@@ -17,7 +18,7 @@ use Rattle.txn_core.specs.Doing.{Fixed, Outcome, Gathering, Fetching, Widening, 
 use Rattle.txn_core.specs.Hearing.{heard_one, heard}
 use Rattle.txn_core.specs.Suites.{First, Suite, suite_of}
 use Rattle.txn_core.specs.Transactions.{given_in, verdict_in, asked_by, asked_for, fetched_at, fetched_for, request_in, request_of}
-use Rattle.txn_core.specs.Wanting.{is_answered, by_reply, by_taking}
+use Rattle.txn_core.specs.Wanting.{by_reply, by_taking}
 use Rattle.txn_core.proofs.Heard.{same_said}
 use Rattle.txn_core.proofs.Replies.{server_of, asks_of}
 

@@ -91,9 +91,13 @@ started fixed agent (Transaction caller site ops) =
     (with_step agent (execute fixed task (record { suites = []; cache = agent.cache }))).agent
 started fixed agent (Sweep server) = record agent { doing = Some (Rounding (record { server = server; broken = 0; finished = 0; left = 0; now = Listing })) }
 
+-- a job begins, or nothing changes
+abbrev pub begins : Fixed → Agent → Job → Bool
+begins fixed agent job = is_idle agent.doing && has_sense fixed job && nat_lt agent.count most_jobs
+
 abbrev pub begin : Fixed → Agent → Job → Agent
 begin fixed agent job =
-    if is_idle agent.doing && has_sense fixed job && nat_lt agent.count most_jobs
+    if begins fixed agent job
     then record (started fixed agent job) { count = agent.count + 1 }
     else agent
 

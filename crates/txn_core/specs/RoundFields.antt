@@ -1,5 +1,5 @@
 -- The fields of `Round` as contracts see them, and what they keep.
-use Rattle.std.specs.Prelude.{◌≡◌, ◌+◌, ◌<◌, ◌^◌, ℕ, List, [], ◌∷◌, length, if◌then◌else◌, Option, Some, None}
+use Rattle.std.specs.Prelude.{◌≡◌, ◌+◌, ◌<◌, ◌^◌, ℕ, IsTrue, List, [], ◌∷◌, length, if◌then◌else◌, Option, Some, None}
 use Rattle.rep_core.specs.declared.lock.Lock.{Lock}
 use Rattle.rep_core.specs.Locks.{has_prepared}
 use Rattle.txn_core.specs.declared.sweep.Round.TheInside.{Inside}
@@ -8,6 +8,7 @@ use Rattle.txn_core.specs.declared.sweep.Asking.{Asking}
 use Rattle.txn_core.specs.declared.sweep.Asking.TheVariants as asking
 use Rattle.txn_core.specs.Doing.{Sweeping, Listing, Resolving, Telling, Breaking, Round, After, GoesOn, Ends}
 use Rattle.txn_core.specs.declared.ending.Ending.{Ending}
+use Rattle.txn_core.specs.Sorting.{in_order}
 use Rattle.txn_core.specs.Sweeps.{others}
 
 -- what is asked, with the locks that are left
@@ -37,8 +38,10 @@ abbrev pub Fits : Asking → ℕ → Type 0
 Fits asking.Locks counted = counted ≡ 0
 Fits other counted = counted + 1 < 2 ^ 64
 
-abbrev pub IsCounted : Inside → Type 0
-IsCounted fields = Fits fields.asking (total fields.counts + length fields.locks.items)
+-- and what is left is in its order
+pub record IsKept (fields : Inside) : Type 0 where
+  pub counted : Fits fields.asking (total fields.counts + length fields.locks.items)
+  pub order : IsTrue (in_order fields.locks.items)
 
 -- the locks that are left
 abbrev pub left_in : Sweeping → List Lock

@@ -1,46 +1,30 @@
 -- When a call on an agent may want memory. Everywhere else it never answers that memory was refused.
-use Rattle.std.specs.Prelude.{ℕ, nat_lt, Bool, true, false, ◌&&◌, is_some, Option, Some, None}
-use Rattle.rep_core.specs.declared.request.Decision.{Decision}
-use Rattle.rep_core.specs.declared.request.Decision.TheVariants as decision
+use Rattle.std.specs.Prelude.{ℕ, Bool, false, is_some, Option, Some, None}
 use Rattle.rep_core.specs.declared.request.Request.{Request}
 use Rattle.rep_core.specs.declared.request.Request.TheVariants as request
-use Rattle.rep_core.specs.declared.reply.Verdict.{Verdict}
 use Rattle.rep_core.specs.declared.reply.Verdict.TheVariants as verdict
 use Rattle.rep_core.specs.declared.reply.Reply.{Reply}
 use Rattle.rep_core.specs.Fits.{is_locked}
+use Rattle.rep_core.specs.Service.{is_answered}
+use Rattle.rep_core.specs.Wanting.{by_request}
 use Rattle.txn_core.specs.declared.word.Word.{Word}
 use Rattle.txn_core.specs.declared.word.Word.TheVariants.{Replied, Lacked}
 use Rattle.txn_core.specs.declared.job.Job.{Job}
 use Rattle.txn_core.specs.declared.job.Job.TheVariants.{Transaction, Sweep}
 use Rattle.txn_core.specs.Doing.{Fixed}
-use Rattle.txn_core.specs.Agents.{Agent, is_idle, has_sense, most_jobs}
+use Rattle.txn_core.specs.Agents.{Agent, begins}
 use Rattle.txn_core.specs.Transactions.{said_to, given_in, verdict_in}
 
 -- ---- begin
 
 -- only a transaction that begins
 abbrev pub by_job : Fixed → Agent → Job → Bool
-by_job fixed agent (Transaction caller site ops) = is_idle agent.doing && has_sense fixed (Transaction caller site ops) && nat_lt agent.count most_jobs
+by_job fixed agent (Transaction caller site ops) = begins fixed agent (Transaction caller site ops)
 by_job fixed agent (Sweep server) = false
 
 -- ---- next
 
-abbrev pub is_answered : Verdict → Bool
-is_answered (verdict.Answered answers) = true
-is_answered (verdict.Refused refusal) = false
-is_answered verdict.Aborted = false
-
-abbrev pub records_answers : Decision → Bool
-records_answers (decision.Answered answers) = true
-records_answers (decision.Refused uid refusal) = false
-
 -- only the list of a Prepare, and answers
-abbrev pub by_request : Request → Bool
-by_request (request.Prepare t parts) = true
-by_request (request.Decide t asked) = records_answers asked
-by_request (request.Finish t told) = is_answered told
-by_request other = false
-
 abbrev pub by_asking : Option (ℕ × Request) → Bool
 by_asking (Some asked) = by_request asked.1
 by_asking None = false

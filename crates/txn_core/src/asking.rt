@@ -1,6 +1,7 @@
 //! What a transaction asks next.
 
 ghost use Rattle.std.specs.Prelude.{◌≡◌, ◌<◌, ◌≤◌, IfOk, IfErr, OnErr, IsTrue, option_map};
+ghost use Rattle.rep_core.specs.Wanting.{records_answers};
 ghost use Rattle.weak_cache.specs.Cache.{Limits};
 ghost use Rattle.txn_core.specs.Doing as doing;
 ghost use Rattle.txn_core.specs.Suites.{suite_of};
@@ -15,7 +16,6 @@ use crate::home::home_of;
 use crate::phase::Phase;
 use crate::servers::Servers;
 use crate::task::Task;
-use crate::verdicts::verdict_again;
 use crate::writing::parts_at;
 use file_ops::Service;
 use rep_core::{Decision, Request, Verdict};
@@ -119,7 +119,7 @@ impl Course {
         let Some(server) = servers.first() else {
             return Ok(None);
         };
-        let verdict = verdict_again(verdict)?;
+        let verdict = verdict.clone()?;
         Ok(Some((
             server,
             Request::Finish {
@@ -133,7 +133,7 @@ impl Course {
 /// What is to be recorded of an outcome.
 fn decision_of(task: &Task, outcome: &Outcome) -> Result<Decision, AllocError>
     ensures ok { IfOk result (λ decision. decision ≡ course.decision_of task.now outcome.now) }
-    ensures memory { IfErr result (λ _. IsTrue (wanting.records_answers (course.decision_of task.now outcome.now))) }
+    ensures memory { IfErr result (λ _. IsTrue (records_answers (course.decision_of task.now outcome.now))) }
 {
     Ok(match outcome {
         Ok(granted) => Decision::Answered(granted.answers.clone()?),

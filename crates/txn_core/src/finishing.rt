@@ -1,13 +1,13 @@
 //! The end of a transaction: servers prepare, its home decides, and the end is told.
 
 ghost use Rattle.std.specs.Prelude.{◌≡◌, ℕ, List, IfOk, IfErr, OnErr, IsTrue, None, ◌∷◌, drop};
+ghost use Rattle.rep_core.specs.Service.{is_answered};
 ghost use Rattle.rep_core.specs.declared.reply.Verdict.{Verdict as Ended};
 ghost use Rattle.weak_cache.specs.Entries.{Cache};
 ghost use Rattle.txn_core.specs.CourseFields.{phase_of};
 ghost use Rattle.txn_core.specs.Doing as doing;
 ghost use Rattle.txn_core.specs.Steps.{Steps};
 ghost use Rattle.txn_core.specs.Transactions as course;
-ghost use Rattle.txn_core.specs.Wanting as wanting;
 ghost use Rattle.txn_core.specs.declared.ending.Ending.{Ending as Ends};
 
 use crate::course::Course;
@@ -15,7 +15,6 @@ use crate::ending::{Cause, Ending};
 use crate::granted::Outcome;
 use crate::phase::Phase;
 use crate::servers::{Servers, locked_at};
-use crate::verdicts::verdict_again;
 use rep_core::{Lack, Reply, Verdict};
 use std::alloc::AllocError;
 use std::mem;
@@ -48,11 +47,11 @@ impl Course {
         None
     }
 
-    /// What the home said. Only to copy a verdict it may want memory.
+    /// What the home said. Only to tell answers again it may want memory.
     pub(crate) fn decided(&mut self, said: &Reply) -> Result<Option<Ending>, AllocError>
         ensures ok { IfOk result (λ ending. (cache : Cache) → Steps (course.decided self.old.task cache self.old.suites said.now) ending self.new cache) }
         ensures err { OnErr result (self.new ≡ self.old) }
-        ensures memory { IfErr result (λ _. IsTrue (wanting.is_answered (course.verdict_in said.now Verdict.Aborted))) }
+        ensures memory { IfErr result (λ _. IsTrue (is_answered (course.verdict_in said.now Verdict.Aborted))) }
     {
         let verdict = verdict_in(said)?;
         let ending = ending_by(&verdict, cause_of_abort(said))?;
@@ -124,10 +123,10 @@ impl Course {
 /// The verdict that a home said; where it said none, Aborted.
 fn verdict_in(said: &Reply) -> Result<Verdict, AllocError>
     ensures ok { IfOk result (λ verdict. verdict ≡ course.verdict_in said.now Verdict.Aborted) }
-    ensures memory { IfErr result (λ _. IsTrue (wanting.is_answered (course.verdict_in said.now Verdict.Aborted))) }
+    ensures memory { IfErr result (λ _. IsTrue (is_answered (course.verdict_in said.now Verdict.Aborted))) }
 {
     match said {
-        Reply::Verdict(verdict) => verdict_again(verdict),
+        Reply::Verdict(verdict) => verdict.clone(),
         _ => Ok(Verdict::Aborted),
     }
 }
@@ -135,7 +134,7 @@ fn verdict_in(said: &Reply) -> Result<Verdict, AllocError>
 /// The ending that a verdict is, with a cause, should it be none.
 fn ending_by(verdict: &Verdict, cause: Cause) -> Result<Ending, AllocError>
     ensures ok { IfOk result (λ ending. ending ≡ course.ending_by verdict.now cause) }
-    ensures memory { IfErr result (λ _. IsTrue (wanting.is_answered verdict.now)) }
+    ensures memory { IfErr result (λ _. IsTrue (is_answered verdict.now)) }
 {
     Ok(match verdict {
         Verdict::Answered(answers) => Ending::Answered(answers.clone()?),

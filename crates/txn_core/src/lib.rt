@@ -25,7 +25,6 @@ mod sorting;
 mod suites;
 mod sweep;
 mod task;
-mod verdicts;
 mod widening;
 mod word;
 mod writing;

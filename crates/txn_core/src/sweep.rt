@@ -1,9 +1,11 @@
 //! A sweep's round: for each transaction that has a lock at a server, what its home says is told there,
 //! or, where it has prepared nothing, its locks are broken.
 
-ghost use Rattle.std.specs.Prelude.{◌≡◌, ◌==◌, ◌<◌, ◌≤◌, ◌^◌, ◌%◌, ◌+◌, ◌/◌, length, IfOk, IfErr, OnErr, OnSome, IsTrue, option_map, None, Some, IfSome, IfNone, [], ◌∷◌};
-ghost use Rattle.rep_core.specs.Locks as locking;
+ghost use Rattle.std.specs.Prelude.{◌≡◌, ◌==◌, ◌<◌, ◌≤◌, ◌^◌, ◌%◌, ◌+◌, ◌/◌, ◌||◌, length, take, drop, IfOk, IfErr, OnErr, OnSome, IsTrue, option_map, None, Some, IfSome, IfNone, []};
+ghost use Rattle.std.specs.List.{list_any};
+ghost use Rattle.rep_core.specs.Wanting.{by_request};
 ghost use Rattle.txn_core.specs.Doing as doing;
+ghost use Rattle.txn_core.specs.Sorting.{in_order};
 ghost use Rattle.txn_core.specs.Sweeps as sweeping;
 ghost use Rattle.txn_core.specs.Transactions as course;
 ghost use Rattle.txn_core.specs.Wanting as wanting;
@@ -12,7 +14,6 @@ ghost use Rattle.txn_core.specs.RoundFields.{sweeping_of, with_counts, total, le
 use crate::ending::{Cause, Ending};
 use crate::home::home_of;
 use crate::sorting::rising;
-use crate::verdicts::verdict_again;
 use crate::word::Word;
 use file_ops::Service;
 use rep_core::{Lack, Lock, Reply, Request, Verdict};
@@ -48,19 +49,19 @@ pub(crate) struct Round {
     server: u8,
     counts: Counts,
     asking: Asking,
-    /// The locks that are left.
+    /// The locks that are left, in their order.
     locks: VecDeque<Lock>,
 }
 
 impl Model for Round {
     ghost use Rattle.txn_core.specs.Doing as doing;
-    ghost use Rattle.txn_core.specs.RoundFields.{round_of, IsCounted};
+    ghost use Rattle.txn_core.specs.RoundFields.{round_of, IsKept};
 
     ghost Value = { doing.Round };
 
     ghost view = { round_of };
 
-    ghost invariant = { IsCounted };
+    ghost invariant = { IsKept };
 }
 
 impl Round {
@@ -80,18 +81,18 @@ impl Round {
         }
     }
 
-    /// What is asked next, and of which server. Only to copy a verdict it may want memory.
+    /// What is asked next, and of which server. Only to tell answers again it may want memory.
     pub(crate) fn next(&self, service: &Service) -> Result<(u8, Request), AllocError>
         requires { (0 < service.now.servers) × (service.now.servers ≤ MAX_SERVERS) }
         ensures ok { IfOk result (λ asked. asked ≡ sweeping.asked_now service.now self.now self.now.now) }
-        ensures memory { IfErr result (λ _. IsTrue (wanting.by_request (sweeping.asked_now service.now self.now self.now.now).1)) }
+        ensures memory { IfErr result (λ _. IsTrue (by_request (sweeping.asked_now service.now self.now self.now.now).1)) }
     {
         let server = self.asked(service);
         let request = match &self.asking {
             Asking::Locks => Request::Locks,
             Asking::Resolve(t) => Request::Resolve { t: *t },
             Asking::Finish(t, verdict) => {
-                let verdict = verdict_again(verdict)?;
+                let verdict = verdict.clone()?;
                 Request::Finish { t: *t, verdict }
             }
             Asking::Break(lock) => Request::Break {
@@ -114,7 +115,7 @@ impl Round {
     }
 
     /// Takes what was said to what was asked next, and gives the ending, where the round is at its end.
-    /// A list of locks wants memory. Where it is refused, the round is as it was.
+    /// A list of locks and answers may want memory. Where it is refused, the round is as it was.
     pub(crate) fn take(
         &mut self,
         alloc: Global,
@@ -149,7 +150,7 @@ impl Round {
         match (&self.asking, said) {
             (Asking::Locks, Reply::Locked(locks)) => self.list(alloc, locks.as_slice()),
             (Asking::Resolve(t), Reply::Verdict(verdict)) => {
-                let (t, verdict) = (*t, verdict_again(verdict)?);
+                let (t, verdict) = (*t, verdict.clone()?);
                 self.asking = Asking::Finish(t, verdict);
                 Ok(None)
             }
@@ -220,37 +221,43 @@ impl Counts {
     }
 }
 
-/// What is asked of the first of some locks. With it go the other locks of its transaction, where one is
-/// prepared.
+/// What is asked of the first of some locks, which are in their order. With it go the other locks of its
+/// transaction, where one is prepared: they stand behind it, side by side.
 fn first_of(locks: &mut VecDeque<Lock>) -> Option<Asking>
+    requires { IsTrue (in_order locks.old.items) }
     ensures value { option_map (λ asking. sweeping_of asking locks.new.items) result ≡ first_of locks.old.items }
     ensures fewer { OnSome result (length locks.new.items + 1 ≤ length locks.old.items) }
     ensures none { IfNone result (locks.new.items ≡ []) }
+    ensures order { IsTrue (in_order locks.new.items) }
 {
     let lock = locks.pop_front()?;
-    if !is_prepared(&lock, locks) {
+    let own = locks.partition_point(|other| other.t <= lock.t);
+    if !is_prepared(&lock, locks, own) {
         return Some(Asking::Break(lock));
     }
-    let_go(locks, lock.t);
+    let_go(locks, own);
     Some(Asking::Resolve(lock.t))
 }
 
-/// Lets a transaction's locks go.
-fn let_go(locks: &mut VecDeque<Lock>, t: u64)
-    ensures { locks.new.items ≡ sweeping.others t locks.old.items }
+/// Lets the first locks go, so many of them.
+fn let_go(locks: &mut VecDeque<Lock>, own: usize)
+    requires { own ≤ length locks.old.items }
+    ensures { locks.new.items ≡ drop own locks.old.items }
 {
-    locks.retain(|lock| lock.t != t);
+    locks.drain(..own);
 }
 
-/// Whether the transaction of a lock has a prepared one: it, or one of the others.
-fn is_prepared(lock: &Lock, others: &VecDeque<Lock>) -> bool
-    ensures { result ≡ locking.has_prepared lock.now.t (lock.now ∷ others.now.items) }
+/// Whether a lock is prepared, or one of the first of the others, so many of them.
+fn is_prepared(lock: &Lock, others: &VecDeque<Lock>, own: usize) -> bool
+    requires { own ≤ length others.now.items }
+    ensures { result ≡ (lock.now.prepared || list_any (λ other. other.prepared) (take own others.now.items)) }
 {
-    lock.prepared || has_prepared(others, lock.t)
+    lock.prepared || has_prepared(others, own)
 }
 
-fn has_prepared(locks: &VecDeque<Lock>, t: u64) -> bool
-    ensures { result ≡ locking.has_prepared t locks.now.items }
+fn has_prepared(others: &VecDeque<Lock>, own: usize) -> bool
+    requires { own ≤ length others.now.items }
+    ensures { result ≡ list_any (λ other. other.prepared) (take own others.now.items) }
 {
-    locks.iter().any(|lock| lock.t == t && lock.prepared)
+    others.range(..own).any(|other| other.prepared)
 }
