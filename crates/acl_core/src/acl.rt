@@ -100,6 +100,17 @@ impl Acl {
         Ok(Acl { entries })
     }
 
+    /// The list of these entries, which make one. They are sorted where they stand.
+    pub(crate) fn from_accepted(entries: Vec<Entry>) -> Result<Acl, AllocError>
+        requires { IsAccepted entries.items }
+        ensures value { IfOk result (λ acl. acl ≡ in_order entries.items) }
+        ensures same_entries { IfOk result (IsPermutation entries.items) }
+    {
+        let sorted = into_sorted(entries);
+        let entries = ArcSlice::from_vec(sorted)?;
+        Ok(Acl { entries })
+    }
+
     /// The list of a mode: the owner's, the group's and the others' permissions.
     pub fn from_mode(alloc: Global, mode: Mode) -> Result<Acl, AllocError>
         ensures list { IfOk result (λ acl. acl ≡ minimal_list mode) }
