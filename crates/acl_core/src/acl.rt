@@ -1,6 +1,6 @@
 //! Valid lists.
 
-ghost use Rattle.std.specs.Prelude.{◌≡◌, ◌==◌, ◌≤◌, nat_lt, IfOk, IsPermutation, ◌↔◌, None};
+ghost use Rattle.std.specs.Prelude.{◌≡◌, ◌==◌, IfOk, IsPermutation, ◌↔◌, None};
 ghost use Rattle.acl_core.specs.AccessLists.{IsAcl, first_fault, fault_in, IsAccepted};
 ghost use Rattle.acl_core.specs.InOrder.{in_order};
 ghost use Rattle.acl_core.specs.Modes.{minimal_list};
