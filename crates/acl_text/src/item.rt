@@ -112,10 +112,12 @@ fn read_entry(
     let (Some(keyword), Some(letters)) = (keyword, permissions(field)) else {
         return Err(ItemFault::Syntax);
     };
-    match tag(keyword, qualifier, names) {
-        Ok(tag) => Ok(Entry::new(tag, letters.reads, letters.writes, letters.executes)),
-        Err(fault) => Err(fault),
-    }
+    tag(keyword, qualifier, names).map(|tag| Entry::new(
+        tag,
+        letters.reads,
+        letters.writes,
+        letters.executes,
+    ))
 }
 
 /// The entry of a word and the fields after it.

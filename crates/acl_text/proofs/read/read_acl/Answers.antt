@@ -1,4 +1,4 @@
-use Rattle.std.proofs.Common.{◌≡◌, ◌+◌, List, [], ◌∷◌, ◌++◌, length, map, None, Some, Ok, Err, refl, ap, subst, sym, ◌∙◌, append-nil, append_assoc, length-append, arith}
+use Rattle.std.proofs.Common.{◌≡◌, ◌+◌, List, [], ◌∷◌, ◌++◌, length, map, None, Some, Ok, refl, ap, subst, sym, ◌∙◌, append-nil, append_assoc, length-append, arith}
 use Rattle.std.specs.List.{filter_map}
 use Rattle.acl_core.specs.declared.entry.Entry.{Entry}
 use Rattle.acl_core.specs.Tallies.{IsTallyOf}
