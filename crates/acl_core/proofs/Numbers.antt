@@ -1,6 +1,6 @@
 -- Users and groups by their numbers: which stand among entries, and whether one stands twice.
 use Rattle.std.proofs.Common.{◌≡◌, ℕ, ◌+◌, ◌<◌, Bool, true, eqb, ltb, cond, not, ◌&&◌, ◌||◌, List, [], ◌∷◌, length, get_or, drop, map, refl, sym, ap, ◌∙◌, arith, IsPermutation, IsSorted}
-use Rattle.std.specs.List.{list_any, count_by, zip}
+use Rattle.std.specs.List.{list_any, count_by, cons_option, filter_map, zip}
 use Rattle.std.specs.List.Sorted.{IsNonDecreasingBy}
 use Rattle.std.specs.Ordering.{nat_cmp}
 use Rattle.std.proofs.lemmas.Bool.{le-ltb, ne_eqb, or_right}
@@ -13,26 +13,22 @@ use Rattle.acl_core.specs.Entries.{entry_of}
 use Rattle.acl_core.specs.Tags.{rank, same_tag, precedes, is_user, is_group}
 use Rattle.acl_core.specs.AccessLists.{count_of, has_named, has_twice}
 use Rattle.acl_core.specs.Sorted.{IsSortedCopy, stands_beside}
-use Rattle.acl_core.specs.Tallies.{is_doubled, is_some}
+use Rattle.acl_core.specs.Tallies.{is_doubled, user_of, group_of}
 use Rattle.acl_core.proofs.Doubles.{beside-twice}
 use Rattle.acl_core.proofs.Lists.{count_by-cons}
 
 -- the users of some entries, and the groups
 abbrev pub user_before : Tag → List ℕ → List ℕ
-user_before (User id) users = id ∷ users
-user_before _ users = users
+user_before tag users = cons_option (user_of tag) users
 
 abbrev pub users_in : List Entry → List ℕ
-users_in [] = []
-users_in (entry ∷ entries) = user_before entry.tag (users_in entries)
+users_in entries = filter_map (λ e. user_of e.tag) entries
 
 abbrev pub group_before : Tag → List ℕ → List ℕ
-group_before (Group id) groups = id ∷ groups
-group_before _ groups = groups
+group_before tag groups = cons_option (group_of tag) groups
 
 abbrev pub groups_in : List Entry → List ℕ
-groups_in [] = []
-groups_in (entry ∷ entries) = group_before entry.tag (groups_in entries)
+groups_in entries = filter_map (λ e. group_of e.tag) entries
 
 -- ---- how often a user stands
 
@@ -101,6 +97,9 @@ twice_groups entries =
     any_groups (λ tag. ltb 1 (count_of tag entries)) (λ id. ltb 1 (count_by (λ other. eqb other id) (groups_in entries))) (λ id. ap (ltb 1) (count_groups id entries)) entries
 
 -- ---- whether there is one
+
+abbrev pub is_some : List ℕ → Bool
+is_some numbers = not (eqb (length numbers) 0)
 
 some_cons : (number : ℕ) (numbers : List ℕ) → is_some (number ∷ numbers) ≡ true
 some_cons number numbers = ap not (ne_eqb (length (number ∷ numbers)) 0 (λ h. omega (arith, h)))

@@ -1,7 +1,7 @@
 -- Entries in another order have the same first fault.
 use Rattle.std.proofs.Common.{◌≡◌, Bool, eqb, ltb, ◌&&◌, ◌||◌, List, [], ◌∷◌, sym, ap, ◌∙◌, IsPermutation}
 use Rattle.std.specs.List.{list_any, find}
-use Rattle.std.proofs.lemmas.List.Sorted.{list_any-IsPermutation, length_permutation, IsPermutation-refl}
+use Rattle.std.proofs.lemmas.List.Sorted.{list_any-IsPermutation, length_permutation}
 use Rattle.acl_core.specs.declared.entry.Tag.{Tag}
 use Rattle.acl_core.specs.declared.entry.Tag.TheVariants.{UserObj, GroupObj, Mask, Other}
 use Rattle.acl_core.specs.declared.entry.Entry.{Entry}
@@ -9,7 +9,6 @@ use Rattle.acl_core.specs.declared.fault.AclFault.{AclFault}
 use Rattle.acl_core.specs.declared.fault.AclFault.TheVariants.{NoUserObj, NoGroupObj, NoOther, TwiceSingle, UserTwice, GroupTwice, MaskMissing, TooMany}
 use Rattle.acl_core.specs.Tags.{is_user, is_group}
 use Rattle.acl_core.specs.AccessLists.{count_of, has_twice, has_fault, has_named, most_entries, faults, first_fault}
-use Rattle.acl_core.specs.Sorted.{IsSortedCopy}
 use Rattle.acl_core.proofs.Sorting.{count_of_permutation}
 
 twice_permutation : (kind : Tag → Bool) (xs ys : List Entry) → IsPermutation xs ys → has_twice kind ys ≡ has_twice kind xs
@@ -32,7 +31,3 @@ fault_permutation TooMany xs ys h = ap (ltb most_entries) (length_permutation xs
 
 pub first_fault_permutation : (xs ys : List Entry) → IsPermutation xs ys → first_fault ys ≡ first_fault xs
 first_fault_permutation xs ys h = λ i. find (λ fault. fault_permutation fault xs ys h i) faults
-
--- a sorted copy is a sorted copy of itself
-pub sorted_itself : (xs ys : List Entry) → IsSortedCopy xs ys → IsSortedCopy ys ys
-sorted_itself xs ys copy = record { moved = IsPermutation-refl ys; ordered = copy.ordered }

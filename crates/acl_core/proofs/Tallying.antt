@@ -1,91 +1,92 @@
 -- What a tally tells of the entries that were taken.
-use Rattle.std.proofs.Common.{◌≡◌, ℕ, ◌+◌, ◌≤◌, false, eqb, ltb, cond, ◌&&◌, ◌||◌, List, [], ◌∷◌, ◌++◌, length, take, refl, sym, ap, ◌∙◌, inl, inr, arith, append-nil, append_assoc, length-append, take_all}
-use Rattle.std.specs.List.{find}
+use Rattle.std.proofs.Common.{◌≡◌, ℕ, ◌+◌, ◌≤◌, Bool, true, false, eqb, ltb, cond, ◌&&◌, ◌||◌, List, [], ◌∷◌, ◌++◌, Option, None, Some, length, take, refl, sym, ap, subst, ◌∙◌, inl, inr, arith, append-nil, length-append, take_all}
+use Rattle.std.specs.List.{find, list_any, cons_option}
 use Rattle.std.proofs.lemmas.Bool.{cases_Bool, ltb-true, ltb-false}
 use Rattle.std.proofs.lemmas.Bool.Decides.{nat_tests}
 use Rattle.std.proofs.lemmas.List.{take-append-le, length-take-le}
+use Rattle.std.proofs.lemmas.List.Elements.{filter_map-append}
+use Rattle.std.proofs.lemmas.List.Sums.{sum_by-append}
 use Rattle.acl_core.specs.declared.entry.Tag.{Tag}
 use Rattle.acl_core.specs.declared.entry.Tag.TheVariants.{UserObj, User, GroupObj, Group, Mask, Other}
 use Rattle.acl_core.specs.declared.entry.Entry.{Entry}
 use Rattle.acl_core.specs.declared.fault.AclFault.{AclFault}
 use Rattle.acl_core.specs.declared.fault.AclFault.TheVariants.{NoUserObj, NoGroupObj, NoOther, TwiceSingle, UserTwice, GroupTwice, MaskMissing, TooMany}
 use Rattle.acl_core.specs.Tags.{same_tag}
-use Rattle.acl_core.specs.AccessLists.{count_of, faults, first_fault, has_fault}
-use Rattle.acl_core.specs.Tallies.{Tallied, counted, is_doubled, is_some, kept_with, no_tally, tallied_as, tallied_onto, tallied_with, told_fault}
+use Rattle.acl_core.specs.AccessLists.{IsAccepted, count_of, faults, first_fault, has_fault}
+use Rattle.acl_core.specs.Tallies.{IsTallyOf, IsWhole, Tallied, group_of, is_doubled, up_to_two, user_of}
+use Rattle.acl_core.proofs.Faults.{accepted_without_fault}
 use Rattle.acl_core.proofs.Lists.{count_by-cons}
-use Rattle.acl_core.proofs.Numbers.{user_before, users_in, group_before, groups_in, twice_users, twice_groups, named_some}
+use Rattle.acl_core.proofs.Numbers.{is_some, twice_users, twice_groups, named_some}
+
+-- ---- one entry more
+
+abbrev pub counted : ℕ → ℕ
+counted count = up_to_two (count + 1)
+
+abbrev pub counted_as : Tallied → Tag → Tallied
+counted_as tally UserObj = record tally { user_objs = counted tally.user_objs }
+counted_as tally (User id) = record tally { users = tally.users ++ id ∷ [] }
+counted_as tally GroupObj = record tally { group_objs = counted tally.group_objs }
+counted_as tally (Group id) = record tally { groups = tally.groups ++ id ∷ [] }
+counted_as tally Mask = record tally { masks = counted tally.masks }
+counted_as tally Other = record tally { others = counted tally.others }
+
+abbrev pub kept_with : List Entry → Entry → List Entry
+kept_with kept entry = cond (ltb 64 (length kept)) kept (kept ++ entry ∷ [])
+
+abbrev pub tallied_with : Tallied → Entry → Tallied
+tallied_with tally entry = record (counted_as tally entry.tag) { kept = kept_with tally.kept entry }
 
 -- ---- users and groups
 
-users_with : (tally : Tallied) (tag : Tag) (rest : List ℕ) → (tallied_as tally tag).users ++ rest ≡ tally.users ++ user_before tag rest
-users_with tally UserObj rest = refl
-users_with tally (User id) rest = append_assoc tally.users (id ∷ []) rest
-users_with tally GroupObj rest = refl
-users_with tally (Group id) rest = refl
-users_with tally Mask rest = refl
-users_with tally Other rest = refl
+users_with : (tally : Tallied) (tag : Tag) → (counted_as tally tag).users ≡ tally.users ++ cons_option (user_of tag) []
+users_with tally UserObj = sym (append-nil tally.users)
+users_with tally (User id) = refl
+users_with tally GroupObj = sym (append-nil tally.users)
+users_with tally (Group id) = sym (append-nil tally.users)
+users_with tally Mask = sym (append-nil tally.users)
+users_with tally Other = sym (append-nil tally.users)
 
-users_onto : (tally : Tallied) (entries : List Entry) → (tallied_onto tally entries).users ≡ tally.users ++ users_in entries
-users_onto tally [] = sym (append-nil tally.users)
-users_onto tally (e ∷ es) = users_onto (tallied_with tally e) es ∙ users_with tally e.tag (users_in es)
-
-groups_with : (tally : Tallied) (tag : Tag) (rest : List ℕ) → (tallied_as tally tag).groups ++ rest ≡ tally.groups ++ group_before tag rest
-groups_with tally UserObj rest = refl
-groups_with tally (User id) rest = refl
-groups_with tally GroupObj rest = refl
-groups_with tally (Group id) rest = append_assoc tally.groups (id ∷ []) rest
-groups_with tally Mask rest = refl
-groups_with tally Other rest = refl
-
-groups_onto : (tally : Tallied) (entries : List Entry) → (tallied_onto tally entries).groups ≡ tally.groups ++ groups_in entries
-groups_onto tally [] = sym (append-nil tally.groups)
-groups_onto tally (e ∷ es) = groups_onto (tallied_with tally e) es ∙ groups_with tally e.tag (groups_in es)
+groups_with : (tally : Tallied) (tag : Tag) → (counted_as tally tag).groups ≡ tally.groups ++ cons_option (group_of tag) []
+groups_with tally UserObj = sym (append-nil tally.groups)
+groups_with tally (User id) = sym (append-nil tally.groups)
+groups_with tally GroupObj = sym (append-nil tally.groups)
+groups_with tally (Group id) = refl
+groups_with tally Mask = sym (append-nil tally.groups)
+groups_with tally Other = sym (append-nil tally.groups)
 
 -- ---- entries that can stand only once
 
--- up to two
-abbrev capped : ℕ → ℕ
-capped n = cond (ltb n 2) n 2
+up_to_two_more : (n : ℕ) → counted (up_to_two n) ≡ up_to_two (n + 1)
+up_to_two_more n = omega arith
 
-capped_none : (n : ℕ) → n ≤ 2 → n ≡ capped (n + 0)
-capped_none n few = grind (arith, nat_tests)
+up_to_two_zero : (n : ℕ) → eqb (up_to_two n) 0 ≡ eqb n 0
+up_to_two_zero n = grind (arith, nat_tests)
 
-capped_more : (n c : ℕ) → n ≤ 2 → capped (counted n + c) ≡ capped (n + (1 + c))
-capped_more n c few = grind (arith, nat_tests)
+up_to_two_many : (n : ℕ) → ltb 1 (up_to_two n) ≡ ltb 1 n
+up_to_two_many n = grind (arith, nat_tests)
 
-counted_few : (n : ℕ) → n ≤ 2 → counted n ≤ 2
-counted_few n few = grind (arith, nat_tests)
+count_more : (tag : Tag) (entries : List Entry) (e : Entry) → count_of tag (entries ++ e ∷ []) ≡ count_of tag entries + cond (same_tag e.tag tag) 1 0
+count_more tag entries e =
+    let all = sum_by-append (λ (x : Entry). cond (same_tag x.tag tag) 1 0) entries (e ∷ []) in
+    let last = count_by-cons (λ (x : Entry). same_tag x.tag tag) e [] in
+    omega (arith, all, last)
 
-capped_zero : (n : ℕ) → eqb (capped n) 0 ≡ eqb n 0
-capped_zero n = grind (arith, nat_tests)
+counted_more : (tag : Tag) (n : ℕ) (entries : List Entry) (e : Entry) → n ≡ up_to_two (count_of tag entries) → cond (same_tag e.tag tag) (counted n) n ≡ up_to_two (count_of tag (entries ++ e ∷ []))
+counted_more tag n entries e is =
+    let more = count_more tag entries e in
+    let count = count_of tag entries in
+    elim (cases_Bool (same_tag e.tag tag)) [
+      | inl same ↦
+          let one : count_of tag (entries ++ e ∷ []) ≡ count + 1 = more ∙ ap (λ b. count + cond b 1 0) same in
+          ap (λ b. cond b (counted n) n) same ∙ ap counted is ∙ up_to_two_more count ∙ ap up_to_two (sym one)
+      | inr other ↦
+          let none : count_of tag (entries ++ e ∷ []) ≡ count + 0 = more ∙ ap (λ b. count + cond b 1 0) other in
+          let same : count_of tag (entries ++ e ∷ []) ≡ count = omega (arith, none) in
+          ap (λ b. cond b (counted n) n) other ∙ is ∙ ap up_to_two (sym same)
+    ]
 
-capped_many : (n : ℕ) → ltb 1 (capped n) ≡ ltb 1 n
-capped_many n = grind (arith, nat_tests)
-
-module _ (field : Tallied → ℕ) (tag : Tag) (step : (tally : Tallied) (e : Entry) → field (tallied_with tally e) ≡ cond (same_tag e.tag tag) (counted (field tally)) (field tally)) where
-  counts_onto : (tally : Tallied) (entries : List Entry) → field tally ≤ 2 → field (tallied_onto tally entries) ≡ capped (field tally + count_of tag entries)
-  counts_onto tally [] few = capped_none (field tally) few
-  counts_onto tally (e ∷ es) few =
-      let here = count_by-cons (λ (x : Entry). same_tag x.tag tag) e es in
-      let total = λ (n : ℕ). capped (field tally + n) in
-      elim (cases_Bool (same_tag e.tag tag)) [
-        | inl same ↦
-            let now : field (tallied_with tally e) ≡ counted (field tally) = step tally e ∙ ap (λ b. cond b (counted (field tally)) (field tally)) same in
-            let one : count_of tag (e ∷ es) ≡ 1 + count_of tag es = here ∙ ap (λ b. cond b 1 0 + count_of tag es) same in
-            let small = counted_few (field tally) few in
-            counts_onto (tallied_with tally e) es (omega (arith, now, small))
-            ∙ ap (λ n. capped (n + count_of tag es)) now
-            ∙ capped_more (field tally) (count_of tag es) few
-            ∙ sym (ap total one)
-        | inr other ↦
-            let now : field (tallied_with tally e) ≡ field tally = step tally e ∙ ap (λ b. cond b (counted (field tally)) (field tally)) other in
-            let none : count_of tag (e ∷ es) ≡ count_of tag es = let zero_here = ap (λ b. cond b 1 0 + count_of tag es) other in omega (arith, here, zero_here) in
-            counts_onto (tallied_with tally e) es (omega (arith, now, few))
-            ∙ ap (λ n. capped (n + count_of tag es)) now
-            ∙ sym (ap total none)
-      ]
-
-user_objs_with : (tally : Tallied) (tag : Tag) → (tallied_as tally tag).user_objs ≡ cond (same_tag tag UserObj) (counted tally.user_objs) tally.user_objs
+user_objs_with : (tally : Tallied) (tag : Tag) → (counted_as tally tag).user_objs ≡ cond (same_tag tag UserObj) (counted tally.user_objs) tally.user_objs
 user_objs_with tally UserObj = refl
 user_objs_with tally (User id) = refl
 user_objs_with tally GroupObj = refl
@@ -93,7 +94,7 @@ user_objs_with tally (Group id) = refl
 user_objs_with tally Mask = refl
 user_objs_with tally Other = refl
 
-group_objs_with : (tally : Tallied) (tag : Tag) → (tallied_as tally tag).group_objs ≡ cond (same_tag tag GroupObj) (counted tally.group_objs) tally.group_objs
+group_objs_with : (tally : Tallied) (tag : Tag) → (counted_as tally tag).group_objs ≡ cond (same_tag tag GroupObj) (counted tally.group_objs) tally.group_objs
 group_objs_with tally UserObj = refl
 group_objs_with tally (User id) = refl
 group_objs_with tally GroupObj = refl
@@ -101,7 +102,7 @@ group_objs_with tally (Group id) = refl
 group_objs_with tally Mask = refl
 group_objs_with tally Other = refl
 
-masks_with : (tally : Tallied) (tag : Tag) → (tallied_as tally tag).masks ≡ cond (same_tag tag Mask) (counted tally.masks) tally.masks
+masks_with : (tally : Tallied) (tag : Tag) → (counted_as tally tag).masks ≡ cond (same_tag tag Mask) (counted tally.masks) tally.masks
 masks_with tally UserObj = refl
 masks_with tally (User id) = refl
 masks_with tally GroupObj = refl
@@ -109,7 +110,7 @@ masks_with tally (Group id) = refl
 masks_with tally Mask = refl
 masks_with tally Other = refl
 
-others_with : (tally : Tallied) (tag : Tag) → (tallied_as tally tag).others ≡ cond (same_tag tag Other) (counted tally.others) tally.others
+others_with : (tally : Tallied) (tag : Tag) → (counted_as tally tag).others ≡ cond (same_tag tag Other) (counted tally.others) tally.others
 others_with tally UserObj = refl
 others_with tally (User id) = refl
 others_with tally GroupObj = refl
@@ -117,57 +118,51 @@ others_with tally (Group id) = refl
 others_with tally Mask = refl
 others_with tally Other = refl
 
-module _ (entries : List Entry) where
-  abbrev tallied : Tallied
-  tallied = tallied_onto no_tally entries
-
-  zero_capped : (n : ℕ) → 0 + n ≡ n
-  zero_capped n = omega arith
-
-  user_objs : tallied.user_objs ≡ capped (count_of UserObj entries)
-  user_objs = counts_onto (λ t. t.user_objs) UserObj (λ t e. user_objs_with t e.tag) no_tally entries (omega arith) ∙ ap capped (zero_capped (count_of UserObj entries))
-
-  group_objs : tallied.group_objs ≡ capped (count_of GroupObj entries)
-  group_objs = counts_onto (λ t. t.group_objs) GroupObj (λ t e. group_objs_with t e.tag) no_tally entries (omega arith) ∙ ap capped (zero_capped (count_of GroupObj entries))
-
-  masks : tallied.masks ≡ capped (count_of Mask entries)
-  masks = counts_onto (λ t. t.masks) Mask (λ t e. masks_with t e.tag) no_tally entries (omega arith) ∙ ap capped (zero_capped (count_of Mask entries))
-
-  others : tallied.others ≡ capped (count_of Other entries)
-  others = counts_onto (λ t. t.others) Other (λ t e. others_with t e.tag) no_tally entries (omega arith) ∙ ap capped (zero_capped (count_of Other entries))
-
 -- ---- the first entries
 
-few_kept : (kept : List Entry) (e : Entry) → length kept ≤ 65 → length (kept_with kept e) ≤ 65
-few_kept kept e few =
-    elim (cases_Bool (ltb 64 (length kept))) [
-      | inl full ↦ rw full few
-      | inr room ↦ let low = ltb-false 64 (length kept) room in rw (room, length-append) (omega (arith, low))
+kept_more : (entries : List Entry) (e : Entry) → kept_with (take 65 entries) e ≡ take 65 (entries ++ e ∷ [])
+kept_more entries e =
+    elim (cases_Bool (ltb 64 (length entries))) [
+      | inl many ↦
+          let high : 65 ≤ length entries = let above = ltb-true 64 (length entries) many in omega (arith, above) in
+          let all : ltb 64 (length (take 65 entries)) ≡ true = ap (ltb 64) (length-take-le 65 entries high) in
+          ap (λ b. cond b (take 65 entries) (take 65 entries ++ e ∷ [])) all ∙ sym (take-append-le 65 entries (e ∷ []) high)
+      | inr few ↦
+          let low = ltb-false 64 (length entries) few in
+          let all : take 65 entries ≡ entries = take_all 65 entries (omega (arith, low)) in
+          let longer : length (entries ++ e ∷ []) ≤ 65 = let more = length-append entries (e ∷ []) in omega (arith, more, low) in
+          ap (λ kept. kept_with kept e) all ∙ ap (λ b. cond b entries (entries ++ e ∷ [])) few ∙ sym (take_all 65 (entries ++ e ∷ []) longer)
     ]
 
-kept_onto : (tally : Tallied) (entries : List Entry) → length tally.kept ≤ 65 → (tallied_onto tally entries).kept ≡ take 65 (tally.kept ++ entries)
-kept_onto tally [] few = sym (ap (take 65) (append-nil tally.kept) ∙ take_all 65 tally.kept few)
-kept_onto tally (e ∷ es) few =
-    kept_onto (tallied_with tally e) es (few_kept tally.kept e few)
-    ∙ elim (cases_Bool (ltb 64 (length tally.kept))) [
+-- the tally of some entries, with one more
+pub tally_more : (tally : Tallied) (entries : List Entry) (e : Entry) → IsTallyOf tally entries → IsTallyOf (tallied_with tally e) (entries ++ e ∷ [])
+tally_more tally entries e is = record {
+  user_objs = user_objs_with tally e.tag ∙ counted_more UserObj tally.user_objs entries e is.user_objs;
+  group_objs = group_objs_with tally e.tag ∙ counted_more GroupObj tally.group_objs entries e is.group_objs;
+  masks = masks_with tally e.tag ∙ counted_more Mask tally.masks entries e is.masks;
+  others = others_with tally e.tag ∙ counted_more Other tally.others entries e is.others;
+  users = users_with tally e.tag ∙ ap (λ users. users ++ cons_option (user_of e.tag) []) is.users ∙ sym (filter_map-append (λ (x : Entry). user_of x.tag) entries (e ∷ []));
+  groups = groups_with tally e.tag ∙ ap (λ groups. groups ++ cons_option (group_of e.tag) []) is.groups ∙ sym (filter_map-append (λ (x : Entry). group_of x.tag) entries (e ∷ []));
+  kept = ap (λ kept. kept_with kept e) is.kept ∙ kept_more entries e;
+}
+
+pub whole_more : (tally : Tallied) (e : Entry) → IsWhole tally → IsWhole (tallied_with tally e)
+whole_more tally e whole few =
+    elim (cases_Bool (ltb 64 (length tally.kept))) [
       | inl full ↦
-          let many : 65 ≤ length tally.kept = let high = ltb-true 64 (length tally.kept) full in omega (arith, high) in
-          rw full (take-append-le 65 tally.kept es many ∙ sym (take-append-le 65 tally.kept (e ∷ es) many))
-      | inr room ↦ rw room (ap (take 65) (append_assoc tally.kept (e ∷ []) es))
+          let high = ltb-true 64 (length tally.kept) full in
+          let same : kept_with tally.kept e ≡ tally.kept = ap (λ b. cond b tally.kept (tally.kept ++ e ∷ [])) full in
+          let long = ap length same in
+          absurd (omega (arith, few, high, long))
+      | inr room ↦
+          let low = ltb-false 64 (length tally.kept) room in
+          let same : tally.kept ++ e ∷ [] ≡ kept_with tally.kept e = sym (ap (λ b. cond b tally.kept (tally.kept ++ e ∷ [])) room) in
+          subst (λ kept. IsTallyOf (tallied_with tally e) kept) same (tally_more tally tally.kept e (whole (omega (arith, low))))
     ]
 
 -- entries of which all are kept
-pub all_kept : (tally : Tallied) (entries : List Entry) → tally ≡ tallied_onto no_tally entries → length tally.kept ≤ 64 → tally.kept ≡ entries
-all_kept tally entries is few =
-    let kept : tally.kept ≡ take 65 entries = ap (λ t. t.kept) is ∙ kept_onto no_tally entries (omega arith) in
-    elim (cases_Bool (ltb 64 (length entries))) [
-      | inl many ↦
-          let high = ltb-true 64 (length entries) many in
-          let all = length-take-le 65 entries (omega (arith, high)) in
-          let same = ap length kept in
-          absurd (omega (arith, all, same, few))
-      | inr rest ↦ let low = ltb-false 64 (length entries) rest in kept ∙ take_all 65 entries (omega (arith, low))
-    ]
+pub all_kept : (tally : Tallied) (entries : List Entry) → IsTallyOf tally entries → length entries ≤ 64 → tally.kept ≡ entries
+all_kept tally entries is few = is.kept ∙ take_all 65 entries (omega (arith, few))
 
 many_kept : (entries : List Entry) → ltb 64 (length (take 65 entries)) ≡ ltb 64 (length entries)
 many_kept entries =
@@ -178,43 +173,56 @@ many_kept entries =
 
 -- ---- the faults
 
-told_same : (fault : AclFault) (entries : List Entry) → told_fault (tallied_onto no_tally entries) fault ≡ has_fault fault entries
-told_same NoUserObj entries = ap (λ n. eqb n 0) (user_objs entries) ∙ capped_zero (count_of UserObj entries)
-told_same NoGroupObj entries = ap (λ n. eqb n 0) (group_objs entries) ∙ capped_zero (count_of GroupObj entries)
-told_same NoOther entries = ap (λ n. eqb n 0) (others entries) ∙ capped_zero (count_of Other entries)
-told_same TwiceSingle entries =
-    let many : (n c : ℕ) → n ≡ capped c → ltb 1 n ≡ ltb 1 c = λ n c is. ap (ltb 1) is ∙ capped_many c in
-    λ i. many (tallied_onto no_tally entries).user_objs (count_of UserObj entries) (user_objs entries) i
-    || (many (tallied_onto no_tally entries).group_objs (count_of GroupObj entries) (group_objs entries) i
-    || (many (tallied_onto no_tally entries).masks (count_of Mask entries) (masks entries) i
-    || (many (tallied_onto no_tally entries).others (count_of Other entries) (others entries) i || false)))
-told_same UserTwice entries = ap is_doubled (users_onto no_tally entries) ∙ sym (twice_users entries)
-told_same GroupTwice entries = ap is_doubled (groups_onto no_tally entries) ∙ sym (twice_groups entries)
-told_same MaskMissing entries =
-    (λ i. (is_some (users_onto no_tally entries i) || is_some (groups_onto no_tally entries i)) && eqb (masks entries i) 0)
-    ∙ (λ i. named_some entries i && capped_zero (count_of Mask entries) i)
-told_same TooMany entries = ap (λ kept. ltb 64 (length kept)) (kept_onto no_tally entries (omega arith)) ∙ many_kept entries
+-- what a tally tells of each fault
+abbrev pub told_fault : Tallied → AclFault → Bool
+told_fault tally NoUserObj = eqb tally.user_objs 0
+told_fault tally NoGroupObj = eqb tally.group_objs 0
+told_fault tally NoOther = eqb tally.others 0
+told_fault tally TwiceSingle = list_any (λ count. ltb 1 count) (tally.user_objs ∷ tally.group_objs ∷ tally.masks ∷ tally.others ∷ [])
+told_fault tally UserTwice = is_doubled tally.users
+told_fault tally GroupTwice = is_doubled tally.groups
+told_fault tally MaskMissing = (is_some tally.users || is_some tally.groups) && eqb tally.masks 0
+told_fault tally TooMany = ltb 64 (length tally.kept)
+
+-- the first of eight tests that passes
+abbrev pub first_of_eight : Bool → Bool → Bool → Bool → Bool → Bool → Bool → Bool → Option AclFault
+first_of_eight a b c d e f g h =
+    cond a (Some NoUserObj) (cond b (Some NoGroupObj) (cond c (Some NoOther) (cond d (Some TwiceSingle) (cond e (Some UserTwice) (cond f (Some GroupTwice) (cond g (Some MaskMissing) (cond h (Some TooMany) None)))))))
+
+told_same : (fault : AclFault) (tally : Tallied) (entries : List Entry) → IsTallyOf tally entries → told_fault tally fault ≡ has_fault fault entries
+told_same NoUserObj tally entries is = ap (λ n. eqb n 0) is.user_objs ∙ up_to_two_zero (count_of UserObj entries)
+told_same NoGroupObj tally entries is = ap (λ n. eqb n 0) is.group_objs ∙ up_to_two_zero (count_of GroupObj entries)
+told_same NoOther tally entries is = ap (λ n. eqb n 0) is.others ∙ up_to_two_zero (count_of Other entries)
+told_same TwiceSingle tally entries is =
+    let many : (n c : ℕ) → n ≡ up_to_two c → ltb 1 n ≡ ltb 1 c = λ n c same. ap (ltb 1) same ∙ up_to_two_many c in
+    λ i. many tally.user_objs (count_of UserObj entries) is.user_objs i
+    || (many tally.group_objs (count_of GroupObj entries) is.group_objs i
+    || (many tally.masks (count_of Mask entries) is.masks i
+    || (many tally.others (count_of Other entries) is.others i || false)))
+told_same UserTwice tally entries is = ap is_doubled is.users ∙ sym (twice_users entries)
+told_same GroupTwice tally entries is = ap is_doubled is.groups ∙ sym (twice_groups entries)
+told_same MaskMissing tally entries is =
+    (λ i. (is_some (is.users i) || is_some (is.groups i)) && eqb (is.masks i) 0)
+    ∙ (λ i. named_some entries i && up_to_two_zero (count_of Mask entries) i)
+told_same TooMany tally entries is = ap (λ kept. ltb 64 (length kept)) is.kept ∙ many_kept entries
 
 -- the first fault that a tally tells is that of the entries
-pub first_told : (tally : Tallied) (entries : List Entry) → tally ≡ tallied_onto no_tally entries → find (told_fault tally) faults ≡ first_fault entries
-first_told tally entries is = ap (λ t. find (told_fault t) faults) is ∙ (λ i. find (λ fault. told_same fault entries i) faults)
+pub first_told : (tally : Tallied) (entries : List Entry) → IsTallyOf tally entries → find (told_fault tally) faults ≡ first_fault entries
+first_told tally entries is = λ i. find (λ fault. told_same fault tally entries is i) faults
 
--- ---- something is kept of each entry
+-- where no fault is told, what is kept makes a list
+pub kept_accepted : (tally : Tallied) → IsWhole tally → length tally.kept ≤ 64 → find (told_fault tally) faults ≡ None → IsAccepted tally.kept
+kept_accepted tally whole few none = accepted_without_fault tally.kept (sym (first_told tally tally.kept (whole few)) ∙ none)
 
-some_kept : (kept : List Entry) (e : Entry) → 1 ≤ length (kept_with kept e)
-some_kept kept e =
-    elim (cases_Bool (ltb 64 (length kept))) [
-      | inl full ↦ let high = ltb-true 64 (length kept) full in rw full (omega (arith, high))
-      | inr room ↦ rw (room, length-append) (omega arith)
-    ]
+-- the entries of a tally that tells no fault are those that it kept
+pub kept_all : (tally : Tallied) (entries : List Entry) → IsTallyOf tally entries → first_fault entries ≡ None → tally.kept ≡ entries
+kept_all tally entries is none = all_kept tally entries is (accepted_without_fault entries none).few
 
-kept_still : (tally : Tallied) (entries : List Entry) → 1 ≤ length tally.kept → 1 ≤ length (tallied_onto tally entries).kept
-kept_still tally [] some = some
-kept_still tally (e ∷ es) some = kept_still (tallied_with tally e) es (some_kept tally.kept e)
-
--- a tally of some entries is not that of none
-pub never_none : (tally : Tallied) (e : Entry) (entries : List Entry) → tallied_onto tally (e ∷ entries) ≡ no_tally → ⊥
-never_none tally e entries is =
-    let some = kept_still (tallied_with tally e) entries (some_kept tally.kept e) in
-    let none = ap (λ t. length t.kept) is in
-    absurd (omega (arith, some, none))
+-- what counting leaves
+pub counted_kept : (tally : Tallied) (tag : Tag) → (counted_as tally tag).kept ≡ tally.kept
+counted_kept tally UserObj = refl
+counted_kept tally (User id) = refl
+counted_kept tally GroupObj = refl
+counted_kept tally (Group id) = refl
+counted_kept tally Mask = refl
+counted_kept tally Other = refl

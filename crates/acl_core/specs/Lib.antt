@@ -5,6 +5,7 @@ pub mod Tags
 pub mod Entries
 pub mod AccessLists
 pub mod Tallies
+pub mod TallyFields
 pub mod Modes
 pub mod InOrder
 pub mod Sorted

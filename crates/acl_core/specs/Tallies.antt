@@ -1,14 +1,12 @@
--- What is kept of entries that are taken one at a time, and the faults that it tells.
-use Rattle.std.specs.Prelude.{ℕ, ◌+◌, ◌==◌, nat_lt, Bool, ◌&&◌, ◌||◌, not, if◌then◌else◌, List, [], ◌∷◌, ◌++◌, length, count_by}
-use Rattle.std.specs.List.{list_any}
+-- What is kept of entries that are taken one at a time.
+use Rattle.std.specs.Prelude.{◌≡◌, ℕ, ◌+◌, ◌==◌, ◌≤◌, nat_lt, min, Bool, List, length, take, count_by, Option, Some, None}
+use Rattle.std.specs.List.{filter_map, list_any}
 use Rattle.acl_core.specs.declared.entry.Tag.{Tag}
 use Rattle.acl_core.specs.declared.entry.Tag.TheVariants.{UserObj, User, GroupObj, Group, Mask, Other}
 use Rattle.acl_core.specs.declared.entry.Entry.{Entry}
-use Rattle.acl_core.specs.declared.fault.AclFault.{AclFault}
-use Rattle.acl_core.specs.declared.fault.AclFault.TheVariants.{NoUserObj, NoGroupObj, NoOther, TwiceSingle, UserTwice, GroupTwice, MaskMissing, TooMany}
-use Rattle.acl_core.specs.AccessLists.{most_entries}
+use Rattle.acl_core.specs.AccessLists.{count_of, most_entries}
 
--- how often each entry came that can stand only once, up to two; the users and groups; and the first entries, one more than a list may have
+-- counts of the entries that can stand only once, users and groups, and entries
 pub record Tallied : Type 0 where
   pub user_objs : ℕ
   pub group_objs : ℕ
@@ -18,46 +16,34 @@ pub record Tallied : Type 0 where
   pub groups : List ℕ
   pub kept : List Entry
 
-abbrev pub no_tally : Tallied
-no_tally = record { user_objs = 0; group_objs = 0; masks = 0; others = 0; users = []; groups = []; kept = [] }
+-- a count, where two are as good as any more
+abbrev pub up_to_two : ℕ → ℕ
+up_to_two count = min 2 count
 
--- one more, where two are as good as any more
-abbrev pub counted : ℕ → ℕ
-counted count = if nat_lt count 2 then count + 1 else count
+-- the user or the group that an entry is for
+abbrev pub user_of : Tag → Option ℕ
+user_of (User id) = Some id
+user_of _ = None
 
-abbrev pub kept_with : List Entry → Entry → List Entry
-kept_with kept entry = if nat_lt most_entries (length kept) then kept else kept ++ entry ∷ []
+abbrev pub group_of : Tag → Option ℕ
+group_of (Group id) = Some id
+group_of _ = None
 
-abbrev pub tallied_as : Tallied → Tag → Tallied
-tallied_as tally UserObj = record tally { user_objs = counted tally.user_objs }
-tallied_as tally (User id) = record tally { users = tally.users ++ id ∷ [] }
-tallied_as tally GroupObj = record tally { group_objs = counted tally.group_objs }
-tallied_as tally (Group id) = record tally { groups = tally.groups ++ id ∷ [] }
-tallied_as tally Mask = record tally { masks = counted tally.masks }
-tallied_as tally Other = record tally { others = counted tally.others }
+-- the tally of some entries: how often each came that can stand only once, which users and groups they are
+-- for, and the first of them, one more than a list may have
+pub record IsTallyOf (tally : Tallied) (entries : List Entry) : Type 0 where
+  pub user_objs : tally.user_objs ≡ up_to_two (count_of UserObj entries)
+  pub group_objs : tally.group_objs ≡ up_to_two (count_of GroupObj entries)
+  pub masks : tally.masks ≡ up_to_two (count_of Mask entries)
+  pub others : tally.others ≡ up_to_two (count_of Other entries)
+  pub users : tally.users ≡ filter_map (λ e. user_of e.tag) entries
+  pub groups : tally.groups ≡ filter_map (λ e. group_of e.tag) entries
+  pub kept : tally.kept ≡ take (most_entries + 1) entries
 
--- one entry more, and several
-abbrev pub tallied_with : Tallied → Entry → Tallied
-tallied_with tally entry = record (tallied_as tally entry.tag) { kept = kept_with tally.kept entry }
-
-abbrev pub tallied_onto : Tallied → List Entry → Tallied
-tallied_onto tally [] = tally
-tallied_onto tally (entry ∷ entries) = tallied_onto (tallied_with tally entry) entries
+-- as long as no more entries are kept than a list may have, they are all that were taken
+abbrev pub IsWhole : Tallied → Type 0
+IsWhole tally = length tally.kept ≤ most_entries → IsTallyOf tally tally.kept
 
 -- whether a number stands twice
 abbrev pub is_doubled : List ℕ → Bool
 is_doubled numbers = list_any (λ number. nat_lt 1 (count_by (λ other. other == number) numbers)) numbers
-
-abbrev pub is_some : List ℕ → Bool
-is_some numbers = not (length numbers == 0)
-
--- the faults that are told
-abbrev pub told_fault : Tallied → AclFault → Bool
-told_fault tally NoUserObj = tally.user_objs == 0
-told_fault tally NoGroupObj = tally.group_objs == 0
-told_fault tally NoOther = tally.others == 0
-told_fault tally TwiceSingle = list_any (λ count. nat_lt 1 count) (tally.user_objs ∷ tally.group_objs ∷ tally.masks ∷ tally.others ∷ [])
-told_fault tally UserTwice = is_doubled tally.users
-told_fault tally GroupTwice = is_doubled tally.groups
-told_fault tally MaskMissing = (is_some tally.users || is_some tally.groups) && (tally.masks == 0)
-told_fault tally TooMany = nat_lt most_entries (length tally.kept)

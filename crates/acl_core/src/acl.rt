@@ -1,6 +1,6 @@
 //! Valid lists.
 
-ghost use Rattle.std.specs.Prelude.{◌≡◌, ◌==◌, ◌≤◌, nat_lt, IfOk, IsPermutation, ◌↔◌, None};
+ghost use Rattle.std.specs.Prelude.{◌≡◌, ◌==◌, IfOk, IsPermutation, ◌↔◌, None};
 ghost use Rattle.acl_core.specs.AccessLists.{IsAcl, first_fault, fault_in, IsAccepted};
 ghost use Rattle.acl_core.specs.InOrder.{in_order};
 ghost use Rattle.acl_core.specs.Modes.{minimal_list};
@@ -96,6 +96,17 @@ impl Acl {
         if let Some(fault) = first_fault_of(&sorted, Some(&sorted)) {
             return Err(AclError::Invalid(fault));
         }
+        let entries = ArcSlice::from_vec(sorted)?;
+        Ok(Acl { entries })
+    }
+
+    /// The list of these entries, which make one. They are sorted where they stand.
+    pub(crate) fn from_accepted(entries: Vec<Entry>) -> Result<Acl, AllocError>
+        requires { IsAccepted entries.items }
+        ensures value { IfOk result (λ acl. acl ≡ in_order entries.items) }
+        ensures same_entries { IfOk result (IsPermutation entries.items) }
+    {
+        let sorted = into_sorted(entries);
         let entries = ArcSlice::from_vec(sorted)?;
         Ok(Acl { entries })
     }

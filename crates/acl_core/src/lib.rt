@@ -1,8 +1,9 @@
 //! Access lists as acl(5) has them: entries, valid lists, and the access check.
 //!
 //! An [`Acl`] is a valid list by its type. [`Acl::from_entries`] makes one of entries in any order or
-//! says what the first thing wrong with them is, [`Acl::from_mode`] makes the list of a file mode, and
-//! [`Acl::check`] answers whether a caller is granted what it wants, and if not, which entry decided.
+//! says what the first thing wrong with them is, and a [`Tally`] takes entries one at a time.
+//! [`Acl::from_mode`] makes the list of a file mode, and [`Acl::check`] answers whether a caller is
+//! granted what it wants, and if not, which entry decided.
 //! The contract of `check` is the algorithm of acl(5), stated on a list in any order
 //! (`specs/Checks.antt`).
 #![tactic(auto)]

@@ -3,11 +3,12 @@
 //! A list may come with a million entries. What is kept of them is the first 65 entries, whether each entry
 //! that can stand only once came once or more often, and the users and groups that were named.
 
-ghost use Rattle.std.specs.Prelude.{◌≡◌, ◌==◌, ◌<◌, List, ℕ, Some, IfOk, IsPermutation, OnOk, drop, length, if◌then◌else◌};
-ghost use Rattle.std.specs.List.{find, list_any, zip};
-ghost use Rattle.acl_core.specs.AccessLists.{fault_in, faults, first_fault};
+ghost use Rattle.std.specs.Prelude.{◌≡◌, ◌==◌, ◌+◌, ◌≤◌, nat_lt, not, ◌&&◌, ◌||◌, ◌⊎◌, IsTrue, List, [], ◌∷◌, ◌++◌, None, Some, IfOk, IsPermutation, MatchResult, OnErr, OnOk, drop, length};
+ghost use Rattle.std.specs.List.{list_any, zip};
+ghost use Rattle.acl_core.specs.AccessLists.{IsAccepted, fault_in, first_fault, most_entries};
 ghost use Rattle.acl_core.specs.InOrder.{in_order};
-ghost use Rattle.acl_core.specs.Tallies.{counted, is_doubled, no_tally, tallied_onto, tallied_with, told_fault};
+ghost use Rattle.acl_core.specs.Tags.{is_group, is_user};
+ghost use Rattle.acl_core.specs.Tallies.{IsTallyOf, is_doubled, up_to_two};
 ghost use Rattle.acl_core.specs.declared.entry.Entry.{Entry};
 
 use crate::acl::{Acl, MAX_ENTRIES};
@@ -29,32 +30,28 @@ pub struct Tally {
 }
 
 impl Model for Tally {
-    ghost use Rattle.acl_core.specs.Tallies.{Tallied};
+    ghost use Rattle.acl_core.specs.Tallies.{Tallied, IsWhole};
 
     ghost Value = { Tallied };
 
-    ghost view = { λ tally. record {
-      user_objs = tally.user_objs;
-      group_objs = tally.group_objs;
-      masks = tally.masks;
-      others = tally.others;
-      users = tally.users.items;
-      groups = tally.groups.items;
-      kept = tally.kept.items;
-    } };
+    ghost use Rattle.acl_core.specs.TallyFields.{tallied};
+
+    ghost view = { tallied };
+
+    ghost invariant = { λ fields. IsWhole (tallied fields) };
 }
 
 /// One more, where two are as good as any more.
 fn counted(count: u8) -> u8
-    ensures { result ≡ counted count }
+    ensures { result ≡ up_to_two (count + 1) }
 {
-    if count < 2 { count + 1 } else { count }
+    if count < 2 { count + 1 } else { 2 }
 }
 
 impl Tally {
     /// No entry yet.
     pub fn new(alloc: Global) -> Tally
-        ensures { result ≡ no_tally }
+        ensures { IsTallyOf result [] }
     {
         Tally {
             user_objs: 0,
@@ -67,10 +64,17 @@ impl Tally {
         }
     }
 
-    /// Takes an entry.
+    /// Takes an entry. Memory is asked for only where a user or a group comes, or as long as no more than 64
+    /// entries are kept; where it is refused, the tally stays as it was.
     pub fn take(&mut self, entry: Entry) -> Result<(), AllocError>
-        ensures { OnOk result (self.new ≡ tallied_with self.old entry) }
+        ensures taken { OnOk result ((entries : List Entry) → IsTallyOf self.old entries → IsTallyOf self.new (entries ++ entry ∷ [])) }
+        ensures unchanged { OnErr result (self.new ≡ self.old) }
+        ensures room { OnErr result (IsTrue (is_user entry.tag || is_group entry.tag) ⊎ (length self.old.kept ≤ most_entries)) }
     {
+        let is_kept = self.kept.len() <= MAX_ENTRIES;
+        if is_kept {
+            self.kept.reserve(1)?;
+        }
         match entry.tag {
             Tag::UserObj => self.user_objs = counted(self.user_objs),
             Tag::User(id) => self.users.push(id)?,
@@ -79,69 +83,76 @@ impl Tally {
             Tag::Mask => self.masks = counted(self.masks),
             Tag::Other => self.others = counted(self.others),
         }
-        if self.kept.len() <= MAX_ENTRIES {
+        if is_kept {
             self.kept.push(entry)?;
         }
         Ok(())
     }
 
-    /// The list of the entries that were taken, or the first thing that is wrong with them.
+    /// The list of the entries that were taken, or the first thing that is wrong with them, which is told
+    /// also where memory would not have sufficed.
     pub fn finish(self) -> Result<Acl, AclError>
-        ensures fault { (entries : List Entry) → self ≡ tallied_onto no_tally entries → fault_in result ≡ first_fault entries }
-        ensures value { IfOk result (λ acl. (entries : List Entry) → self ≡ tallied_onto no_tally entries → acl ≡ in_order entries) }
-        ensures same_entries { IfOk result (λ acl. (entries : List Entry) → self ≡ tallied_onto no_tally entries → IsPermutation entries acl) }
+        ensures fault { (entries : List Entry) → IsTallyOf self entries → fault_in result ≡ first_fault entries }
+        ensures value { IfOk result (λ acl. (entries : List Entry) → IsTallyOf self entries → acl ≡ in_order entries) }
+        ensures same_entries { IfOk result (λ acl. (entries : List Entry) → IsTallyOf self entries → IsPermutation entries acl) }
     {
-        if self.kept.len() <= MAX_ENTRIES {
-            return Acl::from_vec(self.kept);
-        }
-        Err(AclError::Invalid(self.told_fault()))
+        let kept = self.checked()?;
+        let acl = Acl::from_accepted(kept)?;
+        Ok(acl)
     }
 
-    /// The first fault of more entries than a list may have.
-    fn told_fault(self) -> AclFault
-        requires { 64 < length self.kept }
-        ensures { Some result ≡ find (told_fault self) faults }
+    /// The entries that were kept, where they are all that were taken and make a list; or the first fault of
+    /// those that were taken.
+    fn checked(self) -> Result<Vec<Entry>, AclFault>
+        ensures fault { (entries : List Entry) → IsTallyOf self entries → MatchResult result (λ _. first_fault entries ≡ None) (λ fault. first_fault entries ≡ Some fault) }
+        ensures kept { IfOk result (λ kept. kept.items ≡ self.kept) }
+        ensures accepted { IfOk result (λ kept. IsAccepted kept.items) }
     {
+        let has_twice = self.has_single_twice();
+        let lacks_mask = self.lacks_mask();
+        let (mut users, mut groups) = (self.users, self.groups);
         if self.user_objs == 0 {
-            AclFault::NoUserObj
+            Err(AclFault::NoUserObj)
         } else if self.group_objs == 0 {
-            AclFault::NoGroupObj
+            Err(AclFault::NoGroupObj)
         } else if self.others == 0 {
-            AclFault::NoOther
-        } else if self.user_objs > 1 || self.group_objs > 1 || self.masks > 1 || self.others > 1 {
-            AclFault::TwiceSingle
+            Err(AclFault::NoOther)
+        } else if has_twice {
+            Err(AclFault::TwiceSingle)
+        } else if has_doubled(&mut users) {
+            Err(AclFault::UserTwice)
+        } else if has_doubled(&mut groups) {
+            Err(AclFault::GroupTwice)
+        } else if lacks_mask {
+            Err(AclFault::MaskMissing)
+        } else if self.kept.len() > MAX_ENTRIES {
+            Err(AclFault::TooMany)
         } else {
-            let is_named = !self.users.is_empty() || !self.groups.is_empty();
-            named_fault(self.users, self.groups, is_named && self.masks == 0)
+            Ok(self.kept)
         }
     }
-}
 
-/// The first fault of the users and groups, of the mask, or else that there are too many entries.
-fn named_fault(users: Vec<u32>, groups: Vec<u32>, lacks_mask: bool) -> AclFault
-    ensures { result ≡ (if is_doubled users.items then AclFault.UserTwice
-        else if is_doubled groups.items then AclFault.GroupTwice
-        else if lacks_mask then AclFault.MaskMissing
-        else AclFault.TooMany) }
-{
-    if has_doubled(users) {
-        AclFault::UserTwice
-    } else if has_doubled(groups) {
-        AclFault::GroupTwice
-    } else if lacks_mask {
-        AclFault::MaskMissing
-    } else {
-        AclFault::TooMany
+    /// Whether an entry that can stand only once came more often.
+    fn has_single_twice(&self) -> bool
+        ensures { result ≡ list_any (λ count. nat_lt 1 count) (self.now.user_objs ∷ self.now.group_objs ∷ self.now.masks ∷ self.now.others ∷ []) }
+    {
+        self.user_objs > 1 || self.group_objs > 1 || self.masks > 1 || self.others > 1
+    }
+
+    /// Whether a user or a group came, and no mask.
+    fn lacks_mask(&self) -> bool
+        ensures { result ≡ ((not (length self.now.users == 0) || not (length self.now.groups == 0)) && (self.now.masks == 0)) }
+    {
+        (!self.users.is_empty() || !self.groups.is_empty()) && self.masks == 0
     }
 }
 
-/// Whether a number stands twice.
-fn has_doubled(numbers: Vec<u32>) -> bool
-    ensures { result ≡ is_doubled numbers.items }
+/// Whether a number stands twice. The numbers are sorted where they stand.
+fn has_doubled(numbers: &mut [u32]) -> bool
+    ensures { result ≡ is_doubled numbers.old }
 {
-    let mut sorted = numbers;
-    sorted.sort_unstable();
-    has_neighbours(&sorted)
+    numbers.sort_unstable();
+    has_neighbours(numbers)
 }
 
 /// Whether two neighbours are the same.

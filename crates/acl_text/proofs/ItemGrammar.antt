@@ -21,7 +21,7 @@ use Rattle.acl_text.specs.declared.item.ItemFault.{ItemFault}
 use Rattle.acl_text.specs.declared.item.ItemFault.TheVariants as item
 use Rattle.acl_text.specs.declared.keyword.Keyword.{Keyword}
 use Rattle.acl_text.specs.declared.keyword.Keyword.TheVariants.{User, Group, Mask, Other}
-use Rattle.acl_text.specs.Grammar.{read, write, execute, hyphen, count_of, has, are_permissions, permission_bytes, permission_digit, is_permission_byte, numbered, tag_of, fits_keyword, entry_reading, fields_reading, is_of_default, reading}
+use Rattle.acl_text.specs.Grammar.{letter_r, letter_w, letter_x, hyphen, times_in, stands_in, are_permissions, permission_bytes, permission_digit, is_permission_byte, numbered, tag_of, fits_keyword, entry_reading, fields_reading, is_of_default, reading}
 use Rattle.acl_text.specs.Items.{IsSpaced, Denotes, Says, Grants, IsLong, IsShort, IsLaidOut, IsItemOf, is_single}
 use Rattle.acl_text.specs.Keywords.{word_of, letter_of, keyword_among, keyword_of, single_keyword_of, is_default}
 use Rattle.acl_text.specs.Layout.{colon, is_white, parts, trimmed, fields_of}
@@ -59,53 +59,53 @@ none_counted q (x ∷ xs) none = elim (cases_Bool (q x)) [
   | inr fails ↦ let later = none_counted q xs (rw fails at none) in rw (count_by-cons, fails, later) refl
 ]
 
-once_if_there : (byte : ℕ) (field : List ℕ) → count_of byte field ≤ 1 → count_of byte field ≡ cond (has byte field) 1 0
-once_if_there byte field few = elim (cases_Bool (has byte field)) [
+pub once_if_there : (byte : ℕ) (field : List ℕ) → times_in byte field ≤ 1 → times_in byte field ≡ cond (stands_in byte field) 1 0
+once_if_there byte field few = elim (cases_Bool (stands_in byte field)) [
   | inl some ↦ let one = some_counted (λ b. eqb b byte) field some in rw some (omega (arith, one, few))
   | inr none ↦ rw none (none_counted (λ b. eqb b byte) field none)
 ]
 
-there_if_once : (byte : ℕ) (field : List ℕ) (granted : Bool) → count_of byte field ≡ cond granted 1 0 → has byte field ≡ granted
-there_if_once byte field true one = elim (cases_Bool (has byte field)) [
+pub there_if_once : (byte : ℕ) (field : List ℕ) (granted : Bool) → times_in byte field ≡ cond granted 1 0 → stands_in byte field ≡ granted
+there_if_once byte field true one = elim (cases_Bool (stands_in byte field)) [
   | inl some ↦ some
   | inr none ↦ let zero = none_counted (λ b. eqb b byte) field none in absurd (omega (arith, zero, one))
 ]
-there_if_once byte field false zero = elim (cases_Bool (has byte field)) [
+there_if_once byte field false zero = elim (cases_Bool (stands_in byte field)) [
   | inl some ↦ let one = some_counted (λ b. eqb b byte) field some in absurd (omega (arith, zero, one))
   | inr none ↦ none
 ]
 
-few_if_once : (n : ℕ) (granted : Bool) → n ≡ cond granted 1 0 → n ≤ 1
+pub few_if_once : (n : ℕ) (granted : Bool) → n ≡ cond granted 1 0 → n ≤ 1
 few_if_once n true one = omega (arith, one)
 few_if_once n false zero = omega (arith, zero)
 
-pub grants_from_test : (field : List ℕ) → are_permissions field ≡ true → Grants field (has read field) (has write field) (has execute field)
+pub grants_from_test : (field : List ℕ) → are_permissions field ≡ true → Grants field (stands_in letter_r field) (stands_in letter_w field) (stands_in letter_x field)
 grants_from_test field all =
-    let both = and_parts (list_all is_permission_byte field && list_all (λ byte. leb (count_of byte field) 1) permission_bytes) (leb (count_of hyphen field) 3) all in
-    let known = and_parts (list_all is_permission_byte field) (list_all (λ byte. leb (count_of byte field) 1) permission_bytes) both.0 in
-    let r = and_parts (leb (count_of read field) 1) _ known.1 in
-    let w = and_parts (leb (count_of write field) 1) _ r.1 in
-    let x = and_parts (leb (count_of execute field) 1) _ w.1 in
+    let both = and_parts (list_all is_permission_byte field && list_all (λ byte. leb (times_in byte field) 1) permission_bytes) (leb (times_in hyphen field) 3) all in
+    let known = and_parts (list_all is_permission_byte field) (list_all (λ byte. leb (times_in byte field) 1) permission_bytes) both.0 in
+    let r = and_parts (leb (times_in letter_r field) 1) _ known.1 in
+    let w = and_parts (leb (times_in letter_w field) 1) _ r.1 in
+    let x = and_parts (leb (times_in letter_x field) 1) _ w.1 in
     record {
       known = known.0;
-      r = once_if_there read field (leb-true (count_of read field) 1 r.0);
-      w = once_if_there write field (leb-true (count_of write field) 1 w.0);
-      x = once_if_there execute field (leb-true (count_of execute field) 1 x.0);
-      hyphens = leb-true (count_of hyphen field) 3 both.1;
+      r = once_if_there letter_r field (leb-true (times_in letter_r field) 1 r.0);
+      w = once_if_there letter_w field (leb-true (times_in letter_w field) 1 w.0);
+      x = once_if_there letter_x field (leb-true (times_in letter_x field) 1 x.0);
+      hyphens = leb-true (times_in hyphen field) 3 both.1;
     }
 
 pub test_from_grants : (field : List ℕ) (reads writes executes : Bool) → Grants field reads writes executes → are_permissions field ≡ true
 test_from_grants field reads writes executes granted =
-    let few = λ (byte : ℕ) (given : Bool) (is : count_of byte field ≡ cond given 1 0). le-leb (count_of byte field) 1 (few_if_once (count_of byte field) given is) in
-    and_from (list_all is_permission_byte field && list_all (λ byte. leb (count_of byte field) 1) permission_bytes) (leb (count_of hyphen field) 3)
-    (and_from (list_all is_permission_byte field) (list_all (λ byte. leb (count_of byte field) 1) permission_bytes) granted.known
-    (and_from _ _ (few read reads granted.r) (and_from _ _ (few write writes granted.w) (and_from _ _ (few execute executes granted.x) refl))))
-    (le-leb (count_of hyphen field) 3 granted.hyphens)
+    let few = λ (byte : ℕ) (given : Bool) (is : times_in byte field ≡ cond given 1 0). le-leb (times_in byte field) 1 (few_if_once (times_in byte field) given is) in
+    and_from (list_all is_permission_byte field && list_all (λ byte. leb (times_in byte field) 1) permission_bytes) (leb (times_in hyphen field) 3)
+    (and_from (list_all is_permission_byte field) (list_all (λ byte. leb (times_in byte field) 1) permission_bytes) granted.known
+    (and_from _ _ (few letter_r reads granted.r) (and_from _ _ (few letter_w writes granted.w) (and_from _ _ (few letter_x executes granted.x) refl))))
+    (le-leb (times_in hyphen field) 3 granted.hyphens)
 
 pub digit_from_grants : (field : List ℕ) (reads writes executes : Bool) → Grants field reads writes executes → permission_digit field ≡ digit_of reads writes executes
 digit_from_grants field reads writes executes granted =
-    let there = λ (byte : ℕ) (given : Bool) (is : count_of byte field ≡ cond given 1 0). there_if_once byte field given is in
-    λ i. digit_of (there read reads granted.r i) (there write writes granted.w i) (there execute executes granted.x i)
+    let there = λ (byte : ℕ) (given : Bool) (is : times_in byte field ≡ cond given 1 0). there_if_once byte field given is in
+    λ i. digit_of (there letter_r reads granted.r i) (there letter_w writes granted.w i) (there letter_x executes granted.x i)
 
 -- whom a qualifier names
 named : (r : Result ℕ ItemFault) (f : ℕ → Tag) (t : Tag) → result_map_both f (λ fault. fault) r ≡ Ok t → (id : ℕ) × (r ≡ Ok id) × (f id ≡ t)
@@ -360,9 +360,9 @@ written_by_parts names e bytes (a ∷ b ∷ []) joined h =
       long = false;
       qualifier = [];
       permissions = p;
-      reads = has read p;
-      writes = has write p;
-      executes = has execute p;
+      reads = stands_in letter_r p;
+      writes = stands_in letter_w p;
+      executes = stands_in letter_x p;
       says = says_from names it.keyword [] it.whom it.fits it.tagged;
       grants = grants_from_test p it.permissions;
       laid_out = (single_found _ _ it.keyword it.is_keyword, record { first = a; last = b; of_word = subst (λ w. IsSpaced w a) chosen.1 (spaced_by_trimming a); of_permissions = spaced_by_trimming b; is = sym joined });
@@ -381,9 +381,9 @@ written_by_parts names e bytes (a ∷ b ∷ c ∷ []) joined h =
       long = true;
       qualifier = q;
       permissions = p;
-      reads = has read p;
-      writes = has write p;
-      executes = has execute p;
+      reads = stands_in letter_r p;
+      writes = stands_in letter_w p;
+      executes = stands_in letter_x p;
       says = says_from names it.keyword q it.whom it.fits it.tagged;
       grants = grants_from_test p it.permissions;
       laid_out = record { first = a; second = b; third = c; of_word = subst (λ w. IsSpaced w a) chosen.1 (spaced_by_trimming a); of_qualifier = spaced_by_trimming b; of_permissions = spaced_by_trimming c; is = sym joined };

@@ -1,6 +1,6 @@
 -- The entries that a text spells, after acl(5), "ACL TEXT FORMS", and the faults of a text that spells
 -- none. What is said of an item is said of its fields.
-use Rattle.std.specs.Prelude.{ℕ, ◌==◌, nat_le, Bool, false, ◌&&◌, ◌||◌, if◌then◌else◌, List, [], ◌∷◌, length, count_by, Option, None, Some, Result, Ok, Err}
+use Rattle.std.specs.Prelude.{◌≡◌, ℕ, ◌==◌, nat_le, Bool, true, false, ◌&&◌, ◌||◌, if◌then◌else◌, List, [], ◌∷◌, length, count_by, Option, None, Some, Result, Ok, Err}
 use Rattle.std.specs.Char.{is_ascii_digit}
 use Rattle.std.specs.List.{list_all, list_any}
 use Rattle.std.specs.Option.{ok_or}
@@ -12,6 +12,7 @@ use Rattle.acl_core.specs.Entries.{entry_of}
 use Rattle.acl_core.specs.Permissions.{digit_of}
 use Rattle.acl_text.specs.declared.item.ItemFault.{ItemFault}
 use Rattle.acl_text.specs.declared.item.ItemFault.TheVariants as item
+use Rattle.acl_text.specs.declared.item.Letters.{Letters}
 use Rattle.acl_text.specs.declared.keyword.Keyword.{Keyword}
 use Rattle.acl_text.specs.declared.keyword.Keyword.TheVariants.{User, Group, Mask, Other}
 use Rattle.acl_text.specs.Layout.{fields_of, is_white}
@@ -20,27 +21,27 @@ use Rattle.acl_text.specs.Qualifiers.{is_name_byte, id_of}
 use Rattle.acl_text.specs.Tables.{Tables, number_in}
 
 -- how often a byte stands in a field, and whether it does
-abbrev pub count_of : ℕ → List ℕ → ℕ
-count_of byte field = count_by (λ b. b == byte) field
+abbrev pub times_in : ℕ → List ℕ → ℕ
+times_in byte field = count_by (λ b. b == byte) field
 
-abbrev pub has : ℕ → List ℕ → Bool
-has byte field = list_any (λ b. b == byte) field
+abbrev pub stands_in : ℕ → List ℕ → Bool
+stands_in byte field = list_any (λ b. b == byte) field
 
 -- the bytes of permissions
-abbrev pub read : ℕ
-read = 114
+abbrev pub letter_r : ℕ
+letter_r = 114
 
-abbrev pub write : ℕ
-write = 119
+abbrev pub letter_w : ℕ
+letter_w = 119
 
-abbrev pub execute : ℕ
-execute = 120
+abbrev pub letter_x : ℕ
+letter_x = 120
 
 abbrev pub hyphen : ℕ
 hyphen = 45
 
 abbrev pub permission_bytes : List ℕ
-permission_bytes = read ∷ write ∷ execute ∷ []
+permission_bytes = letter_r ∷ letter_w ∷ letter_x ∷ []
 
 abbrev pub is_permission_byte : ℕ → Bool
 is_permission_byte byte = list_any (λ b. byte == b) permission_bytes || (byte == hyphen)
@@ -49,12 +50,20 @@ is_permission_byte byte = list_any (λ b. byte == b) permission_bytes || (byte =
 abbrev pub are_permissions : List ℕ → Bool
 are_permissions field =
     list_all is_permission_byte field
-    && list_all (λ byte. nat_le (count_of byte field) 1) permission_bytes
-    && nat_le (count_of hyphen field) 3
+    && list_all (λ byte. nat_le (times_in byte field) 1) permission_bytes
+    && nat_le (times_in hyphen field) 3
+
+-- these letters were read of some bytes, which are permissions
+pub record IsReadOf (letters : Letters) (front : List ℕ) : Type 0 where
+  pub known : are_permissions front ≡ true
+  pub reads : letters.reads ≡ stands_in letter_r front
+  pub writes : letters.writes ≡ stands_in letter_w front
+  pub executes : letters.executes ≡ stands_in letter_x front
+  pub hyphens : letters.hyphens ≡ times_in hyphen front
 
 -- as an octal digit
 abbrev pub permission_digit : List ℕ → ℕ
-permission_digit field = digit_of (has read field) (has write field) (has execute field)
+permission_digit field = digit_of (stands_in letter_r field) (stands_in letter_w field) (stands_in letter_x field)
 
 -- whether a field can be the qualifier of an entry: empty for the mask and for all others
 abbrev pub fits_keyword : Keyword → List ℕ → Bool

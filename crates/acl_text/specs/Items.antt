@@ -12,7 +12,7 @@ use Rattle.acl_core.specs.Entries.{entry_of}
 use Rattle.acl_core.specs.Permissions.{digit_of}
 use Rattle.acl_text.specs.declared.keyword.Keyword.{Keyword}
 use Rattle.acl_text.specs.declared.keyword.Keyword.TheVariants.{User, Group, Mask, Other}
-use Rattle.acl_text.specs.Grammar.{read, write, execute, hyphen, is_permission_byte, count_of}
+use Rattle.acl_text.specs.Grammar.{letter_r, letter_w, letter_x, hyphen, is_permission_byte, times_in}
 use Rattle.acl_text.specs.Keywords.{word_of, letter_of}
 use Rattle.acl_text.specs.Layout.{colon, is_white}
 use Rattle.acl_text.specs.Qualifiers.{is_name_byte, most_id}
@@ -45,10 +45,10 @@ Says names tag.Other keyword qualifier = (keyword ≡ Other) × (qualifier ≡ [
 -- permissions: a letter for each that is granted, and up to three hyphens, in any order
 pub record Grants (permissions : List ℕ) (reads writes executes : Bool) : Type 0 where
   pub known : list_all is_permission_byte permissions ≡ true
-  pub r : count_of read permissions ≡ (if reads then 1 else 0)
-  pub w : count_of write permissions ≡ (if writes then 1 else 0)
-  pub x : count_of execute permissions ≡ (if executes then 1 else 0)
-  pub hyphens : count_of hyphen permissions ≤ 3
+  pub r : times_in letter_r permissions ≡ (if reads then 1 else 0)
+  pub w : times_in letter_w permissions ≡ (if writes then 1 else 0)
+  pub x : times_in letter_x permissions ≡ (if executes then 1 else 0)
+  pub hyphens : times_in hyphen permissions ≤ 3
 
 -- the three fields with their colons; the mask and all others may do without the second field and its colon
 pub record IsLong (word qualifier permissions item : List ℕ) : Type 0 where

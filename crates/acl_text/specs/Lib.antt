@@ -4,7 +4,6 @@ pub mod Qualifiers
 pub mod Tables
 pub mod Keywords
 pub mod Grammar
-pub mod Letters
 pub mod Faults
 pub mod Texts
 pub mod Writing

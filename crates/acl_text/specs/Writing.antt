@@ -8,6 +8,8 @@ use Rattle.acl_core.specs.declared.entry.Entry.{Entry}
 use Rattle.acl_core.specs.declared.perms.Perms.{Perms}
 use Rattle.acl_core.specs.Permissions.{read, write, execute, has, has_all}
 use Rattle.acl_core.specs.Tags.{same_tag}
+use Rattle.acl_text.specs.Grammar.{letter_r, letter_w, letter_x, hyphen}
+use Rattle.acl_text.specs.Layout.{line_feed}
 
 -- whom an entry is about, with both colons
 abbrev pub tag_text : Tag → List ℕ
@@ -20,7 +22,7 @@ tag_text Other = codes "other::"
 
 -- r, w and x, with a hyphen for each that is absent
 abbrev pub letters : (ℕ → Bool) → List ℕ
-letters granted = (if granted read then 114 else 45) ∷ (if granted write then 119 else 45) ∷ (if granted execute then 120 else 45) ∷ []
+letters granted = (if granted read then letter_r else hyphen) ∷ (if granted write then letter_w else hyphen) ∷ (if granted execute then letter_x else hyphen) ∷ []
 
 abbrev pub permission_text : Perms → List ℕ
 permission_text perms = letters (has perms)
@@ -51,7 +53,7 @@ mask_of list = option_map (λ e. e.perms) (find (λ e. same_tag e.tag Mask) list
 
 -- the long text: one entry a line
 abbrev pub line_text : Option Perms → Entry → List ℕ
-line_text mask entry = entry_text entry ++ remark mask entry ++ 10 ∷ []
+line_text mask entry = entry_text entry ++ remark mask entry ++ line_feed ∷ []
 
 abbrev pub canonical : List Entry → List ℕ
 canonical list = flat_map (line_text (mask_of list)) list

@@ -1,9 +1,9 @@
 //! Texts cut into items, and items into fields.
 
-ghost use Rattle.std.specs.Prelude.{◌≡◌, ◌==◌, ◌≤◌, ◌∷◌, ◌++◌, length};
-ghost use Rattle.std.specs.List.{flat_map, list_all, position_or_len, prefix_len, suffix_len};
+ghost use Rattle.std.specs.Prelude.{◌≡◌, ◌==◌, ◌≤◌, ◌∷◌, length};
+ghost use Rattle.std.specs.List.{list_all, position_or_len, prefix_len, suffix_len};
 ghost use Rattle.std.specs.Iterator.{YieldsFirstRef, item_count};
-ghost use Rattle.acl_text.specs.Layout.{parts, parts_left, uncommented, is_white, trimmed, items_of, items_of_line, comma, line_feed};
+ghost use Rattle.acl_text.specs.Layout.{parts, parts_left, uncommented, is_white, trimmed, items_of, line_feed};
 
 use memchr::memchr;
 
@@ -15,26 +15,13 @@ fn place_of(bytes: &[u8], byte: u8) -> usize
     bytes.iter().take_while(|b| **b != byte).count()
 }
 
-/// The same, where it may be far away.
-fn far_place_of(bytes: &[u8], byte: u8) -> usize
-    ensures place { result ≡ position_or_len (λ b. b == byte) bytes.now }
-    ensures within { result ≤ length bytes.now }
-{
-    match memchr(byte, bytes) {
-        Some(place) => place,
-        None => bytes.len(),
-    }
-}
-
-/// A text's first line, and what stands after its end where it has one.
+/// A text's first line, and what stands after its end where it has one. The end may be far away.
 fn cut_line(text: &[u8]) -> (&[u8], Option<&[u8]>)
     ensures { parts line_feed text.now ≡ result.0.now ∷ parts_left line_feed result.1 }
 {
-    let place = far_place_of(text, b'\n');
-    if place < text.len() {
-        (&text[..place], Some(&text[place + 1..]))
-    } else {
-        (text, None)
+    match memchr(b'\n', text) {
+        Some(place) => (&text[..place], Some(&text[place + 1..])),
+        None => (text, None),
     }
 }
 
@@ -54,7 +41,10 @@ pub(crate) fn cut(bytes: &[u8], separator: u8) -> (&[u8], Option<&[u8]>)
 fn uncommented(line: &[u8]) -> &[u8]
     ensures { result.now ≡ uncommented line.now }
 {
-    &line[..far_place_of(line, b'#')]
+    match memchr(b'#', line) {
+        Some(place) => &line[..place],
+        None => line,
+    }
 }
 
 fn is_white(byte: u8) -> bool

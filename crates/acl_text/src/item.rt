@@ -1,16 +1,15 @@
 //! One item of a list's text.
 
-ghost use Rattle.std.specs.Prelude.{◌≡◌, ◌≤◌, ℕ, List, ◌∷◌, map, None, Err, IfSome, MatchOption, if◌then◌else◌, option_map};
+ghost use Rattle.std.specs.Prelude.{◌≡◌, ℕ, false, List, [], ◌∷◌, ◌++◌, map, Err, MatchOption, if◌then◌else◌};
 ghost use Rattle.std.specs.List.{list_all};
-ghost use Rattle.acl_text.specs.Layout.{colon, is_white, parts_left, trimmed};
-ghost use Rattle.acl_text.specs.Grammar.{entry_reading, fields_reading, fits_keyword, numbered, reading, tag_of};
-ghost use Rattle.acl_text.specs.Letters.{granted, granted_after, granted_by};
+ghost use Rattle.acl_text.specs.Layout.{colon, parts_left, trimmed};
+ghost use Rattle.acl_text.specs.Grammar.{IsReadOf, are_permissions, entry_reading, fields_reading, fits_keyword, numbered, reading, tag_of};
 ghost use Rattle.acl_text.specs.Qualifiers.{is_name_byte};
 
 use crate::cut::{cut, is_blank, trimmed};
 use crate::keyword::{Keyword, is_default};
 use crate::names::{NameTable, Names};
-use crate::qualifier::{Digits, is_qualifier, number_in};
+use crate::qualifier::{Digits, digits_in, is_qualifier};
 use acl_core::{Entry, Tag};
 
 /// What keeps an item from being an entry.
@@ -33,37 +32,32 @@ pub(crate) struct Letters {
 
 /// One byte more of permissions: each letter once at most, in any order, and three hyphens at most.
 fn with_byte(letters: Letters, byte: u8) -> Option<Letters>
-    ensures few { IfSome result (λ next. letters.hyphens ≤ 3 → next.hyphens ≤ 3) }
-    ensures rest { (rest : List ℕ) → MatchOption result (granted_after letters (byte ∷ rest) ≡ None) (λ next. granted_after letters (byte ∷ rest) ≡ granted_after next rest) }
+    ensures { (front : List ℕ) → IsReadOf letters front → MatchOption result (are_permissions (front ++ byte ∷ []) ≡ false) (λ next. IsReadOf next (front ++ byte ∷ [])) }
 {
-    if byte == b'r' && !letters.reads {
-        Some(Letters {
+    match byte {
+        b'r' if !letters.reads => Some(Letters {
             reads: true,
             ..letters
-        })
-    } else if byte == b'w' && !letters.writes {
-        Some(Letters {
+        }),
+        b'w' if !letters.writes => Some(Letters {
             writes: true,
             ..letters
-        })
-    } else if byte == b'x' && !letters.executes {
-        Some(Letters {
+        }),
+        b'x' if !letters.executes => Some(Letters {
             executes: true,
             ..letters
-        })
-    } else if byte == b'-' && letters.hyphens < 3 {
-        Some(Letters {
+        }),
+        b'-' if letters.hyphens < 3 => Some(Letters {
             hyphens: letters.hyphens + 1,
             ..letters
-        })
-    } else {
-        None
+        }),
+        _ => None,
     }
 }
 
 /// The permissions that a field is, if it is some.
 fn permissions(field: &[u8]) -> Option<Letters>
-    ensures { option_map granted result ≡ granted_by field.now }
+    ensures { MatchOption result (are_permissions field.now ≡ false) (λ letters. IsReadOf letters field.now) }
 {
     let mut letters = Letters {
         reads: false,
@@ -81,7 +75,7 @@ fn permissions(field: &[u8]) -> Option<Letters>
 fn numbered(qualifier: &[u8], table: &NameTable) -> Result<u32, ItemFault>
     ensures { result ≡ (if list_all is_name_byte qualifier.now then numbered table.now qualifier.now else Err ItemFault.Syntax) }
 {
-    match number_in(qualifier) {
+    match digits_in(qualifier) {
         Digits::Number(id) => Ok(id),
         Digits::TooBig => Err(ItemFault::NumberTooBig),
         Digits::Other if is_qualifier(qualifier) => {
@@ -118,10 +112,12 @@ fn read_entry(
     let (Some(keyword), Some(letters)) = (keyword, permissions(field)) else {
         return Err(ItemFault::Syntax);
     };
-    match tag(keyword, qualifier, names) {
-        Ok(tag) => Ok(Entry::new(tag, letters.reads, letters.writes, letters.executes)),
-        Err(fault) => Err(fault),
-    }
+    tag(keyword, qualifier, names).map(|tag| Entry::new(
+        tag,
+        letters.reads,
+        letters.writes,
+        letters.executes,
+    ))
 }
 
 /// The entry of a word and the fields after it.

@@ -1,6 +1,6 @@
 //! The words that begin an item.
 
-ghost use Rattle.std.specs.Prelude.{◌≡◌, []};
+ghost use Rattle.std.specs.Prelude.{◌≡◌};
 ghost use Rattle.acl_text.specs.Keywords.{is_default, keyword_of, single_keyword_of};
 
 /// The kind of entry that an item is about.

@@ -4,8 +4,7 @@ ghost use Rattle.std.specs.Prelude.{◌≡◌, ◌+◌, ◌*◌, ◌^◌, ◌<�
 ghost use Rattle.std.specs.Char.{is_ascii_digit};
 ghost use Rattle.std.specs.List.{list_all};
 ghost use Rattle.std.specs.Option.{SomeIff};
-ghost use Rattle.acl_text.specs.Letters.{AreDigits};
-ghost use Rattle.acl_text.specs.Qualifiers.{is_name_byte, id_of};
+ghost use Rattle.acl_text.specs.Qualifiers.{AreDigits, is_name_byte, id_of};
 
 /// Whether a byte may stand in a name: printing, and without a meaning of its own in a list's text.
 fn is_name_byte(byte: u8) -> bool
@@ -39,8 +38,8 @@ pub(crate) enum Digits {
     Other,
 }
 
-/// What some bytes are as digits.
-pub(crate) fn number_in(bytes: &[u8]) -> Digits
+/// The number that digits write, or why there is none.
+pub(crate) fn digits_in(bytes: &[u8]) -> Digits
     ensures { AreDigits result bytes.now }
 {
     let mut number: u32 = 0;

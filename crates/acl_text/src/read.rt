@@ -30,7 +30,7 @@ pub enum TextFault {
     #[error("item {0} is of a default list")]
     DefaultEntry(usize),
     /// The entries are no valid list.
-    #[error("the entries are no valid list: {0:?}")]
+    #[error("the entries are no valid list: {0}")]
     Invalid(AclFault),
     /// Memory ran out.
     #[error("out of memory")]

@@ -1,7 +1,6 @@
 //! Lists written as text.
 
-ghost use Rattle.std.specs.Prelude.{◌≡◌, ◌==◌, ◌++◌, codes, decimal, ◌∷◌, [], List, ℕ, take, IfOk, OnOk, OnErr, if◌then◌else◌};
-ghost use Rattle.acl_core.specs.Permissions.{has};
+ghost use Rattle.std.specs.Prelude.{◌≡◌, ◌==◌, ◌++◌, codes, decimal, ◌∷◌, List, ℕ, take, IfOk, OnOk, OnErr, if◌then◌else◌};
 ghost use Rattle.acl_text.specs.Writing.{canonical, common_text, entry_text, is_limited, line_text, mask_of, permission_text, remark, short_text, tag_text};
 ghost use Rattle.acl_text.specs.Tables.{Tables};
 ghost use Rattle.acl_text.specs.Texts.{Spells};

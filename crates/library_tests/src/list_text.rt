@@ -26,8 +26,8 @@ fn same(rt: &impl Abort, got: &[u8], want: &str, about: &str) {
 
 /// Texts, each with its list or its fault.
 static TEXTS: &str = "
- = the entries are no valid list: NoUserObj
-u::rw,u:1001:r,g::r,o::- = the entries are no valid list: MaskMissing
+ = the entries are no valid list: there is no entry for the owner
+u::rw,u:1001:r,g::r,o::- = the entries are no valid list: there is an entry for a user or a group, and no mask
 u::rw,u:1001:r,g::r,o::-,m::r = user::rw-,user:1001:r--,group::r--,mask::r--,other::---
 u::rw,u:1001:r,g::r,o::-,m:r = user::rw-,user:1001:r--,group::r--,mask::r--,other::---
 u::rw,u:lisa:r,g::r,o:,m:r = user::rw-,user:1001:r--,group::r--,mask::r--,other::---

@@ -1,30 +1,30 @@
-use Rattle.std.proofs.Common.{◌≡◌, ◌∙◌, Some, Ok, ap, sym, option_map}
-use Rattle.std.specs.Result.{result_map_both}
+use Rattle.std.proofs.Common.{◌≡◌, ◌∙◌, false, Result, Ok, Err, ap, sym, rules}
+use Rattle.std.proofs.lemmas.Option.{MatchOption-at_some}
+use Rattle.std.specs.Result.{IsOkAnd, MatchResult, result_map_both}
 use Rattle.acl_core.specs.Entries.{entry_of}
 use Rattle.acl_core.specs.Permissions.{digit_of}
+use Rattle.acl_core.specs.declared.entry.Entry.{Entry}
 use Rattle.acl_core.specs.declared.entry.Tag.{Tag}
-use Rattle.acl_text.specs.Grammar.{entry_reading}
-use Rattle.acl_text.specs.Letters.{granted, granted_by}
+use Rattle.acl_text.specs.declared.item.ItemFault.{ItemFault}
+use Rattle.acl_text.specs.Grammar.{IsReadOf, are_permissions, entry_reading}
 use Rattle.acl_text.proofs.Granting.{entry_by}
 use Rattle.acl_text.proofs.item.read_entry.Goals as goal
 
-pub returns-in-Ok : goal.returns-in-Ok
-returns-in-Ok c =
-    let letters = c.in-Some-Some.letters in
-    let field = c.args.field.now in
-    let given : granted_by field ≡ Some (granted letters) = sym c.permissions.ensures ∙ ap (option_map granted) c.in-Some-Some.is-1 in
-    let entry = λ (tag : Tag). entry_of tag (digit_of letters.reads letters.writes letters.executes) in
-    ap Ok c.new.ensures
-    ∙ sym (ap (λ keyword. entry_reading c.args.names.now keyword c.args.qualifier.now field) c.in-Some-Some.is-0
-    ∙ entry_by c.args.names.now c.in-Some-Some.keyword c.args.qualifier.now field (granted letters) given
-    ∙ ap (result_map_both entry (λ fault. fault)) (sym c.tag.ensures ∙ c.in-Ok.is))
+-- what a closure makes of a tag
+mapped : {P : Tag → Entry → Type 0} (found : Result Tag ItemFault) (made : Result Entry ItemFault) (entry : Tag → Entry)
+    → MatchResult found (λ tag. IsOkAnd made (P tag)) (λ fault. made ≡ Err fault) → ((tag : Tag) (e : Entry) → P tag e → e ≡ entry tag)
+    → made ≡ result_map_both entry (λ fault. fault) found
+mapped (Ok tag) (Ok e) entry cases is = ap Ok (is tag e cases)
+mapped (Ok tag) (Err fault) entry cases is = absurd cases
+mapped (Err fault) made entry cases is = cases
 
-pub returns-in-Err : goal.returns-in-Err
-returns-in-Err c =
+pub returns : goal.returns
+returns c =
     let letters = c.in-Some-Some.letters in
     let field = c.args.field.now in
-    let given : granted_by field ≡ Some (granted letters) = sym c.permissions.ensures ∙ ap (option_map granted) c.in-Some-Some.is-1 in
+    let is : IsReadOf letters field = MatchOption-at_some (are_permissions field ≡ false) (λ found. IsReadOf found field) letters c.in-Some-Some.is-1 c.permissions.ensures in
     let entry = λ (tag : Tag). entry_of tag (digit_of letters.reads letters.writes letters.executes) in
-    sym (ap (λ keyword. entry_reading c.args.names.now keyword c.args.qualifier.now field) c.in-Some-Some.is-0
-    ∙ entry_by c.args.names.now c.in-Some-Some.keyword c.args.qualifier.now field (granted letters) given
-    ∙ ap (result_map_both entry (λ fault. fault)) (sym c.tag.ensures ∙ c.in-Err.is))
+    mapped c.tag.result c.map.result entry c.map.ensures.cases (λ tag e post. search rules)
+    ∙ ap (result_map_both entry (λ fault. fault)) c.tag.ensures
+    ∙ sym (ap (λ keyword. entry_reading c.args.names.now keyword c.args.qualifier.now field) c.in-Some-Some.is-0
+    ∙ entry_by c.args.names.now c.in-Some-Some.keyword c.args.qualifier.now field letters is)

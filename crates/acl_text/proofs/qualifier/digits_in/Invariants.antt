@@ -3,7 +3,7 @@ use Rattle.std.specs.Char.{is_ascii_digit}
 use Rattle.std.specs.List.{list_all}
 use Rattle.std.specs.Str.Parse.{digits_value}
 use Rattle.acl_text.specs.Qualifiers.{most_id}
-use Rattle.acl_text.proofs.qualifier.number_in.Given as goal
+use Rattle.acl_text.proofs.qualifier.digits_in.Given as goal
 
 -- the number that the digits so far write
 abbrev pub invariant-loop-byte : goal.invariant-loop-byte

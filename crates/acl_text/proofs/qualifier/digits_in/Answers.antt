@@ -5,7 +5,7 @@ use Rattle.std.proofs.lemmas.Grind.{common_steps}
 use Rattle.std.proofs.lemmas.List.Folds.{list_all_more}
 use Rattle.acl_text.specs.Qualifiers.{most_id}
 use Rattle.acl_text.proofs.Numbers.{number_more, too_big}
-use Rattle.acl_text.proofs.qualifier.number_in.Goals as goal
+use Rattle.acl_text.proofs.qualifier.digits_in.Goals as goal
 
 pub unfit-requires : goal.unfit-requires
 unfit-requires c =

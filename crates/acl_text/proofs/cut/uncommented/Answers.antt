@@ -1,0 +1,11 @@
+use Rattle.std.proofs.Common.{take, ap, sym, take_all, arith}
+use Rattle.acl_text.proofs.Splits.{first_place, no_place}
+use Rattle.acl_text.proofs.cut.uncommented.Goals as goal
+
+pub returns-in-Some : goal.returns-in-Some
+returns-in-Some c = ap (λ n. take n c.args.line.now) (first_place 35 c.args.line.now c.in-Some.place c.in-Some.ensures).0
+
+pub returns-in-None : goal.returns-in-None
+returns-in-None c =
+    let none = no_place 35 c.args.line.now c.in-None.ensures in
+    sym (take_all _ c.args.line.now (omega (arith, none)))
