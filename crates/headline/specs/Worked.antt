@@ -1,5 +1,5 @@
 -- Runs in which the promise says something.
-use Rattle.std.specs.Prelude.{◌≡◌, ℕ, List, [], ◌∷◌, ◌++◌, option_map, Option, Some, None, Ok, Err}
+use Rattle.std.specs.Prelude.{◌≡◌, ℕ, List, [], ◌∷◌, ◌++◌, map, option_map, Option, Some, None, Ok, Err}
 use Rattle.acl_core.specs.declared.entry.Entry.{Entry}
 use Rattle.acl_core.specs.declared.check.Decider.TheVariants.{Other}
 use Rattle.acl_core.specs.Modes.{minimal_list}
@@ -18,6 +18,7 @@ use Rattle.file_ops.specs.Rows as rows
 use Rattle.file_ops.specs.Rows.{row_of}
 use Rattle.file_ops.specs.Walks.{to_read}
 use Rattle.weak_cache.specs.Entries.{Entry as Kept, entry_of}
+use Rattle.txn_core.specs.declared.ending.Ending.TheVariants.{Answered}
 use Rattle.txn_core.specs.declared.job.Job.TheVariants.{Transaction}
 use Rattle.txn_core.specs.Runs.{settings, owner, other, a, op}
 use Rattle.run_core.specs.declared.event.Event.{Event}
@@ -26,8 +27,11 @@ use Rattle.run_core.specs.Worlds.{Actor, actor_at, audit_of}
 use Rattle.run_core.specs.Runs.{run}
 use Rattle.run_core.specs.Decisions.{Decided, decisions}
 use Rattle.run_core.specs.TableOfRun.{table_of, AnswersAreTheTables}
-use Rattle.run_laws.specs.Worked.{so_many, make_a, read_a}
+use Rattle.run_laws.specs.Numbers.{begins_at}
+use Rattle.run_laws.specs.Claims.{ended}
+use Rattle.run_laws.specs.Worked.{so_many, make_a, read_a, ending_in}
 use Rattle.one_table.specs.Effects.{copy_at}
+use Rattle.headline.specs.Premises.{CanBe}
 
 -- ---- a permission is taken away, and old copies remain
 
@@ -87,9 +91,13 @@ revoked_decisions =
     ∷ record { t = 129; caller = other; ops = read_a; answer = Err denial }
     ∷ record { t = 193; caller = owner; ops = read_a; answer = Ok (answer.Read (0 ∷ []) ∷ []) } ∷ []
 
--- The old list and the old bytes are at a server and in a cache when the last two requests come, and at the server still when they are answered;
--- one is denied, and the other answered the new bytes, as the one table has them.
+-- The change is answered before the last two requests begin. The old list and the old bytes are at a server and in a cache when they come, and at the
+-- server still when they are answered; one is denied, and the other answered the new bytes, as the one table has them.
 pub record SomeRunRevokes : Type 0 where
+  pub can_be : CanBe with_caches revoked
+  pub ends : map ending_in (ended with_caches closed) ≡
+      (0, Answered (answer.Made 1 ∷ answer.Wrote ∷ [])) ∷ (1, Answered (answer.Read (104 ∷ 105 ∷ []) ∷ [])) ∷ (65, Answered (answer.Read (104 ∷ 105 ∷ []) ∷ [])) ∷ (64, Answered (answer.Wrote ∷ answer.Set ∷ [])) ∷ []
+  pub begins : begins_at with_caches (run with_caches closed) (Begin 1 (Transaction other 0 read_a)) ≡ Some 129
   pub stale_copy : list_and_content (copy_at with_caches closed 1 0) ≡ old
   pub stale_hint_and_content : cached (actor_at (run with_caches closed) 1) ≡ Some old
   pub in_order : decisions with_caches revoked ≡ revoked_decisions
@@ -136,6 +144,7 @@ version_and_votes copy = (copy.prefix.pver, copy.prefix.votes)
 
 -- The prefix with the old votes was in effect at an old server; now a quorum of the old votes has the new one, and so have the new servers, with the content.
 pub record SomeRunMovesVotes : Type 0 where
+  pub can_be : CanBe six_servers moved
   pub before : version_and_votes (copy_at six_servers made 1 0) ≡ (1, six_servers.c0)
   pub old_servers : (version_and_votes (copy_at six_servers moved 1 0) ≡ (2, new_votes)) × (version_and_votes (copy_at six_servers moved 1 1) ≡ (2, new_votes))
   pub new_servers : (copy_at six_servers moved 1 3 ≡ copy_at six_servers moved 1 4) × (version_and_votes (copy_at six_servers moved 1 3) ≡ (2, new_votes)) × ((copy_at six_servers moved 1 3).content ≡ Bytes (104 ∷ 105 ∷ []))
