@@ -1,9 +1,9 @@
 //! What holds of every run that there can be: it is answered as one table answers it.
 //!
-//! There is no code here but laws. Which runs there can be stands in `specs/Premises`, and the laws in `specs/Laws`. What
-//! holds together event by event stands in `proofs/Together` and `proofs/Keeping`, what is owed at each decision in
-//! `proofs/Owing`, and that operations leave what they do not set in `proofs/Fair`. What all this promises of a world is
-//! [`promise`].
+//! There is no code here but laws. Which runs there can be stands in `specs/Premises`, what is promised of each in
+//! `specs/Promises`, and the laws in `specs/Laws`. What holds together event by event stands in `proofs/Together` and
+//! `proofs/Keeping`, what is owed at each decision in `proofs/Owing`, and that operations leave what they do not set in
+//! `proofs/Fair`. What all this promises of a world is [`promise`].
 #![tactic(auto)]
 
 mod promises;
