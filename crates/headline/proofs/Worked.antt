@@ -1,15 +1,21 @@
 -- They can be, and the rest holds by computation.
-use Rattle.std.proofs.Common.{◌≡◌, ℕ, ◌<◌, Bool, true, List, [], ◌∷◌, Option, Some, None, is_some, refl, sym, ap, subst, arith, lit<}
+use Rattle.std.proofs.Common.{◌≡◌, inl, inr, ℕ, ◌<◌, Bool, true, List, [], ◌∷◌, Option, Some, None, is_some, refl, sym, ap, subst, arith, lit<}
 use Rattle.std.specs.Prelude.{nat_lt, ◌&&◌, not}
 use Rattle.std.specs.List.{AllByRecursion, list_all}
 use Rattle.std.proofs.lemmas.Bool.{and_parts, false≢true}
 use Rattle.std.proofs.lemmas.Bool.Decides.{nat_tests}
 use Rattle.std.proofs.lemmas.List.Elements.{All-from_recursion}
+use Rattle.acl_core.specs.Modes.{minimal_list}
 use Rattle.vote_core.specs.declared.fault.VotesFault.{VotesFault}
 use Rattle.vote_core.specs.Quorums.{Configuration, Representative}
 use Rattle.vote_core.specs.Validity.{IsValid, first_fault}
 use Rattle.vote_core.proofs.Faults.{accepted_without_fault}
 use Rattle.suite_prefix.specs.SettingsRules.{IsAccepted}
+use Rattle.suite_prefix.specs.declared.lock_mode.LockMode.TheVariants.{Shared}
+use Rattle.suite_prefix.specs.declared.copies.Prefix.{Prefix}
+use Rattle.suite_prefix.specs.declared.copies.PrefixKind.TheVariants.{File}
+use Rattle.rep_core.specs.declared.request.Request.TheVariants as request
+use Rattle.rep_core.specs.declared.reply.Reply.TheVariants as reply
 use Rattle.file_ops.specs.declared.operation.Action.{Action}
 use Rattle.file_ops.specs.declared.operation.Action.TheVariants as action
 use Rattle.file_ops.specs.declared.operation.Op.{Op}
@@ -21,7 +27,7 @@ use Rattle.run_core.specs.declared.event.Event.TheVariants.{Begin, Step, Crash, 
 use Rattle.run_core.specs.Decisions.{decisions}
 use Rattle.run_core.specs.TableOfRun.{table_after_all, AnswersAreTheTables}
 use Rattle.headline.specs.Premises.{GivesValidVotes, EventGivesValidVotes, VotesAreValid}
-use Rattle.headline.specs.Worked.{with_caches, revoked, revoked_decisions, SomeRunRevokes, six_servers, moved, moved_decisions, SomeRunMovesVotes}
+use Rattle.headline.specs.Worked.{with_caches, revoked, revoked_decisions, SomeRunRevokes, six_servers, moved, moved_decisions, SomeRunMovesVotes, upgraded, SomeRunHoldsLocks}
 
 -- ---- valid votes, by a test
 
@@ -140,4 +146,34 @@ some_run_moves_votes = record {
   in_order = moved_in_order;
   answers = subst (AnswersAreTheTables (rows.opening six_servers)) (sym moved_in_order) (refl, (refl, (refl, tt)));
   row = ap (λ ds. row_of (table_after_all (rows.opening six_servers) ds).rows 1) moved_in_order;
+}
+
+-- ---- locks
+
+held_a : Prefix
+held_a = record { pver = 1; kind = File; owner = 1000; group = 100; acl = minimal_list 420; votes = six_servers.c0 }
+
+pub some_run_holds_locks : SomeRunHoldsLocks
+unfolding held_a
+some_run_holds_locks = record {
+  can_be = record { accepted = six_accepted; c0 = first_votes; votes = valid_events upgraded refl };
+  shared = record {
+    what = record { server = 0; request = record { stamp = 13; value = request.Poll 64 1 Shared }; reply = record { stamp = 14; value = reply.Held held_a 1 } };
+    served = refl;
+    at = refl;
+    asked = inl refl;
+    prefix = held_a;
+    dver = 1;
+    told = refl;
+  };
+  exclusive = record {
+    what = record { server = 0; request = record { stamp = 16; value = request.Upgrade 64 1 }; reply = record { stamp = 17; value = reply.Held held_a 1 } };
+    served = refl;
+    at = refl;
+    asked = inr (refl, refl);
+    prefix = held_a;
+    dver = 1;
+    told = refl;
+  };
+  decision = refl;
 }

@@ -1,11 +1,15 @@
 -- The laws of this crate: what holds of every run that there can be, whatever the order of its events.
-use Rattle.std.specs.Prelude.{◌≡◌, ℕ, Bool, true, List, ◌∷◌, ◌++◌, Some}
+use Rattle.std.specs.Prelude.{◌≡◌, ◌⊎◌, ℕ, Bool, true, ◌&&◌, List, ◌∷◌, ◌++◌, Some}
+use Rattle.std.specs.List.{list_any}
 use Rattle.suite_prefix.specs.SettingsRules.{Opening}
 use Rattle.suite_prefix.specs.declared.copies.Prefix.{Prefix}
 use Rattle.suite_prefix.specs.declared.lock_mode.LockMode.{LockMode}
-use Rattle.rep_core.specs.declared.request.Request.TheVariants.{Poll}
+use Rattle.suite_prefix.specs.declared.lock_mode.LockMode.TheVariants.{Exclusive}
+use Rattle.suite_prefix.specs.LockModes.{serves}
+use Rattle.rep_core.specs.declared.request.Request.{Request}
+use Rattle.rep_core.specs.declared.request.Request.TheVariants.{Poll, Upgrade}
 use Rattle.rep_core.specs.declared.reply.Reply.TheVariants.{Held}
-use Rattle.rep_core.specs.Locks.{has_lock}
+use Rattle.rep_core.specs.Locks.{is_own}
 use Rattle.file_ops.specs.Rows as rows
 use Rattle.file_ops.specs.Rows.{Row, row_of}
 use Rattle.txn_core.specs.Suites.{First, Suite, suite_of}
@@ -62,28 +66,32 @@ RevocationsAreMet = (given : Opening) (events : List Event) → CanBe given even
 
 -- ---- locks
 
--- in this event a server told the transaction that it has a lock on the suite there
-pub record TellsOfLock (given : Opening) (events : List Event) (event : Event) (t suite server : ℕ) : Type 0 where
+-- a lock in this mode is asked for: in a Poll, or in an Upgrade, which makes a lock exclusive
+abbrev pub AsksForLock : ℕ → ℕ → LockMode → Request → Type 0
+AsksForLock t suite mode asked = (asked ≡ Poll t suite mode) ⊎ ((asked ≡ Upgrade t suite) × (mode ≡ Exclusive))
+
+-- in this event a server told the transaction that it has a lock on the suite there in this mode
+pub record TellsOfLock (given : Opening) (events : List Event) (event : Event) (t suite : ℕ) (mode : LockMode) (server : ℕ) : Type 0 where
   pub what : Served
   pub served : (step (fixed_of given) (run given events) event).done.served ≡ Some what
   pub at : what.server ≡ server
-  pub mode : LockMode
-  pub asked : what.request.value ≡ Poll t suite mode
+  pub asked : AsksForLock t suite mode what.request.value
   pub prefix : Prefix
   pub dver : ℕ
   pub told : what.reply.value ≡ Held prefix dver
 
--- whether a server has a lock of the transaction on the suite, after these events
-abbrev pub has_lock_after : Opening → List Event → ℕ → ℕ → ℕ → Bool
-has_lock_after given events t suite server = has_lock t suite (servers_of given (run given events) server).locks
+-- whether a server has a lock of the transaction on the suite, in this mode or a stronger one, after these events
+abbrev pub has_lock_after : Opening → List Event → ℕ → ℕ → LockMode → ℕ → Bool
+has_lock_after given events t suite mode server = list_any (λ lock. is_own t suite lock && serves lock.mode mode) (servers_of given (run given events) server).locks
 
--- Where a transaction is decided, each lock that it was told of has stood after every event since, whatever fell down and whoever swept.
+-- Where a transaction is decided, each lock that it was told of has stood after every event since, in the mode of which it was told or a stronger one,
+-- whatever fell down and whoever swept.
 abbrev pub LocksStand : Type 0
 LocksStand =
-    (given : Opening) (events : List Event) (event : Event) (later : List Event) (number : ℕ) (one : Decided) (suite server : ℕ) → CanBe given (events ++ event ∷ later)
-    → TellsOfLock given events event one.t suite server
+    (given : Opening) (events : List Event) (event : Event) (later : List Event) (number : ℕ) (one : Decided) (suite : ℕ) (mode : LockMode) (server : ℕ) → CanBe given (events ++ event ∷ later)
+    → TellsOfLock given events event one.t suite mode server
     → decided (fixed_of given) (run given (events ++ event ∷ later)) (Step number) ≡ Some one
-    → (between after : List Event) → later ≡ between ++ after → has_lock_after given (events ++ event ∷ between) one.t suite server ≡ true
+    → (between after : List Event) → later ≡ between ++ after → has_lock_after given (events ++ event ∷ between) one.t suite mode server ≡ true
 
 -- ---- what is in effect
 

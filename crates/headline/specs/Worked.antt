@@ -8,6 +8,7 @@ use Rattle.suite_content.specs.declared.content.Content.{Content}
 use Rattle.suite_content.specs.declared.content.Content.TheVariants.{Bytes}
 use Rattle.suite_prefix.specs.declared.copies.Replica.{Replica}
 use Rattle.suite_prefix.specs.SettingsRules.{Opening}
+use Rattle.suite_prefix.specs.declared.lock_mode.LockMode.TheVariants.{Shared, Exclusive}
 use Rattle.file_ops.specs.declared.answer.Answer.TheVariants as answer
 use Rattle.file_ops.specs.declared.audit.AuditItem.{AuditItem}
 use Rattle.file_ops.specs.declared.operation.Action.TheVariants as action
@@ -20,18 +21,20 @@ use Rattle.file_ops.specs.Walks.{to_read}
 use Rattle.weak_cache.specs.Entries.{Entry as Kept, entry_of}
 use Rattle.txn_core.specs.declared.ending.Ending.TheVariants.{Answered}
 use Rattle.txn_core.specs.declared.job.Job.TheVariants.{Transaction}
+use Rattle.txn_core.specs.Agents.{fixed_of}
 use Rattle.txn_core.specs.Runs.{settings, owner, other, a, op}
 use Rattle.run_core.specs.declared.event.Event.{Event}
-use Rattle.run_core.specs.declared.event.Event.TheVariants.{Begin, Crash, Return}
+use Rattle.run_core.specs.declared.event.Event.TheVariants.{Begin, Step, Crash, Return}
 use Rattle.run_core.specs.Worlds.{Actor, actor_at, audit_of}
 use Rattle.run_core.specs.Runs.{run}
-use Rattle.run_core.specs.Decisions.{Decided, decisions}
+use Rattle.run_core.specs.Decisions.{Decided, decided, decisions}
 use Rattle.run_core.specs.TableOfRun.{table_of, AnswersAreTheTables}
 use Rattle.run_laws.specs.Numbers.{begins_at}
 use Rattle.run_laws.specs.Claims.{ended}
 use Rattle.run_laws.specs.Worked.{so_many, make_a, read_a, ending_in}
 use Rattle.one_table.specs.Effects.{copy_at}
 use Rattle.headline.specs.Premises.{CanBe}
+use Rattle.headline.specs.Laws.{TellsOfLock}
 
 -- ---- a permission is taken away, and old copies remain
 
@@ -151,3 +154,28 @@ pub record SomeRunMovesVotes : Type 0 where
   pub in_order : decisions six_servers moved ≡ moved_decisions
   pub answers : AnswersAreTheTables (rows.opening six_servers) (decisions six_servers moved)
   pub row : row_of (table_of six_servers moved).rows 1 ≡ Some (record { owner = 1000; group = 100; acl = minimal_list 420; votes = new_votes; content = Bytes (104 ∷ 105 ∷ []) })
+
+-- ---- locks are told of, and stand
+
+-- read /a ; write /a 00
+abbrev pub rewrite_a : List Op
+rewrite_a = op a action.Read ∷ op a (action.Write (0 ∷ [])) ∷ []
+
+-- up to a Poll of the file, at its first server; and on up to the Upgrade of that lock
+abbrev pub before_poll : List Event
+before_poll = made ++ Begin 0 (Transaction owner 0 rewrite_a) ∷ so_many 3 0
+
+abbrev pub before_upgrade : List Event
+before_upgrade = before_poll ++ so_many 3 0
+
+-- then the other server's Upgrade and two Prepares; and the first server falls down, and is back
+abbrev pub upgraded : List Event
+upgraded = before_upgrade ++ Step 0 ∷ so_many 3 0 ++ Crash 0 ∷ Return 0 ∷ []
+
+-- The transaction is told of a shared lock there, and then of an exclusive one; it is decided in the next step.
+pub record SomeRunHoldsLocks : Type 0 where
+  pub can_be : CanBe six_servers upgraded
+  pub shared : TellsOfLock six_servers before_poll (Step 0) 64 1 Shared 0
+  pub exclusive : TellsOfLock six_servers before_upgrade (Step 0) 64 1 Exclusive 0
+  pub decision : decided (fixed_of six_servers) (run six_servers upgraded) (Step 0) ≡
+      Some (record { t = 64; caller = owner; ops = rewrite_a; answer = Ok (answer.Read (104 ∷ 105 ∷ []) ∷ answer.Wrote ∷ []) })

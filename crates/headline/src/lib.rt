@@ -12,7 +12,7 @@ mod witnesses;
 ghost use Rattle.headline.specs.Laws.{AnswersAreTheTables, AuditIsTheDenials, AnsweredBefore, RevocationsAreMet, LocksStand, InEffectInEveryQuorum, ReplacedIsKnown, RowsAreTheRegisters, KnowledgeWas, AgentsKeepSides, FirstsAreGiven};
 
 pub use promises::{decided_as_begun, promise, votes_are_valid};
-pub use witnesses::{some_run_moves_votes, some_run_revokes};
+pub use witnesses::{some_run_holds_locks, some_run_moves_votes, some_run_revokes};
 
 /// A law: every run is answered as one unreplicated table answers it that takes the decided transactions one at a time, in
 /// the order of their decisions. It does nothing.
@@ -37,7 +37,8 @@ pub fn revocations_are_met()
     ensures { RevocationsAreMet }
 {}
 
-/// A law: where a transaction is decided, each lock that it was told of has stood after every event since. It does nothing.
+/// A law: where a transaction is decided, each lock that it was told of has stood after every event since, in that mode or a
+/// stronger one. It does nothing.
 pub fn locks_stand()
     ensures { LocksStand }
 {}
