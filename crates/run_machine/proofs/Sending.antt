@@ -23,12 +23,11 @@ use Rattle.rep_core.proofs.Finding.{find_some}
 use Rattle.rep_core.proofs.IntentionLookups.{get_has}
 use Rattle.suite_collect.specs.Telling.{newest, holds}
 use Rattle.suite_collect.specs.Collecting.{Collector, needed, got, all_told, wanted, request_for, Asked, Poll, Upgrade, Next, Ask, Current, Short, next, is_left, counted, is_member, members_of, version, asked_of, ask_or_short}
-use Rattle.txn_core.specs.Suites.{First, Suite, Suites, suite_of, holds_lock, holds_exclusively}
+use Rattle.txn_core.specs.Suites.{First, Suite, Suites, suite_of, holds_lock, holds_exclusively, told_in, told_at}
 use Rattle.txn_core.specs.Writing.{change_of, new_copy, new_prefix, sets_prefix, has_vote, takes_whole, take_of_changed, take_from, part_of, parts_at}
 use Rattle.txn_core.specs.Doing.{Fixed, Task, home_of, Outcome, Phase, Gathering, Fetching, Widening, Preparing, Deciding, Finishing}
 use Rattle.txn_core.specs.Transactions.{asked_by, asked_for, fetched_at, fetched_for, request_in, changes_of, decision_of}
 use Rattle.txn_core.proofs.Asks.{asks_same}
-use Rattle.txn_core.proofs.Locks.{told_in, told_at}
 use Rattle.suite_machine.specs.Registers.{Beginning, Change, Entry}
 use Rattle.suite_machine.specs.Machine.{World, Told, Verdict, Answered, Refused, Aborted}
 use Rattle.suite_machine.specs.Events.{Event, happens, decided}
