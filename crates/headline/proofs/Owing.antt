@@ -1,4 +1,4 @@
--- What is owed where a transaction decides holds, from what holds together and what is left to be shown there.
+-- What is owed where a transaction decides holds, from what holds together and what holds beside it.
 use Rattle.std.proofs.Common.{◌≡◌, inl, inr, ℕ, IsTrue, Option, Some, None, Ok, Err, refl, sym, ap, subst, ◌∙◌}
 use Rattle.std.proofs.lemmas.Bool.{false≢true}
 use Rattle.suite_prefix.specs.SettingsRules.{Opening}

@@ -18,7 +18,7 @@ pub fn servers_are_consistent()
     ensures { ServersAreConsistent }
 {}
 
-/// A law: in every run agents keep to their side, but for what is left in `specs/Owed`. It does nothing.
+/// A law: in every run agents keep to their side, but for what is in `specs/Owed`. It does nothing.
 pub fn sides_are_kept()
     ensures { SidesAreKept }
 {}
