@@ -233,9 +233,6 @@ decision_told start z w task suites (Finishing servers v ending) = refl
 
 -- ---- the agent's side
 
-same_poll : (t u s y : ℕ) (m n : LockMode) → request.Poll t s m ≡ request.Poll u y n → s ≡ y
-same_poll t u s y m n is = cc
-
 module _ (start : Beginning) (z : ℕ) (home : ℕ → ℕ) (locks : List Lock) (w : World) (fixed : Fixed) (task : Task) (suites : Suites) (server : ℕ) (ordered : IsOrdered nat_cmp suites) (told : ToldAs z w task.t suites) where
   asks_lock : (number : ℕ) (asked : Request) (decision : Event) → asked_for task number (suite_of suites number) ≡ Some (server, asked) → AgentSide start z home decision server locks w asked
   asks_lock number asked decision is =
