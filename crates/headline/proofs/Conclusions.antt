@@ -1,19 +1,23 @@
 -- A change that was answered is met by every request that begins later: the laws of runs, joined.
-use Rattle.std.proofs.Common.{◌≡◌, ⊎_elim, List, [], ◌∷◌, ◌++◌, ap, subst}
+use Rattle.std.proofs.Common.{◌≡◌, ◌<◌, ⊎_elim, List, [], ◌∷◌, ◌++◌, sym, ap, subst}
+use Rattle.std.specs.Prelude.{Contains, Ok}
 use Rattle.rep_core.proofs.Members.{Has, has_from}
 use Rattle.file_ops.specs.Rows as rows
 use Rattle.file_ops.specs.Rows.{PlainTable}
 use Rattle.file_ops.specs.Transactions.{replies}
-use Rattle.run_core.specs.declared.event.Event.TheVariants.{Begin}
 use Rattle.run_core.specs.Decisions.{Decided, decisions}
 use Rattle.run_core.specs.TableOfRun as table
 use Rattle.run_core.specs.TableOfRun.{played_on, table_with, table_after_all}
+use Rattle.run_laws.specs.Numbers.{number_of}
+use Rattle.run_laws.specs.Claims.{StandsBefore, IsMet}
 use Rattle.run_laws.proofs.Conclusions as of_runs
 use Rattle.run_laws.proofs.Begun.{changes_are_met}
 use Rattle.run_knowledge.proofs.Events as knowledge
+use Rattle.one_table.specs.Effects.{copy_at, HasOne}
 use Rattle.one_table.proofs.Running as tables
 use Rattle.one_table.proofs.Running.{answers_are_one_tables, audit_is_one_tables}
 use Rattle.one_table.proofs.Effects as effects
+use Rattle.headline.specs.Premises.{CanBe}
 use Rattle.headline.specs.Laws.{AnswersAreTheTables, AuditIsTheDenials, AnsweredBefore, RevocationsAreMet, InEffectInEveryQuorum, ReplacedIsKnown, RowsAreTheRegisters, KnowledgeWas, AgentsKeepSides}
 use Rattle.headline.proofs.Keeping.{all_keep}
 
@@ -26,13 +30,18 @@ pub audit_is_the_denials : AuditIsTheDenials
 audit_is_the_denials given events can = (audit_is_one_tables given events (all_keep given events can), of_runs.audit_is_the_denials given can.accepted events)
 
 pub answered_before : AnsweredBefore
-answered_before given events later job first second can = of_runs.answered_before given can.accepted events later job first second
+answered_before given events can before later job first second is there number not_begun decided =
+    subst (λ all. Contains (decisions given all) first → StandsBefore (decisions given all) first second) (sym is)
+    (of_runs.answered_before given can.accepted before later job first second there number not_begun) decided
 
 pub in_effect_in_every_quorum : InEffectInEveryQuorum
 in_effect_in_every_quorum given events can = effects.rows_are_in_effect given events (all_keep given events can)
 
 pub replaced_is_known : ReplacedIsKnown
-replaced_is_known given events later can = effects.replaced_is_known given events later (all_keep given (events ++ later) can)
+replaced_is_known given events can before later z server other set is quorum newer =
+    let copy = copy_at given before z server in
+    subst (λ all. copy.prefix.pver < (copy_at given all z other).prefix.pver → HasOne given all z set (λ one. copy.prefix.pver < one.prefix.pver)) (sym is)
+    (effects.replaced_is_known given before later (all_keep given (before ++ later) (subst (CanBe given) is can)) z server other set quorum) newer
 
 pub rows_are_the_registers : RowsAreTheRegisters
 rows_are_the_registers given events can = tables.rows_are_the_registers given events (all_keep given events can)
@@ -65,9 +74,11 @@ answer_at plain [] one after answers = answers.0
 answer_at plain (d ∷ before) one after answers = answer_at (table_with plain d) before one after answers.1
 
 pub revocations_are_met : RevocationsAreMet
-revocations_are_met given events later job answers agent t asked request can there ending begins same stands =
-    let all = decisions given (events ++ Begin agent asked ∷ later) in
-    let met = changes_are_met given can.accepted events later job answers agent t asked request there ending begins same in
+revocations_are_met given events can before later job answers agent t asked request is there ending begins same stands =
+    let all = decisions given events in
+    let met =
+    subst (λ events. IsMet (decisions given events) (number_of job) (Ok answers) request) (sym is)
+    (changes_are_met given can.accepted before later job answers agent t asked request there ending begins same) in
     let at = stands_at all request (has_from all request stands) in
     record {
       before = at.before;
@@ -77,5 +88,5 @@ revocations_are_met given events later job answers agent t asked request can the
       there = met.before at.before at.after at.parts;
       of_it = met.of_it;
       answered = met.answered;
-      answers = answer_at (rows.opening given) at.before request at.after (subst (table.AnswersAreTheTables (rows.opening given)) at.parts (answers_are_the_tables given (events ++ Begin agent asked ∷ later) can));
+      answers = answer_at (rows.opening given) at.before request at.after (subst (table.AnswersAreTheTables (rows.opening given)) at.parts (answers_are_the_tables given events can));
     }

@@ -1,16 +1,15 @@
--- What is owed where a transaction decides holds, from what holds together and what is left to be shown there.
+-- What is owed where a transaction decides holds, from what holds together and what holds beside it.
 use Rattle.std.proofs.Common.{◌≡◌, inl, inr, ℕ, IsTrue, Option, Some, None, Ok, Err, refl, sym, ap, subst, ◌∙◌}
 use Rattle.std.proofs.lemmas.Bool.{false≢true}
 use Rattle.suite_prefix.specs.SettingsRules.{Opening}
 use Rattle.file_exec.specs.declared.changes.Change as executor
 use Rattle.suite_collect.specs.Collecting.{all_told}
-use Rattle.txn_core.specs.Suites.{First, Suite, suite_of}
+use Rattle.txn_core.specs.Suites.{First, Suite, suite_of, told_in}
 use Rattle.txn_core.specs.Writing.{change_of, part_of}
 use Rattle.txn_core.specs.Doing.{Fixed, Outcome, Deciding, Course, Running}
 use Rattle.txn_core.specs.Transactions.{changes_of}
 use Rattle.txn_core.specs.Agents.{Agent, fixed_of, is_idle}
 use Rattle.txn_core.specs.Laws.{IsReady}
-use Rattle.txn_core.proofs.Locks.{told_in}
 use Rattle.txn_core.proofs.Quorums.{decides_on_quorums}
 use Rattle.run_core.specs.Worlds as worlds
 use Rattle.run_core.specs.Worlds.{Actor, actor_at}
@@ -22,7 +21,8 @@ use Rattle.run_machine.specs.Deciding.{known_by, change_to, written_from, first_
 use Rattle.run_machine.specs.Owed.{OwesKnown, OwesWritten, OwesWith, OwesFirst, Owes, Owed}
 use Rattle.run_machine.proofs.Jobs.{IdleOr}
 use Rattle.run_knowledge.proofs.Decided.{suite_was, known_prefix, known_content, newest_prefix}
-use Rattle.run_quorums.specs.Telling.{Agrees, told_to, DoingAgrees}
+use Rattle.run_machine.specs.Telling.{told_to}
+use Rattle.run_quorums.specs.Telling.{Agrees, DoingAgrees}
 use Rattle.run_quorums.specs.Fairness.{IsFair, PreparedPart}
 use Rattle.run_quorums.proofs.Known.{valid_was, knows_from_a_quorum}
 use Rattle.run_quorums.proofs.Written.{writes_to_quorums}

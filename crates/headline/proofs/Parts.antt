@@ -18,7 +18,7 @@ use Rattle.rep_core.specs.Fits.{is_prepared}
 use Rattle.rep_core.proofs.Members.{Has}
 use Rattle.suite_collect.specs.Telling.{holds}
 use Rattle.weak_cache.specs.Entries.{Cache}
-use Rattle.txn_core.specs.Suites.{Suite, Suites, suite_of, holds_lock}
+use Rattle.txn_core.specs.Suites.{Suite, Suites, suite_of, holds_lock, told_in, told_at}
 use Rattle.txn_core.specs.Writing.{part_of, parts_at}
 use Rattle.txn_core.specs.declared.word.Word.{Word}
 use Rattle.txn_core.specs.declared.word.Word.TheVariants.{Replied, Lacked}
@@ -30,7 +30,6 @@ use Rattle.txn_core.specs.Doing.{Changes, Fixed, Task, Outcome, Phase, Gathering
 use Rattle.txn_core.specs.Transactions.{execute, tell_end, give_up, prepare, locked_at, changes_of, lack_cause, verdict_in, ending_by, cause_of_abort}
 use Rattle.txn_core.specs.Sweeps as sweep
 use Rattle.txn_core.specs.Agents.{Agent, next_in, take_in, left}
-use Rattle.txn_core.proofs.Locks.{told_in, told_at}
 use Rattle.suite_machine.specs.Machine.{World}
 use Rattle.suite_machine.proofs.Places.{itself}
 use Rattle.server_moves.specs.Preparing as preparing

@@ -16,8 +16,7 @@ use Rattle.rep_core.specs.Service.{reply_of}
 use Rattle.rep_core.specs.Serving.{answer_of, is_full}
 use Rattle.suite_collect.specs.Telling.{holds}
 use Rattle.suite_prefix.specs.declared.lock_mode.LockMode.TheVariants.{Shared}
-use Rattle.txn_core.proofs.Locks.{told_at}
-use Rattle.txn_core.specs.Suites.{First, Suite, suite_of}
+use Rattle.txn_core.specs.Suites.{First, Suite, suite_of, told_at}
 use Rattle.txn_core.specs.Writing.{part_of, parts_at}
 use Rattle.txn_core.specs.declared.word.Word.{Word}
 use Rattle.txn_core.specs.declared.word.Word.TheVariants.{Replied, Lacked}

@@ -1,24 +1,17 @@
 -- What a world promises, from the laws of its run.
-use Rattle.std.proofs.Common.{◌≡◌, ◌<◌, List, [], ◌∷◌, ◌++◌, sym, ap, subst, ◌∙◌}
-use Rattle.std.specs.Prelude.{Contains, Ok}
+use Rattle.std.proofs.Common.{◌≡◌, List, [], ◌∷◌, ◌++◌, sym, ap, ◌∙◌}
 use Rattle.vote_core.specs.Validity.{IsValid}
 use Rattle.suite_prefix.specs.SettingsRules.{Opening, IsAccepted}
 use Rattle.txn_core.specs.Agents.{fixed_of}
 use Rattle.run_core.specs.declared.event.Event.{Event}
-use Rattle.run_core.specs.declared.event.Event.TheVariants.{Begin}
 use Rattle.run_core.specs.Worlds.{World, opening}
 use Rattle.run_core.specs.Runs.{after}
-use Rattle.run_core.specs.Decisions.{decisions}
 use Rattle.run_core.specs.Opened.{Opened}
 use Rattle.run_core.proofs.Appending.{after-append}
-use Rattle.run_laws.specs.Numbers.{number_of}
-use Rattle.run_laws.specs.Claims.{StandsBefore}
 use Rattle.run_laws.proofs.Conclusions.{decided_once}
-use Rattle.one_table.specs.Effects.{copy_at, HasOne}
 use Rattle.headline.specs.Premises.{CanBe, VotesAreValid}
 use Rattle.headline.proofs.Asked.{are_as_begun}
-use Rattle.headline.specs.Laws.{MeetsChange}
-use Rattle.headline.specs.Promises.{StandInOrder, MeetsChanges, KnowsReplaced, IsPromised, IsRunOf, Promises}
+use Rattle.headline.specs.Promises.{IsPromised, IsRunOf, Promises}
 use Rattle.headline.proofs.Conclusions.{answers_are_the_tables, audit_is_the_denials, answered_before, revocations_are_met, in_effect_in_every_quorum, replaced_is_known}
 
 -- ---- events that can be, and those of them that came first
@@ -48,37 +41,18 @@ goes_on opened events later world so valid is = record {
 
 -- ---- what is promised
 
-module _ (given : Opening) (events : List Event) (can : CanBe given events) where
-  can_so : (all : List Event) → events ≡ all → CanBe given all
-  can_so all is = subst (CanBe given) is can
-
-  in_order : StandInOrder given events
-  in_order before later job first second is there number not_begun decided =
-      subst (λ all. Contains (decisions given all) first → StandsBefore (decisions given all) first second) (sym is)
-      (answered_before given before later job first second (can_so (before ++ later) is) there number not_begun) decided
-
-  changes : MeetsChanges given events
-  changes before later job answers agent t asked request is there answered begins same stands =
-      subst (λ all. Contains (decisions given all) request → MeetsChange given (decisions given all) (number_of job) (Ok answers) request) (sym is)
-      (revocations_are_met given before later job answers agent t asked request (can_so (before ++ Begin agent asked ∷ later) is) there answered begins same) stands
-
-  replaced : KnowsReplaced given events
-  replaced before later z server other set is quorum newer =
-      subst (λ all. (copy_at given before z server).prefix.pver < (copy_at given all z other).prefix.pver → HasOne given all z set (λ copy. (copy_at given before z server).prefix.pver < copy.prefix.pver)) (sym is)
-      (replaced_is_known given before later (can_so (before ++ later) is) z server other set quorum) newer
-
-  pub promised : IsPromised given events
-  promised = record {
-    answers = answers_are_the_tables given events can;
-    begun = are_as_begun given can.accepted events;
-    in_order = in_order;
-    changes = changes;
-    in_effect = in_effect_in_every_quorum given events can;
-    replaced = replaced;
-    once = decided_once given can.accepted events;
-    audits = (audit_is_the_denials given events can).1;
-    audit = (audit_is_the_denials given events can).0;
-  }
+pub promised : (given : Opening) (events : List Event) → CanBe given events → IsPromised given events
+promised given events can = record {
+  answers = answers_are_the_tables given events can;
+  begun = are_as_begun given can.accepted events;
+  in_order = answered_before given events can;
+  changes = revocations_are_met given events can;
+  in_effect = in_effect_in_every_quorum given events can;
+  replaced = replaced_is_known given events can;
+  once = decided_once given can.accepted events;
+  audits = (audit_is_the_denials given events can).1;
+  audit = (audit_is_the_denials given events can).0;
+}
 
 pub promises : (opened : Opened) → Promises opened
 promises opened before later is = promised opened.given before (front opened.given before later is.can_be)

@@ -1,13 +1,14 @@
 -- Where a transaction is decided, the locks that it was told of have stood ever since.
-use Rattle.std.proofs.Common.{◌≡◌, ℕ, Bool, true, false, cond, List, [], ◌∷◌, ◌++◌, append_assoc, Option, Some, None, is_some, refl, sym, ap, subst, ◌∙◌, arith}
-use Rattle.std.specs.Prelude.{◌==◌, ◌||◌, find}
+use Rattle.std.proofs.Common.{◌≡◌, inl, inr, ℕ, Bool, true, false, cond, List, [], ◌∷◌, ◌++◌, append_assoc, Option, Some, None, is_some, refl, sym, ap, subst, ◌∙◌, arith}
+use Rattle.std.specs.Prelude.{◌==◌, ◌&&◌, ◌||◌, find}
 use Rattle.std.specs.List.{list_any}
 use Rattle.std.proofs.lemmas.Bool.{false≢true}
 use Rattle.std.proofs.lemmas.Bool.Decides.{nat_tests}
 use Rattle.std.proofs.lemmas.Option.{none-some, same_Some}
 use Rattle.suite_prefix.specs.SettingsRules.{Opening}
-use Rattle.suite_prefix.specs.LockModes.{is_exclusive}
+use Rattle.suite_prefix.specs.LockModes.{is_exclusive, serves}
 use Rattle.suite_prefix.specs.declared.lock_mode.LockMode.{LockMode}
+use Rattle.suite_prefix.specs.declared.lock_mode.LockMode.TheVariants.{Shared, Exclusive}
 use Rattle.suite_prefix.specs.declared.copies.Prefix.{Prefix}
 use Rattle.rep_core.specs.declared.lock.Lock.{Lock}
 use Rattle.rep_core.specs.declared.request.Request.{Request}
@@ -26,14 +27,16 @@ use Rattle.run_core.specs.declared.event.Event as happening
 use Rattle.run_core.specs.declared.event.Event.TheVariants.{Begin, Step, Crash, Return, Forget, Lack}
 use Rattle.run_core.specs.declared.done.Served.{Served}
 use Rattle.run_core.specs.Worlds as worlds
-use Rattle.run_core.specs.Worlds.{Actor, Stepped, server_at, actor_at, serve, becomes, answered, asks_at, asks, steps_once, lacks_for, lacks, operated, operates, step}
+use Rattle.run_core.specs.Worlds.{Actor, server_at, actor_at, serve, becomes, answered, asks_at, asks, steps_once, lacks_for, lacks, operated, operates, step}
 use Rattle.run_core.specs.Runs as runs
 use Rattle.run_core.specs.Decisions.{Decided, answer_in, decided_as, decided_at, decided_by, decided, task_of, task_at}
 use Rattle.run_laws.specs.Answers.{IsAnsweredAsKnown}
 use Rattle.run_laws.proofs.Answering.{answers_follow_knowledge}
 use Rattle.suite_machine.specs.Registers.{Beginning}
-use Rattle.suite_machine.specs.Machine.{World, begun}
-use Rattle.suite_machine.specs.Events.{Event, Held, run}
+use Rattle.suite_machine.specs.Machine.{Hold, Told, World, begun}
+use Rattle.suite_machine.specs.Events.{Event, Held, Upgrade, upgraded_told, happens, run}
+use Rattle.suite_machine.specs.Conditions.{Obeys}
+use Rattle.suite_machine.proofs.Sound.{Sound}
 use Rattle.suite_machine.proofs.Invariant.{Inv}
 use Rattle.suite_machine.proofs.Knowing.{still_locked}
 use Rattle.suite_machine.proofs.Places.{at2}
@@ -48,72 +51,101 @@ use Rattle.run_machine.proofs.Consistent.{AllConsistent}
 use Rattle.run_machine.proofs.Following.{event_comes}
 use Rattle.run_machine.proofs.Joining.{run-append}
 use Rattle.run_machine.proofs.Servers.{server_there}
-use Rattle.headline.specs.Premises.{VotesAreValid, CanBe}
-use Rattle.headline.specs.Laws.{LocksStand}
-use Rattle.headline.proofs.Unbroken.{told_stays, stood}
+use Rattle.headline.specs.Premises.{CanBe}
+use Rattle.headline.specs.Laws.{AsksForLock, TellsOfLock, LocksStand}
+use Rattle.headline.proofs.Unbroken.{told_stays, stood, ToldMode, HoldsMode, mode_some, mode_stays, AllAsTold, as_told, holds_mode}
 use Rattle.headline.proofs.Beside.{is_ready_now}
 use Rattle.headline.proofs.Keeping.{holds_after, all_keep}
+use Rattle.headline.proofs.Promised.{front}
 
 -- ---- what the event told
 
-module _ (given : Opening) (z : ℕ) (w : World) (world : worlds.World) (t : ℕ) (mode : LockMode) (prefix : Prefix) (dver : ℕ) where
+obeys_first : (start : Beginning) (w : World) (first later : List Event) → Obeys start w (first ++ later) → Obeys start w first × Obeys start (run start w first) later
+obeys_first start w [] later obeys = (tt, obeys)
+obeys_first start w (event ∷ first) later obeys =
+    let rest = obeys_first start (happens start w event) first later obeys.1 in
+    ((obeys.0, rest.0), rest.1)
+
+-- it is told of an upgraded lock of which it was told before
+upgraded_now : (w : World) → Sound w → (wanted : Bool) (i t : ℕ) (lock : Hold) → w.lock i t ≡ Some lock → ToldMode wanted (upgraded_told (w.told i t))
+upgraded_now w sound wanted i t lock stands = of (w.told i t) refl
+  where
+    of : (o : Option Told) → w.told i t ≡ o → ToldMode wanted (upgraded_told o)
+    of (Some told) is = λ _. refl
+    of None is = absurd (none-some lock (sym (sound.asked i t is) ∙ stands))
+
+module _ (given : Opening) (z : ℕ) (w : World) (sound : Sound w) (world : worlds.World) (t : ℕ) (mode : LockMode) (prefix : Prefix) (dver : ℕ) where
   abbrev start : Beginning
   start = beginning z given
+
+  abbrev IsTold : World → ℕ → Type 0
+  IsTold w server = ToldMode (is_exclusive mode) (w.told server t)
 
   self : (n : ℕ) → (n == n) ≡ true
   self n = grind (arith, nat_tests)
 
-  told_first : (decision : Event) (i : ℕ) → is_some ((run start w (moves z (home_in given) decision i w (request.Poll t z mode) (reply.Held prefix dver))).told i t) ≡ true
-  told_first decision i =
-      subst (λ b. is_some ((run start w (cond b (Held i t (is_exclusive mode) ∷ []) [])).told i t) ≡ true) (sym (self z))
-      (at2 (λ o. is_some o ≡ true) w.told i t _ i t (λ _. refl) (λ other. absurd (other (refl, refl))))
+  -- what Held is to the machine
+  abbrev held_moves : Event → ℕ → Request → List Event
+  held_moves decision i asked = moves z (home_in given) decision i w asked (reply.Held prefix dver)
 
-  told_served : (doing : Option Doing) (what : Served) (later : List Event) → what.request.value ≡ request.Poll t z mode → what.reply.value ≡ reply.Held prefix dver → is_some ((run start w (served_events given z w doing what ++ later)).told what.server t) ≡ true
-  told_served doing what later asked said =
+  told_held : (decision : Event) (i : ℕ) (asked : Request) → AsksForLock t z mode asked → Obeys start w (held_moves decision i asked) → IsTold (run start w (held_moves decision i asked)) i
+  told_held decision i asked (inl polled) obeys =
+      subst (λ asked. IsTold (run start w (held_moves decision i asked)) i) (sym polled)
+      (subst (λ b. IsTold (run start w (cond b (Held i t (is_exclusive mode) ∷ []) [])) i) (sym (self z))
+      (at2 (ToldMode (is_exclusive mode)) w.told i t _ i t (λ _ is. is) (λ other. absurd (other (refl, refl)))))
+  told_held decision i asked (inr raised) obeys =
+      let may = subst (λ b. Obeys start w (cond b (Upgrade i t ∷ []) [])) (self z) (subst (λ asked. Obeys start w (held_moves decision i asked)) raised.0 obeys) in
+      subst (λ asked. IsTold (run start w (held_moves decision i asked)) i) (sym raised.0)
+      (subst (λ b. IsTold (run start w (cond b (Upgrade i t ∷ []) [])) i) (sym (self z))
+      (at2 (ToldMode (is_exclusive mode)) w.told i t (upgraded_told (w.told i t)) i t (λ _. upgraded_now w sound (is_exclusive mode) i t may.0.lock may.0.stands) (λ other. absurd (other (refl, refl)))))
+
+  told_once : (doing : Option Doing) (what : Served) → AsksForLock t z mode what.request.value → what.reply.value ≡ reply.Held prefix dver → Obeys start w (served_events given z w doing what) → IsTold (run start w (served_events given z w doing what)) what.server
+  told_once doing what asked said obeys =
+      let decision = decision_by z w doing in
+      subst (λ said. IsTold (run start w (moves z (home_in given) decision what.server w what.request.value said)) what.server) (sym said)
+      (told_held decision what.server what.request.value asked (subst (λ said. Obeys start w (moves z (home_in given) decision what.server w what.request.value said)) said obeys))
+
+  told_served : (doing : Option Doing) (what : Served) (later : List Event) → AsksForLock t z mode what.request.value → what.reply.value ≡ reply.Held prefix dver → Obeys start w (served_events given z w doing what ++ later)
+      → IsTold (run start w (served_events given z w doing what ++ later)) what.server
+  told_served doing what later asked said obeys =
       let first = served_events given z w doing what in
-      subst (λ (w : World). is_some (w.told what.server t) ≡ true) (sym (run-append start w first later))
-      (told_stays start (run start w first) later what.server t
-      (subst (λ asked. is_some ((run start w (moves z (home_in given) (decision_by z w doing) what.server w asked what.reply.value)).told what.server t) ≡ true) (sym asked)
-      (subst (λ said. is_some ((run start w (moves z (home_in given) (decision_by z w doing) what.server w (request.Poll t z mode) said)).told what.server t) ≡ true) (sym said)
-      (told_first (decision_by z w doing) what.server))))
+      let parts = obeys_first start w first later obeys in
+      subst (λ w. IsTold w what.server) (sym (run-append start w first later))
+      (mode_stays start (run start w first) later parts.1 (is_exclusive mode) what.server t (told_once doing what asked said parts.0))
 
-  abbrev IsTold : Option Served → List Event → Type 0
-  IsTold served events = (what : Served) → served ≡ Some what → what.request.value ≡ request.Poll t z mode → what.reply.value ≡ reply.Held prefix dver → is_some ((run start w events).told what.server t) ≡ true
+  abbrev TellsIt : Option Served → List Event → Type 0
+  TellsIt served events =
+      (what : Served) → served ≡ Some what → AsksForLock t z mode what.request.value → what.reply.value ≡ reply.Held prefix dver → Obeys start w events → IsTold (run start w events) what.server
 
-  at_served : (number : ℕ) (actor : Actor) (st : State) (what : Option Served) → IsTold (answered (fixed_of given) world number actor st what).done.served (answered_events given z w actor what)
-  at_served number actor st (Some this) what is asked said =
-      let same = same_Some this what is in
-      subst (λ (it : Served). is_some ((run start w (answered_events given z w actor (Some this))).told it.server t) ≡ true) same
-      (told_served actor.agent.doing this (word_events given z actor (Replied this.reply.value)) (ap (λ (it : Served). it.request.value) same ∙ asked) (ap (λ (it : Served). it.reply.value) same ∙ said))
-  at_served number actor st None what is asked said = absurd (none-some what is)
+  at_served : (number : ℕ) (actor : Actor) (st : State) (what : Option Served) → TellsIt (answered (fixed_of given) world number actor st what).done.served (answered_events given z w actor what)
+  at_served number actor st (Some this) what is =
+      subst
+      (λ (it : Served). AsksForLock t z mode it.request.value → it.reply.value ≡ reply.Held prefix dver → Obeys start w (answered_events given z w actor (Some this)) → IsTold (run start w (answered_events given z w actor (Some this))) it.server)
+      (same_Some this what is) (told_served actor.agent.doing this (word_events given z actor (Replied this.reply.value)))
+  at_served number actor st None what is = absurd (none-some what is)
 
-  at_server : (number : ℕ) (actor : Actor) (asked : ℕ × Request) (found : Option State) → IsTold (asks_at (fixed_of given) world number actor asked found).done.served (asked_at_events given z w actor asked found)
+  at_server : (number : ℕ) (actor : Actor) (asked : ℕ × Request) (found : Option State) → TellsIt (asks_at (fixed_of given) world number actor asked found).done.served (asked_at_events given z w actor asked found)
   at_server number actor asked (Some st) = at_served number actor st (serve asked.0 st (record { stamp = actor.stamp; value = asked.1 }))
-  at_server number actor asked None = λ what is _ said. absurd (none-some what is)
+  at_server number actor asked None = λ what is. absurd (none-some what is)
 
-  at_asked : (number : ℕ) (actor : Actor) (asked : Option (ℕ × Request)) → IsTold (asks (fixed_of given) world number actor asked).done.served (asked_events given z w world actor asked)
+  at_asked : (number : ℕ) (actor : Actor) (asked : Option (ℕ × Request)) → TellsIt (asks (fixed_of given) world number actor asked).done.served (asked_events given z w world actor asked)
   at_asked number actor (Some asked) = at_server number actor asked (server_at world asked.0)
-  at_asked number actor None = λ what is _ said. absurd (none-some what is)
+  at_asked number actor None = λ what is. absurd (none-some what is)
 
-  at_step : (number : ℕ) (found : Option Actor) → IsTold (steps_once (fixed_of given) world number found).done.served (step_events given z w world found)
+  at_step : (number : ℕ) (found : Option Actor) → TellsIt (steps_once (fixed_of given) world number found).done.served (step_events given z w world found)
   at_step number (Some actor) = at_asked number actor (next_of (fixed_of given) actor.agent)
-  at_step number None = λ what is asked said. absurd (none-some what is)
+  at_step number None = λ what is. absurd (none-some what is)
 
-  at_operated : (asked : Request) (st : State) (what : Option Served) → IsTold (operated world st what).done.served (operated_events given z w what)
-  at_operated asked st (Some this) what is value said =
-      let same = same_Some this what is in
-      subst (λ (it : Served). is_some ((run start w (served_events given z w None this)).told it.server t) ≡ true) same
-      (subst (λ events. is_some ((run start w events).told this.server t) ≡ true) (none_more (served_events given z w None this))
-      (told_served None this [] (ap (λ (it : Served). it.request.value) same ∙ value) (ap (λ (it : Served). it.reply.value) same ∙ said)))
-    where
-      none_more : (events : List Event) → events ++ [] ≡ events
-      none_more [] = refl
-      none_more (event ∷ events) = ap (λ rest. event ∷ rest) (none_more events)
-  at_operated asked st None what is value said = absurd (none-some what is)
+  at_operated : (asked : Request) (st : State) (what : Option Served) → TellsIt (operated world st what).done.served (operated_events given z w what)
+  at_operated asked st (Some this) what is =
+      subst
+      (λ (it : Served). AsksForLock t z mode it.request.value → it.reply.value ≡ reply.Held prefix dver → Obeys start w (served_events given z w None this) → IsTold (run start w (served_events given z w None this)) it.server)
+      (same_Some this what is) (told_once None this)
+  at_operated asked st None what is = absurd (none-some what is)
 
-  at_operator : (i : ℕ) (asked : Request) (found : Option State) → IsTold (operates world i asked found).done.served (operator_events given z w i asked found)
+  at_operator : (i : ℕ) (asked : Request) (found : Option State) → TellsIt (operates world i asked found).done.served (operator_events given z w i asked found)
   at_operator i asked (Some st) = at_operated asked st (serve i st (record { stamp = 0; value = asked }))
-  at_operator i asked None = λ what is value said. absurd (none-some what is)
+  at_operator i asked None = λ what is. absurd (none-some what is)
 
   becomes_none : (number : ℕ) (change : Agent → Agent) (found : Option Actor) → (becomes world number change found).done.served ≡ None
   becomes_none number change (Some actor) = refl
@@ -127,13 +159,13 @@ module _ (given : Opening) (z : ℕ) (w : World) (world : worlds.World) (t : ℕ
       of (Some asked) = refl
       of None = refl
 
-  told_in_event : (event : happening.Event) → IsTold (step (fixed_of given) world event).done.served (events_of given z w world event)
+  told_in_event : (event : happening.Event) → TellsIt (step (fixed_of given) world event).done.served (events_of given z w world event)
   told_in_event (Step number) = at_step number (actor_at world number)
   told_in_event (Crash server) = at_operator server request.Crash (server_at world server)
   told_in_event (Return server) = at_operator server request.Return (server_at world server)
-  told_in_event (Begin number job) = λ what is asked said. absurd (none-some what (sym (becomes_none number _ (actor_at world number)) ∙ is))
-  told_in_event (Forget number site) = λ what is asked said. absurd (none-some what (sym (becomes_none number _ (actor_at world number)) ∙ is))
-  told_in_event (Lack number why) = λ what is asked said. absurd (none-some what (sym (lacks_none number why (actor_at world number)) ∙ is))
+  told_in_event (Begin number job) = λ what is. absurd (none-some what (sym (becomes_none number _ (actor_at world number)) ∙ is))
+  told_in_event (Forget number site) = λ what is. absurd (none-some what (sym (becomes_none number _ (actor_at world number)) ∙ is))
+  told_in_event (Lack number why) = λ what is. absurd (none-some what (sym (lacks_none number why (actor_at world number)) ∙ is))
 
 -- ---- later on
 
@@ -141,6 +173,20 @@ told_all : (given : Opening) (z : ℕ) (w : World) (world : worlds.World) (event
 told_all given z w world [] i t is = is
 told_all given z w world (event ∷ events) i t is =
     told_all given z (moved given z w world event) (step (fixed_of given) world event).world events i t (told_stays (beginning z given) w (events_of given z w world event) i t is)
+
+mode_all : (given : Opening) (z : ℕ) (w : World) (world : worlds.World) (events : List happening.Event) → Inv (beginning z given) w → Shows z (home_in given) (servers_of given world) w → AllConsistent (servers_of given world) → KeepSides given z w world events
+    → (wanted : Bool) (i t : ℕ) → ToldMode wanted (w.told i t) → ToldMode wanted ((machine_from given z w world events).told i t)
+mode_all given z w world [] inv shows all keep wanted i t is = is
+mode_all given z w world (event ∷ events) inv shows all keep wanted i t is =
+    let start = beginning z given in
+    let moves = events_of given z w world event in
+    let one = event_comes given z w world inv shows all event keep.0 in
+    mode_all given z (run start w moves) (step (fixed_of given) world event).world events (all_steps start w inv moves one.obeys) one.shows one.consistent keep.1 wanted i t (mode_stays start w moves one.obeys wanted i t is)
+
+as_told_all : (given : Opening) (z : ℕ) (w : World) (world : worlds.World) (events : List happening.Event) → AllAsTold w → AllAsTold (machine_from given z w world events)
+as_told_all given z w world [] all = all
+as_told_all given z w world (event ∷ events) all =
+    as_told_all given z (moved given z w world event) (step (fixed_of given) world event).world events (as_told (beginning z given) w (events_of given z w world event) all)
 
 stood_all : (given : Opening) (z : ℕ) (w : World) (world : worlds.World) (events : List happening.Event) → Inv (beginning z given) w → Shows z (home_in given) (servers_of given world) w → AllConsistent (servers_of given world) → KeepSides given z w world events
     → (i t : ℕ) → is_some (w.told i t) ≡ true → is_some ((machine_from given z w world events).lock i t) ≡ true → is_some (w.lock i t) ≡ true
@@ -208,29 +254,50 @@ module _ (given : Opening) (z : ℕ) (w : World) (world : worlds.World) (shows :
 
 -- ---- the law
 
-front : (events later : List happening.Event) → VotesAreValid (events ++ later) → VotesAreValid events
-front [] later valid = tt
-front (event ∷ events) later valid = (valid.0, front events later valid.1)
+serves_it : (have wanted : LockMode) → (is_exclusive wanted ≡ true → is_exclusive have ≡ true) → serves have wanted ≡ true
+serves_it Exclusive wanted is = refl
+serves_it Shared Shared is = refl
+serves_it Shared Exclusive is = absurd (false≢true (is refl))
 
-can_before : (given : Opening) (events later : List happening.Event) → CanBe given (events ++ later) → CanBe given events
-can_before given events later can = record { accepted = can.accepted; c0 = can.c0; votes = front events later can.votes }
-
-found_any : (p : Lock → Bool) (locks : List Lock) → is_some (hold_of (find p locks)) ≡ true → list_any p locks ≡ true
-found_any p [] is = absurd (false≢true is)
-found_any p (lock ∷ locks) is = elim (p lock) as (λ b. is_some (hold_of (cond b (Some lock) (find p locks))) ≡ true → (b || list_any p locks) ≡ true) [ true ↦ λ _. refl | false ↦ λ is. found_any p locks is ] is
+found_serving : (p : Lock → Bool) (mode : LockMode) (locks : List Lock) → HoldsMode (is_exclusive mode) (hold_of (find p locks)) → list_any (λ lock. p lock && serves lock.mode mode) locks ≡ true
+found_serving p mode [] is = absurd is
+found_serving p mode (lock ∷ locks) is =
+    elim (p lock) as (λ b. HoldsMode (is_exclusive mode) (hold_of (cond b (Some lock) (find p locks))) → ((b && serves lock.mode mode) || list_any (λ lock. p lock && serves lock.mode mode) locks) ≡ true) [
+      | true ↦ λ is. ap (λ b. b || list_any (λ lock. p lock && serves lock.mode mode) locks) (serves_it lock.mode mode is)
+      | false ↦ λ is. found_serving p mode locks is
+    ] is
 
 some_of : {X : Type 0} (o : Option X) → is_some o ≡ true → (x : X) × (o ≡ Some x)
 some_of None is = absurd (false≢true is)
 some_of (Some x) is = (x, refl)
 
-pub locks_stand : LocksStand
-locks_stand given events event later number one suite server can tells is between after parts =
+-- what it was told then it was told still after some events more
+mode_after : (given : Opening) (events : List happening.Event) (event : happening.Event) (between : List happening.Event) → CanBe given (events ++ event ∷ between) → (t suite : ℕ) (mode : LockMode) (server : ℕ) → TellsOfLock given events event t suite mode server
+    → ToldMode (is_exclusive mode) ((machine_of given suite (events ++ event ∷ between)).told server t)
+mode_after given events event between can t suite mode server tells =
     let z = suite in
+    let start = beginning z given in
+    let wanted = is_exclusive mode in
+    let world = runs.run given events in
+    let w = machine_of given z events in
+    let first = holds_after given events (front given events (event ∷ between) can) z in
+    let keep = keeps_later given z (begun start) (worlds.opening given) events (event ∷ between) ((all_keep given (events ++ event ∷ between) can).keep z) in
+    let one = event_comes given z w world first.inv first.shows first.all event keep.0 in
+    let now = told_in_event given z w first.inv.sound world t mode tells.prefix tells.dver event tells.what tells.served tells.asked tells.told one.obeys in
+    subst (λ (w : World). ToldMode wanted (w.told server t)) (sym (machine_on given z (begun start) (worlds.opening given) events (event ∷ between)))
+    (mode_all given z (moved given z w world event) (step (fixed_of given) world event).world between (all_steps start w first.inv (events_of given z w world event) one.obeys) one.shows one.consistent keep.1 wanted server t
+    (subst (λ server. ToldMode wanted ((moved given z w world event).told server t)) tells.at now))
+
+pub locks_stand : LocksStand
+locks_stand given events event later number one suite mode server can tells is between after parts =
+    let z = suite in
+    let wanted = is_exclusive mode in
     let begin = begun (beginning z given) in
     let early = events ++ event ∷ between in
     let all_is : events ++ event ∷ later ≡ early ++ after = ap (λ later. events ++ event ∷ later) parts ∙ sym (append_assoc events (event ∷ between) after) in
     let can' : CanBe given (early ++ after) = subst (CanBe given) all_is can in
-    let now = holds_after given early (can_before given early after can') z in
+    let can_early = front given early after can' in
+    let now = holds_after given early can_early z in
     let wb = machine_of given z early in
     let world = runs.run given early in
     let last = holds_after given (events ++ event ∷ later) can z in
@@ -239,11 +306,8 @@ locks_stand given events event later number one suite server can tells is betwee
     let so = answers_follow_knowledge given (events ++ event ∷ later) (Step number) one is in
     let t = so.course.task.t in
     let none = undecided given z wd decision last.shows number one is so in
-    let told : is_some (wb.told server one.t) ≡ true =
-    subst (λ (w : World). is_some (w.told server one.t) ≡ true) (sym (machine_on given z begin (worlds.opening given) events (event ∷ between)))
-    (told_all given z (moved given z (machine_of given z events) (runs.run given events) event) (step (fixed_of given) (runs.run given events) event).world between server one.t
-    (subst (λ server. is_some ((moved given z (machine_of given z events) (runs.run given events) event).told server one.t) ≡ true) tells.at
-    (told_in_event given z (machine_of given z events) (runs.run given events) one.t tells.mode tells.prefix tells.dver event tells.what tells.served tells.asked tells.told))) in
+    let mode_told = mode_after given events event between can_early one.t suite mode server tells in
+    let told = mode_some wanted (wb.told server one.t) mode_told in
     let joined : wd ≡ machine_from given z wb world after = ap (machine_of given z) all_is ∙ machine_on given z begin (worlds.opening given) early after in
     let told_last : is_some (wd.told server one.t) ≡ true = subst (λ (w : World). is_some (w.told server one.t) ≡ true) (sym joined) (told_all given z wb world after server one.t told) in
     let a = some_of (wd.told server t) (subst (λ t. is_some (wd.told server t) ≡ true) so.t told_last) in
@@ -252,4 +316,6 @@ locks_stand given events event later number one suite server can tells is betwee
     let stands : is_some (wd.lock server one.t) ≡ true = subst (λ t. is_some (wd.lock server t) ≡ true) (sym so.t) (ap is_some lock.1) in
     let keeps = keeps_later given z begin (worlds.opening given) early after ((all_keep given (early ++ after) can').keep z) in
     let before = stood_all given z wb world after now.inv now.shows now.all keeps server one.t told (subst (λ (w : World). is_some (w.lock server one.t) ≡ true) joined stands) in
-    found_any (is_own one.t z) (servers_of given world server).locks (sym (ap is_some ((now.shows.at server).lock one.t)) ∙ before)
+    let as' = as_told_all given z begin (worlds.opening given) early (λ i t. tt) in
+    let holds = holds_mode wanted (wb.told server one.t) (wb.lock server one.t) mode_told before (as' server one.t) in
+    found_serving (is_own one.t z) mode (servers_of given world server).locks (subst (HoldsMode wanted) ((now.shows.at server).lock one.t) holds)

@@ -1,44 +1,41 @@
 -- The laws of this crate: what holds of every run that there can be, whatever the order of its events.
-use Rattle.std.specs.Prelude.{◌≡◌, ℕ, ◌<◌, Bool, true, false, List, ◌∷◌, ◌++◌, Contains, Some, Result, Ok}
+use Rattle.std.specs.Prelude.{◌≡◌, ◌⊎◌, ℕ, Bool, true, ◌&&◌, List, ◌∷◌, ◌++◌, Some}
+use Rattle.std.specs.List.{list_any}
 use Rattle.suite_prefix.specs.SettingsRules.{Opening}
 use Rattle.suite_prefix.specs.declared.copies.Prefix.{Prefix}
-use Rattle.suite_prefix.specs.declared.copies.Replica.{Replica}
 use Rattle.suite_prefix.specs.declared.lock_mode.LockMode.{LockMode}
-use Rattle.rep_core.specs.declared.request.Request.TheVariants.{Poll}
+use Rattle.suite_prefix.specs.declared.lock_mode.LockMode.TheVariants.{Exclusive}
+use Rattle.suite_prefix.specs.LockModes.{serves}
+use Rattle.rep_core.specs.declared.request.Request.{Request}
+use Rattle.rep_core.specs.declared.request.Request.TheVariants.{Poll, Upgrade}
 use Rattle.rep_core.specs.declared.reply.Reply.TheVariants.{Held}
-use Rattle.rep_core.specs.Locks.{has_lock}
-use Rattle.file_ops.specs.declared.answer.Answer.{Answer}
-use Rattle.file_ops.specs.declared.refusal.Refusal.{Refusal}
+use Rattle.rep_core.specs.Locks.{is_own}
 use Rattle.file_ops.specs.Rows as rows
 use Rattle.file_ops.specs.Rows.{Row, row_of}
-use Rattle.file_ops.specs.Transactions.{replies}
 use Rattle.txn_core.specs.Suites.{First, Suite, suite_of}
-use Rattle.txn_core.specs.declared.ending.Ending.TheVariants.{Answered}
 use Rattle.txn_core.specs.declared.job.Job.{Job}
 use Rattle.txn_core.specs.Doing.{Fixed, Course, Running}
 use Rattle.txn_core.specs.Agents as agents
 use Rattle.txn_core.specs.Agents.{Agent, fixed_of, is_idle, begin, after_all}
 use Rattle.run_core.specs.declared.event.Event.{Event}
-use Rattle.run_core.specs.declared.event.Event.TheVariants.{Begin, Step}
+use Rattle.run_core.specs.declared.event.Event.TheVariants.{Step}
 use Rattle.run_core.specs.declared.done.Served.{Served}
-use Rattle.run_core.specs.declared.done.Outcome.{Outcome}
 use Rattle.run_core.specs.Worlds.{audit_of, step}
 use Rattle.run_core.specs.Runs.{run}
 use Rattle.run_core.specs.Decisions.{Decided, decided, decisions}
 use Rattle.run_core.specs.TableOfRun as table
-use Rattle.run_core.specs.TableOfRun.{played_on, table_after_all, table_of}
-use Rattle.run_laws.specs.Claims.{ended, denials_at, StandsBefore}
-use Rattle.run_laws.specs.Numbers.{number_of, was_begun, begins_at}
+use Rattle.run_core.specs.TableOfRun.{table_of}
+use Rattle.run_laws.specs.Claims.{denials_at}
 use Rattle.run_laws.specs.Answers.{all_denials}
 use Rattle.run_quorums.specs.Firsts.{FirstFrom}
-use Rattle.suite_machine.specs.Machine.{IsQuorum}
 use Rattle.run_machine.specs.Machines.{servers_of, machine_of}
 use Rattle.run_machine.specs.Sides as sides
 use Rattle.run_knowledge.specs.Knowledge.{AllWere}
 use Rattle.server_moves.specs.Laws.{beginning}
 use Rattle.one_table.specs.Tables.{row_shown, register}
-use Rattle.one_table.specs.Effects.{copy_at, HasOne, IsInEffect}
+use Rattle.one_table.specs.Effects.{IsInEffect}
 use Rattle.headline.specs.Premises.{CanBe}
+use Rattle.headline.specs.Promises.{AreAsBegun, StandInOrder, MeetsChanges, KnowsReplaced}
 
 -- ---- one table
 
@@ -55,60 +52,46 @@ AuditIsTheDenials =
 
 -- ---- its order
 
--- Of two decisions the one whose job ended before the other's began stands first: it ended in these events, after which the other was not begun.
-abbrev pub AnsweredBefore : Type 0
-AnsweredBefore =
-    (given : Opening) (events later : List Event) (job : Outcome) (first second : Decided) → CanBe given (events ++ later)
-    → Contains (ended given events) job → number_of job ≡ first.t → was_begun (run given events) second.t ≡ false
-    → Contains (decisions given (events ++ later)) first
-    → StandsBefore (decisions given (events ++ later)) first second
+-- What is decided was begun by that caller with those operations.
+abbrev pub DecidedAsBegun : Type 0
+DecidedAsBegun = (given : Opening) (events : List Event) → CanBe given events → AreAsBegun given events
 
--- A request is answered by the table on which a change was made before: the change was decided with this answer, it stands among the decisions
--- before the request, and the request has the answer of the table after those.
-pub record MeetsChange (given : Opening) (all : List Decided) (t : ℕ) (answer : Result (List Answer) Refusal) (request : Decided) : Type 0 where
-  pub before : List Decided
-  pub after : List Decided
-  pub parts : all ≡ before ++ request ∷ after
-  pub change : Decided
-  pub there : Contains before change
-  pub of_it : change.t ≡ t
-  pub answered : change.answer ≡ answer
-  pub answers : request.answer ≡ replies (played_on (table_after_all (rows.opening given) before) request)
+-- Of two decisions the one whose job ended before the other's began stands first.
+abbrev pub AnsweredBefore : Type 0
+AnsweredBefore = (given : Opening) (events : List Event) → CanBe given events → StandInOrder given events
 
 -- So a change that was answered, as one that revokes a permission, is met by every request that begins later, whatever old copies and caches remain.
 abbrev pub RevocationsAreMet : Type 0
-RevocationsAreMet =
-    (given : Opening) (events later : List Event) (job : Outcome) (answers : List Answer) (agent t : ℕ) (asked : Job) (request : Decided)
-    → CanBe given (events ++ Begin agent asked ∷ later)
-    → Contains (ended given events) job → job.ending ≡ Answered answers
-    → begins_at given (run given events) (Begin agent asked) ≡ Some t → request.t ≡ t
-    → Contains (decisions given (events ++ Begin agent asked ∷ later)) request
-    → MeetsChange given (decisions given (events ++ Begin agent asked ∷ later)) (number_of job) (Ok answers) request
+RevocationsAreMet = (given : Opening) (events : List Event) → CanBe given events → MeetsChanges given events
 
 -- ---- locks
 
--- in this event a server told the transaction that it has a lock on the suite there
-pub record TellsOfLock (given : Opening) (events : List Event) (event : Event) (t suite server : ℕ) : Type 0 where
+-- a lock in this mode is asked for: in a Poll, or in an Upgrade, which makes a lock exclusive
+abbrev pub AsksForLock : ℕ → ℕ → LockMode → Request → Type 0
+AsksForLock t suite mode asked = (asked ≡ Poll t suite mode) ⊎ ((asked ≡ Upgrade t suite) × (mode ≡ Exclusive))
+
+-- in this event a server told the transaction that it has a lock on the suite there in this mode
+pub record TellsOfLock (given : Opening) (events : List Event) (event : Event) (t suite : ℕ) (mode : LockMode) (server : ℕ) : Type 0 where
   pub what : Served
   pub served : (step (fixed_of given) (run given events) event).done.served ≡ Some what
   pub at : what.server ≡ server
-  pub mode : LockMode
-  pub asked : what.request.value ≡ Poll t suite mode
+  pub asked : AsksForLock t suite mode what.request.value
   pub prefix : Prefix
   pub dver : ℕ
   pub told : what.reply.value ≡ Held prefix dver
 
--- whether a server has a lock of the transaction on the suite, after these events
-abbrev pub has_lock_after : Opening → List Event → ℕ → ℕ → ℕ → Bool
-has_lock_after given events t suite server = has_lock t suite (servers_of given (run given events) server).locks
+-- whether a server has a lock of the transaction on the suite, in this mode or a stronger one, after these events
+abbrev pub has_lock_after : Opening → List Event → ℕ → ℕ → LockMode → ℕ → Bool
+has_lock_after given events t suite mode server = list_any (λ lock. is_own t suite lock && serves lock.mode mode) (servers_of given (run given events) server).locks
 
--- Where a transaction is decided, each lock that it was told of has stood after every event since, whatever fell down and whoever swept.
+-- Where a transaction is decided, each lock that it was told of has stood after every event since, in the mode of which it was told or a stronger one,
+-- whatever fell down and whoever swept.
 abbrev pub LocksStand : Type 0
 LocksStand =
-    (given : Opening) (events : List Event) (event : Event) (later : List Event) (number : ℕ) (one : Decided) (suite server : ℕ) → CanBe given (events ++ event ∷ later)
-    → TellsOfLock given events event one.t suite server
+    (given : Opening) (events : List Event) (event : Event) (later : List Event) (number : ℕ) (one : Decided) (suite : ℕ) (mode : LockMode) (server : ℕ) → CanBe given (events ++ event ∷ later)
+    → TellsOfLock given events event one.t suite mode server
     → decided (fixed_of given) (run given (events ++ event ∷ later)) (Step number) ≡ Some one
-    → (between after : List Event) → later ≡ between ++ after → has_lock_after given (events ++ event ∷ between) one.t suite server ≡ true
+    → (between after : List Event) → later ≡ between ++ after → has_lock_after given (events ++ event ∷ between) one.t suite mode server ≡ true
 
 -- ---- what is in effect
 
@@ -120,11 +103,7 @@ InEffectInEveryQuorum =
 
 -- Every quorum of votes that were replaced has a copy in effect that is newer.
 abbrev pub ReplacedIsKnown : Type 0
-ReplacedIsKnown =
-    (given : Opening) (events later : List Event) → CanBe given (events ++ later) → (z server other : ℕ) (set : ℕ → Bool)
-    → IsQuorum (copy_at given events z server).prefix.votes set
-    → (copy_at given events z server).prefix.pver < (copy_at given (events ++ later) z other).prefix.pver
-    → HasOne given (events ++ later) z set (λ (copy : Replica). (copy_at given events z server).prefix.pver < copy.prefix.pver)
+ReplacedIsKnown = (given : Opening) (events : List Event) → CanBe given events → KnowsReplaced given events
 
 -- Each row of the table is what the register of its suite's machine holds.
 abbrev pub RowsAreTheRegisters : Type 0

@@ -1,4 +1,4 @@
 pub mod Premises
-pub mod Laws
 pub mod Promises
+pub mod Laws
 pub mod Worked

@@ -1,11 +1,13 @@
 -- What is promised of a run at each of its moments, and what a world so promises.
-use Rattle.std.specs.Prelude.{◌≡◌, ℕ, ◌<◌, Bool, false, List, ◌∷◌, ◌++◌, Contains, Some, Ok}
+use Rattle.std.specs.Prelude.{◌≡◌, ℕ, ◌<◌, Bool, false, List, ◌∷◌, ◌++◌, Contains, Some, Result, Ok}
 use Rattle.suite_prefix.specs.SettingsRules.{Opening}
 use Rattle.acl_core.specs.Identity.{Identity}
 use Rattle.file_ops.specs.declared.answer.Answer.{Answer}
 use Rattle.file_ops.specs.declared.operation.Op.{Op}
+use Rattle.file_ops.specs.declared.refusal.Refusal.{Refusal}
 use Rattle.file_ops.specs.Rows as rows
 use Rattle.file_ops.specs.Rows.{Row, row_of}
+use Rattle.file_ops.specs.Transactions.{replies}
 use Rattle.txn_core.specs.declared.ending.Ending.TheVariants.{Answered}
 use Rattle.txn_core.specs.declared.job.Job.{Job}
 use Rattle.txn_core.specs.declared.job.Job.TheVariants.{Transaction}
@@ -16,7 +18,7 @@ use Rattle.run_core.specs.declared.done.Outcome.{Outcome}
 use Rattle.run_core.specs.Worlds.{audit_of}
 use Rattle.run_core.specs.Runs.{run}
 use Rattle.run_core.specs.Decisions.{Decided, decisions}
-use Rattle.run_core.specs.TableOfRun.{table_of, AnswersAreTheTables}
+use Rattle.run_core.specs.TableOfRun.{played_on, table_after_all, table_of, AnswersAreTheTables}
 use Rattle.run_core.specs.Opened.{Opened}
 use Rattle.run_laws.specs.Numbers.{number_of, was_begun, begins_at}
 use Rattle.run_laws.specs.Answers.{all_denials}
@@ -24,7 +26,6 @@ use Rattle.run_laws.specs.Claims.{ended, IsDecidedOnce, denials_at, StandsBefore
 use Rattle.suite_machine.specs.Machine.{IsQuorum}
 use Rattle.one_table.specs.Effects.{copy_at, HasOne, IsInEffect}
 use Rattle.headline.specs.Premises.{CanBe}
-use Rattle.headline.specs.Laws.{MeetsChange}
 
 -- A transaction was begun with this number, for this caller, and with these operations.
 pub record WasBegun (given : Opening) (events : List Event) (t : ℕ) (caller : Identity) (ops : List Op) : Type 0 where
@@ -39,15 +40,24 @@ pub record WasBegun (given : Opening) (events : List Event) (t : ℕ) (caller : 
 abbrev pub AreAsBegun : Opening → List Event → Type 0
 AreAsBegun given events = (one : Decided) → Contains (decisions given events) one → WasBegun given events one.t one.caller one.ops
 
-abbrev pub DecidedAsBegun : Type 0
-DecidedAsBegun = (given : Opening) (events : List Event) → CanBe given events → AreAsBegun given events
-
--- Of two decisions of a run the one whose job ended before the other's began stands first.
+-- Of two decisions the one whose job ended before the other's began stands first: it ended in the events after which the other was not begun.
 abbrev pub StandInOrder : Opening → List Event → Type 0
 StandInOrder given events =
     (before later : List Event) (job : Outcome) (first second : Decided) → events ≡ before ++ later
     → Contains (ended given before) job → number_of job ≡ first.t → was_begun (run given before) second.t ≡ false
     → Contains (decisions given events) first → StandsBefore (decisions given events) first second
+
+-- A request is answered by the table on which a change was made before: the change was decided with this answer, it stands among the decisions
+-- before the request, and the request has the answer of the table after those.
+pub record MeetsChange (given : Opening) (all : List Decided) (t : ℕ) (answer : Result (List Answer) Refusal) (request : Decided) : Type 0 where
+  pub before : List Decided
+  pub after : List Decided
+  pub parts : all ≡ before ++ request ∷ after
+  pub change : Decided
+  pub there : Contains before change
+  pub of_it : change.t ≡ t
+  pub answered : change.answer ≡ answer
+  pub answers : request.answer ≡ replies (played_on (table_after_all (rows.opening given) before) request)
 
 -- A change that was answered, as one that takes a permission away, is met by every request that began later.
 abbrev pub MeetsChanges : Opening → List Event → Type 0

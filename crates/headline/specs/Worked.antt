@@ -1,5 +1,5 @@
 -- Runs in which the promise says something.
-use Rattle.std.specs.Prelude.{◌≡◌, ℕ, List, [], ◌∷◌, ◌++◌, option_map, Option, Some, None, Ok, Err}
+use Rattle.std.specs.Prelude.{◌≡◌, ℕ, List, [], ◌∷◌, ◌++◌, map, option_map, Option, Some, None, Ok, Err}
 use Rattle.acl_core.specs.declared.entry.Entry.{Entry}
 use Rattle.acl_core.specs.declared.check.Decider.TheVariants.{Other}
 use Rattle.acl_core.specs.Modes.{minimal_list}
@@ -8,6 +8,7 @@ use Rattle.suite_content.specs.declared.content.Content.{Content}
 use Rattle.suite_content.specs.declared.content.Content.TheVariants.{Bytes}
 use Rattle.suite_prefix.specs.declared.copies.Replica.{Replica}
 use Rattle.suite_prefix.specs.SettingsRules.{Opening}
+use Rattle.suite_prefix.specs.declared.lock_mode.LockMode.TheVariants.{Shared, Exclusive}
 use Rattle.file_ops.specs.declared.answer.Answer.TheVariants as answer
 use Rattle.file_ops.specs.declared.audit.AuditItem.{AuditItem}
 use Rattle.file_ops.specs.declared.operation.Action.TheVariants as action
@@ -18,16 +19,22 @@ use Rattle.file_ops.specs.Rows as rows
 use Rattle.file_ops.specs.Rows.{row_of}
 use Rattle.file_ops.specs.Walks.{to_read}
 use Rattle.weak_cache.specs.Entries.{Entry as Kept, entry_of}
+use Rattle.txn_core.specs.declared.ending.Ending.TheVariants.{Answered}
 use Rattle.txn_core.specs.declared.job.Job.TheVariants.{Transaction}
+use Rattle.txn_core.specs.Agents.{fixed_of}
 use Rattle.txn_core.specs.Runs.{settings, owner, other, a, op}
 use Rattle.run_core.specs.declared.event.Event.{Event}
-use Rattle.run_core.specs.declared.event.Event.TheVariants.{Begin, Crash, Return}
+use Rattle.run_core.specs.declared.event.Event.TheVariants.{Begin, Step, Crash, Return}
 use Rattle.run_core.specs.Worlds.{Actor, actor_at, audit_of}
 use Rattle.run_core.specs.Runs.{run}
-use Rattle.run_core.specs.Decisions.{Decided, decisions}
+use Rattle.run_core.specs.Decisions.{Decided, decided, decisions}
 use Rattle.run_core.specs.TableOfRun.{table_of, AnswersAreTheTables}
-use Rattle.run_laws.specs.Worked.{so_many, make_a, read_a}
+use Rattle.run_laws.specs.Numbers.{begins_at}
+use Rattle.run_laws.specs.Claims.{ended}
+use Rattle.run_laws.specs.Worked.{so_many, make_a, read_a, ending_in}
 use Rattle.one_table.specs.Effects.{copy_at}
+use Rattle.headline.specs.Premises.{CanBe}
+use Rattle.headline.specs.Laws.{TellsOfLock}
 
 -- ---- a permission is taken away, and old copies remain
 
@@ -87,9 +94,13 @@ revoked_decisions =
     ∷ record { t = 129; caller = other; ops = read_a; answer = Err denial }
     ∷ record { t = 193; caller = owner; ops = read_a; answer = Ok (answer.Read (0 ∷ []) ∷ []) } ∷ []
 
--- The old list and the old bytes are at a server and in a cache when the last two requests come, and at the server still when they are answered;
--- one is denied, and the other answered the new bytes, as the one table has them.
+-- The change is answered before the last two requests begin. The old list and the old bytes are at a server and in a cache when they come, and at the
+-- server still when they are answered; one is denied, and the other answered the new bytes, as the one table has them.
 pub record SomeRunRevokes : Type 0 where
+  pub can_be : CanBe with_caches revoked
+  pub ends : map ending_in (ended with_caches closed) ≡
+      (0, Answered (answer.Made 1 ∷ answer.Wrote ∷ [])) ∷ (1, Answered (answer.Read (104 ∷ 105 ∷ []) ∷ [])) ∷ (65, Answered (answer.Read (104 ∷ 105 ∷ []) ∷ [])) ∷ (64, Answered (answer.Wrote ∷ answer.Set ∷ [])) ∷ []
+  pub begins : begins_at with_caches (run with_caches closed) (Begin 1 (Transaction other 0 read_a)) ≡ Some 129
   pub stale_copy : list_and_content (copy_at with_caches closed 1 0) ≡ old
   pub stale_hint_and_content : cached (actor_at (run with_caches closed) 1) ≡ Some old
   pub in_order : decisions with_caches revoked ≡ revoked_decisions
@@ -136,9 +147,35 @@ version_and_votes copy = (copy.prefix.pver, copy.prefix.votes)
 
 -- The prefix with the old votes was in effect at an old server; now a quorum of the old votes has the new one, and so have the new servers, with the content.
 pub record SomeRunMovesVotes : Type 0 where
+  pub can_be : CanBe six_servers moved
   pub before : version_and_votes (copy_at six_servers made 1 0) ≡ (1, six_servers.c0)
   pub old_servers : (version_and_votes (copy_at six_servers moved 1 0) ≡ (2, new_votes)) × (version_and_votes (copy_at six_servers moved 1 1) ≡ (2, new_votes))
   pub new_servers : (copy_at six_servers moved 1 3 ≡ copy_at six_servers moved 1 4) × (version_and_votes (copy_at six_servers moved 1 3) ≡ (2, new_votes)) × ((copy_at six_servers moved 1 3).content ≡ Bytes (104 ∷ 105 ∷ []))
   pub in_order : decisions six_servers moved ≡ moved_decisions
   pub answers : AnswersAreTheTables (rows.opening six_servers) (decisions six_servers moved)
   pub row : row_of (table_of six_servers moved).rows 1 ≡ Some (record { owner = 1000; group = 100; acl = minimal_list 420; votes = new_votes; content = Bytes (104 ∷ 105 ∷ []) })
+
+-- ---- locks are told of, and stand
+
+-- read /a ; write /a 00
+abbrev pub rewrite_a : List Op
+rewrite_a = op a action.Read ∷ op a (action.Write (0 ∷ [])) ∷ []
+
+-- up to a Poll of the file, at its first server; and on up to the Upgrade of that lock
+abbrev pub before_poll : List Event
+before_poll = made ++ Begin 0 (Transaction owner 0 rewrite_a) ∷ so_many 3 0
+
+abbrev pub before_upgrade : List Event
+before_upgrade = before_poll ++ so_many 3 0
+
+-- then the other server's Upgrade and two Prepares; and the first server falls down, and is back
+abbrev pub upgraded : List Event
+upgraded = before_upgrade ++ Step 0 ∷ so_many 3 0 ++ Crash 0 ∷ Return 0 ∷ []
+
+-- The transaction is told of a shared lock there, and then of an exclusive one; it is decided in the next step.
+pub record SomeRunHoldsLocks : Type 0 where
+  pub can_be : CanBe six_servers upgraded
+  pub shared : TellsOfLock six_servers before_poll (Step 0) 64 1 Shared 0
+  pub exclusive : TellsOfLock six_servers before_upgrade (Step 0) 64 1 Exclusive 0
+  pub decision : decided (fixed_of six_servers) (run six_servers upgraded) (Step 0) ≡
+      Some (record { t = 64; caller = owner; ops = rewrite_a; answer = Ok (answer.Read (104 ∷ 105 ∷ []) ∷ answer.Wrote ∷ []) })

@@ -1,9 +1,9 @@
 //! What holds of every run that there can be: it is answered as one table answers it.
 //!
-//! There is no code here but laws. Which runs there can be stands in `specs/Premises`, and the laws in `specs/Laws`. What
-//! holds together event by event stands in `proofs/Together` and `proofs/Keeping`, what is owed at each decision in
-//! `proofs/Owing`, and that operations leave what they do not set in `proofs/Fair`. What all this promises of a world is
-//! [`promise`].
+//! There is no code here but laws. Which runs there can be stands in `specs/Premises`, what is promised of each in
+//! `specs/Promises`, and the laws in `specs/Laws`. What holds together event by event stands in `proofs/Together` and
+//! `proofs/Keeping`, what is owed at each decision in `proofs/Owing`, and that operations leave what they do not set in
+//! `proofs/Fair`. What all this promises of a world is [`promise`].
 #![tactic(auto)]
 
 mod promises;
@@ -12,7 +12,7 @@ mod witnesses;
 ghost use Rattle.headline.specs.Laws.{AnswersAreTheTables, AuditIsTheDenials, AnsweredBefore, RevocationsAreMet, LocksStand, InEffectInEveryQuorum, ReplacedIsKnown, RowsAreTheRegisters, KnowledgeWas, AgentsKeepSides, FirstsAreGiven};
 
 pub use promises::{decided_as_begun, promise, votes_are_valid};
-pub use witnesses::{some_run_moves_votes, some_run_revokes};
+pub use witnesses::{some_run_holds_locks, some_run_moves_votes, some_run_revokes};
 
 /// A law: every run is answered as one unreplicated table answers it that takes the decided transactions one at a time, in
 /// the order of their decisions. It does nothing.
@@ -37,7 +37,8 @@ pub fn revocations_are_met()
     ensures { RevocationsAreMet }
 {}
 
-/// A law: where a transaction is decided, each lock that it was told of has stood after every event since. It does nothing.
+/// A law: where a transaction is decided, each lock that it was told of has stood after every event since, in that mode or a
+/// stronger one. It does nothing.
 pub fn locks_stand()
     ensures { LocksStand }
 {}

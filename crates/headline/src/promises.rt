@@ -1,7 +1,8 @@
 //! What a world promises.
 
 ghost use Rattle.headline.specs.Premises.{AllGiveValidVotes, AreValid, EventGivesValidVotes, GivesValidVotes, JobGivesValidVotes};
-ghost use Rattle.headline.specs.Promises.{DecidedAsBegun, IsOfRun, Promises};
+ghost use Rattle.headline.specs.Laws.{DecidedAsBegun};
+ghost use Rattle.headline.specs.Promises.{IsOfRun, Promises};
 
 use file_ops::{Action, Op};
 use run_core::{Event, World};

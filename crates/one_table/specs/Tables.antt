@@ -55,6 +55,6 @@ AnswersAreOneTables = (given : Opening) (events : List Event) → AllKeepSides g
 abbrev pub AuditIsOneTables : Type 0
 AuditIsOneTables = (given : Opening) (events : List Event) → AllKeepSides given events → (table_of given events).audit ≡ all_denials (decisions given events)
 
--- What is still owed of agents is enough for all this.
+-- What is owed of agents is enough for all this.
 abbrev pub OwedIsEnough : Type 0
 OwedIsEnough = (given : Opening) (events : List Event) → IsAccepted given → IsValid given.c0 → ((z : ℕ) → AgentsOwe given z events) → AllKeepSides given events

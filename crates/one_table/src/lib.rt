@@ -43,7 +43,7 @@ pub fn audit_is_one_tables()
     ensures { AuditIsOneTables }
 {}
 
-/// A law: what is still owed of agents is enough for them to keep to their side. It does nothing.
+/// A law: what is owed of agents is enough for them to keep to their side. It does nothing.
 pub fn owed_is_enough()
     ensures { OwedIsEnough }
 {}

@@ -107,10 +107,6 @@ no_suites : IsOrdered {V = Suite} nat_cmp []
 unfolding IsStrictlySortedBy
 no_suites = tt
 
-idle_fits : (z : ℕ) (start : Beginning) (w : World) (doing : Option Doing) → is_idle doing ≡ true → DoingFits z start w doing
-idle_fits z start w None idle = tt
-idle_fits z start w (Some doing) idle = absurd cc
-
 module _ (start : Beginning) (z : ℕ) (w : World) (inv : Inv start w) (fixed : Fixed) (never : WasPrefix start w.log (absent_prefix fixed.service.c0)) where
   step_fits : (agent : Agent) (task : Task) (done : Step) → Fits start z w (copies_were start w inv) fixed never task done → AgentFits z start w (agents.with_step agent done).agent
   step_fits agent task done fits = record { cache = fits.0; doing = of done.after fits.1 }

@@ -22,7 +22,8 @@ use Rattle.suite_machine.specs.Laws.{Stays}
 use Rattle.suite_machine.proofs.Places.{at2}
 use Rattle.suite_machine.proofs.Invariant.{Inv}
 use Rattle.suite_machine.proofs.Lasting.{run_stays}
-use Rattle.run_knowledge.specs.Knowledge.{CacheWas, ToldOf, ToldVersion, SaidIs, AreTold, SuiteWas}
+use Rattle.run_machine.specs.Telling.{told_to, ToldOf, SaidIs, AreTold}
+use Rattle.run_knowledge.specs.Knowledge.{CacheWas, ToldVersion, SuiteWas}
 use Rattle.run_knowledge.proofs.Walk.{InPhase}
 
 -- ---- what was told
@@ -82,22 +83,22 @@ pub record AgentFits (z : ℕ) (start : Beginning) (w : World) (agent : Agent) :
   pub doing : DoingFits z start w agent.doing
 
 module _ (z : ℕ) (start : Beginning) (w later : World) (l : Lasts start w later) where
-  pub told_later : (t i : ℕ) (prefix : Prefix) (dver : ℕ) → ToldOf w t i prefix dver → ToldOf later t i prefix dver
+  pub told_later : (t i : ℕ) (prefix : Prefix) (dver : ℕ) → ToldOf (w.told i t) prefix dver → ToldOf (later.told i t) prefix dver
   told_later t i prefix dver was =
-      let still = l.told i t was.told was.is in
-      record { told = still.0; is = still.1; prefix_is = ap (λ (copy : Replica). copy.prefix) still.2 ∙ was.prefix_is; dver_is = ap (λ (copy : Replica). copy.dver) still.2 ∙ was.dver_is }
+      let still = l.told i t was.one was.is in
+      record { one = still.0; is = still.1; prefix_is = ap (λ (copy : Replica). copy.prefix) still.2 ∙ was.prefix_is; dver_is = ap (λ (copy : Replica). copy.dver) still.2 ∙ was.dver_is }
 
   version_later : (t i dver : ℕ) → ToldVersion w t i dver → ToldVersion later t i dver
   version_later t i dver was =
       let still = l.told i t was.told was.is in
       record { told = still.0; is = still.1; dver_is = ap (λ (copy : Replica). copy.dver) still.2 ∙ was.dver_is }
 
-  pub said_later : (t i : ℕ) (said : Said) → SaidIs w t i said → SaidIs later t i said
+  pub said_later : (t i : ℕ) (said : Said) → SaidIs (w.told i t) said → SaidIs (later.told i t) said
   said_later t i (said.Held prefix dver) was = told_later t i prefix dver was
   said_later t i (said.Busy holder) was = tt
   said_later t i said.Down was = tt
 
-  are_later : (t : ℕ) (told : List collect.Told) → AreTold w t told → AreTold later t told
+  are_later : (t : ℕ) (told : List collect.Told) → AreTold (told_to w t) told → AreTold (told_to later t) told
   are_later t [] are = tt
   are_later t (one ∷ told) are = (said_later t one.server one.said are.0, are_later t told are.1)
 

@@ -13,21 +13,22 @@ use Rattle.txn_core.specs.Suites.{source_of}
 use Rattle.suite_machine.specs.Registers.{Beginning, WasPrefix}
 use Rattle.suite_machine.specs.Machine.{World}
 use Rattle.suite_machine.specs.Laws.{CopiesWere}
-use Rattle.run_knowledge.specs.Knowledge.{ToldOf, ToldVersion, SaidIs, AreTold}
+use Rattle.run_machine.specs.Telling.{told_to, ToldOf, SaidIs, AreTold}
+use Rattle.run_knowledge.specs.Knowledge.{ToldVersion}
 
 module _ (start : Beginning) (w : World) (t : ℕ) (copies : CopiesWere start w) where
   -- ---- prefixes
 
-  told_prefix : (i : ℕ) (prefix : Prefix) (dver : ℕ) → ToldOf w t i prefix dver → WasPrefix start w.log prefix
-  told_prefix i prefix dver is = subst (WasPrefix start w.log) is.prefix_is (copies.told i t is.told is.is).0
+  told_prefix : (i : ℕ) (prefix : Prefix) (dver : ℕ) → ToldOf (w.told i t) prefix dver → WasPrefix start w.log prefix
+  told_prefix i prefix dver is = subst (WasPrefix start w.log) is.prefix_is (copies.told i t is.one is.is).0
 
-  newer_was : (i : ℕ) (before : Prefix) (said : Said) → WasPrefix start w.log before → SaidIs w t i said → WasPrefix start w.log (newer before said)
+  newer_was : (i : ℕ) (before : Prefix) (said : Said) → WasPrefix start w.log before → SaidIs (w.told i t) said → WasPrefix start w.log (newer before said)
   newer_was i before (Held prefix dver) was is =
       elim (nat_lt before.pver prefix.pver) as (λ b. WasPrefix start w.log (cond b prefix before)) [ true ↦ told_prefix i prefix dver is | false ↦ was ]
   newer_was i before (Busy holder) was is = was
   newer_was i before Down was is = was
 
-  pub newest_was : (first : Prefix) (told : List collect.Told) → WasPrefix start w.log first → AreTold w t told → WasPrefix start w.log (newest first told)
+  pub newest_was : (first : Prefix) (told : List collect.Told) → WasPrefix start w.log first → AreTold (told_to w t) told → WasPrefix start w.log (newest first told)
   newest_was first [] was are = was
   newest_was first (last ∷ told) was are = newer_was last.server (newest first told) last.said (newest_was first told was are.1) are.0
 
@@ -35,7 +36,7 @@ module _ (start : Beginning) (w : World) (t : ℕ) (copies : CopiesWere start w)
 
 module _ (w : World) (t : ℕ) where
   -- a server that showed a version above 0 was told of
-  pub showed : (told : List collect.Told) (server dver : ℕ) → AreTold w t told → 0 < dver → shown told server ≡ dver → ToldVersion w t server dver
+  pub showed : (told : List collect.Told) (server dver : ℕ) → AreTold (told_to w t) told → 0 < dver → shown told server ≡ dver → ToldVersion w t server dver
   showed [] server dver are some is = absurd (omega (arith, some, is))
   showed (last ∷ told) server dver are some is =
       elim (last.server == server) as (λ b. (last.server == server) ≡ b → cond b (version_in last.said (shown told server)) (shown told server) ≡ dver → ToldVersion w t server dver) [
@@ -43,8 +44,8 @@ module _ (w : World) (t : ℕ) where
         | false ↦ λ _ is. showed told server dver are.1 some is
       ] refl is
     where
-      of : (said : Said) → SaidIs w t last.server said → (shown told server ≡ dver → ToldVersion w t last.server dver) → version_in said (shown told server) ≡ dver → ToldVersion w t last.server dver
-      of (Held prefix other) told_of before is = record { told = told_of.told; is = told_of.is; dver_is = told_of.dver_is ∙ is }
+      of : (said : Said) → SaidIs (w.told last.server t) said → (shown told server ≡ dver → ToldVersion w t last.server dver) → version_in said (shown told server) ≡ dver → ToldVersion w t last.server dver
+      of (Held prefix other) told_of before is = record { told = told_of.one; is = told_of.is; dver_is = told_of.dver_is ∙ is }
       of (Busy holder) told_of before is = before is
       of Down told_of before is = before is
 
@@ -78,9 +79,9 @@ narrow_version c prefix dver members same is =
 -- ---- one more
 
 -- a reply is of the widening, once there is one
-pub told_one : (w : World) (t : ℕ) (one : collect.Told) (c : Collector) → SaidIs w t one.server one.said → AreTold w t c.told → AreTold w t (told_since c.widening) → AreTold w t (tell one c).told × AreTold w t (told_since (tell one c).widening)
+pub told_one : (w : World) (t : ℕ) (one : collect.Told) (c : Collector) → SaidIs (w.told one.server t) one.said → AreTold (told_to w t) c.told → AreTold (told_to w t) (told_since c.widening) → AreTold (told_to w t) (tell one c).told × AreTold (told_to w t) (told_since (tell one c).widening)
 told_one w t one c said told since = of c.widening since
   where
-    of : (widening : Option Widening) → AreTold w t (told_since widening) → AreTold w t (tell_at widening one (record c { widening = widening })).told × AreTold w t (told_since (tell_at widening one (record c { widening = widening })).widening)
+    of : (widening : Option Widening) → AreTold (told_to w t) (told_since widening) → AreTold (told_to w t) (tell_at widening one (record c { widening = widening })).told × AreTold (told_to w t) (told_since (tell_at widening one (record c { widening = widening })).widening)
     of None since = ((said, told), tt)
     of (Some widening) since = (told, (said, since))

@@ -27,7 +27,8 @@ use Rattle.suite_machine.proofs.Places.{at2}
 use Rattle.suite_machine.proofs.Invariant.{Inv}
 use Rattle.server_moves.specs.Moves.{moves}
 use Rattle.server_moves.specs.Laws.{TellsCopy, TellsContent, Tells}
-use Rattle.run_knowledge.specs.Knowledge.{ToldOf, ToldVersion, SaidIs}
+use Rattle.run_machine.specs.Telling.{ToldOf, SaidIs}
+use Rattle.run_knowledge.specs.Knowledge.{ToldVersion}
 use Rattle.run_knowledge.proofs.Lasting.{Lasts}
 
 -- of a lock of a transaction it was told
@@ -38,42 +39,39 @@ told_lock start w inv i t lock stands = of (w.told i t) refl
     of None none = absurd (none-some lock (sym (inv.sound.asked i t none) ∙ stands))
     of (Some told) is = (told, is, inv.sound.shown i t told lock is stands)
 
--- told of a copy with this prefix and version
-abbrev IsToldOf : Prefix → ℕ → Option Told → Type 0
-IsToldOf prefix dver o = (told : Told) × (o ≡ Some told) × (told.copy.prefix ≡ prefix) × (told.copy.dver ≡ dver)
-
-told_of : (w : World) (t i : ℕ) (prefix : Prefix) (dver : ℕ) → IsToldOf prefix dver (w.told i t) → ToldOf w t i prefix dver
-told_of w t i prefix dver is = record { told = is.0; is = is.1; prefix_is = is.2; dver_is = is.3 }
-
 module _ (start : Beginning) (z : ℕ) (home : ℕ → ℕ) (decision : Event) (i : ℕ) (w : World) (inv : Inv start w) where
-  polled : (t : ℕ) (mode : LockMode) (prefix : Prefix) (dver : ℕ) → TellsCopy w i prefix dver → ToldOf (machine.held w i t (is_exclusive mode)) t i prefix dver
+  polled : (t : ℕ) (mode : LockMode) (prefix : Prefix) (dver : ℕ) → TellsCopy w i prefix dver → ToldOf ((machine.held w i t (is_exclusive mode)).told i t) prefix dver
   polled t mode prefix dver tells =
-      told_of (machine.held w i t (is_exclusive mode)) t i prefix dver
-      (at2 (IsToldOf prefix dver) w.told i t (Some (record { exclusive = is_exclusive mode; copy = w.copy i })) i t
-      (λ _. (record { exclusive = is_exclusive mode; copy = w.copy i }, refl, tells.prefix_is, tells.dver_is))
-      (λ apart. absurd (apart (refl, refl))))
+      let one : Told = record { exclusive = is_exclusive mode; copy = w.copy i } in
+      at2 (λ o. ToldOf o prefix dver) w.told i t (Some one) i t
+      (λ _. record { one = one; is = refl; prefix_is = tells.prefix_is; dver_is = tells.dver_is })
+      (λ apart. absurd (apart (refl, refl)))
 
-  upgraded : (t : ℕ) (prefix : Prefix) (dver : ℕ) → MayUpgrade w i t → TellsCopy w i prefix dver → ToldOf (machine.upgraded w i t) t i prefix dver
+  upgraded : (t : ℕ) (prefix : Prefix) (dver : ℕ) → MayUpgrade w i t → TellsCopy w i prefix dver → ToldOf ((machine.upgraded w i t).told i t) prefix dver
   upgraded t prefix dver may tells =
       let old = told_lock start w inv i t may.lock may.stands in
-      told_of (machine.upgraded w i t) t i prefix dver
-      (at2 (IsToldOf prefix dver) w.told i t (upgraded_told (w.told i t)) i t
-      (λ _. (record { exclusive = true; copy = old.0.copy }, ap upgraded_told old.1, ap (λ (copy : Replica). copy.prefix) (sym old.2) ∙ tells.prefix_is, ap (λ (copy : Replica). copy.dver) (sym old.2) ∙ tells.dver_is))
-      (λ apart. absurd (apart (refl, refl))))
+      at2 (λ o. ToldOf o prefix dver) w.told i t (upgraded_told (w.told i t)) i t
+      (λ _. record {
+        one = record { exclusive = true; copy = old.0.copy };
+        is = ap upgraded_told old.1;
+        prefix_is = ap (λ (copy : Replica). copy.prefix) (sym old.2) ∙ tells.prefix_is;
+        dver_is = ap (λ (copy : Replica). copy.dver) (sym old.2) ∙ tells.dver_is;
+      })
+      (λ apart. absurd (apart (refl, refl)))
 
   -- a reply to a request for a lock
   abbrev pub HeldTells : ℕ → Prefix → ℕ → Request → Type 0
   HeldTells t prefix dver asked =
       Obeys start w (moves z home decision i w asked (reply.Held prefix dver)) → Tells z home i w (run start w (moves z home decision i w asked (reply.Held prefix dver))) asked (reply.Held prefix dver)
-      → ToldOf (run start w (moves z home decision i w asked (reply.Held prefix dver))) t i prefix dver
+      → ToldOf ((run start w (moves z home decision i w asked (reply.Held prefix dver))).told i t) prefix dver
 
   poll_tells : (t : ℕ) (mode : LockMode) (prefix : Prefix) (dver : ℕ) → HeldTells t prefix dver (request.Poll t z mode)
   poll_tells t mode prefix dver obeys tells =
-      subst (λ b. ToldOf (run start w (cond b (machine.Held i t (is_exclusive mode) ∷ []) [])) t i prefix dver) (sym (eq-eqb z z refl)) (polled t mode prefix dver (tells refl))
+      subst (λ b. ToldOf ((run start w (cond b (machine.Held i t (is_exclusive mode) ∷ []) [])).told i t) prefix dver) (sym (eq-eqb z z refl)) (polled t mode prefix dver (tells refl))
 
   upgrade_tells : (t : ℕ) (prefix : Prefix) (dver : ℕ) → HeldTells t prefix dver (request.Upgrade t z)
   upgrade_tells t prefix dver obeys tells =
-      subst (λ b. Obeys start w (cond b (machine.Upgrade i t ∷ []) []) → ToldOf (run start w (cond b (machine.Upgrade i t ∷ []) [])) t i prefix dver) (sym (eq-eqb z z refl))
+      subst (λ b. Obeys start w (cond b (machine.Upgrade i t ∷ []) []) → ToldOf ((run start w (cond b (machine.Upgrade i t ∷ []) [])).told i t) prefix dver) (sym (eq-eqb z z refl))
       (λ obeys. upgraded t prefix dver obeys.0 (tells refl)) obeys
 
   -- what asks for a lock of the suite
@@ -93,14 +91,14 @@ module _ (start : Beginning) (z : ℕ) (home : ℕ → ℕ) (decision : Event) (
 
   -- what a collector hears is what the machine told
   pub says_so : (task : Task) (found : Option Suite) (server : ℕ) (asked : Request) (answer : Reply) → asked_for task z found ≡ Some (server, asked) → Obeys start w (moves z home decision i w asked answer) → Tells z home i w (run start w (moves z home decision i w asked answer)) asked answer
-      → (heard : Said) → said_to asked answer ≡ Some heard → SaidIs (run start w (moves z home decision i w asked answer)) task.t i heard
+      → (heard : Said) → said_to asked answer ≡ Some heard → SaidIs ((run start w (moves z home decision i w asked answer)).told i task.t) heard
   says_so task found server asked (reply.Held prefix dver) is obeys tells heard says =
-      subst (SaidIs (run start w (moves z home decision i w asked (reply.Held prefix dver))) task.t i) (same_Some (said.Held prefix dver) heard says) (held_tells task found server asked prefix dver is obeys tells)
-  says_so task found server asked (reply.Busy holder prepared) is obeys tells heard says = subst (SaidIs (run start w (moves z home decision i w asked (reply.Busy holder prepared))) task.t i) (same_Some (said.Busy holder) heard says) tt
+      subst (SaidIs ((run start w (moves z home decision i w asked (reply.Held prefix dver))).told i task.t)) (same_Some (said.Held prefix dver) heard says) (held_tells task found server asked prefix dver is obeys tells)
+  says_so task found server asked (reply.Busy holder prepared) is obeys tells heard says = subst (SaidIs ((run start w (moves z home decision i w asked (reply.Busy holder prepared))).told i task.t)) (same_Some (said.Busy holder) heard says) tt
   says_so task found server asked reply.Down is obeys tells heard says = of (is_poll asked) says
     where
-      of : (b : Bool) → cond b (Some said.Down) None ≡ Some heard → SaidIs (run start w (moves z home decision i w asked reply.Down)) task.t i heard
-      of true says = subst (SaidIs (run start w (moves z home decision i w asked reply.Down)) task.t i) (same_Some said.Down heard says) tt
+      of : (b : Bool) → cond b (Some said.Down) None ≡ Some heard → SaidIs ((run start w (moves z home decision i w asked reply.Down)).told i task.t) heard
+      of true says = subst (SaidIs ((run start w (moves z home decision i w asked reply.Down)).told i task.t)) (same_Some said.Down heard says) tt
       of false says = cc
   says_so task found server asked reply.Lost is obeys tells heard says = cc
   says_so task found server asked (reply.Given dver content) is obeys tells heard says = cc

@@ -46,7 +46,8 @@ use Rattle.txn_core.proofs.Cached.{given_is}
 use Rattle.suite_machine.specs.Registers.{Beginning, WasPrefix, WasContent, GoesWith}
 use Rattle.suite_machine.specs.Machine.{World}
 use Rattle.suite_machine.specs.Laws.{CopiesWere}
-use Rattle.run_knowledge.specs.Knowledge.{EntryWas, CacheWas, ToldVersion, SaidIs, FirstWas, SuiteWas}
+use Rattle.run_machine.specs.Telling.{SaidIs}
+use Rattle.run_knowledge.specs.Knowledge.{EntryWas, CacheWas, ToldVersion, FirstWas, SuiteWas}
 use Rattle.run_knowledge.proofs.Opened.{fetched_above}
 use Rattle.run_knowledge.proofs.Showed.{newest_was, showed, sourced, narrow_version, told_one}
 
@@ -276,14 +277,14 @@ module _ (start : Beginning) (z : ℕ) (w : World) (copies : CopiesWere start w)
         content = λ content there. absurd (no_first content there had);
       }
 
-  told_was : (one : collect.Told) (suite : Suite) → SaidIs w task.t one.server one.said → SuiteWas start w task.t suite → SuiteWas start w task.t (record suite { collector = tell one suite.collector })
+  told_was : (one : collect.Told) (suite : Suite) → SaidIs (w.told one.server task.t) one.said → SuiteWas start w task.t suite → SuiteWas start w task.t (record suite { collector = tell one suite.collector })
   told_was one suite said was =
       let both = told_one w task.t one suite.collector said was.told was.since in
       record { from = subst (WasPrefix start w.log) (sym (tell_start one suite.collector)) was.from; told = both.0; since = both.1; first = was.first; content = was.content }
 
   -- what a reply of this server to a request of the suite says to a collector
   abbrev pub SaysTo : ℕ → Request → Reply → Type 0
-  SaysTo server asked said = (heard : Said) → said_to asked said ≡ Some heard → SaidIs w task.t server heard
+  SaysTo server asked said = (heard : Said) → said_to asked said ≡ Some heard → SaidIs (w.told server task.t) heard
 
   fits_heard : (cache : Cache) (suites : Suites) (phase : Phase) (number : ℕ) (found : Option Suite) (server : ℕ) (asked : Request) (said : Reply) (go_on : Suites → Step) → ((suites : Suites) → InPhase suites phase) → suite_of suites number ≡ found
       → (number ≡ z → (suite : Suite) → suite_of suites number ≡ Some suite → IsNarrow suite) → (number ≡ z → SaysTo server asked said) → Kept cache → Fit suites → ((suites : Suites) → Fit suites → Fits (go_on suites))

@@ -1,10 +1,6 @@
 -- What an agent keeps in its cache, and holds of a suite that it asked for, as the suite's register had it.
-use Rattle.std.specs.Prelude.{◌≡◌, ℕ, ◌<◌, List, [], ◌∷◌, Contains, Option, Some, None}
+use Rattle.std.specs.Prelude.{◌≡◌, ℕ, ◌<◌, List, Contains, Option, Some, None}
 use Rattle.suite_content.specs.declared.content.Content.{Content}
-use Rattle.suite_prefix.specs.declared.copies.Prefix.{Prefix}
-use Rattle.suite_collect.specs.declared.told.Said.{Said}
-use Rattle.suite_collect.specs.declared.told.Said.TheVariants.{Held, Busy, Down}
-use Rattle.suite_collect.specs.declared.told.Told as collect
 use Rattle.suite_collect.specs.Collecting.{told_since}
 use Rattle.weak_cache.specs.Entries as weak
 use Rattle.weak_cache.specs.Entries.{Cache}
@@ -15,6 +11,7 @@ use Rattle.run_core.specs.Worlds as worlds
 use Rattle.run_core.specs.Worlds.{Actor, actor_at}
 use Rattle.suite_machine.specs.Registers.{Beginning, Entry, WasPrefix, WasContent, GoesWith}
 use Rattle.suite_machine.specs.Machine.{Told, World}
+use Rattle.run_machine.specs.Telling.{told_to, AreTold}
 
 -- ---- caches
 
@@ -29,28 +26,11 @@ CacheWas z start log cache = (entry : weak.Entry) → Contains cache entry → e
 
 -- ---- what a transaction holds of the suite
 
--- the machine told the transaction at this server of a copy with this prefix and version
-pub record ToldOf (w : World) (t i : ℕ) (prefix : Prefix) (dver : ℕ) : Type 0 where
-  pub told : Told
-  pub is : w.told i t ≡ Some told
-  pub prefix_is : told.copy.prefix ≡ prefix
-  pub dver_is : told.copy.dver ≡ dver
-
--- and of a copy with this version
+-- the machine told the transaction at this server of a copy with this version
 pub record ToldVersion (w : World) (t i : ℕ) (dver : ℕ) : Type 0 where
   pub told : Told
   pub is : w.told i t ≡ Some told
   pub dver_is : told.copy.dver ≡ dver
-
-abbrev pub SaidIs : World → ℕ → ℕ → Said → Type 0
-SaidIs w t i (Held prefix dver) = ToldOf w t i prefix dver
-SaidIs w t i (Busy holder) = Unit {0}
-SaidIs w t i Down = Unit {0}
-
--- all that a collector was told, the machine told it
-abbrev pub AreTold : World → ℕ → List collect.Told → Type 0
-AreTold w t [] = Unit {0}
-AreTold w t (one ∷ told) = SaidIs w t one.server one.said × AreTold w t told
 
 -- what the first Current gave: the prefix was the register's, and of a version above 0 the source has told
 pub record FirstWas (start : Beginning) (w : World) (t : ℕ) (first : First) : Type 0 where
@@ -61,8 +41,8 @@ pub record FirstWas (start : Beginning) (w : World) (t : ℕ) (first : First) : 
 -- there, goes with what the first Current gave
 pub record SuiteWas (start : Beginning) (w : World) (t : ℕ) (suite : Suite) : Type 0 where
   pub from : WasPrefix start w.log suite.collector.start
-  pub told : AreTold w t suite.collector.told
-  pub since : AreTold w t (told_since suite.collector.widening)
+  pub told : AreTold (told_to w t) suite.collector.told
+  pub since : AreTold (told_to w t) (told_since suite.collector.widening)
   pub first : (first : First) → suite.first ≡ Some first → FirstWas start w t first
   pub content : (content : Content) → suite.content ≡ Some content → (first : First) × (suite.first ≡ Some first) × GoesWith start w.log first.prefix first.dver content
 

@@ -1,5 +1,5 @@
 -- Each number of a transaction is begun once, and asked for by its agent alone.
-use Rattle.std.proofs.Common.{◌≡◌, ◌⊎◌, inl, inr, ⊎_elim, ℕ, ◌+◌, ◌≤◌, ◌<◌, true, false, cond, List, [], ◌∷◌, Option, Some, None, refl, sym, ap, subst, ◌∙◌, arith}
+use Rattle.std.proofs.Common.{◌≡◌, ◌⊎◌, inl, inr, ⊎_elim, ℕ, ◌+◌, ◌≤◌, ◌<◌, true, false, cond, List, [], ◌∷◌, ◌++◌, Option, Some, None, refl, sym, ap, subst, ◌∙◌, arith}
 use Rattle.std.specs.Prelude.{◌*◌, ◌%◌, ◌&&◌, nat_eq, nat_lt}
 use Rattle.std.specs.List.{AllByRecursion, IsDistinct, cons_option}
 use Rattle.std.proofs.lemmas.Bool.{ne_eqb}
@@ -26,7 +26,7 @@ use Rattle.run_laws.specs.Claims.{ChangesAreMet}
 use Rattle.run_laws.proofs.Asking.{asks_in_its_name, asks_to_sweep, decides}
 use Rattle.run_laws.proofs.Agents.{same_place, IsAt, take_keeps, Begun, not_begun}
 use Rattle.run_laws.proofs.Worlds.{agent_of, agent_at, puts_agent, Holds, event_holds}
-use Rattle.run_laws.proofs.Standing.{NotIn}
+use Rattle.run_laws.proofs.Standing.{append_has_left, NotIn}
 use Rattle.run_laws.proofs.Order.{stands_first}
 use Rattle.run_laws.proofs.Each.{new_of, each_event}
 use Rattle.run_laws.proofs.Conclusions.{holds_of, holds_at_first, rest_of, ends_as, later_decisions, decisions_go_on}
@@ -190,6 +190,8 @@ changes_are_met given accepted events later job answers i t asked request there 
     subst (NotIn (decisions given events)) (sym (same ∙ now.numbered)) (not_begun (agent_at (run given events)) (decisions given events) i now.actor.agent holds.agents (ap agent_of now.at) now.actor.agent.count (omega arith)) in
     record {
       change = change.decision;
+      there = contains_from (decisions given (events ++ later')) change.decision
+          (subst (λ ds. Has ds change.decision) (sym (decisions_go_on given events later')) (append_has_left (decisions given events) (later_decisions given events later') change.decision change.there));
       of_it = change.of_it;
       answered = change.answered;
       before = λ before after all. contains_from before change.decision

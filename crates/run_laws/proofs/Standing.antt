@@ -1,5 +1,5 @@
 -- What stands among decisions, and what stays so when more are made.
-use Rattle.std.proofs.Common.{◌≡◌, ◌≢◌, ◌⊎◌, inl, inr, ℕ, List, [], ◌∷◌, ◌++◌, refl, ap, ◌∙◌}
+use Rattle.std.proofs.Common.{◌≡◌, ◌⊎◌, inl, inr, ℕ, List, [], ◌∷◌, ◌++◌, refl}
 use Rattle.std.specs.Prelude.{Result, Ok, Err}
 use Rattle.rep_core.proofs.Members.{Has}
 use Rattle.rep_core.specs.declared.reply.Verdict.{Verdict}
@@ -59,9 +59,6 @@ not_in_more ds more t old new d has same = elim (has_append ds more d has) [ inl
 
 pub none_in : (t : ℕ) → NotIn [] t
 none_in t d has same = has
-
-pub other_in : (t : ℕ) (d : Decided) → d.t ≢ t → NotIn (d ∷ []) t
-other_in t d apart e has same = elim has [ inl is ↦ apart (ap (λ (d : Decided). d.t) is ∙ same) | inr rest ↦ absurd rest ]
 
 pub stands_more : (ds more : List Decided) (t : ℕ) (v : Verdict) → NotIn more t → Stands ds t v → Stands (ds ++ more) t v
 stands_more ds more t (verdict.Answered answers) new is = in_more ds more t (Ok answers) is

@@ -38,7 +38,7 @@ AnswersFollowKnowledge =
     (given : Opening) (events : List Event) (event : Event) (one : Decided)
     → decided (fixed_of given) (run given events) event ≡ Some one → IsAnsweredAsKnown given (run given events) event one
 
--- ---- what is left of the headline
+-- ---- what the headline rests on
 
 -- Whenever a transaction is decided, what its agent knows agrees with the table of the run so far.
 abbrev pub KnowsTheTable : Opening → Type 0

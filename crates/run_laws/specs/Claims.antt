@@ -87,6 +87,7 @@ AnsweredBefore =
 -- that of the request.
 pub record IsMet (all : List Decided) (t : ℕ) (answer : Result (List Answer) Refusal) (request : Decided) : Type 0 where
   pub change : Decided
+  pub there : Contains all change
   pub of_it : change.t ≡ t
   pub answered : change.answer ≡ answer
   pub before : StandsBefore all change request

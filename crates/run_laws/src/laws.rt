@@ -24,7 +24,7 @@ pub fn answered_before_decided_before()
 {}
 
 /// A law: a change that was answered, as one that takes a permission away, is met by every request that
-/// begins later: its decision stands before that of the request. It does nothing.
+/// begins later: its decision stands there, and before that of the request. It does nothing.
 pub fn changes_are_met()
     ensures { ChangesAreMet }
 {}

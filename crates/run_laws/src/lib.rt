@@ -1,7 +1,8 @@
 //! What holds of the decisions of every run.
 //!
-//! There is no code here but laws. Definitions stand in `specs/`: the claims in `Claims`, the numbers of transactions
-//! and who asks in their names in `Numbers`.
+//! There is no code here but laws. Definitions stand in `specs/`: the claims in `Claims`; the numbers of transactions
+//! and who asks in their names in `Numbers`; which requests name a transaction in `Naming`; what an agent knew when its
+//! transaction was decided, and how it was so answered, in `Answers`; and a run by computation in `Worked`.
 #![tactic(auto)]
 
 mod laws;

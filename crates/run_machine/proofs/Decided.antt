@@ -6,9 +6,8 @@ use Rattle.std.proofs.lemmas.Bool.Decides.{nat_tests}
 use Rattle.suite_prefix.specs.declared.copies.Replica.{Replica}
 use Rattle.suite_prefix.specs.declared.lock_mode.LockMode.TheVariants.{Shared}
 use Rattle.suite_collect.specs.Telling.{holds}
-use Rattle.txn_core.specs.Suites.{First, Suite, Suites, suite_of}
+use Rattle.txn_core.specs.Suites.{First, Suite, Suites, suite_of, told_in}
 use Rattle.txn_core.specs.Doing.{Task, Outcome, Deciding, Course, Doing, Running}
-use Rattle.txn_core.proofs.Locks.{told_in}
 use Rattle.suite_machine.specs.Registers.{Beginning, Known, Change}
 use Rattle.suite_machine.specs.Machine.{Told, World}
 use Rattle.suite_machine.specs.Conditions.{IsReady, Knows, May}

@@ -18,7 +18,7 @@ use Rattle.rep_core.proofs.Members.{Has, filter_has, map_has, has_any}
 use Rattle.rep_core.proofs.Finding.{any_find}
 use Rattle.suite_collect.specs.Telling.{holds}
 use Rattle.weak_cache.specs.Entries.{Cache}
-use Rattle.txn_core.specs.Suites.{Suite, Suites, suite_of, has_locks, holds_lock}
+use Rattle.txn_core.specs.Suites.{Suite, Suites, suite_of, has_locks, holds_lock, told_in, told_at}
 use Rattle.txn_core.specs.Writing.{part_of, parts_at}
 use Rattle.txn_core.specs.declared.word.Word.{Word}
 use Rattle.txn_core.specs.declared.word.Word.TheVariants.{Replied, Lacked}
@@ -30,7 +30,6 @@ use Rattle.txn_core.specs.Doing.{Changes, Fixed, Task, Outcome, Phase, Gathering
 use Rattle.txn_core.specs.Transactions.{execute, tell_end, give_up, prepare, locked_at, numbers_from, lack_cause, after_word, request_in, verdict_in, ending_by, cause_of_abort}
 use Rattle.txn_core.specs.Sweeps as sweep
 use Rattle.txn_core.specs.Agents.{Agent, next_in, take_in, left}
-use Rattle.txn_core.proofs.Locks.{told_in, told_at}
 use Rattle.txn_core.proofs.Walk.{IsEarly, goes_word, goes_execute}
 use Rattle.suite_machine.specs.Registers.{Beginning}
 use Rattle.suite_machine.specs.Machine.{World}

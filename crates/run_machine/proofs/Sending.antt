@@ -23,12 +23,11 @@ use Rattle.rep_core.proofs.Finding.{find_some}
 use Rattle.rep_core.proofs.IntentionLookups.{get_has}
 use Rattle.suite_collect.specs.Telling.{newest, holds}
 use Rattle.suite_collect.specs.Collecting.{Collector, needed, got, all_told, wanted, request_for, Asked, Poll, Upgrade, Next, Ask, Current, Short, next, is_left, counted, is_member, members_of, version, asked_of, ask_or_short}
-use Rattle.txn_core.specs.Suites.{First, Suite, Suites, suite_of, holds_lock, holds_exclusively}
+use Rattle.txn_core.specs.Suites.{First, Suite, Suites, suite_of, holds_lock, holds_exclusively, told_in, told_at}
 use Rattle.txn_core.specs.Writing.{change_of, new_copy, new_prefix, sets_prefix, has_vote, takes_whole, take_of_changed, take_from, part_of, parts_at}
 use Rattle.txn_core.specs.Doing.{Fixed, Task, home_of, Outcome, Phase, Gathering, Fetching, Widening, Preparing, Deciding, Finishing}
 use Rattle.txn_core.specs.Transactions.{asked_by, asked_for, fetched_at, fetched_for, request_in, changes_of, decision_of}
 use Rattle.txn_core.proofs.Asks.{asks_same}
-use Rattle.txn_core.proofs.Locks.{told_in, told_at}
 use Rattle.suite_machine.specs.Registers.{Beginning, Change, Entry}
 use Rattle.suite_machine.specs.Machine.{World, Told, Verdict, Answered, Refused, Aborted}
 use Rattle.suite_machine.specs.Events.{Event, happens, decided}
@@ -233,9 +232,6 @@ decision_told start z w task suites (Preparing left outcome) = refl
 decision_told start z w task suites (Finishing servers v ending) = refl
 
 -- ---- the agent's side
-
-same_poll : (t u s y : ℕ) (m n : LockMode) → request.Poll t s m ≡ request.Poll u y n → s ≡ y
-same_poll t u s y m n is = cc
 
 module _ (start : Beginning) (z : ℕ) (home : ℕ → ℕ) (locks : List Lock) (w : World) (fixed : Fixed) (task : Task) (suites : Suites) (server : ℕ) (ordered : IsOrdered nat_cmp suites) (told : ToldAs z w task.t suites) where
   asks_lock : (number : ℕ) (asked : Request) (decision : Event) → asked_for task number (suite_of suites number) ≡ Some (server, asked) → AgentSide start z home decision server locks w asked

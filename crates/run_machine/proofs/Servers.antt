@@ -1,5 +1,5 @@
 -- The servers of a world, as a function of their numbers.
-use Rattle.std.proofs.Common.{◌≡◌, ℕ, ◌+◌, zero, suc, List, get_or, Some, refl, sym, ap, subst, ◌∙◌, arith}
+use Rattle.std.proofs.Common.{◌≡◌, ℕ, ◌+◌, zero, suc, get_or, Some, refl, sym, ap, subst, ◌∙◌, arith}
 use Rattle.std.specs.Prelude.{slice_get, slice_set, unwrap_or}
 use Rattle.std.proofs.lemmas.List.{get_or-set_same, get_or-set_other}
 use Rattle.std.proofs.lemmas.Option.{slice_get_within, unwrap_or-slice_get}
@@ -11,13 +11,6 @@ use Rattle.run_core.specs.Worlds.{server_at, with_server, servers_from}
 use Rattle.suite_machine.specs.Machine.{set1}
 use Rattle.suite_machine.proofs.Places.{at1}
 use Rattle.run_machine.specs.Machines.{servers_of}
-
--- one of a list is changed
-pub at_set : {X : Type 0} (xs : List X) (i : ℕ) (old new d : X) → slice_get xs i ≡ Some old → (j : ℕ) → set1 (λ j. unwrap_or (slice_get xs j) d) i new j ≡ unwrap_or (slice_get (slice_set xs i new) j) d
-at_set xs i old new d is j =
-    at1 (λ x. x ≡ unwrap_or (slice_get (slice_set xs i new) j) d) (λ j. unwrap_or (slice_get xs j) d) i new j
-    (λ same. sym (unwrap_or-slice_get (slice_set xs i new) j d ∙ ap (λ j. get_or (slice_set xs i new) j d) same ∙ get_or-set_same xs i new d (slice_get_within xs i old is)))
-    (λ apart. unwrap_or-slice_get xs j d ∙ sym (unwrap_or-slice_get (slice_set xs i new) j d ∙ get_or-set_other xs i j new d apart))
 
 -- the servers once one of them has changed
 pub servers_set : (given : Opening) (world : worlds.World) (i : ℕ) (old new : State) → server_at world i ≡ Some old → set1 (servers_of given world) i new ≡ servers_of given (with_server i new world)

@@ -12,7 +12,7 @@ use Rattle.rep_core.specs.declared.reply.Reply.TheVariants as reply
 use Rattle.rep_core.specs.declared.reply.Verdict as replied
 use Rattle.rep_core.specs.Locks.{has_prepared}
 use Rattle.suite_collect.specs.Telling.{holds}
-use Rattle.txn_core.specs.Suites.{Suites}
+use Rattle.txn_core.specs.Suites.{Suites, told_at}
 use Rattle.txn_core.specs.declared.word.Word.{Word}
 use Rattle.txn_core.specs.declared.word.Word.TheVariants.{Replied, Lacked}
 use Rattle.txn_core.specs.Doing.{Fixed, Outcome, Course, Sweeping, Listing, Resolving, Telling, Breaking, Round, Doing, Running, Rounding, After, GoesOn, Ends, home_of}
@@ -22,7 +22,7 @@ use Rattle.txn_core.specs.Sweeps as sweep
 use Rattle.txn_core.specs.Sweeps.{asked_now, sweep_on, others}
 use Rattle.txn_core.specs.Agents.{Agent, Taken, Take, next_of, take_in, left, with_step, end_of}
 use Rattle.txn_core.specs.Laws.{locks, says_held}
-use Rattle.txn_core.proofs.Locks.{told_at, Keeps, plus_all, all_keep}
+use Rattle.txn_core.proofs.Locks.{Keeps, plus_all, all_keep}
 use Rattle.txn_core.specs.Laws.{exchange_of}
 use Rattle.suite_machine.specs.Registers.{Beginning, Change}
 use Rattle.suite_machine.specs.Machine.{World}

@@ -35,7 +35,7 @@ MachinesFollow = (given : Opening) (z : ℕ) (events : List Event) → IsValid g
 abbrev pub ServersAreConsistent : Type 0
 ServersAreConsistent = (given : Opening) (events : List Event) (i : ℕ) → IsConsistent (servers_of given (runs.run given events) i)
 
--- Agents keep to their side in every run, but for what is left in `Owed`: each polls a server for a suite once, fixes what it is to write once and sends that,
+-- Agents keep to their side in every run, but for what is in `Owed`: each polls a server for a suite once, fixes what it is to write once and sends that,
 -- prepares at a server once, tells servers how its transaction ended and nothing else, and gives up only what was not decided; and its transactions are
 -- numbered apart from all others.
 abbrev pub SidesAreKept : Type 0

@@ -1,4 +1,4 @@
--- What is left to be shown of agents, suite by suite, for them to keep to their side: where a transaction is deciding, that what it knows is from a quorum, and that what it writes covers enough servers.
+-- What agents owe at a decision, suite by suite, to keep to their side: that what the transaction knows is from a quorum, and that what it writes covers enough servers.
 use Rattle.std.specs.Prelude.{◌≡◌, ◌⊎◌, ℕ, ◌≤◌, IsTrue, List, [], ◌∷◌, Option, Some, None, Ok, Err}
 use Rattle.vote_core.specs.Quorums.{is_write_quorum}
 use Rattle.vote_core.specs.Validity.{IsValid}

@@ -1,7 +1,8 @@
 //! The machine of each suite in a run of servers and agents.
 //!
 //! There is no code here but laws. What an agent does to a suite by itself stands in `specs/Deciding`, what each event of a
-//! world is to the machine of a suite in `specs/Machines`, what agents keep to in `specs/Sides`, and the laws in `specs/Laws`.
+//! world is to the machine of a suite in `specs/Machines`, what the machine told a transaction in `specs/Telling`, what
+//! agents keep to in `specs/Sides` and what they owe at a decision in `specs/Owed`, and the laws in `specs/Laws`.
 #![tactic(auto)]
 
 ghost use Rattle.run_machine.specs.Laws.{MachinesFollow, ServersAreConsistent, SidesAreKept, AgentsAreOfJobs};
@@ -17,7 +18,7 @@ pub fn servers_are_consistent()
     ensures { ServersAreConsistent }
 {}
 
-/// A law: in every run agents keep to their side, but for what is left in `specs/Owed`. It does nothing.
+/// A law: in every run agents keep to their side, but for what is in `specs/Owed`. It does nothing.
 pub fn sides_are_kept()
     ensures { SidesAreKept }
 {}

@@ -4,18 +4,20 @@ use Rattle.std.specs.Prelude.{◌*◌, slice_get, slice_set}
 use Rattle.std.proofs.lemmas.Option.{same_Some}
 use Rattle.rep_core.specs.declared.request.Request.{Request}
 use Rattle.suite_collect.specs.declared.told.Told as collect
+use Rattle.txn_core.specs.Suites.{told_at}
 use Rattle.txn_core.specs.declared.word.Word.{Word}
 use Rattle.txn_core.specs.Doing.{Fixed, Course, Doing, Running, Rounding, After, GoesOn, Ends}
 use Rattle.txn_core.specs.Transactions.{after_word, request_of}
 use Rattle.txn_core.specs.Agents.{Agent, next_in, take_in, left}
-use Rattle.txn_core.proofs.Locks.{Leaves, told_at}
+use Rattle.txn_core.proofs.Locks.{Leaves}
 use Rattle.run_core.specs.Worlds as worlds
 use Rattle.run_core.specs.Worlds.{Actor, actor_at}
 use Rattle.suite_machine.specs.Machine.{World}
 use Rattle.run_machine.proofs.Quiet.{Quiet}
 use Rattle.run_machine.proofs.Linked.{InCourse, IsDoing, AllLinked, numbered_at}
 use Rattle.run_machine.proofs.Turned.{Others, set_here, set_apart, same_or}
-use Rattle.run_quorums.specs.Telling.{Agrees, told_to, DoingAgrees, AllAgree}
+use Rattle.run_machine.specs.Telling.{told_to}
+use Rattle.run_quorums.specs.Telling.{Agrees, DoingAgrees, AllAgree}
 use Rattle.run_quorums.proofs.Served.{heard_by}
 use Rattle.run_quorums.proofs.Heard.{hears_word}
 

@@ -13,6 +13,7 @@ use Rattle.rep_core.specs.Service.{reply_of}
 use Rattle.rep_core.specs.Serving as serving
 use Rattle.rep_core.specs.Serving.{answer_of, is_full, served}
 use Rattle.suite_collect.specs.declared.told.Told as collect
+use Rattle.txn_core.specs.Suites.{told_at}
 use Rattle.txn_core.specs.declared.word.Word.{Word}
 use Rattle.txn_core.specs.declared.word.Word.TheVariants.{Replied, Lacked}
 use Rattle.txn_core.specs.declared.job.Job.{Job}
@@ -20,7 +21,7 @@ use Rattle.txn_core.specs.declared.job.Job.TheVariants.{Transaction, Sweep}
 use Rattle.txn_core.specs.Doing.{Task, Course, Doing, Running, Rounding, After, GoesOn, Ends}
 use Rattle.txn_core.specs.Transactions.{execute}
 use Rattle.txn_core.specs.Agents.{Agent, fixed_of, next_in, next_of, take, take_in, begin, started, forget, is_idle, has_sense, most_jobs, left}
-use Rattle.txn_core.proofs.Locks.{Leaves, told_at, are_nil, leaves_execute}
+use Rattle.txn_core.proofs.Locks.{Leaves, are_nil, leaves_execute}
 use Rattle.run_core.specs.declared.event.Event as happening
 use Rattle.run_core.specs.declared.event.Event.TheVariants.{Begin, Step, Crash, Return, Forget, Lack}
 use Rattle.run_core.specs.Worlds as worlds
@@ -49,7 +50,8 @@ use Rattle.run_machine.proofs.Sending.{decision_told}
 use Rattle.run_machine.proofs.Linked.{AllLinked, IsDoing}
 use Rattle.run_machine.proofs.Turns.{turn}
 use Rattle.run_machine.proofs.Turned.{served_at, served_concerns, lacked_concerns, others_turned, begun_so}
-use Rattle.run_quorums.specs.Telling.{Agrees, told_to, DoingAgrees, AllAgree}
+use Rattle.run_machine.specs.Telling.{told_to}
+use Rattle.run_quorums.specs.Telling.{Agrees, DoingAgrees, AllAgree}
 use Rattle.run_quorums.proofs.Served.{heard_by, served_agrees, lacked_agrees}
 use Rattle.run_quorums.proofs.Agreed.{all_agree, take_agrees}
 

@@ -12,7 +12,7 @@ use Rattle.suite_collect.specs.declared.told.Said.{Said}
 use Rattle.suite_collect.specs.declared.told.Told.{Told}
 use Rattle.suite_collect.specs.Collecting.{all_told, tell, mode_of, next}
 use Rattle.weak_cache.specs.Entries.{Cache}
-use Rattle.txn_core.specs.Suites.{First, Suite, Suites, suite_of, with_suite}
+use Rattle.txn_core.specs.Suites.{First, Suite, Suites, suite_of, with_suite, told_in}
 use Rattle.txn_core.specs.Writing.{parts_at}
 use Rattle.txn_core.specs.declared.word.Word.{Word}
 use Rattle.txn_core.specs.declared.word.Word.TheVariants.{Replied, Lacked}
@@ -23,7 +23,7 @@ use Rattle.txn_core.specs.Doing.{Fixed, Task, Phase, Gathering, Fetching, Wideni
 use Rattle.txn_core.specs.Transactions.{Step, tell_end, give_up, locked_at, hear, heard_of, said_to, after_lack, after_word, asked_for, fetched_at, fetched_for, request_in, changes_of, decision_of, given_in, verdict_in, ending_by, cause_of_abort, lack_cause}
 use Rattle.txn_core.specs.Laws.{locks, told_by, more_told}
 use Rattle.txn_core.proofs.Asks.{asks_same}
-use Rattle.txn_core.proofs.Locks.{Are, Leaves, told_in, told_with, leaves_widen, leaves_execute, leaves_fetched, leaves_prepared, leaves_collected, all_told-tell, asks_lock}
+use Rattle.txn_core.proofs.Locks.{Are, Leaves, told_with, leaves_widen, leaves_execute, leaves_fetched, leaves_prepared, leaves_collected, all_told-tell, asks_lock}
 use Rattle.run_quorums.proofs.Served.{heard_by}
 
 -- the lists after a word: of each suite what was there, with what the word tells of it

@@ -21,7 +21,7 @@ use Rattle.suite_machine.specs.Registers.{Beginning, Known, WasPrefix}
 use Rattle.suite_machine.specs.Machine.{Told, World, IsQuorum}
 use Rattle.suite_machine.proofs.Invariant.{Inv}
 use Rattle.run_machine.specs.Deciding.{showed, known_by}
-use Rattle.run_quorums.specs.Telling.{ToldOf, SaidIs, AreTold, told_to}
+use Rattle.run_machine.specs.Telling.{told_to, ToldOf, SaidIs, AreTold}
 use Rattle.run_quorums.specs.Firsts.{FirstFrom, early_collector}
 use Rattle.run_quorums.specs.Laws.{KnowsFromAQuorum}
 
@@ -71,9 +71,9 @@ showed_on f start mode (last ∷ list) i are held =
       dver = rest.dver ∙ sym (ap (λ b. cond b (version_in last.said (shown list i)) (shown list i)) e ∙ same);
     }
 
-    here : (last.server == i) ≡ true → (said : Said) → last.said ≡ said → SaidIs f last.server last.said → ((is_held last.said && serves last.mode mode) || holds mode list i) ≡ true → (holds mode list i ≡ true → Showed f start list i) → Showed f start (last ∷ list) i
+    here : (last.server == i) ≡ true → (said : Said) → last.said ≡ said → SaidIs (f last.server) last.said → ((is_held last.said && serves last.mode mode) || holds mode list i) ≡ true → (holds mode list i ≡ true → Showed f start list i) → Showed f start (last ∷ list) i
     here e (Held prefix dver) same told held rest =
-        let of : ToldOf f last.server prefix dver = subst (SaidIs f last.server) same told in
+        let of : ToldOf (f last.server) prefix dver = subst (SaidIs (f last.server)) same told in
         let at : last.server ≡ i = eqb-true last.server i e in
         record {
           one = of.one;

@@ -34,7 +34,8 @@ use Rattle.suite_machine.proofs.Sound.{Sound}
 use Rattle.server_moves.specs.Moves.{prepare_of, first_verdict, moves}
 use Rattle.server_moves.specs.Laws.{TellsCopy, Tells}
 use Rattle.run_laws.specs.Naming.{names}
-use Rattle.run_quorums.specs.Telling.{ToldOf, SaidIs, AreTold, Agrees, told_to}
+use Rattle.run_machine.specs.Telling.{told_to, ToldOf, SaidIs, AreTold}
+use Rattle.run_quorums.specs.Telling.{Agrees}
 
 -- what a word adds to a list
 abbrev pub heard_by : ℕ → List collect.Told → ℕ → Request → Word → List collect.Told
@@ -46,7 +47,7 @@ heard_by z list i asked word = cond (locks z asked) (told_by list (record { serv
 abbrev Grows : (ℕ → Option Told) → (ℕ → Option Told) → Type 0
 Grows f g = (i : ℕ) (one : Told) → f i ≡ Some one → (more : Told) × (g i ≡ Some more) × (more.copy ≡ one.copy)
 
-grows_of : (f g : ℕ → Option Told) (i : ℕ) (prefix : Prefix) (dver : ℕ) → Grows f g → ToldOf f i prefix dver → ToldOf g i prefix dver
+grows_of : (f g : ℕ → Option Told) (i : ℕ) (prefix : Prefix) (dver : ℕ) → Grows f g → ToldOf (f i) prefix dver → ToldOf (g i) prefix dver
 grows_of f g i prefix dver grows is =
     let more = grows i is.one is.is in
     record { one = more.0; is = more.1; prefix_is = ap (λ (copy : Replica). copy.prefix) more.2 ∙ is.prefix_is; dver_is = ap (λ (copy : Replica). copy.dver) more.2 ∙ is.dver_is }
@@ -55,7 +56,7 @@ are_grown : (f g : ℕ → Option Told) (list : List collect.Told) → Grows f g
 are_grown f g [] grows are = tt
 are_grown f g (one ∷ list) grows are = (of one.said are.0, are_grown f g list grows are.1)
   where
-    of : (said : Said) → SaidIs f one.server said → SaidIs g one.server said
+    of : (said : Said) → SaidIs (f one.server) said → SaidIs (g one.server) said
     of (Held prefix dver) is = grows_of f g one.server prefix dver grows is
     of (Busy holder) is = tt
     of Down is = tt
@@ -68,7 +69,7 @@ refused_agrees f list i mode said none agrees = record {
   exclusive = λ who. agrees.exclusive who ∙ sym (same who (serves mode Exclusive) (holds Exclusive list who));
 }
   where
-    of : (said : Said) → is_held said ≡ false → SaidIs f i said
+    of : (said : Said) → is_held said ≡ false → SaidIs (f i) said
     of (Held prefix dver) none = absurd (false≢true (sym none))
     of (Busy holder) none = tt
     of Down none = tt
@@ -99,7 +100,7 @@ other_test : (a b : ℕ) → (a == b) ≡ false → (b == a) ≡ false
 other_test a b e = grind (arith, nat_tests)
 
 -- one more is told of: the rest stays, and here is this copy under a lock that is exclusive now, or was before
-pub held_agrees : (f g : ℕ → Option Told) (list : List collect.Told) (i : ℕ) (mode : LockMode) (prefix : Prefix) (dver : ℕ) → Agrees f list → Grows f g → ((who : ℕ) → (who ≡ i → ⊥) → g who ≡ f who) → ToldOf g i prefix dver
+pub held_agrees : (f g : ℕ → Option Told) (list : List collect.Told) (i : ℕ) (mode : LockMode) (prefix : Prefix) (dver : ℕ) → Agrees f list → Grows f g → ((who : ℕ) → (who ≡ i → ⊥) → g who ≡ f who) → ToldOf (g i) prefix dver
     → is_exclusive (g i) ≡ (modes.is_exclusive mode || is_exclusive (f i)) → Agrees g (record { server = i; mode = mode; said = Held prefix dver } ∷ list)
 held_agrees f g list i mode prefix dver agrees grows others here exclusive = record {
   copies = (here, are_grown f g list grows agrees.copies);

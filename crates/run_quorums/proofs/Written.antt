@@ -22,7 +22,8 @@ use Rattle.suite_machine.specs.Conditions.{holds_exclusively, CoversPrefix, Keep
 use Rattle.server_moves.specs.Preparing.{left_of}
 use Rattle.run_machine.specs.Deciding.{known_by, change_to}
 use Rattle.run_machine.specs.Owed.{OwesKnown, OwesWritten}
-use Rattle.run_quorums.specs.Telling.{Agrees, told_to}
+use Rattle.run_machine.specs.Telling.{told_to}
+use Rattle.run_quorums.specs.Telling.{Agrees}
 use Rattle.run_quorums.specs.Fairness.{IsFair, PreparedPart}
 use Rattle.run_quorums.specs.Laws.{WritesToQuorums}
 

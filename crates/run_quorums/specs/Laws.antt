@@ -17,7 +17,8 @@ use Rattle.suite_machine.specs.Conditions.{holds_exclusively}
 use Rattle.run_machine.specs.Deciding.{known_by, change_to}
 use Rattle.run_machine.specs.Machines.{machine_of}
 use Rattle.run_machine.specs.Owed.{OwesKnown, OwesWritten, AgentsOwe}
-use Rattle.run_quorums.specs.Telling.{Agrees, told_to, AllAgree}
+use Rattle.run_machine.specs.Telling.{told_to}
+use Rattle.run_quorums.specs.Telling.{Agrees, AllAgree}
 use Rattle.run_quorums.specs.Firsts.{FirstFrom}
 use Rattle.run_quorums.specs.Fairness.{IsFair, PreparedPart}
 

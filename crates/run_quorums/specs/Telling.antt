@@ -1,44 +1,21 @@
 -- What the machine of a suite told a transaction, server by server, against the list that its collector holds.
-use Rattle.std.specs.Prelude.{◌≡◌, ℕ, List, [], ◌∷◌, is_some, Option, Some}
-use Rattle.suite_prefix.specs.declared.copies.Prefix.{Prefix}
+use Rattle.std.specs.Prelude.{◌≡◌, ℕ, List, is_some, Option, Some}
 use Rattle.suite_prefix.specs.declared.lock_mode.LockMode.TheVariants.{Shared, Exclusive}
-use Rattle.suite_collect.specs.declared.told.Said.{Said}
-use Rattle.suite_collect.specs.declared.told.Said.TheVariants.{Held, Busy, Down}
 use Rattle.suite_collect.specs.declared.told.Told as collect
 use Rattle.suite_collect.specs.Telling.{holds}
+use Rattle.txn_core.specs.Suites.{told_at}
 use Rattle.txn_core.specs.Doing.{Doing, Running}
-use Rattle.txn_core.proofs.Locks.{told_at}
 use Rattle.run_core.specs.Worlds as worlds
 use Rattle.run_core.specs.Worlds.{Actor, actor_at}
 use Rattle.suite_machine.specs.Machine.{Told, World}
 use Rattle.suite_machine.specs.Conditions.{is_exclusive}
+use Rattle.run_machine.specs.Telling.{told_to, AreTold}
 
--- a server told of a copy with this prefix and version
-pub record ToldOf (told : ℕ → Option Told) (i : ℕ) (prefix : Prefix) (dver : ℕ) : Type 0 where
-  pub one : Told
-  pub is : told i ≡ Some one
-  pub prefix_is : one.copy.prefix ≡ prefix
-  pub dver_is : one.copy.dver ≡ dver
-
-abbrev pub SaidIs : (ℕ → Option Told) → ℕ → Said → Type 0
-SaidIs told i (Held prefix dver) = ToldOf told i prefix dver
-SaidIs told i (Busy holder) = Unit {0}
-SaidIs told i Down = Unit {0}
-
--- each copy of the list was told
-abbrev pub AreTold : (ℕ → Option Told) → List collect.Told → Type 0
-AreTold told [] = Unit {0}
-AreTold told (one ∷ list) = SaidIs told one.server one.said × AreTold told list
-
--- and the list has all that was told, with the modes of the locks
+-- each copy of the list was told, and the list has all that was told, with the modes of the locks
 pub record Agrees (told : ℕ → Option Told) (list : List collect.Told) : Type 0 where
   pub copies : AreTold told list
   pub held : (i : ℕ) → is_some (told i) ≡ holds Shared list i
   pub exclusive : (i : ℕ) → is_exclusive (told i) ≡ holds Exclusive list i
-
--- what a transaction was told at each server
-abbrev pub told_to : World → ℕ → ℕ → Option Told
-told_to w t i = w.told i t
 
 abbrev pub DoingAgrees : ℕ → World → Option Doing → Type 0
 DoingAgrees z w (Some (Running course)) = Agrees (told_to w course.task.t) (told_at course.suites z)

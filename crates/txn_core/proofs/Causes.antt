@@ -29,7 +29,7 @@ use Rattle.suite_collect.proofs.Finding.{Has}
 use Rattle.suite_collect.specs.Collecting as collecting
 use Rattle.suite_collect.specs.Collecting.{Collector, all_told, raise, tell, mode_of, request_for, Asked, Poll, Upgrade, Next, Ask, Current, Short, next}
 use Rattle.weak_cache.specs.Entries.{Cache}
-use Rattle.txn_core.specs.Suites.{First, Suite, Suites, suite_of, with_suite, settled}
+use Rattle.txn_core.specs.Suites.{First, Suite, Suites, suite_of, with_suite, settled, told_in}
 use Rattle.txn_core.specs.Writing.{parts_at}
 use Rattle.txn_core.specs.declared.word.Word.{Word}
 use Rattle.txn_core.specs.declared.ending.Cause.{Cause}
@@ -42,7 +42,7 @@ use Rattle.txn_core.specs.Transactions.{Step, Gathered, tell_end, give_up, prepa
 use Rattle.txn_core.specs.Laws.{Exchange, locks, is_decide, told_of, told_by, more_told, Was, loses, says_aborted, says_down, is_lack, fits_word, all_fit}
 use Rattle.txn_core.proofs.Asks.{asks_same}
 use Rattle.txn_core.proofs.Gathers.{self, with_at, at_with, Each, EachBut, each_but, each_with, but_with, tell_start, Sets, Grants, Kept, Asking, wide_told, wide_widened, kept_same, kept_more, kept_told, asking_of, asks_new, asks_on, settles_on}
-use Rattle.txn_core.proofs.Locks.{told_in, Are, are_with, are_same, are_opened, told_raised, all_told-tell, asks_lock}
+use Rattle.txn_core.proofs.Locks.{Are, are_with, are_same, are_opened, told_raised, all_told-tell, asks_lock}
 
 -- ---- replies that lose a lock
 

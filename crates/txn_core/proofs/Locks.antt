@@ -42,7 +42,7 @@ use Rattle.suite_collect.specs.Telling.{is_held, holds}
 use Rattle.suite_collect.specs.Collecting.{Collector, told_since, all_told, tell, tell_at, mode_of, request_for, Asked, Poll, Upgrade, Next, Ask, Current, Short, next}
 use Rattle.suite_collect.specs.Collecting as collecting
 use Rattle.weak_cache.specs.Entries.{Cache}
-use Rattle.txn_core.specs.Suites.{First, Suite, Suites, suite_of, with_suite, settled, holds_lock}
+use Rattle.txn_core.specs.Suites.{First, Suite, Suites, suite_of, with_suite, told_in, told_at, settled, holds_lock}
 use Rattle.txn_core.specs.declared.word.Word.{Word}
 use Rattle.txn_core.specs.declared.ending.Cause.{Cause}
 use Rattle.txn_core.specs.declared.ending.Ending.{Ending}
@@ -58,13 +58,6 @@ use Rattle.rep_core.specs.declared.stamped.Lack.{Lack}
 use Rattle.rep_core.specs.declared.reply.Verdict.TheVariants as verdict
 
 -- ---- what was told of each suite
-
-abbrev pub told_in : Option Suite → List Told
-told_in (Some suite) = all_told suite.collector
-told_in None = []
-
-abbrev pub told_at : Suites → ℕ → List Told
-told_at suites number = told_in (suite_of suites number)
 
 -- suites in order, of which this was told
 abbrev pub Are : (ℕ → List Told) → Suites → Type 0

@@ -18,7 +18,7 @@ use Rattle.suite_collect.specs.declared.told.Said.{Said}
 use Rattle.suite_collect.specs.Telling.{has_told}
 use Rattle.suite_collect.specs.Collecting.{Collector, all_told, tell, mode_of, request_for, mode_asked, Asked, Poll, Upgrade, Next, Ask, Current, Short, next}
 use Rattle.weak_cache.specs.Entries.{Cache}
-use Rattle.txn_core.specs.Suites.{First, Suite, Suites, suite_of, with_suite}
+use Rattle.txn_core.specs.Suites.{First, Suite, Suites, suite_of, with_suite, told_at, told_in}
 use Rattle.txn_core.specs.declared.word.Word.{Word}
 use Rattle.txn_core.specs.declared.job.Job.{Job}
 use Rattle.txn_core.specs.declared.word.Word.TheVariants.{Replied, Lacked}
@@ -32,7 +32,7 @@ use Rattle.suite_collect.proofs.Collected.{nobody_is_asked_twice}
 use Rattle.suite_collect.proofs.Fewness.{times, Few, few_more, never}
 use Rattle.suite_collect.specs.declared.told.Said.TheVariants.{Down}
 use Rattle.txn_core.proofs.Over.{IsOver, LeftOver, over_end, over_give_up, over_lack, stays_over}
-use Rattle.txn_core.proofs.Locks.{told_at, told_in, Are, Leaves, told_with, leaves_collected, leaves_execute, leaves_widen, leaves_fetched, leaves_prepared, asks_lock, are_nil, all_told-tell}
+use Rattle.txn_core.proofs.Locks.{Are, Leaves, told_with, leaves_collected, leaves_execute, leaves_widen, leaves_fetched, leaves_prepared, asks_lock, are_nil, all_told-tell}
 use Rattle.rep_core.specs.declared.reply.Verdict.TheVariants as verdict
 
 -- ---- who was asked, and how often

@@ -18,7 +18,7 @@ use Rattle.txn_core.specs.Sweeps as sweep
 use Rattle.rep_core.specs.Fits.{is_prepared}
 use Rattle.suite_collect.specs.Telling.{holds}
 use Rattle.weak_cache.specs.Entries.{Cache}
-use Rattle.txn_core.specs.Suites.{Suites, suite_of, holds_lock}
+use Rattle.txn_core.specs.Suites.{Suites, suite_of, holds_lock, told_at, told_in}
 use Rattle.txn_core.specs.declared.word.Word.{Word}
 use Rattle.txn_core.specs.declared.ending.Cause.{Cause}
 use Rattle.txn_core.specs.declared.ending.Ending.{Ending}
@@ -34,7 +34,7 @@ use Rattle.txn_core.proofs.Walk.{IsEarly, goes_word, goes_execute}
 use Rattle.txn_core.proofs.Asks.{asks_same, asked_as, fetched_as}
 use Rattle.rep_core.specs.declared.request.Decision.{Decision}
 use Rattle.txn_core.specs.Laws.{is_decide}
-use Rattle.txn_core.proofs.Locks.{told_at, told_in, or_false, or_or}
+use Rattle.txn_core.proofs.Locks.{or_false, or_or}
 use Rattle.txn_core.proofs.Locks as locks
 use Rattle.txn_core.specs.Transactions.{numbers_from}
 use Rattle.txn_core.specs.Suites.{has_locks}

@@ -14,6 +14,7 @@ use Rattle.suite_prefix.specs.declared.lock_mode.LockMode.{LockMode}
 use Rattle.suite_prefix.specs.declared.lock_mode.LockMode.TheVariants.{Shared, Exclusive}
 use Rattle.file_exec.specs.declared.known.KnownSuite.{KnownSuite}
 use Rattle.file_exec.specs.Known.{Known}
+use Rattle.suite_collect.specs.declared.told.Told.{Told}
 use Rattle.suite_collect.specs.Telling.{holds, shown}
 use Rattle.suite_collect.specs.Collecting.{Collector, all_told}
 
@@ -39,6 +40,14 @@ suite_of suites suite = get nat_cmp suites suite
 
 abbrev pub with_suite : ℕ → Suite → Suites → Suites
 with_suite suite found suites = insert nat_cmp suites suite found
+
+-- what was told of it
+abbrev pub told_in : Option Suite → List Told
+told_in (Some suite) = all_told suite.collector
+told_in None = []
+
+abbrev pub told_at : Suites → ℕ → List Told
+told_at suites number = told_in (suite_of suites number)
 
 -- ---- what is known
 
