@@ -9,3 +9,5 @@ pub mod Own
 pub mod Clear
 pub mod Exchanged
 pub mod Unhindered
+pub mod Standing
+pub mod Holding
