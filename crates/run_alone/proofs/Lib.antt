@@ -11,3 +11,4 @@ pub mod Exchanged
 pub mod Unhindered
 pub mod Standing
 pub mod Holding
+pub mod Known
