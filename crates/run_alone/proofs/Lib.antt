@@ -12,3 +12,5 @@ pub mod Unhindered
 pub mod Standing
 pub mod Holding
 pub mod Known
+pub mod Courses
+pub mod Sets
