@@ -14,3 +14,5 @@ pub mod Holding
 pub mod Known
 pub mod Courses
 pub mod Sets
+pub mod Grown
+pub mod Whole
