@@ -7,8 +7,15 @@ pub mod Same
 pub mod Worked
 pub mod Own
 pub mod Clear
+pub mod Votes
+pub mod Walks
+pub mod Named
+pub mod Unswept
+pub mod Went
 pub mod Exchanged
 pub mod Unhindered
+pub mod Starts
+pub mod Reached
 pub mod Standing
 pub mod Holding
 pub mod Known
@@ -21,3 +28,5 @@ pub mod Fits
 pub mod Replied
 pub mod Requests
 pub mod NeverLost
+pub mod Decided
+pub mod Alike
