@@ -1,127 +1,69 @@
--- What a transaction does not end with that begins where every agent is idle, every server is up and no lock is left.
-use Rattle.std.proofs.Common.{◌≡◌, inl, inr, ℕ, zero, suc, ◌+◌, true, false, cond, List, [], ◌∷◌, Option, Some, None, refl, sym, ap, subst, ◌∙◌}
-use Rattle.std.specs.Prelude.{◌*◌, ◌&&◌, not, nat_lt, slice_get, slice_set}
-use Rattle.std.proofs.lemmas.Bool.{and_parts}
+-- A transaction that begins where every agent is idle, every server is up and no lock is left: what holds as long as nothing disturbs it, and how it ends.
+use Rattle.std.proofs.Common.{◌≡◌, ℕ, zero, suc, ◌+◌, true, false, cond, List, [], ◌∷◌, Option, Some, None, refl, sym, ap, subst, ◌∙◌, arith}
+use Rattle.std.specs.Prelude.{◌*◌, ◌-◌, ◌||◌, slice_get}
+use Rattle.std.proofs.lemmas.Bool.{false≢true}
 use Rattle.std.proofs.lemmas.Option.{none-some, same_Some}
-use Rattle.acl_core.specs.Identity.{Identity}
-use Rattle.suite_prefix.specs.SettingsRules.{Opening, IsAccepted}
-use Rattle.file_ops.specs.declared.operation.Op.{Op}
+use Rattle.vote_core.specs.Validity.{IsValid}
+use Rattle.suite_prefix.specs.SettingsRules.{Opening}
+use Rattle.suite_prefix.specs.declared.copies.Replica.{Replica}
+use Rattle.suite_prefix.specs.declared.lock_mode.LockMode.TheVariants.{Exclusive}
+use Rattle.rep_core.specs.declared.lock.Lock.{Lock}
 use Rattle.rep_core.specs.declared.request.Request.{Request}
 use Rattle.rep_core.specs.declared.request.Request.TheVariants as request
-use Rattle.rep_core.specs.declared.stamped.Stamped.{Stamped}
-use Rattle.rep_core.specs.declared.stamped.Lack.{Lack as Why}
-use Rattle.rep_core.specs.declared.stamped.Lack.TheVariants as lack
+use Rattle.rep_core.specs.declared.reply.Reply.{Reply}
+use Rattle.rep_core.specs.declared.reply.Reply.TheVariants as reply
+use Rattle.rep_core.specs.declared.reply.Verdict.{Verdict}
+use Rattle.rep_core.specs.declared.reply.Verdict.TheVariants as verdict
 use Rattle.rep_core.specs.Consistency.{IsConsistent}
+use Rattle.rep_core.specs.Locks.{in_the_way, has_lock}
+use Rattle.rep_core.specs.Store.{copy_of}
 use Rattle.rep_core.specs.State as state
 use Rattle.rep_core.specs.State.{State}
-use Rattle.rep_core.specs.Service.{reply_of}
-use Rattle.rep_core.specs.Serving.{is_full, served, answer_of}
+use Rattle.rep_core.specs.Service.{reply_of, reply_up, reply_down, locking_reply, stands_prepared, can_prepare}
 use Rattle.rep_core.proofs.Consistent.{consistent_step, consistent_opening}
 use Rattle.rep_core.proofs.FittingReplies.{reply_fits}
 use Rattle.txn_core.specs.declared.ending.Cause.{Cause}
 use Rattle.txn_core.specs.declared.ending.Ending.{Ending}
-use Rattle.txn_core.specs.declared.ending.Ending.TheVariants.{Undecided}
-use Rattle.txn_core.specs.declared.job.Job.{Job}
-use Rattle.txn_core.specs.declared.job.Job.TheVariants.{Transaction}
-use Rattle.txn_core.specs.declared.word.Word.{Word}
-use Rattle.txn_core.specs.declared.word.Word.TheVariants.{Replied, Lacked}
-use Rattle.txn_core.specs.Doing.{Fixed}
-use Rattle.txn_core.specs.Agents.{Agent, fixed_of, is_idle, has_sense, most_jobs, next_of, take, begin, started, forget}
+use Rattle.txn_core.specs.declared.ending.Ending.TheVariants.{Answered, Refused, Swept, Undecided}
+use Rattle.txn_core.specs.declared.word.Word.TheVariants.{Replied}
+use Rattle.txn_core.specs.Doing.{Fixed, Course, Doing, Running, Rounding, After, GoesOn, Ends}
+use Rattle.txn_core.specs.Transactions.{after_word, ending_by}
+use Rattle.txn_core.specs.Laws.{is_decide, said_by}
+use Rattle.txn_core.specs.Agents.{Agent, fixed_of, is_idle, next_in, next_of, left, end_of, take_in, take}
 use Rattle.run_core.specs.declared.event.Event.{Event}
 use Rattle.run_core.specs.declared.event.Event.TheVariants.{Begin, Step, Crash, Return, Forget, Lack}
 use Rattle.run_core.specs.declared.done.Served.{Served}
 use Rattle.run_core.specs.declared.done.Outcome.{Outcome}
-use Rattle.run_core.specs.Worlds.{Actor, World, opening, servers_from, server_at, actor_at, with_actor, serve, moved, outcome_of, answered, becomes, asks_at, asks, steps_once, lacks_for, lacks, operated, operates, step}
+use Rattle.run_core.specs.Worlds.{Actor, World, opening, servers_from, server_at, actor_at, outcome_of, step}
 use Rattle.run_core.specs.Runs.{after, run}
-use Rattle.run_core.specs.Decisions.{Decided, decisions}
-use Rattle.run_laws.specs.Numbers.{begins_now}
-use Rattle.run_laws.specs.Claims.{ended}
-use Rattle.run_laws.proofs.Places.{at_puts}
-use Rattle.run_laws.proofs.Turns.{step_is}
-use Rattle.run_laws.proofs.Worlds.{Holds, event_holds, puts_in}
-use Rattle.run_laws.proofs.Conclusions.{holds_of}
-use Rattle.run_alone.specs.Alone.{all_idle, begins_job, jobs_from}
-use Rattle.run_alone.specs.Undisturbed.{all_up, no_locks, is_crash, none_crashes}
+use Rattle.run_core.specs.Decisions.{Decided}
+use Rattle.run_laws.specs.Numbers.{number_of}
+use Rattle.run_laws.proofs.Agents.{IsAt}
+use Rattle.run_laws.proofs.Words.{Leaves, leaves_word}
+use Rattle.run_laws.proofs.Worlds.{agent_of, Holds}
+use Rattle.run_alone.specs.Alone.{begins_job}
+use Rattle.run_alone.specs.Undisturbed.{is_crash, disturbs}
 use Rattle.run_alone.proofs.Own.{not_busy, not_down}
-use Rattle.run_alone.proofs.Turns.{with_job}
-use Rattle.run_alone.proofs.Clear.{Clear, polls_named, names_mine, is_turn, is_mine, event_clear, begun_clear, none_now, crash_not}
-use Rattle.run_alone.proofs.Exchanged.{IsFree, Since, since_begin, since_forget, since_take, IsLeft, ends_left}
+use Rattle.run_alone.proofs.Turns.{doing_of, doing_at}
+use Rattle.run_alone.proofs.Clear.{IsMine, Clear, polls_named, names_mine, is_mine, event_clear}
+use Rattle.run_alone.proofs.Votes.{HasValidVotes}
+use Rattle.run_alone.proofs.Exchanged.{TellsValid, IsFree, Since, since_forget, since_take, IsLeft, ends_left}
+use Rattle.run_alone.proofs.Unswept.{is_resolve, never_resolves, Unswept, stays_unswept, not_aborted}
+use Rattle.run_alone.proofs.Walks.{AllServers, event_servers}
+use Rattle.run_alone.proofs.Went.{Went, Stayed, Forgot, Took, Moves, event_moves}
 
 -- ---- servers are consistent
 
 abbrev pub AllConsistent : World → Type 0
-AllConsistent world = (s : ℕ) (st : State) → server_at world s ≡ Some st → IsConsistent st
+AllConsistent world = AllServers IsConsistent world
 
 opened : (given : Opening) (start count s : ℕ) (st : State) → slice_get (servers_from given start count) s ≡ Some st → IsConsistent st
 opened given start zero s st is = absurd (none-some st is)
 opened given start (suc count) zero st is = subst IsConsistent (same_Some (state.opening start given) st is) (consistent_opening start given)
 opened given start (suc count) (suc s) st is = opened given (start + 1) count s st is
 
-module _ (fixed : Fixed) (world : World) (all : AllConsistent world) where
-  all_served : (s : ℕ) (st : State) (asked : Stamped Request) → server_at world s ≡ Some st → is_full st asked ≡ false → (s' : ℕ) (st' : State) → slice_get (slice_set world.servers s (served st asked)) s' ≡ Some st' → IsConsistent st'
-  all_served s st asked at room s' st' is = elim (at_puts (slice_get world.servers) (slice_get (slice_set world.servers s (served st asked))) s st (served st asked) (puts_in world.servers s st (served st asked) at) s' st' is) [
-    | inl here ↦ subst IsConsistent (step_is st asked room ∙ sym here.is) (consistent_step st asked (all s st at))
-    | inr there ↦ all s' st' there.was
-  ]
-
-  operator_all : (server : ℕ) (asked : Request) (found : Option State) → server_at world server ≡ found → AllConsistent (operates world server asked found).world
-  operator_all server asked None is = all
-  operator_all server asked (Some st) is =
-      elim (is_full st stamped) as (λ b. is_full st stamped ≡ b → AllConsistent (operated world st (cond b None (Some what))).world) [
-        | true ↦ λ _. all
-        | false ↦ λ room. all_served server st stamped is room
-      ] refl
-    where
-      stamped : Stamped Request
-      stamped = record { stamp = 0; value = asked }
-
-      what : Served
-      what = record { server = server; request = stamped; reply = answer_of st stamped }
-
-  answered_all : (i : ℕ) (actor : Actor) (asked : ℕ × Request) (st : State) → server_at world asked.0 ≡ Some st → AllConsistent (answered fixed world i actor st (serve asked.0 st (record { stamp = actor.stamp; value = asked.1 }))).world
-  answered_all i actor asked st at =
-      elim (is_full st stamped) as (λ b. is_full st stamped ≡ b → AllConsistent (answered fixed world i actor st (cond b None (Some what))).world) [
-        | true ↦ λ _. all
-        | false ↦ λ room. all_served asked.0 st stamped at room
-      ] refl
-    where
-      stamped : Stamped Request
-      stamped = record { stamp = actor.stamp; value = asked.1 }
-
-      what : Served
-      what = record { server = asked.0; request = stamped; reply = answer_of st stamped }
-
-  asks_all : (i : ℕ) (actor : Actor) (asked : ℕ × Request) (found : Option State) → server_at world asked.0 ≡ found → AllConsistent (asks_at fixed world i actor asked found).world
-  asks_all i actor asked None at = all
-  asks_all i actor asked (Some st) at = answered_all i actor asked st at
-
-  steps_all : (i : ℕ) (actor : Actor) (asked : Option (ℕ × Request)) → AllConsistent (asks fixed world i actor asked).world
-  steps_all i actor None = all
-  steps_all i actor (Some asked) = asks_all i actor asked (server_at world asked.0) refl
-
-  step_all : (i : ℕ) (found : Option Actor) → AllConsistent (steps_once fixed world i found).world
-  step_all i None = all
-  step_all i (Some actor) = steps_all i actor (next_of fixed actor.agent)
-
-  becomes_all : (i : ℕ) (change : Agent → Agent) (found : Option Actor) → AllConsistent (becomes world i change found).world
-  becomes_all i change None = all
-  becomes_all i change (Some actor) = all
-
-  lacks_all : (i : ℕ) (why : Why) (actor : Actor) (asked : Option (ℕ × Request)) → AllConsistent (lacks_for fixed world i actor (Lacked why) asked).world
-  lacks_all i why actor None = all
-  lacks_all i why actor (Some asked) = all
-
-  lack_all : (i : ℕ) (why : Why) (found : Option Actor) → AllConsistent (lacks fixed world i (Lacked why) found).world
-  lack_all i why None = all
-  lack_all i why (Some actor) = lacks_all i why actor (next_of fixed actor.agent)
-
-  pub event_all : (event : Event) → AllConsistent (step fixed world event).world
-  event_all (Begin i job) = becomes_all i (λ agent. begin fixed agent job) (actor_at world i)
-  event_all (Step i) = step_all i (actor_at world i)
-  event_all (Crash server) = operator_all server request.Crash (server_at world server) refl
-  event_all (Return server) = operator_all server request.Return (server_at world server) refl
-  event_all (Forget i site) = becomes_all i (λ agent. forget agent site) (actor_at world i)
-  event_all (Lack i why) = lack_all i why (actor_at world i)
+pub event_all : (fixed : Fixed) (world : World) → AllConsistent world → (event : Event) → AllConsistent (step fixed world event).world
+event_all fixed world all event = event_servers fixed IsConsistent (λ asked. Unit {0}) (λ st asked _ consistent. consistent_step st asked consistent) tt tt world (λ i actor asked is next. tt) all event
 
 run_all : (fixed : Fixed) (events : List Event) (world : World) → AllConsistent world → AllConsistent (after fixed world events)
 run_all fixed [] world all = all
@@ -130,174 +72,201 @@ run_all fixed (event ∷ events) world all = run_all fixed events (step fixed wo
 pub all_consistent : (given : Opening) (events : List Event) → AllConsistent (run given events)
 all_consistent given events = run_all (fixed_of given) events (opening given) (λ s st at. opened given 0 given.servers s st at)
 
--- ---- what the agent was told
+-- ---- replies tell of valid votes
 
-abbrev pub SinceAt : Fixed → World → ℕ → Type 0
-SinceAt fixed world turn = (actor : Actor) → actor_at world turn ≡ Some actor → Since fixed actor.agent
+locking_valid : (other : Option Lock) (copy : Replica) → IsValid copy.prefix.votes → TellsValid (locking_reply other copy)
+locking_valid None copy valid = valid
+locking_valid (Some other) copy valid = tt
 
-module _ (given : Opening) (t turn : ℕ) (world : World) (ds : List Decided) (past : List Outcome) (holds : Holds (fixed_of given) world ds past) (clear : Clear world t turn) (all : AllConsistent world) (since : SinceAt (fixed_of given) world turn) where
+up_valid : (st : State) → ((suite : ℕ) → IsValid (copy_of st.store suite).prefix.votes) → (asked : Request) → TellsValid (reply_up st asked)
+up_valid st valid (request.Poll t suite mode) = locking_valid (in_the_way t suite mode st.locks) (copy_of st.store suite) (valid suite)
+up_valid st valid (request.Upgrade t suite) =
+    elim (has_lock t suite st.locks) as (λ b. TellsValid (cond b (locking_reply (in_the_way t suite Exclusive st.locks) (copy_of st.store suite)) reply.Lost)) [
+      | true ↦ locking_valid (in_the_way t suite Exclusive st.locks) (copy_of st.store suite) (valid suite)
+      | false ↦ tt
+    ]
+up_valid st valid (request.Fetch t suite) = elim (has_lock t suite st.locks) as (λ b. TellsValid (cond b (reply.Given (copy_of st.store suite).dver (copy_of st.store suite).content) reply.Lost)) [ true ↦ tt | false ↦ tt ]
+up_valid st valid (request.Prepare t parts) = elim (stands_prepared st t parts || can_prepare st t parts) as (λ b. TellsValid (cond b reply.Prepared reply.Lost)) [ true ↦ tt | false ↦ tt ]
+up_valid st valid (request.Decide t decision) = tt
+up_valid st valid (request.Resolve t) = tt
+up_valid st valid (request.Finish t v) = tt
+up_valid st valid (request.Break t suite) = tt
+up_valid st valid request.Locks = tt
+up_valid st valid request.Crash = tt
+up_valid st valid request.Return = tt
+
+tells_valid : (st : State) (asked : Request) → st.up ≡ true → ((suite : ℕ) → IsValid (copy_of st.store suite).prefix.votes) → TellsValid (reply_of st asked)
+tells_valid st asked up valid = subst (λ b. TellsValid (cond b (reply_up st asked) (reply_down asked))) (sym up) (up_valid st valid asked)
+
+-- ---- endings
+
+-- an ending that is answered or refused, or has a cause that is left
+abbrev pub EndsWell : (Reply → Type 0) → Ending → Type 0
+EndsWell P (Answered answers) = Unit {0}
+EndsWell P (Refused refusal) = Unit {0}
+EndsWell P (Swept broken finished left) = ⊥
+EndsWell P (Undecided cause) = IsLeft P cause
+
+well_by : (P : Reply → Type 0) (v : Verdict) (cause : Cause) → ((cause' : Cause) → ending_by v cause ≡ Undecided cause' → IsLeft P cause') → EndsWell P (ending_by v cause)
+well_by P (verdict.Answered answers) cause left = tt
+well_by P (verdict.Refused refusal) cause left = tt
+well_by P verdict.Aborted cause left = left cause refl
+
+-- how a transaction ends
+after_well : (P : Reply → Type 0) (course : Course) (v : Verdict) (after : After Course) (ending : Ending) → Leaves course.task v after → end_of after ≡ Some ending → ((cause : Cause) → ending ≡ Undecided cause → IsLeft P cause) → EndsWell P ending
+after_well P course v (GoesOn more) ending leaves is left = absurd (none-some ending is)
+after_well P course v (Ends other) ending leaves is left =
+    let as' : ending ≡ ending_by v leaves.0 = sym (same_Some other ending is) ∙ leaves.1 in
+    subst (EndsWell P) (sym as') (well_by P v leaves.0 (λ cause same. left cause (as' ∙ same)))
+
+-- who took a word and did not end goes on
+goes_on : (fixed : Fixed) (agent : Agent) (said : Reply) (doing : Option Doing) (asked : ℕ × Request) → next_in fixed doing ≡ Some asked → (t : ℕ) → IsMine t doing → (take_in fixed agent (Replied said) doing (Some asked)).ending ≡ None
+    → is_idle (take_in fixed agent (Replied said) doing (Some asked)).agent.doing ≡ false
+goes_on fixed agent said None asked next t mine none = absurd (none-some asked next)
+goes_on fixed agent said (Some (Rounding round)) asked next t mine none = absurd mine
+goes_on fixed agent said (Some (Running course)) asked next t mine none = of (after_word fixed course agent.cache asked.0 asked.1 (Replied said)).after none
+  where
+    of : (after : After Course) → end_of after ≡ None → is_idle (left Running after) ≡ false
+    of (GoesOn more) none = refl
+    of (Ends ending) none = absurd (none-some ending (sym none))
+
+-- ---- what holds as long as nothing disturbs it
+
+-- what is known of every run
+pub record Facts (given : Opening) (world : World) : Type 0 where
+  pub ds : List Decided
+  pub past : List Outcome
+  pub holds : Holds (fixed_of given) world ds past
+  pub copies : (s : ℕ) (st : State) → server_at world s ≡ Some st → (suite : ℕ) → IsValid (copy_of st.store suite).prefix.votes
+  pub caches : (i : ℕ) (actor : Actor) → actor_at world i ≡ Some actor → HasValidVotes actor.agent.cache
+
+pub record At (given : Opening) (P : Reply → Type 0) (t turn : ℕ) (world : World) : Type 0 where
+  pub clear : Clear world t turn
+  pub all : AllConsistent world
+  pub unswept : AllServers (Unswept t) world
+  pub actor : Actor
+  pub there : actor_at world turn ≡ Some actor
+  pub since : Since P (fixed_of given) actor.agent
+
+pub no_crash : (given : Opening) (world : World) (event : Event) → disturbs given world event ≡ false → is_crash event ≡ false
+no_crash given world (Crash server) calm = absurd (false≢true (sym calm))
+no_crash given world (Begin i job) calm = refl
+no_crash given world (Step i) calm = refl
+no_crash given world (Return server) calm = refl
+no_crash given world (Forget i site) calm = refl
+no_crash given world (Lack i why) calm = refl
+
+module _ (given : Opening) (c0 : IsValid given.c0) (P : Reply → Type 0) (t turn : ℕ) (world : World) (facts : Facts given world) (at : At given P t turn world)
+    (so : (what : Served) → (step (fixed_of given) world (Step turn)).done.served ≡ Some what → P what.reply.value)
+    (event : Event) (calm : disturbs given world event ≡ false) (none : begins_job given world event ≡ None) where
   abbrev fixed : Fixed
   fixed = fixed_of given
 
-  put_since : (servers : List State) (i : ℕ) (actor new : Actor) → actor_at world i ≡ Some actor → (i ≡ turn → Since fixed new.agent) → SinceAt fixed (with_actor i new (record world { servers = servers })) turn
-  put_since servers i actor new is now other there = elim (at_puts (slice_get world.agents) (slice_get (slice_set world.agents i new)) i actor new (puts_in world.agents i actor new is) turn other there) [
-    | inl here ↦ subst (λ (actor : Actor). Since fixed actor.agent) (sym here.is) (now (sym here.at))
-    | inr elsewhere ↦ since other elsewhere.was
-  ]
+  mine : IsMine t at.actor.agent.doing
+  mine = subst (IsMine t) (ap doing_of at.there) at.clear.mine
 
-  was : (i : ℕ) (actor : Actor) → actor_at world i ≡ Some actor → i ≡ turn → Since fixed actor.agent
-  was i actor is at = since actor (ap (actor_at world) (sym at) ∙ is)
+  -- a reply to the transaction is free
+  reply_free : (asked : ℕ × Request) (st : State) (what : Served) → next_of fixed at.actor.agent ≡ Some asked → server_at world asked.0 ≡ Some st → (step fixed world (Step turn)).done.served ≡ Some what → what.reply.value ≡ reply_of st asked.1 → IsFree P asked.1 (reply_of st asked.1)
+  reply_free asked st what next there served is =
+      let own = at.clear.servers asked.0 st there in
+      let named = names_mine fixed t at.actor.agent.doing asked mine next in
+      record {
+        busy = not_busy t st asked.1 own.0 (polls_named t asked.1 named) own.1;
+        up = not_down st asked.1 own.0;
+        fit = reply_fits st asked.1 (at.all asked.0 st there).sound;
+        valid = tells_valid st asked.1 own.0 (facts.copies asked.0 st there);
+        decides = not_aborted t st asked.1 (at.unswept asked.0 st there) named;
+        so = subst P is (so what served);
+      }
 
-  begin_since : (i : ℕ) (job : Job) (found : Option Actor) → actor_at world i ≡ found → with_job job (begins_now fixed i job found) ≡ None → SinceAt fixed (becomes world i (λ agent. begin fixed agent job) found).world turn
-  begin_since i job None is none = since
-  begin_since i job (Some actor) is none =
-      let begun : Agent = record (started fixed actor.agent job) { count = actor.agent.count + 1 } in
-      elim (is_idle actor.agent.doing && has_sense fixed job && nat_lt actor.agent.count most_jobs) as
-      (λ b. with_job job (cond b (Some (64 * actor.agent.count + i)) None) ≡ None → SinceAt fixed (with_actor i (record actor { agent = cond b begun actor.agent }) world) turn) [
-        | true ↦ λ none. absurd (none-some (64 * actor.agent.count + i, job) (sym none))
-        | false ↦ λ _. put_since world.servers i actor (record actor { agent = actor.agent }) is (was i actor is)
-      ] none
+  moves : Moves given t turn world facts.ds facts.past facts.holds at.clear at.actor at.there (step fixed world event)
+  moves = event_moves given t turn world facts.ds facts.past facts.holds at.clear at.actor at.there event calm none
 
-  forget_since : (i site : ℕ) (found : Option Actor) → actor_at world i ≡ found → SinceAt fixed (becomes world i (λ agent. forget agent site) found).world turn
-  forget_since i site None is = since
-  forget_since i site (Some actor) is = put_since world.servers i actor (record actor { agent = forget actor.agent site }) is (λ at. since_forget fixed actor.agent site (was i actor is at))
-
-  operator_since : (server : ℕ) (asked : Request) (found : Option State) → SinceAt fixed (operates world server asked found).world turn
-  operator_since server asked None = since
-  operator_since server asked (Some st) =
-      elim (is_full st stamped) as (λ b. SinceAt fixed (operated world st (cond b None (Some (record { server = server; request = stamped; reply = answer_of st stamped })))).world turn) [ true ↦ since | false ↦ since ]
+  asks_none : (i : ℕ) (actor : Actor) (asked : ℕ × Request) → actor_at world i ≡ Some actor → next_of fixed actor.agent ≡ Some asked → is_resolve asked.1 ≡ false
+  asks_none i actor asked is next = of actor.agent.doing next (is_mine given t turn world facts.ds facts.past facts.holds at.clear i actor asked is next)
     where
-      stamped : Stamped Request
-      stamped = record { stamp = 0; value = asked }
+      of : (doing : Option Doing) → next_in fixed doing ≡ Some asked → IsMine t doing → is_resolve asked.1 ≡ false
+      of None next own = absurd (none-some asked next)
+      of (Some (Rounding round)) next own = absurd own
+      of (Some (Running course)) next own = never_resolves fixed course.task course.suites course.phase asked.0 asked.1 next
 
-  took_since : (servers : List State) (i : ℕ) (actor : Actor) (asked : ℕ × Request) (word : Word) (stamp : ℕ) → actor_at world i ≡ Some actor → next_of fixed actor.agent ≡ Some asked → IsFree asked.1 word
-      → SinceAt fixed (with_actor i (moved actor stamp (take fixed actor.agent word)) (record world { servers = servers })) turn
-  took_since servers i actor asked word stamp is next free =
-      put_since servers i actor (moved actor stamp (take fixed actor.agent word)) is (λ at. since_take fixed actor.agent asked word next free (was i actor is at))
-
-  -- a reply is free
-  reply_free : (i : ℕ) (actor : Actor) (asked : ℕ × Request) (st : State) → actor_at world i ≡ Some actor → next_of fixed actor.agent ≡ Some asked → server_at world asked.0 ≡ Some st → IsFree asked.1 (Replied (reply_of st asked.1))
-  reply_free i actor asked st is next at =
-      let own = clear.servers asked.0 st at in
-      let named = names_mine fixed t actor.agent.doing asked (is_mine given t turn world ds past holds clear i actor asked is next) next in
-      (not_busy t st asked.1 own.0 (polls_named t asked.1 named) own.1, not_down st asked.1 own.0, reply_fits st asked.1 (all asked.0 st at).sound)
-
-  served_since : (i : ℕ) (actor : Actor) (asked : ℕ × Request) (st : State) → actor_at world i ≡ Some actor → next_of fixed actor.agent ≡ Some asked → server_at world asked.0 ≡ Some st
-      → SinceAt fixed (answered fixed world i actor st (serve asked.0 st (record { stamp = actor.stamp; value = asked.1 }))).world turn
-  served_since i actor asked st is next at =
-      elim (is_full st stamped) as (λ b. SinceAt fixed (answered fixed world i actor st (cond b None (Some (record { server = asked.0; request = stamped; reply = answer_of st stamped })))).world turn) [
-        | true ↦ took_since world.servers i actor asked (Lacked lack.Full) actor.stamp is next tt
-        | false ↦ took_since (slice_set world.servers asked.0 (served st stamped)) i actor asked (Replied (reply_of st asked.1)) (answer_of st stamped).stamp is next (reply_free i actor asked st is next at)
-      ]
+  -- it still holds after the event
+  pub next_at : Facts given (step fixed world event).world → At given P t turn (step fixed world event).world
+  next_at later = record {
+    clear = event_clear given t turn world facts.ds facts.past facts.holds at.clear event (no_crash given world event calm) none;
+    all = event_all fixed world at.all event;
+    unswept = event_servers fixed (Unswept t) (λ asked. is_resolve asked ≡ false) (stays_unswept t) refl refl world asks_none at.unswept event;
+    actor = moves.0;
+    there = moves.1;
+    since = of moves.2;
+  }
     where
-      stamped : Stamped Request
-      stamped = record { stamp = actor.stamp; value = asked.1 }
+      cache : HasValidVotes moves.0.agent.cache
+      cache = later.caches turn moves.0 moves.1
 
-  asks_since : (i : ℕ) (actor : Actor) (asked : ℕ × Request) → actor_at world i ≡ Some actor → next_of fixed actor.agent ≡ Some asked → (found : Option State) → server_at world asked.0 ≡ found → SinceAt fixed (asks_at fixed world i actor asked found).world turn
-  asks_since i actor asked is next None at = since
-  asks_since i actor asked is next (Some st) at = served_since i actor asked st is next at
+      of : Went fixed world turn at.actor moves.0.agent (step fixed world event).done.outcome → Since P fixed moves.0.agent
+      of (Stayed same out) = subst (Since P fixed) (sym same) at.since
+      of (Forgot site same out) = subst (Since P fixed) (sym same) (since_forget P fixed at.actor.agent site (subst (λ (agent : Agent). HasValidVotes agent.cache) same cache) at.since)
+      of (Took asked st what next there served is same out) =
+          subst (Since P fixed) (sym same)
+          (since_take P fixed at.actor.agent asked (reply_of st asked.1) next (reply_free asked st what next there served is) (subst (λ (agent : Agent). HasValidVotes agent.cache) same cache) at.since)
 
-  steps_since : (i : ℕ) (actor : Actor) → actor_at world i ≡ Some actor → (asked : Option (ℕ × Request)) → next_of fixed actor.agent ≡ asked → SinceAt fixed (asks fixed world i actor asked).world turn
-  steps_since i actor is None next = since
-  steps_since i actor is (Some asked) next = asks_since i actor asked is next (server_at world asked.0) refl
+  -- how it ends, if it does
+  outcome_ending : (ending : Option Ending) (job : Outcome) → outcome_of turn at.actor ending ≡ Some job → (ending ≡ Some job.ending) × (number_of job ≡ 64 * (at.actor.agent.count - 1) + turn)
+  outcome_ending None job is = absurd (none-some job is)
+  outcome_ending (Some ending) job is = let same = same_Some _ job is in (ap (λ (job : Outcome). Some job.ending) same, sym (ap number_of same))
 
-  step_since : (i : ℕ) (found : Option Actor) → actor_at world i ≡ found → SinceAt fixed (steps_once fixed world i found).world turn
-  step_since i None is = since
-  step_since i (Some actor) is = steps_since i actor is (next_of fixed actor.agent) refl
-
-  lacks_since : (i : ℕ) (why : Why) (actor : Actor) → actor_at world i ≡ Some actor → (asked : Option (ℕ × Request)) → next_of fixed actor.agent ≡ asked → SinceAt fixed (lacks_for fixed world i actor (Lacked why) asked).world turn
-  lacks_since i why actor is None next = since
-  lacks_since i why actor is (Some asked) next = took_since world.servers i actor asked (Lacked why) actor.stamp is next tt
-
-  lack_since : (i : ℕ) (why : Why) (found : Option Actor) → actor_at world i ≡ found → SinceAt fixed (lacks fixed world i (Lacked why) found).world turn
-  lack_since i why None is = since
-  lack_since i why (Some actor) is = lacks_since i why actor is (next_of fixed actor.agent) refl
-
-  pub event_since : (event : Event) → begins_job given world event ≡ None → SinceAt fixed (step fixed world event).world turn
-  event_since (Begin i job) none = begin_since i job (actor_at world i) refl none
-  event_since (Step i) none = step_since i (actor_at world i) refl
-  event_since (Crash server) none = operator_since server request.Crash (server_at world server)
-  event_since (Return server) none = operator_since server request.Return (server_at world server)
-  event_since (Forget i site) none = forget_since i site (actor_at world i) refl
-  event_since (Lack i why) none = lack_since i why (actor_at world i) refl
-
-  -- ---- how it ends
-
-  outcome_ending : (i : ℕ) (actor : Actor) (job : Outcome) (ending : Option Ending) → outcome_of i actor ending ≡ Some job → ending ≡ Some job.ending
-  outcome_ending i actor job None is = absurd (none-some job is)
-  outcome_ending i actor job (Some ending) is = ap (λ (job : Outcome). Some job.ending) (same_Some _ job is)
-
-  took_left : (i : ℕ) (actor : Actor) (asked : ℕ × Request) (word : Word) (job : Outcome) (cause : Cause) → actor_at world i ≡ Some actor → next_of fixed actor.agent ≡ Some asked → IsFree asked.1 word
-      → outcome_of i actor (take fixed actor.agent word).ending ≡ Some job → job.ending ≡ Undecided cause → IsLeft cause
-  took_left i actor asked word job cause is next free out undecided =
-      ends_left fixed actor.agent asked word cause next free (was i actor is (is_turn given t turn world ds past holds clear i actor asked is next))
-      (outcome_ending i actor job (take fixed actor.agent word).ending out ∙ ap Some undecided)
-
-  pub step_left : (i : ℕ) (job : Outcome) (cause : Cause) → (step fixed world (Step i)).done.outcome ≡ Some job → job.ending ≡ Undecided cause → IsLeft cause
-  step_left i job cause out undecided = of (actor_at world i) refl out
+  -- its number
+  number_is : (asked : ℕ × Request) → next_of fixed at.actor.agent ≡ Some asked → 64 * (at.actor.agent.count - 1) + turn ≡ t
+  number_is asked next = of at.actor.agent.doing next mine (facts.holds.agents.at turn at.actor.agent (ap agent_of at.there))
     where
-      served_left : (actor : Actor) (asked : ℕ × Request) (st : State) → actor_at world i ≡ Some actor → next_of fixed actor.agent ≡ Some asked → server_at world asked.0 ≡ Some st
-          → (answered fixed world i actor st (serve asked.0 st (record { stamp = actor.stamp; value = asked.1 }))).done.outcome ≡ Some job → IsLeft cause
-      served_left actor asked st is next at =
-          let stamped : Stamped Request = record { stamp = actor.stamp; value = asked.1 } in
-          elim (is_full st stamped) as (λ b. (answered fixed world i actor st (cond b None (Some (record { server = asked.0; request = stamped; reply = answer_of st stamped })))).done.outcome ≡ Some job → IsLeft cause) [
-            | true ↦ λ out. took_left i actor asked (Lacked lack.Full) job cause is next tt out undecided
-            | false ↦ λ out. took_left i actor asked (Replied (reply_of st asked.1)) job cause is next (reply_free i actor asked st is next at) out undecided
-          ]
+      of : (doing : Option Doing) → next_in fixed doing ≡ Some asked → IsMine t doing → IsAt facts.ds turn at.actor.agent.count doing → 64 * (at.actor.agent.count - 1) + turn ≡ t
+      of None next own stands = absurd (none-some asked next)
+      of (Some (Rounding round)) next own stands = absurd own
+      of (Some (Running course)) next own stands = let numbered = stands.numbered in let last = stands.last in omega (arith, numbered, last, own)
 
-      at : (actor : Actor) (asked : ℕ × Request) → actor_at world i ≡ Some actor → next_of fixed actor.agent ≡ Some asked → (st : Option State) → server_at world asked.0 ≡ st → (asks_at fixed world i actor asked st).done.outcome ≡ Some job → IsLeft cause
-      at actor asked is next None there out = absurd (none-some job out)
-      at actor asked is next (Some st) there out = served_left actor asked st is next there out
+  take_well : (asked : ℕ × Request) (said : Reply) → next_of fixed at.actor.agent ≡ Some asked → (ending : Ending) → (take fixed at.actor.agent (Replied said)).ending ≡ Some ending → ((cause : Cause) → ending ≡ Undecided cause → IsLeft P cause) → EndsWell P ending
+  take_well asked said next ending is left =
+      of at.actor.agent.doing next mine (facts.holds.agents.at turn at.actor.agent (ap agent_of at.there)) (subst (λ o. (take_in fixed at.actor.agent (Replied said) at.actor.agent.doing o).ending ≡ Some ending) next is)
+    where
+      of : (doing : Option Doing) → next_in fixed doing ≡ Some asked → IsMine t doing → IsAt facts.ds turn at.actor.agent.count doing → (take_in fixed at.actor.agent (Replied said) doing (Some asked)).ending ≡ Some ending → EndsWell P ending
+      of None next own stands is = absurd (none-some asked next)
+      of (Some (Rounding round)) next own stands is = absurd own
+      of (Some (Running course)) next own stands is =
+          after_well P course (cond (is_decide asked.1) (said_by (Replied said) stands.said) stands.said) (after_word fixed course at.actor.agent.cache asked.0 asked.1 (Replied said)).after ending
+          (leaves_word fixed course.task at.actor.agent.cache course.suites course.phase asked.0 asked.1 (Replied said) stands.said next stands.tells) is left
 
-      asking : (actor : Actor) → actor_at world i ≡ Some actor → (asked : Option (ℕ × Request)) → next_of fixed actor.agent ≡ asked → (asks fixed world i actor asked).done.outcome ≡ Some job → IsLeft cause
-      asking actor is None next out = absurd (none-some job out)
-      asking actor is (Some asked) next out = at actor asked is next (server_at world asked.0) refl out
+  pub ends_well : Facts given (step fixed world event).world → (job : Outcome) → (step fixed world event).done.outcome ≡ Some job → (number_of job ≡ t) × EndsWell P job.ending
+  ends_well later job is = of moves.2
+    where
+      of : Went fixed world turn at.actor moves.0.agent (step fixed world event).done.outcome → (number_of job ≡ t) × EndsWell P job.ending
+      of (Stayed same out) = absurd (none-some job (sym out ∙ is))
+      of (Forgot site same out) = absurd (none-some job (sym out ∙ is))
+      of (Took asked st what next there served told same out) =
+          let ended = outcome_ending (take fixed at.actor.agent (Replied (reply_of st asked.1))).ending job (sym out ∙ is) in
+          let cache = subst (λ (agent : Agent). HasValidVotes agent.cache) same (later.caches turn moves.0 moves.1) in (
+            ended.1 ∙ number_is asked next,
+            take_well asked (reply_of st asked.1) next job.ending ended.0
+                (λ cause undecided. ends_left P fixed c0 at.actor.agent asked (reply_of st asked.1) cause next (reply_free asked st what next there served told) at.since cache (ended.0 ∙ ap Some undecided)),
+          )
 
-      of : (found : Option Actor) → actor_at world i ≡ found → (steps_once fixed world i found).done.outcome ≡ Some job → IsLeft cause
-      of None is out = absurd (none-some job out)
-      of (Some actor) is out = asking actor is (next_of fixed actor.agent) refl out
+  -- and who did not end still runs
+  no_ending : (ending : Option Ending) → outcome_of turn at.actor ending ≡ None → ending ≡ None
+  no_ending None is = refl
+  no_ending (Some ending) is = absurd (none-some _ (sym is))
 
--- ---- from the begin on
+  pub still_runs : is_idle (doing_at world turn) ≡ false → (step fixed world event).done.outcome ≡ None → is_idle (doing_at (step fixed world event).world turn) ≡ false
+  still_runs runs' is = ap (λ found. is_idle (doing_of found)) moves.1 ∙ of moves.2
+    where
+      runs : is_idle at.actor.agent.doing ≡ false
+      runs = ap (λ found. is_idle (doing_of found)) (sym at.there) ∙ runs'
 
-run_left : (given : Opening) (t turn : ℕ) (later : List Event) (world : World) (ds : List Decided) (past : List Outcome) → Holds (fixed_of given) world ds past → Clear world t turn → AllConsistent world → SinceAt (fixed_of given) world turn
-    → none_crashes later ≡ true → jobs_from given world later ≡ [] → (i : ℕ) (job : Outcome) (cause : Cause) → (step (fixed_of given) (after (fixed_of given) world later) (Step i)).done.outcome ≡ Some job → job.ending ≡ Undecided cause → IsLeft cause
-run_left given t turn [] world ds past holds clear all since crashes none i job cause out undecided = step_left given t turn world ds past holds clear all since i job cause out undecided
-run_left given t turn (event ∷ later) world ds past holds clear all since crashes none i job cause out undecided =
-    let fixed = fixed_of given in
-    let next = (step fixed world event).world in
-    let parts = and_parts (not (is_crash event)) (none_crashes later) crashes in
-    let now = none_now (begins_job given world event) (jobs_from given next later) none in
-    run_left given t turn later next _ _ (event_holds fixed world event ds past holds) (event_clear given t turn world ds past holds clear event (crash_not event parts.0) now.0) (event_all fixed world all event)
-    (event_since given t turn world ds past holds clear all since event now.0) parts.1 now.1 i job cause out undecided
-
-since_begun : (given : Opening) (world : World) (i : ℕ) (job : Job) (t : ℕ) (found : Option Actor) → actor_at world i ≡ found → with_job job (begins_now (fixed_of given) i job found) ≡ Some (t, job) → SinceAt (fixed_of given) (becomes world i (λ agent. begin (fixed_of given) agent job) found).world i
-since_begun given world i job t None is begins other there = absurd (none-some (t, job) begins)
-since_begun given world i job t (Some actor) is begins other there =
-    elim (at_puts (slice_get world.agents) (slice_get (slice_set world.agents i (record actor { agent = begin (fixed_of given) actor.agent job }))) i actor (record actor { agent = begin (fixed_of given) actor.agent job }) (puts_in world.agents i actor (record actor { agent = begin (fixed_of given) actor.agent job }) is) i other there) [
-      | inl here ↦ subst (λ (actor : Actor). Since (fixed_of given) actor.agent) (sym here.is) (since_begin (fixed_of given) actor.agent job idle)
-      | inr elsewhere ↦ absurd (elsewhere.apart refl)
-    ]
-  where
-    idle : is_idle actor.agent.doing ≡ true
-    idle = elim (is_idle actor.agent.doing) as (λ b. with_job job (cond (b && has_sense (fixed_of given) job && nat_lt actor.agent.count most_jobs) (Some (64 * actor.agent.count + i)) None) ≡ Some (t, job) → b ≡ true) [
-      | true ↦ λ _. refl
-      | false ↦ λ begins. absurd (none-some (t, job) begins)
-    ] begins
-
--- The transaction of a begin where every agent is idle, every server is up and no lock is left never ends Busy nor because its home is down, as long
--- as no server crashes and no other job begins; and it finds too few votes only of votes of which more than all are needed.
-pub ends_unhindered : (given : Opening) → IsAccepted given → (events later : List Event) (agent t : ℕ) (caller : Identity) (site : ℕ) (ops : List Op) →
-    let begins = Begin agent (Transaction caller site ops) in
-    let begun = (step (fixed_of given) (run given events) begins).world in
-    begins_job given (run given events) begins ≡ Some (t, Transaction caller site ops)
-    → all_idle (run given events) ≡ true → all_up (run given events) ≡ true → no_locks (run given events) ≡ true
-    → none_crashes later ≡ true → jobs_from given begun later ≡ []
-    → (other : ℕ) (job : Outcome) (cause : Cause) → (step (fixed_of given) (after (fixed_of given) begun later) (Step other)).done.outcome ≡ Some job → job.ending ≡ Undecided cause → IsLeft cause
-ends_unhindered given accepted events later agent t caller site ops begins idle up locks crashes none other job cause out undecided =
-    let world = run given events in
-    let event = Begin agent (Transaction caller site ops) in
-    let holds = holds_of given accepted events in
-    run_left given t agent later (step (fixed_of given) world event).world _ _ (event_holds (fixed_of given) world event (decisions given events) (ended given events) holds)
-    (begun_clear given world (decisions given events) (ended given events) holds agent t caller site ops idle up locks (actor_at world agent) refl begins)
-    (event_all (fixed_of given) world (all_consistent given events) event)
-    (since_begun given world agent (Transaction caller site ops) t (actor_at world agent) refl begins) crashes none other job cause out undecided
+      of : Went fixed world turn at.actor moves.0.agent (step fixed world event).done.outcome → is_idle moves.0.agent.doing ≡ false
+      of (Stayed same out) = ap (λ (agent : Agent). is_idle agent.doing) same ∙ runs
+      of (Forgot site same out) = ap (λ (agent : Agent). is_idle agent.doing) same ∙ runs
+      of (Took asked st what next there served told same out) =
+          let said = reply_of st asked.1 in
+          let none = no_ending (take fixed at.actor.agent (Replied said)).ending (sym out ∙ is) in
+          ap (λ (agent : Agent). is_idle agent.doing) same
+          ∙ ap (λ o. is_idle (take_in fixed at.actor.agent (Replied said) at.actor.agent.doing o).agent.doing) next
+          ∙ goes_on fixed at.actor.agent said at.actor.agent.doing asked next t mine (sym (ap (λ o. (take_in fixed at.actor.agent (Replied said) at.actor.agent.doing o).ending) next) ∙ none)

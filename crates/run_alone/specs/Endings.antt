@@ -24,6 +24,7 @@ use Rattle.run_laws.specs.Numbers.{number_of}
 use Rattle.run_laws.specs.Claims.{ended}
 use Rattle.headline.specs.Premises.{CanBe}
 use Rattle.run_alone.specs.Alone.{all_idle, jobs_of, one_at_a_time}
+use Rattle.run_alone.specs.Undisturbed.{all_undisturbed}
 
 -- ---- the endings of decided transactions
 
@@ -99,5 +100,15 @@ EndingsAreOne =
     (given other : Opening) → AreAlike given other → (events events' : List Event) → CanBe given events → CanBe other events'
     → one_at_a_time given events ≡ true → one_at_a_time other events' ≡ true → jobs_of given events ≡ jobs_of other events'
     → AllAreDecided given events → AllAreDecided other events'
+    → (job job' : Outcome) → Contains (ended given events) job → Contains (ended other events') job' → number_of job ≡ number_of job'
+    → IsTransaction (jobs_of given events) (number_of job) → job.ending ≡ job'.ending
+
+-- Of two such runs in which nothing disturbs any transaction, from settings that differ at most in what caches may keep, and in which the same agents
+-- begin the same jobs in the same order: each transaction that ended in both has one ending.
+abbrev pub UndisturbedEndingsAreOne : Type 0
+UndisturbedEndingsAreOne =
+    (given other : Opening) → AreAlike given other → (events events' : List Event) → CanBe given events → CanBe other events'
+    → one_at_a_time given events ≡ true → one_at_a_time other events' ≡ true → jobs_of given events ≡ jobs_of other events'
+    → all_undisturbed given events ≡ true → all_undisturbed other events' ≡ true
     → (job job' : Outcome) → Contains (ended given events) job → Contains (ended other events') job' → number_of job ≡ number_of job'
     → IsTransaction (jobs_of given events) (number_of job) → job.ending ≡ job'.ending

@@ -1,5 +1,5 @@
 -- Runs of which the laws say something.
-use Rattle.std.specs.Prelude.{◌≡◌, ℕ, true, List, [], ◌∷◌, ◌++◌, map, Result, Ok, Err}
+use Rattle.std.specs.Prelude.{◌≡◌, ℕ, true, false, List, [], ◌∷◌, ◌++◌, map, Result, Ok, Err}
 use Rattle.suite_prefix.specs.SettingsRules.{Opening}
 use Rattle.file_ops.specs.declared.answer.Answer.{Answer}
 use Rattle.file_ops.specs.declared.answer.Answer.TheVariants as answer
@@ -13,8 +13,10 @@ use Rattle.run_core.specs.declared.event.Event.TheVariants.{Begin, Crash, Return
 use Rattle.run_core.specs.declared.done.Outcome.{Outcome}
 use Rattle.run_laws.specs.Claims.{ended}
 use Rattle.run_laws.specs.Worked.{two_agents, so_many, make_a, close_a, read_a, denial, ending_in}
+use Rattle.headline.specs.Premises.{CanBe}
 use Rattle.run_alone.specs.Alone.{jobs_of, one_at_a_time}
 use Rattle.run_alone.specs.Endings.{decided_endings}
+use Rattle.run_alone.specs.Undisturbed.{all_undisturbed}
 
 -- the same with room for caches
 abbrev pub with_caches : Opening
@@ -38,6 +40,12 @@ undisturbed =
     ++ Begin 0 (Transaction owner 0 close_a) ∷ so_many 13 0
     ++ Begin 1 (Transaction other 0 read_a) ∷ so_many 11 1
 
+-- A file is made. A server falls down and comes back, and what it then has not is read.
+abbrev pub mended : List Event
+mended =
+    Begin 0 (Transaction owner 0 make_a) ∷ so_many 10 0
+    ++ Crash 0 ∷ Return 0 ∷ Begin 1 (Transaction other 0 read_a) ∷ so_many 11 1
+
 -- how many steps each job took
 abbrev pub steps_of : List Outcome → List ℕ
 steps_of jobs = map (λ (job : Outcome). job.steps) jobs
@@ -51,7 +59,7 @@ the_endings =
     ∷ (129, Err denial) ∷ []
 
 -- The first run has an undecided transaction among decided ones. The others have the same jobs and endings; with caches the second read took
--- two steps less.
+-- two steps less. Nothing disturbs any transaction of these, nor of the run in which a server fell down between transactions.
 pub record SomeRunsGoAlone : Type 0 where
   pub alone : one_at_a_time two_agents disturbed ≡ true
   pub ends : map ending_in (ended two_agents disturbed) ≡
@@ -64,3 +72,10 @@ pub record SomeRunsGoAlone : Type 0 where
   pub ends_with : decided_endings (ended with_caches undisturbed) ≡ the_endings
   pub steps_without : steps_of (ended two_agents undisturbed) ≡ 10 ∷ 11 ∷ 11 ∷ 10 ∷ 10 ∷ []
   pub steps_with : steps_of (ended with_caches undisturbed) ≡ 10 ∷ 11 ∷ 9 ∷ 10 ∷ 9 ∷ []
+  pub can_without : CanBe two_agents undisturbed
+  pub can_with : CanBe with_caches undisturbed
+  pub disturbs_some : all_undisturbed two_agents disturbed ≡ false
+  pub disturbs_none_without : all_undisturbed two_agents undisturbed ≡ true
+  pub disturbs_none_with : all_undisturbed with_caches undisturbed ≡ true
+  pub disturbs_none_mended : all_undisturbed two_agents mended ≡ true
+  pub ends_mended : decided_endings (ended two_agents mended) ≡ (0, Ok (answer.Made 1 ∷ answer.Wrote ∷ [])) ∷ (1, Ok (answer.Read (104 ∷ 105 ∷ []) ∷ [])) ∷ []

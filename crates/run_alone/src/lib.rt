@@ -1,11 +1,11 @@
 //! Runs in which jobs go one at a time.
 //!
-//! There is no code here but laws. Definitions stand in `specs/`: which runs these are in `Alone`, how their jobs end in
-//! `Endings`, and runs by computation in `Worked`.
+//! There is no code here but laws. Definitions stand in `specs/`: which runs these are in `Alone`, what disturbs a
+//! transaction in `Undisturbed`, how jobs end in `Endings`, and runs by computation in `Worked`.
 #![tactic(auto)]
 
-ghost use Rattle.run_alone.specs.Endings.{EndingsAreTheTables, EndingsAreOne};
-ghost use Rattle.run_alone.specs.Undisturbed.{NothingIsInTheWay};
+ghost use Rattle.run_alone.specs.Endings.{EndingsAreTheTables, EndingsAreOne, UndisturbedEndingsAreOne};
+ghost use Rattle.run_alone.specs.Undisturbed.{NothingIsInTheWay, UndisturbedAreDecided};
 ghost use Rattle.run_alone.specs.Worked.{SomeRunsGoAlone};
 
 /// A law: where a job begins only when every agent is idle, the endings of the decided transactions are those that one
@@ -25,6 +25,18 @@ pub fn endings_are_one()
 /// or Down, as long as no server crashes and no other job begins. It does nothing.
 pub fn nothing_is_in_the_way()
     ensures { NothingIsInTheWay }
+{}
+
+/// A law: a transaction that so begins is decided when it ends, as long as no server crashes, none is full, memory is not
+/// wanting, and no other job begins. It does nothing.
+pub fn undisturbed_are_decided()
+    ensures { UndisturbedAreDecided }
+{}
+
+/// A law: so, of two runs of the same jobs in the same order, where every transaction begins so and nothing disturbs it,
+/// each transaction that ended in both has one ending: the answer with a cache is the answer without. It does nothing.
+pub fn undisturbed_endings_are_one()
+    ensures { UndisturbedEndingsAreOne }
 {}
 
 /// A law: a run in which servers crash and a transaction ends undecided, and two of the same jobs, one of them with
