@@ -1,22 +1,25 @@
 -- Which events may want memory.
-use Rattle.std.proofs.Common.{◌≡◌, ℕ, zero, suc, ◌<◌, length, get_or, Bool, true, false, List, [], ◌∷◌, Option, Some, None, IsSome, Result, Ok, Err, refl, ap, ◌∙◌, sym, arith}
+use Rattle.std.proofs.Common.{◌≡◌, ℕ, ◌<◌, ◌+◌, length, take, get_or, Bool, true, false, List, [], ◌∷◌, ◌++◌, Option, Some, None, IsSome, Result, Ok, Err, refl, ap, ◌∙◌, sym}
 use Rattle.std.specs.Prelude.{is_some, option_map, slice_get, ◌||◌, IfErr}
-use Rattle.std.specs.List.{list_any}
+use Rattle.std.specs.List.{last_or}
+use Rattle.std.proofs.lemmas.List.{take_more}
+use Rattle.std.proofs.lemmas.Option.{slice_get-get_or}
+use Rattle.suite_prefix.specs.SettingsRules.{Opening}
 use Rattle.rep_core.specs.declared.request.Request.{Request}
-use Rattle.rep_core.specs.declared.request.Request.TheVariants as request
 use Rattle.rep_core.specs.State.{State}
+use Rattle.rep_core.specs.Wanting.{by_request}
 use Rattle.txn_core.specs.declared.job.Job.{Job}
-use Rattle.txn_core.specs.declared.job.Job.TheVariants.{Transaction, Sweep}
 use Rattle.txn_core.specs.Doing.{Fixed}
-use Rattle.txn_core.specs.Agents.{Agent, begin, forget, next_of}
-use Rattle.txn_core.specs.Wanting.{by_job, by_asking}
-use Rattle.run_core.specs.declared.done.Outcome.{Outcome}
-use Rattle.run_core.specs.declared.done.Served.{Served}
+use Rattle.txn_core.specs.Agents.{fixed_of, next_of}
+use Rattle.txn_core.specs.Wanting as agent
+use Rattle.txn_core.specs.Wanting.{by_job}
+use Rattle.run_core.specs.declared.done.Done.{Done}
 use Rattle.run_core.specs.declared.event.Event.{Event}
-use Rattle.run_core.specs.declared.event.Event.TheVariants.{Begin, Step, Crash, Return, Forget, Lack}
-use Rattle.run_core.specs.Worlds.{Actor, World, actor_at, server_at, becomes, operated, operates, serve, step}
-use Rattle.run_core.specs.Seats.{Seated, actors_in, AreOf}
-use Rattle.run_core.specs.Wanting.{by_begin, by_step, by_event, is_transaction, by_playing}
+use Rattle.run_core.specs.Runs.{after, dones}
+use Rattle.run_core.specs.Worlds.{Actor, World, Stepped, step}
+use Rattle.run_core.specs.Seats.{Seated, actors_in, world_of, AreOf}
+use Rattle.run_core.specs.Wanting.{by_begin, by_exchange, by_asking, by_step, by_event, by_next, by_outcome, by_stop}
+use Rattle.run_core.proofs.Appending.{dones-append}
 use Rattle.run_core.proofs.Moving.{actor_there, fixed_there}
 
 -- what holds, holds of every error
@@ -31,14 +34,27 @@ pub begins_there : (fixed : Fixed) (seats : List Seated) (place : ℕ) (seat : S
 begins_there fixed seats place seat job all is wants =
     ap (by_begin fixed job) (actor_there seats place (Some seat) is) ∙ ap (λ (given : Fixed). by_job given seat.actor.agent job) (sym (fixed_there fixed seats place seat all is)) ∙ wants
 
-pub steps_there : (fixed : Fixed) (seats : List Seated) (place : ℕ) (seat : Seated) → AreOf fixed seats → slice_get seats place ≡ Some seat → is_some (next_of seat.fixed seat.actor.agent) ≡ true
-    → by_step fixed (slice_get (actors_in seats) place) ≡ true
-steps_there fixed seats place seat all is asks =
-    ap (by_step fixed) (actor_there seats place (Some seat) is) ∙ ap (λ (given : Fixed). is_some (next_of given seat.actor.agent)) (sym (fixed_there fixed seats place seat all is)) ∙ asks
+pub steps_there : (fixed : Fixed) (servers : List State) (seats : List Seated) (place : ℕ) (seat : Seated) (asked : Option (ℕ × Request)) → AreOf fixed seats → slice_get seats place ≡ Some seat → next_of seat.fixed seat.actor.agent ≡ asked
+    → by_asking (world_of servers seats) seat.actor asked ≡ true → by_step fixed (world_of servers seats) (slice_get (actors_in seats) place) ≡ true
+steps_there fixed servers seats place seat asked all is next wants =
+    ap (by_step fixed (world_of servers seats)) (actor_there seats place (Some seat) is)
+    ∙ ap (λ (given : Fixed). by_asking (world_of servers seats) seat.actor (next_of given seat.actor.agent)) (sym (fixed_there fixed seats place seat all is))
+    ∙ ap (by_asking (world_of servers seats) seat.actor) next
+    ∙ wants
 
-pub asking_is_some : (asked : Option (ℕ × Request)) → by_asking asked ≡ true → is_some asked ≡ true
-asking_is_some (Some asked) wants = refl
-asking_is_some None wants = cc
+-- what is asked wants memory
+either : (a b : Bool) → a ≡ true → (a || b) ≡ true
+either a b is = ap (λ a. a || b) is
+
+pub asking_wants : (world : World) (actor : Actor) (asked : Option (ℕ × Request)) → agent.by_asking asked ≡ true → by_asking world actor asked ≡ true
+asking_wants world actor (Some asked) wants = either (by_request asked.1) _ wants
+asking_wants world actor None wants = cc
+
+-- or what comes of it
+pub exchange_wants : (servers : List State) (seats : List Seated) (actor : Actor) (server : ℕ) (asked : Request) (host : State) → slice_get servers server ≡ Some host
+    → (by_request asked || by_exchange (record { stamp = actor.stamp; value = asked }) (Some host)) ≡ true → by_asking (world_of servers seats) actor (Some (server, asked)) ≡ true
+exchange_wants servers seats actor server asked host there wants =
+    ap (λ found. by_request asked || by_exchange (record { stamp = actor.stamp; value = asked }) found) there ∙ wants
 
 -- ---- of which server it asks
 
@@ -53,60 +69,53 @@ pub asks_some : (asked : Option (ℕ × Request)) (server : ℕ) → server_of a
 asks_some (Some asked) server is = (asked, refl)
 asks_some None server is = cc
 
--- ---- events, whatever the world
+-- ---- one request of an agent to a server
 
-none_by_becoming : (world : World) (number : ℕ) (change : Agent → Agent) (found : Option Actor) → (becomes world number change found).done.outcome ≡ None
-none_by_becoming world number change (Some actor) = refl
-none_by_becoming world number change None = refl
+or_later : (a b : Bool) → b ≡ true → (a || b) ≡ true
+or_later true b is = refl
+or_later false b is = is
 
-none_by_operator : (world : World) (server : ℕ) (asked : Request) (found : Option State) → (operates world server asked found).done.outcome ≡ None
-none_by_operator world server asked None = refl
-none_by_operator world server asked (Some st) = of (serve server st (record { stamp = 0; value = asked }))
-  where
-    of : (what : Option Served) → (operated world st what).done.outcome ≡ None
-    of (Some what) = refl
-    of None = refl
+pub request_wants : (asked : Request) (b : Bool) → by_request asked ≡ true → (by_request asked || b) ≡ true
+request_wants asked b wants = either (by_request asked) b wants
 
-never : (outcome : Option Outcome) (b : Bool) → outcome ≡ None → IsSome outcome → b ≡ true
-never None b none some = cc
-never (Some outcome) b none some = cc
+-- ---- events one after the other
 
--- an event that ends a job may want memory for its outcome
-pub ending_wants : (fixed : Fixed) (world : World) (event : Event) → IsSome (step fixed world event).done.outcome → by_playing event ≡ true
-ending_wants fixed world (Begin number job) some =
-    never (becomes world number (λ agent. begin fixed agent job) (actor_at world number)).done.outcome (by_playing (Begin number job)) (none_by_becoming world number (λ agent. begin fixed agent job) (actor_at world number)) some
-ending_wants fixed world (Step number) some = refl
-ending_wants fixed world (Crash server) some =
-    never (operates world server request.Crash (server_at world server)).done.outcome false (none_by_operator world server request.Crash (server_at world server)) some
-ending_wants fixed world (Return server) some =
-    never (operates world server request.Return (server_at world server)).done.outcome false (none_by_operator world server request.Return (server_at world server)) some
-ending_wants fixed world (Forget number site) some =
-    never (becomes world number (λ agent. forget agent site) (actor_at world number)).done.outcome false (none_by_becoming world number (λ agent. forget agent site) (actor_at world number)) some
-ending_wants fixed world (Lack number why) some = refl
+-- the next one wants memory
+pub stops_before : (given given' : Opening) (world world' : World) (events : List Event) (i done : ℕ) (event : Event)
+    → i < length events → given' ≡ given → done ≡ i → world' ≡ after (fixed_of given) world (take i events) → event ≡ get_or events i event
+    → by_event (fixed_of given') world' event ≡ true → by_stop (fixed_of given) world events done ≡ true
+stops_before given given' world world' events i done event within given'_is done_is world'_is event_is wants =
+    let there = rw (given'_is, world'_is) at wants in
+    let found : slice_get events i ≡ Some event = slice_get-get_or events i event within ∙ ap Some (sym event_is) in
+    let next : by_next (fixed_of given) (after (fixed_of given) world (take i events)) (slice_get events i) ≡ true = ap (by_next (fixed_of given) (after (fixed_of given) world (take i events))) found ∙ there in
+    ap (by_stop (fixed_of given) world events) done_is
+    ∙ either _ (by_outcome (last_or None (dones (fixed_of given) world (take i events)))) next
 
--- and so does each that may want it in some world
-job_wants : (fixed : Fixed) (agent : Agent) (job : Job) → by_job fixed agent job ≡ true → is_transaction job ≡ true
-job_wants fixed agent (Transaction caller site ops) wants = refl
-job_wants fixed agent (Sweep server) wants = cc
+-- the last one ended a job
+last_more : {X : Type 0} (d : Option X) (xs : List X) (x : X) → last_or d (xs ++ x ∷ []) ≡ Some x
+last_more d [] x = refl
+last_more d (y ∷ xs) x = last_more (Some y) xs x
 
-begin_wants : (fixed : Fixed) (job : Job) (found : Option Actor) → by_begin fixed job found ≡ true → is_transaction job ≡ true
-begin_wants fixed job (Some actor) wants = job_wants fixed actor.agent job wants
-begin_wants fixed job None wants = cc
+last_done : (fixed : Fixed) (world : World) (events : List Event) (i : ℕ) (d : Event) → i < length events
+    → last_or None (dones fixed world (take (i + 1) events)) ≡ Some (step fixed (after fixed world (take i events)) (get_or events i d)).done
+last_done fixed world events i d within =
+    ap (λ all. last_or None (dones fixed world all)) (take_more events i d within)
+    ∙ ap (last_or None) (dones-append fixed world (take i events) (get_or events i d ∷ []))
+    ∙ last_more None (dones fixed world (take i events)) (step fixed (after fixed world (take i events)) (get_or events i d)).done
 
-pub event_wants : (fixed : Fixed) (world : World) (event : Event) → by_event fixed world event ≡ true → by_playing event ≡ true
-event_wants fixed world (Begin number job) wants = begin_wants fixed job (actor_at world number) wants
-event_wants fixed world (Step number) wants = refl
-event_wants fixed world (Crash server) wants = cc
-event_wants fixed world (Return server) wants = cc
-event_wants fixed world (Forget number site) wants = cc
-event_wants fixed world (Lack number why) wants = refl
+some_true : {X : Type 0} (x : Option X) → IsSome x → is_some x ≡ true
+some_true (Some x) some = refl
+some_true None some = cc
 
--- one of some events
-pub one_wants : (events : List Event) (i : ℕ) (d : Event) → i < length events → by_playing (get_or events i d) ≡ true → list_any by_playing events ≡ true
-one_wants [] i d within wants = absurd (omega arith)
-one_wants (event ∷ events) zero d within wants = ap (λ b. b || list_any by_playing events) wants
-one_wants (event ∷ events) (suc i) d within wants = later (by_playing event) (one_wants events i d (omega arith) wants)
-  where
-    later : (a : Bool) → list_any by_playing events ≡ true → (a || list_any by_playing events) ≡ true
-    later true is = refl
-    later false is = is
+pub stops_behind : (given given' : Opening) (world world' world'' : World) (events : List Event) (i played : ℕ) (event : Event) (done : Done)
+    → i < length events → given' ≡ given → played ≡ i → world' ≡ after (fixed_of given) world (take i events) → event ≡ get_or events i event
+    → step (fixed_of given') world' event ≡ record { world = world''; done = done } → IsSome done.outcome
+    → by_stop (fixed_of given) world events (played + 1) ≡ true
+stops_behind given given' world world' world'' events i played event done within given'_is played_is world'_is event_is stepped some =
+    let there = rw (given'_is, world'_is) at stepped in
+    let last : last_or None (dones (fixed_of given) world (take (i + 1) events)) ≡ Some done =
+    last_done (fixed_of given) world events i event within
+    ∙ sym (ap (λ (one : Event). Some (step (fixed_of given) (after (fixed_of given) world (take i events)) one).done) event_is)
+    ∙ ap (λ (all : Stepped). Some all.done) there in
+    ap (λ n. by_stop (fixed_of given) world events (n + 1)) played_is
+    ∙ or_later (by_next (fixed_of given) (after (fixed_of given) world (take (i + 1) events)) (slice_get events (i + 1))) _ (ap by_outcome last ∙ some_true done.outcome some)

@@ -1,9 +1,12 @@
 //! One request of an agent to a server.
 
-ghost use Rattle.std.specs.Prelude.{◌≡◌, IfOk, OnErr};
+ghost use Rattle.std.specs.Prelude.{◌≡◌, ◌||◌, IfOk, IfErr, IsTrue, OnErr, Some};
+ghost use Rattle.rep_core.specs.Wanting.{by_request};
+ghost use Rattle.rep_core.specs.declared.stamped.Lack.TheVariants.{Memory};
 ghost use Rattle.txn_core.specs.Agents.{next_of};
 ghost use Rattle.run_core.specs.Exchanges.{Hears, IsExchange, IsUnserved};
 ghost use Rattle.run_core.specs.Seats.{Fits};
+ghost use Rattle.run_core.specs.Wanting.{by_exchange};
 ghost use Rattle.txn_core.specs.declared.word.Word.TheVariants.{Replied, Lacked};
 
 use crate::done::{Done, Served};
@@ -23,6 +26,7 @@ pub(crate) fn exchange(
     requires { next_of seat.old.fixed seat.old.actor.agent ≡ Some (server, request) }
     ensures ok { IfOk result (λ done. IsExchange host.old host.new seat.old seat.new server number request done) }
     ensures err { OnErr result ((host.new ≡ host.old) × (seat.new ≡ seat.old)) }
+    ensures memory { IfErr result (λ _. IsTrue (by_request request || by_exchange (record { stamp = seat.old.actor.stamp; value = request }) (Some host.old))) }
 {
     let stamp = seat.stamp();
     let asked = Stamped {
@@ -66,6 +70,7 @@ fn unserved(seat: &mut Seat, number: u8, lack: Lack) -> Result<Done, AllocError>
     requires { Fits seat.old (Lacked lack) }
     ensures ok { IfOk result (λ done. IsUnserved number lack seat.old seat.new done) }
     ensures err { OnErr result (seat.new ≡ seat.old) }
+    ensures memory { IfErr result (λ _. lack ≡ Memory) }
 {
     match lack {
         Lack::Memory => Err(AllocError),

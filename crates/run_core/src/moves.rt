@@ -46,7 +46,7 @@ pub(crate) fn ask(
     ensures of { (fixed : Fixed) → AreOf fixed seats.old.items → AreOf fixed seats.new.items }
     ensures ok { IfOk result (λ done. (fixed : Fixed) → AreOf fixed seats.old.items → worlds.steps_once fixed (world_of servers.old.items seats.old.items) number (slice_get (actors_in seats.old.items) number) ≡ record { world = world_of servers.new.items seats.new.items; done = done }) }
     ensures err { OnErr result ((servers.new.items ≡ servers.old.items) × (seats.new.items ≡ seats.old.items)) }
-    ensures memory { IfErr result (λ _. (fixed : Fixed) → AreOf fixed seats.old.items → IsTrue (wanting.by_step fixed (slice_get (actors_in seats.old.items) number))) }
+    ensures memory { IfErr result (λ _. (fixed : Fixed) → AreOf fixed seats.old.items → IsTrue (wanting.by_step fixed (world_of servers.old.items seats.old.items) (slice_get (actors_in seats.old.items) number))) }
 {
     let Some(seat) = seats.get_mut(usize::from(number)) else {
         return Ok(Done::nothing());
@@ -75,7 +75,7 @@ pub(crate) fn lack(seats: &mut Vec<Seat>, number: u8, lack: Lack) -> Done
     };
     let stamp = seat.stamp();
     let Ok(outcome) = seat.take(number, stamp, &Word::Lacked(lack)) else {
-        return Done::nothing();
+        unreachable!();
     };
     Done {
         served: None,

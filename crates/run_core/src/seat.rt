@@ -127,6 +127,7 @@ impl Seat {
         ensures outcome { IfOk result (λ heard. heard.outcome ≡ outcome_of number self.old.actor (agents.take self.old.fixed self.old.actor.agent (Replied reply.value)).ending) }
         ensures state { OnOk result (self.new ≡ seats.after_word self.old reply.stamp (Replied reply.value)) }
         ensures err { OnErr result (self.new ≡ self.old) }
+        ensures memory { IfErr result (λ _. IsTrue (wanting.by_taking (agents.next_of self.old.fixed self.old.actor.agent) (Replied reply.value))) }
     {
         let Stamped { stamp, value } = reply;
         let word = Word::Replied(value);

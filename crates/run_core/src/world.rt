@@ -1,7 +1,7 @@
 //! A world: the servers and the agents of a service, event by event.
 
 ghost use Rattle.std.specs.Prelude.{◌≡◌, ◌≤◌, ◌++◌, [], take, length, IfOk, IfErr, IsSome, IsTrue, OnOk, OnErr};
-ghost use Rattle.std.specs.List.{cons_option, list_any};
+ghost use Rattle.std.specs.List.{cons_option};
 ghost use Rattle.txn_core.specs.Agents.{fixed_of};
 ghost use Rattle.run_core.specs.Runs as runs;
 ghost use Rattle.run_core.specs.Wanting as wanting;
@@ -62,8 +62,9 @@ impl World {
     }
 
     /// Plays one event. Where it has no sense nothing comes of it. Where memory runs out nothing has
-    /// changed, and the same event may be played again. Only a transaction that begins may want memory,
-    /// and a step of an agent that asks something.
+    /// changed, and the same event may be played again. Only a transaction that begins may want memory, and
+    /// a step: to ask for a Prepare or with answers, for what the server keeps or tells where it is not full
+    /// (nothing, where it answers Busy, Lost, Done or Down), and for what the agent keeps of the reply.
     pub fn step(&mut self, event: &Event) -> Result<Done, AllocError>
         ensures given { self.new.given ≡ self.old.given }
         ensures ok { IfOk result (λ done. worlds.step (fixed_of self.old.given) self.old.world event.now ≡ record { world = self.new.world; done = done }) }
@@ -87,15 +88,16 @@ impl World {
     }
 
     /// Plays events, one after the other, and answers how jobs ended. Where memory runs out the world is
-    /// as after the events that are told, and the others may be played next. Crashes, returns, forgets and
-    /// sweeps that begin are played however little memory there is.
+    /// as after the events that are told, and the others may be played next: the first of them wants memory,
+    /// or the last that was played ended a job, whose outcome is kept. The outcomes of that call are not
+    /// handed out.
     pub fn play(&mut self, events: &[Event]) -> Result<Vec<Outcome>, Stopped>
         ensures given { self.new.given ≡ self.old.given }
         ensures outcomes { IfOk result (λ outcomes. outcomes.items ≡ runs.outcomes (runs.dones (fixed_of self.old.given) self.old.world events.now)) }
         ensures world { OnOk result (self.new.world ≡ runs.after (fixed_of self.old.given) self.old.world events.now) }
         ensures stopped { IfErr result (λ stopped. self.new.world ≡ runs.after (fixed_of self.old.given) self.old.world (take stopped.done events.now)) }
         ensures within { IfErr result (λ stopped. stopped.done ≤ length events.now) }
-        ensures memory { IfErr result (λ _. IsTrue (list_any wanting.by_playing events.now)) }
+        ensures memory { IfErr result (λ stopped. IsTrue (wanting.by_stop (fixed_of self.old.given) self.old.world events.now stopped.done)) }
     {
         let mut outcomes = Vec::new(self.alloc);
         let mut played = 0;

@@ -1,9 +1,9 @@
-use Rattle.std.proofs.Common.{refl, sym, ap, ◌∙◌, vec_len}
-use Rattle.std.specs.Prelude.{is_some}
+use Rattle.std.proofs.Common.{refl, sym, ◌∙◌, vec_len}
 use Rattle.std.proofs.lemmas.Option.{slice_get_read}
+use Rattle.run_core.specs.Seats.{world_of}
 use Rattle.run_core.proofs.Moving.{ask_nothing, ask_nowhere, ask_there}
 use Rattle.run_core.proofs.Operating.{none_there}
-use Rattle.run_core.proofs.Wanting.{held, steps_there, asking_is_some}
+use Rattle.run_core.proofs.Wanting.{held, steps_there, asking_wants, exchange_wants}
 use Rattle.run_core.proofs.moves.ask.Goals as goal
 
 pub returns-in_default-2-clause-ok : goal.returns-in_default-2-clause-ok
@@ -47,7 +47,7 @@ returns-in_err-asked-clause-memory c =
     let found = slice_get_read _ _ _ _ refl item.3.0 item.1 in
     let there = rw c.from.ensures at found in
     held c.from_residual.result
-    (λ fixed all. (steps_there fixed c.args.seats.now.items c.args.number c.in-Some.seat.now all there (asking_is_some _ c.in_err-asked.ensures.memory)))
+    (λ fixed all. (steps_there fixed c.args.servers.now.items c.args.seats.now.items c.args.number c.in-Some.seat.now _ all there refl (asking_wants (world_of c.args.servers.now.items c.args.seats.now.items) c.in-Some.seat.now.actor _ c.in_err-asked.ensures.memory)))
 
 pub returns-in_err-done-clause-memory : goal.returns-in_err-done-clause-memory
 returns-in_err-done-clause-memory c =
@@ -55,5 +55,8 @@ returns-in_err-done-clause-memory c =
     let found = slice_get_read _ _ _ _ refl item.3.0 item.1 in
     let there = rw c.from.ensures at found in
     let next = c.in_ok-asked.ensures.ok in
+    let host_item = c.in-Some-get_mut.ensures.item in
+    let host_found = slice_get_read _ _ _ _ refl host_item.3.0 host_item.1 in
+    let host_there = rw c.from-2.ensures at host_found in
     held c.from_residual-in_err-done.result
-    (λ fixed all. (steps_there fixed c.args.seats.now.items c.args.number c.in-Some.seat.now all there (ap is_some (sym next ∙ c.in-Some-2.is))))
+    (λ fixed all. (steps_there fixed c.args.servers.now.items c.args.seats.now.items c.args.number c.in-Some.seat.now _ all there (sym next ∙ c.in-Some-2.is) (exchange_wants c.args.servers.now.items c.args.seats.now.items c.in-Some.seat.now.actor c.in-Some-2.asked.0 c.in-Some-2.asked.1 c.in-Some-get_mut.host.now host_there c.in_err-done.ensures.memory)))

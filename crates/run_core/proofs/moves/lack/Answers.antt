@@ -13,9 +13,6 @@ returns-in_default-asked-clause-told c =
     λ fixed servers all. rw (c.from.ensures, c.nothing-in_default-asked.ensures)
     (lack_nothing fixed servers c.args.seats.now.items c.args.number (Lacked c.args.lack) c.in-Some.seat.now all there (asks_none _ (sym c.asked.ensures ∙ c.in_default-asked.is)))
 
-pub returns-in_default-take-clause-told : goal.returns-in_default-take-clause-told
-returns-in_default-take-clause-told c = λ fixed servers all. let clash = c.in_default-take.ensures.memory in cc
-
 pub returns-clause-told : goal.returns-clause-told
 returns-clause-told c =
     let item = c.in-Some.ensures.item in

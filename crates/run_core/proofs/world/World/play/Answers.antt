@@ -1,9 +1,6 @@
-use Rattle.std.proofs.Common.{◌<◌, length, IsSome, ap, subst, sym, ◌∙◌, refl, arith}
-use Rattle.txn_core.specs.Agents.{fixed_of}
-use Rattle.run_core.specs.Wanting.{by_playing}
-use Rattle.run_core.specs.Worlds.{Stepped, step}
+use Rattle.std.proofs.Common.{◌<◌, length, refl, ◌∙◌, arith}
 use Rattle.run_core.proofs.Playing.{world_played, outcomes_played}
-use Rattle.run_core.proofs.Wanting.{event_wants, ending_wants, one_wants}
+use Rattle.run_core.proofs.Wanting.{stops_before, stops_behind}
 use Rattle.run_core.proofs.world.World.play.Goals as goal
 
 pub loop-event-preserved : goal.loop-event-preserved
@@ -31,15 +28,14 @@ returns-in_default-keep-clause-stopped c =
 
 pub returns-in_default-clause-memory : goal.returns-in_default-clause-memory
 returns-in_default-clause-memory c =
+    let so_far = c.loop-event.invariant in
     let within : c.loop-event.event-index < length c.args.events.now = omega arith in
-    one_wants c.args.events.now c.loop-event.event-index c.event-item.result within
-    (ap by_playing (sym c.event-item.is) ∙ event_wants (fixed_of c.loop-event.self.given) c.loop-event.self.world c.event-item.result c.in_default.ensures.memory)
+    stops_before c.args.self.now.given c.loop-event.self.given c.args.self.now.world c.loop-event.self.world c.args.events.now c.loop-event.event-index c.loop-event.played c.event-item.result
+    within so_far.given so_far.played so_far.world c.event-item.is c.in_default.ensures.memory
 
 pub returns-in_default-keep-clause-memory : goal.returns-in_default-keep-clause-memory
 returns-in_default-keep-clause-memory c =
-    let stepped = c.in-Ok.ensures in
+    let so_far = c.loop-event.invariant in
     let within : c.loop-event.event-index < length c.args.events.now = omega arith in
-    let some : IsSome (step (fixed_of c.loop-event.self.given) c.loop-event.self.world c.event-item.result).done.outcome =
-    subst (λ (all : Stepped). IsSome all.done.outcome) (sym stepped.ok) c.in_default-keep.ensures.memory in
-    one_wants c.args.events.now c.loop-event.event-index c.event-item.result within
-    (ap by_playing (sym c.event-item.is) ∙ ending_wants (fixed_of c.loop-event.self.given) c.loop-event.self.world c.event-item.result some)
+    stops_behind c.args.self.now.given c.loop-event.self.given c.args.self.now.world c.loop-event.self.world c.step.new.self.world c.args.events.now c.loop-event.event-index c.loop-event.played c.event-item.result c.in-Ok.done
+    within so_far.given so_far.played so_far.world c.event-item.is c.in-Ok.ensures.ok c.in_default-keep.ensures.memory
