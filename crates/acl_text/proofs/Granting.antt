@@ -90,10 +90,6 @@ pub takes_x : (letters : Letters) (front : List ℕ) → IsReadOf letters front 
 takes_x letters front is unread =
     taken letters (record letters { executes = true }) front letter_x is refl (still letters.reads) (still letters.writes) (ap (λ b. cond b 1 0 + 1) unread) (omega arith) (few_hyphens letters front is)
 
-pub takes_hyphen : (letters : Letters) (front : List ℕ) → IsReadOf letters front → letters.hyphens < 3 → IsReadOf (record letters { hyphens = letters.hyphens + 1 }) (front ++ hyphen ∷ [])
-takes_hyphen letters front is few =
-    taken letters (record letters { hyphens = letters.hyphens + 1 }) front hyphen is refl (still letters.reads) (still letters.writes) (still letters.executes) refl (omega (arith, few))
-
 -- a letter that is there comes again
 twice : (letter : ℕ) (front : List ℕ) (byte : ℕ) (there again : Bool) → byte ≡ letter → there ≡ true → times_in letter front ≡ cond there 1 0 → times_in letter (front ++ byte ∷ []) ≡ cond again 1 0 → ⊥
 twice letter front byte there again here is before after =
