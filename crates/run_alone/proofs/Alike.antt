@@ -34,8 +34,7 @@ use Rattle.run_alone.proofs.Turns.{with_job, doing_of, doing_at, all_none}
 use Rattle.run_alone.proofs.Clear.{IsMine}
 use Rattle.run_alone.proofs.Same.{endings_are_one}
 use Rattle.run_alone.proofs.NeverLost.{none_is_lost}
-use Rattle.run_alone.proofs.Reached.{can_front, run_more, AllSo, Reached, reached_first, runs_first, next_reached, ended_well, runs_still}
-use Rattle.run_alone.proofs.Decided.{IsKept, well_decided}
+use Rattle.run_alone.proofs.Reached.{can_front, run_more, AllKept, Reached, reached_first, runs_first, next_reached, ended_decided, runs_still}
 
 not_true : (b : Bool) → not b ≡ true → b ≡ false
 not_true true is = absurd (false≢true is)
@@ -113,12 +112,12 @@ none_begins (Some one) idle busy alone = absurd (false≢true (sym busy ∙ alon
 
 -- what holds where something begins
 where_begun : (begun : Option (ℕ × Job)) (one : ℕ × Job) (b : Bool) → begun ≡ Some one → (not (is_some begun) || b) ≡ true → b ≡ true
-where_begun None one b is so = absurd (none-some one is)
-where_begun (Some other) one b is so = so
+where_begun None one b is clear = absurd (none-some one is)
+where_begun (Some other) one b is clear = clear
 
 is_calm : (runs some : Bool) → runs ≡ true → not (runs && some) ≡ true → some ≡ false
-is_calm true some is so = not_true some so
-is_calm false some is so = absurd (false≢true is)
+is_calm true some is calm = not_true some calm
+is_calm false some is calm = absurd (false≢true is)
 
 append_none : (all : List Event) → all ++ [] ≡ all
 append_none [] = refl
@@ -130,15 +129,15 @@ DecidedOrRuns given all t = IsDecided (decisions given all) t ⊎ IsRunning (run
 
 -- ---- from the begin of a transaction on
 
-module _ (given : Opening) (events : List Event) (agent t : ℕ) (caller : Identity) (site : ℕ) (ops : List Op) (so : AllSo given events agent t caller site ops IsKept) where
-  follow : (all rest : List Event) → CanBe given (all ++ rest) → Reached given events agent t caller site ops IsKept all → is_idle (doing_at (run given all) agent) ≡ false
+module _ (given : Opening) (events : List Event) (agent t : ℕ) (caller : Identity) (site : ℕ) (ops : List Op) (kept : AllKept given events agent t caller site ops) where
+  follow : (all rest : List Event) → CanBe given (all ++ rest) → Reached given events agent t caller site ops all → is_idle (doing_at (run given all) agent) ≡ false
       → one_at_a_time_from given (run given all) rest ≡ true → all_undisturbed_from given (run given all) rest ≡ true → DecidedOrRuns given (all ++ rest) t
   follow all [] can reached runs alone calm = inr (subst (λ all. IsRunning (run given all) t) (sym (append_none all)) (runs_it (run given all) agent t reached.at.clear.mine runs).running)
   follow all (event ∷ rest) can reached runs alone calm =
       subst (λ whole. DecidedOrRuns given whole t) (append_assoc all (event ∷ []) rest)
       (of (step (fixed_of given) world event).done.outcome refl can'
-      (λ is. follow (all ++ event ∷ []) rest can' (next_reached given events agent t caller site ops IsKept so all event can_now reached quiet none)
-      (runs_still given events agent t caller site ops IsKept so all event can_now reached quiet none runs is)
+      (λ is. follow (all ++ event ∷ []) rest can' (next_reached given events agent t caller site ops kept all event can_now reached quiet none)
+      (runs_still given events agent t caller site ops kept all event can_now reached quiet none runs is)
       (subst (λ world. one_at_a_time_from given world rest ≡ true) more alone'.1) (subst (λ world. all_undisturbed_from given world rest ≡ true) more calm'.2)))
     where
       world : World
@@ -171,9 +170,9 @@ module _ (given : Opening) (events : List Event) (agent t : ℕ) (caller : Ident
       of : (outcome : Option Outcome) → (step (fixed_of given) world event).done.outcome ≡ outcome → CanBe given ((all ++ event ∷ []) ++ rest) → ((step (fixed_of given) world event).done.outcome ≡ None → DecidedOrRuns given ((all ++ event ∷ []) ++ rest) t)
           → DecidedOrRuns given ((all ++ event ∷ []) ++ rest) t
       of (Some job) is can later =
-          let well = ended_well given events agent t caller site ops IsKept so all event can_now reached quiet none job is in
+          let well = ended_decided given events agent t caller site ops kept all event can_now reached quiet none job is in
           inl (decided_then given (all ++ event ∷ []) rest t (subst (IsDecided (decisions given (all ++ event ∷ []))) well.0
-          (decided_last given can.accepted (all ++ event ∷ []) job (ends_last given all event job is) (well_decided job.ending well.1))))
+          (decided_last given can.accepted (all ++ event ∷ []) job (ends_last given all event job is) well.1)))
       of None is can later = later is
 
 -- ---- every transaction
@@ -210,11 +209,11 @@ module _ (given : Opening) where
       let clear = and_parts (all_up world) (no_locks world) (where_begun (begins_job given world begins) (t, Transaction caller site ops) (all_up world && no_locks world) is calm'.0) in
       let can' : CanBe given ((front ++ begins ∷ []) ++ rest) = subst (CanBe given) (sym (append_assoc front (begins ∷ []) rest)) can in
       let can_now = can_front given (front ++ begins ∷ []) rest can' in
-      let so : AllSo given front agent t caller site ops IsKept = λ sofar can crashes none. none_is_lost given front sofar agent t caller site ops can is idle clear.0 clear.1 crashes none in
+      let kept : AllKept given front agent t caller site ops = λ sofar can crashes none. none_is_lost given front sofar agent t caller site ops can is idle clear.0 clear.1 crashes none in
       let more = sym (run_more given front begins) in
       subst (λ whole. DecidedOrRuns given whole t) (append_assoc front (begins ∷ []) rest)
-      (follow given front agent t caller site ops so (front ++ begins ∷ []) rest can' (reached_first given front agent t caller site ops IsKept can_now is idle clear.0 clear.1)
-      (runs_first given front agent t caller site ops IsKept can_now is idle clear.0 clear.1)
+      (follow given front agent t caller site ops kept (front ++ begins ∷ []) rest can' (reached_first given front agent t caller site ops can_now is idle clear.0 clear.1)
+      (runs_first given front agent t caller site ops can_now is idle clear.0 clear.1)
       (subst (λ world. one_at_a_time_from given world rest ≡ true) more alone'.1) (subst (λ world. all_undisturbed_from given world rest ≡ true) more calm'.2))
 
   each : (front rest : List Event) → CanBe given (front ++ rest) → one_at_a_time_from given (run given front) rest ≡ true → all_undisturbed_from given (run given front) rest ≡ true

@@ -6,13 +6,7 @@ use Rattle.std.proofs.lemmas.Bool.{false≢true, and_parts}
 use Rattle.acl_core.specs.Identity.{Identity}
 use Rattle.suite_prefix.specs.SettingsRules.{Opening}
 use Rattle.file_ops.specs.declared.operation.Op.{Op}
-use Rattle.rep_core.specs.declared.reply.Reply.{Reply}
-use Rattle.rep_core.specs.Fits.{is_lost}
 use Rattle.rep_core.proofs.Members.{Has, has_from}
-use Rattle.txn_core.specs.declared.ending.Ending.{Ending}
-use Rattle.txn_core.specs.declared.ending.Ending.TheVariants.{Answered, Refused, Swept, Undecided}
-use Rattle.txn_core.specs.declared.ending.Cause.{Cause}
-use Rattle.txn_core.specs.declared.ending.Cause.TheVariants as cause
 use Rattle.txn_core.specs.declared.job.Job.TheVariants.{Transaction}
 use Rattle.txn_core.specs.Agents.{fixed_of}
 use Rattle.run_core.specs.declared.event.Event.{Event}
@@ -25,38 +19,16 @@ use Rattle.headline.specs.Premises.{CanBe}
 use Rattle.run_alone.specs.Alone.{begins_job, jobs_from}
 use Rattle.run_alone.specs.Undisturbed.{disturbs, undisturbed_from, is_decided, UndisturbedAreDecided}
 use Rattle.run_alone.proofs.Clear.{none_now}
-use Rattle.run_alone.proofs.Exchanged.{IsLeft}
-use Rattle.run_alone.proofs.Unhindered.{EndsWell}
 use Rattle.run_alone.proofs.NeverLost.{none_is_lost}
-use Rattle.run_alone.proofs.Reached.{can_front, run_more, AllSo, Reached, reached_first, next_reached, ended_well}
-
--- a reply is not Lost
-abbrev pub IsKept : Reply → Type 0
-IsKept said = is_lost said ≡ false
-
--- then no cause is left
-pub well_decided : (ending : Ending) → EndsWell IsKept ending → is_decided ending ≡ true
-well_decided (Answered answers) well = refl
-well_decided (Refused refusal) well = refl
-well_decided (Swept broken finished left) well = absurd well
-well_decided (Undecided why) well = absurd (none why well)
-  where
-    none : (why : Cause) → IsLeft IsKept why → ⊥
-    none (cause.Lost server) left = false≢true (sym left)
-    none (cause.Unavailable suite got needed) left = left
-    none (cause.Busy server holder) left = left
-    none cause.Overruled left = left
-    none cause.HomeDown left = left
-    none (cause.Full server) left = left
-    none cause.Memory left = left
+use Rattle.run_alone.proofs.Reached.{can_front, run_more, AllKept, Reached, reached_first, next_reached, ended_decided}
 
 not_true : (b : Bool) → not b ≡ true → b ≡ false
 not_true true is = absurd (false≢true is)
 not_true false is = refl
 
-module _ (given : Opening) (events : List Event) (agent t : ℕ) (caller : Identity) (site : ℕ) (ops : List Op) (so : AllSo given events agent t caller site ops IsKept) where
+module _ (given : Opening) (events : List Event) (agent t : ℕ) (caller : Identity) (site : ℕ) (ops : List Op) (kept : AllKept given events agent t caller site ops) where
   -- each ending from there on
-  all_decided : (all rest : List Event) → CanBe given (all ++ rest) → Reached given events agent t caller site ops IsKept all → jobs_from given (run given all) rest ≡ [] → undisturbed_from given (run given all) rest ≡ true
+  all_decided : (all rest : List Event) → CanBe given (all ++ rest) → Reached given events agent t caller site ops all → jobs_from given (run given all) rest ≡ [] → undisturbed_from given (run given all) rest ≡ true
       → (job : Outcome) → Has (outcomes (dones (fixed_of given) (run given all) rest)) job → (number_of job ≡ t) × (is_decided job.ending ≡ true)
   all_decided all [] can reached none calm job has = absurd has
   all_decided all (event ∷ rest) can reached none calm job has =
@@ -68,7 +40,7 @@ module _ (given : Opening) (events : List Event) (agent t : ℕ) (caller : Ident
       let can_now = can_front given (all ++ event ∷ []) rest can' in
       let more = sym (run_more given all event) in
       of (step (fixed_of given) (run given all) event).done.outcome refl can_now quiet now.0
-      (λ has. all_decided (all ++ event ∷ []) rest can' (next_reached given events agent t caller site ops IsKept so all event can_now reached quiet now.0)
+      (λ has. all_decided (all ++ event ∷ []) rest can' (next_reached given events agent t caller site ops kept all event can_now reached quiet now.0)
       (subst (λ world. jobs_from given world rest ≡ []) more now.1) (subst (λ world. undisturbed_from given world rest ≡ true) more parts.1) job
       (subst (λ world. Has (outcomes (dones (fixed_of given) world rest)) job) more has)) has
     where
@@ -77,7 +49,7 @@ module _ (given : Opening) (events : List Event) (agent t : ℕ) (caller : Ident
           → Has (cons_option outcome (outcomes (dones (fixed_of given) (step (fixed_of given) (run given all) event).world rest))) job → (number_of job ≡ t) × (is_decided job.ending ≡ true)
       of None is can quiet now later has = later has
       of (Some one) is can quiet now later has = elim has [
-        | inl same ↦ (let well = ended_well given events agent t caller site ops IsKept so all event can reached quiet now job (is ∙ ap Some same) in (well.0, well_decided job.ending well.1))
+        | inl same ↦ ended_decided given events agent t caller site ops kept all event can reached quiet now job (is ∙ ap Some same)
         | inr rest' ↦ later rest'
       ]
 
@@ -85,9 +57,9 @@ pub undisturbed_are_decided : UndisturbedAreDecided
 undisturbed_are_decided given events later agent t caller site ops can begins idle up locks none calm job there =
     let begin = Begin agent (Transaction caller site ops) in
     let can' : CanBe given ((events ++ begin ∷ []) ++ later) = subst (CanBe given) (sym (append_assoc events (begin ∷ []) later)) can in
-    let so : AllSo given events agent t caller site ops IsKept = λ sofar can crashes none. none_is_lost given events sofar agent t caller site ops can begins idle up locks crashes none in
+    let kept : AllKept given events agent t caller site ops = λ sofar can crashes none. none_is_lost given events sofar agent t caller site ops can begins idle up locks crashes none in
     let more = sym (run_more given events begin) in
-    all_decided given events agent t caller site ops so (events ++ begin ∷ []) later can'
-    (reached_first given events agent t caller site ops IsKept (can_front given (events ++ begin ∷ []) later can') begins idle up locks)
+    all_decided given events agent t caller site ops kept (events ++ begin ∷ []) later can'
+    (reached_first given events agent t caller site ops (can_front given (events ++ begin ∷ []) later can') begins idle up locks)
     (subst (λ world. jobs_from given world later ≡ []) more none) (subst (λ world. undisturbed_from given world later ≡ true) more calm) job
     (subst (λ world. Has (outcomes (dones (fixed_of given) world later)) job) more (has_from (outcomes (dones (fixed_of given) (step (fixed_of given) (run given events) begin).world later)) job there))

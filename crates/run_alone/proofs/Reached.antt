@@ -8,8 +8,8 @@ use Rattle.acl_core.specs.Identity.{Identity}
 use Rattle.suite_prefix.specs.SettingsRules.{Opening}
 use Rattle.file_ops.specs.declared.operation.Op.{Op}
 use Rattle.rep_core.specs.declared.request.Request.{Request}
-use Rattle.rep_core.specs.declared.reply.Reply.{Reply}
 use Rattle.rep_core.specs.declared.reply.Verdict.TheVariants as verdict
+use Rattle.rep_core.specs.Fits.{is_lost}
 use Rattle.txn_core.specs.declared.job.Job.{Job}
 use Rattle.txn_core.specs.declared.job.Job.TheVariants.{Transaction}
 use Rattle.txn_core.specs.Doing.{Task}
@@ -28,7 +28,7 @@ use Rattle.run_laws.proofs.Worlds.{puts_in}
 use Rattle.run_laws.proofs.Conclusions.{holds_of}
 use Rattle.headline.specs.Premises.{CanBe, VotesAreValid, JobGivesValidVotes}
 use Rattle.run_alone.specs.Alone.{all_idle, begins_job, jobs_from}
-use Rattle.run_alone.specs.Undisturbed.{all_up, no_locks, is_crash, none_crashes, disturbs}
+use Rattle.run_alone.specs.Undisturbed.{all_up, no_locks, is_crash, none_crashes, disturbs, is_decided}
 use Rattle.run_alone.proofs.Turns.{with_job, doing_of, doing_at, all_none}
 use Rattle.run_alone.proofs.Clear.{begun_clear, none_now}
 use Rattle.run_alone.proofs.Votes.{HasValidVotes, copy_valid, cache_valid}
@@ -37,7 +37,7 @@ use Rattle.run_alone.proofs.Exchanged.{Since, since_begin}
 use Rattle.run_alone.proofs.Unswept.{is_resolve, Unswept, stays_unswept}
 use Rattle.run_alone.proofs.Walks.{event_servers}
 use Rattle.run_alone.proofs.Starts.{starts}
-use Rattle.run_alone.proofs.Unhindered.{Facts, At, EndsWell, event_all, all_consistent, no_crash, next_at, ends_well, still_runs}
+use Rattle.run_alone.proofs.Unhindered.{Facts, At, event_all, all_consistent, no_crash, next_at, ends_decided, still_runs}
 
 -- ---- parts of a run
 
@@ -84,24 +84,24 @@ module _ (given : Opening) (events : List Event) (agent t : ℕ) (caller : Ident
   abbrev pub begun : World
   begun = (step (fixed_of given) (run given events) begins).world
 
-  -- what is so of every reply, whatever nothing disturbed so far
-  abbrev pub AllSo : (Reply → Type 0) → Type 0
-  AllSo P =
+  -- no reply is Lost, as long as no server crashes and no other job begins
+  abbrev pub AllKept : Type 0
+  AllKept =
       (sofar : List Event) → CanBe given (events ++ begins ∷ sofar) → none_crashes sofar ≡ true → jobs_from given begun sofar ≡ []
-      → (other : ℕ) (what : Served) → (step (fixed_of given) (after (fixed_of given) begun sofar) (Step other)).done.served ≡ Some what → P what.reply.value
+      → (other : ℕ) (what : Served) → (step (fixed_of given) (after (fixed_of given) begun sofar) (Step other)).done.served ≡ Some what → is_lost what.reply.value ≡ false
 
   -- these events are those before it, its begin, and some that do not disturb it
-  pub record Reached (P : Reply → Type 0) (all : List Event) : Type 0 where
+  pub record Reached (all : List Event) : Type 0 where
     pub sofar : List Event
     pub is : all ≡ events ++ begins ∷ sofar
     pub crashes : none_crashes sofar ≡ true
     pub none : jobs_from given begun sofar ≡ []
-    pub at : At given P t agent (run given all)
+    pub at : At given t agent (run given all)
 
   run_begun : (sofar : List Event) → run given (events ++ begins ∷ sofar) ≡ after (fixed_of given) begun sofar
   run_begun sofar = after-append (fixed_of given) (opening given) events (begins ∷ sofar)
 
-  module _ (P : Reply → Type 0) (can : CanBe given (events ++ begins ∷ [])) (begins_so : begins_job given (run given events) begins ≡ Some (t, job)) (idle : all_idle (run given events) ≡ true) (up : all_up (run given events) ≡ true) (locks : no_locks (run given events) ≡ true) where
+  module _ (can : CanBe given (events ++ begins ∷ [])) (begins_so : begins_job given (run given events) begins ≡ Some (t, job)) (idle : all_idle (run given events) ≡ true) (up : all_up (run given events) ≡ true) (locks : no_locks (run given events) ≡ true) where
     can_before : CanBe given events
     can_before = can_front given events (begins ∷ []) can
 
@@ -121,7 +121,7 @@ module _ (given : Opening) (events : List Event) (agent t : ℕ) (caller : Ident
     record Begun (world : World) : Type 0 where
       actor : Actor
       there : actor_at world agent ≡ Some actor
-      since : Since P (fixed_of given) actor.agent
+      since : Since (fixed_of given) actor.agent
       runs : is_idle actor.agent.doing ≡ false
 
     agent_begun : (found : Option Actor) → actor_at (run given events) agent ≡ found → with_job job (begins_now (fixed_of given) agent job found) ≡ Some (t, job)
@@ -129,7 +129,7 @@ module _ (given : Opening) (events : List Event) (agent t : ℕ) (caller : Ident
         → Begun (becomes (run given events) agent (λ agent. begin (fixed_of given) agent job) found).world
     agent_begun None is begins' valid = absurd (none-some (t, job) begins')
     agent_begun (Some actor) is begins' valid =
-        record { actor = new; there = there; since = since_begin P (fixed_of given) actor.agent job idle' valid_job (valid agent new there); runs = runs (is_idle actor.agent.doing && has_sense (fixed_of given) job && nat_lt actor.agent.count most_jobs) begins' }
+        record { actor = new; there = there; since = since_begin (fixed_of given) actor.agent job idle' valid_job (valid agent new there); runs = runs (is_idle actor.agent.doing && has_sense (fixed_of given) job && nat_lt actor.agent.count most_jobs) begins' }
       where
         new : Actor
         new = record actor { agent = begin (fixed_of given) actor.agent job }
@@ -150,7 +150,7 @@ module _ (given : Opening) (events : List Event) (agent t : ℕ) (caller : Ident
     begun_so : Begun begun
     begun_so = agent_begun (actor_at (run given events) agent) refl begins_so caches
 
-    begun_at : At given P t agent begun
+    begun_at : At given t agent begun
     begun_at = record {
       clear = begun_clear given (run given events) facts.ds facts.past facts.holds agent t caller site ops idle up locks (actor_at (run given events) agent) refl begins_so;
       all = event_all (fixed_of given) (run given events) (all_consistent given events) begins;
@@ -161,40 +161,40 @@ module _ (given : Opening) (events : List Event) (agent t : ℕ) (caller : Ident
       since = begun_so.since;
     }
 
-    pub reached_first : Reached P (events ++ begins ∷ [])
-    reached_first = record { sofar = []; is = refl; crashes = refl; none = refl; at = subst (At given P t agent) (sym (run_more given events begins)) begun_at }
+    pub reached_first : Reached (events ++ begins ∷ [])
+    reached_first = record { sofar = []; is = refl; crashes = refl; none = refl; at = subst (At given t agent) (sym (run_more given events begins)) begun_at }
 
     pub runs_first : is_idle (doing_at (run given (events ++ begins ∷ [])) agent) ≡ false
     runs_first = ap (λ world. is_idle (doing_at world agent)) (run_more given events begins) ∙ ap (λ found. is_idle (doing_of found)) begun_so.there ∙ begun_so.runs
 
   -- ---- and goes on
 
-  module _ (P : Reply → Type 0) (so : AllSo P) (all : List Event) (event : Event) (can : CanBe given (all ++ event ∷ [])) (reached : Reached P all) (calm : disturbs given (run given all) event ≡ false) (none' : begins_job given (run given all) event ≡ None) where
+  module _ (kept : AllKept) (all : List Event) (event : Event) (can : CanBe given (all ++ event ∷ [])) (reached : Reached all) (calm : disturbs given (run given all) event ≡ false) (none' : begins_job given (run given all) event ≡ None) where
     can_now : CanBe given all
     can_now = can_front given all (event ∷ []) can
 
     path : run given all ≡ after (fixed_of given) begun reached.sofar
     path = ap (run given) reached.is ∙ run_begun reached.sofar
 
-    so_now : (what : Served) → (step (fixed_of given) (run given all) (Step agent)).done.served ≡ Some what → P what.reply.value
-    so_now what served = so reached.sofar (subst (CanBe given) reached.is can_now) reached.crashes reached.none agent what (ap (λ world. (step (fixed_of given) world (Step agent)).done.served) (sym path) ∙ served)
+    kept_now : (what : Served) → (step (fixed_of given) (run given all) (Step agent)).done.served ≡ Some what → is_lost what.reply.value ≡ false
+    kept_now what served = kept reached.sofar (subst (CanBe given) reached.is can_now) reached.crashes reached.none agent what (ap (λ world. (step (fixed_of given) world (Step agent)).done.served) (sym path) ∙ served)
 
     later : Facts given (step (fixed_of given) (run given all) event).world
     later = subst (Facts given) (run_more given all event) (facts_of given (all ++ event ∷ []) can)
 
-    pub next_reached : Reached P (all ++ event ∷ [])
+    pub next_reached : Reached (all ++ event ∷ [])
     next_reached = record {
       sofar = reached.sofar ++ event ∷ [];
       is = ap (λ all. all ++ event ∷ []) reached.is ∙ append_assoc events (begins ∷ reached.sofar) (event ∷ []);
       crashes = crashes_more reached.sofar event reached.crashes (no_crash given (run given all) event calm);
       none = jobs_more given reached.sofar begun event reached.none (ap (λ world. begins_job given world event) (sym path) ∙ none');
-      at = subst (At given P t agent) (sym (run_more given all event)) (next_at given can.c0 P t agent (run given all) (facts_of given all can_now) reached.at so_now event calm none' later);
+      at = subst (At given t agent) (sym (run_more given all event)) (next_at given can.c0 t agent (run given all) (facts_of given all can_now) reached.at kept_now event calm none' later);
     }
 
-    pub ended_well : (job' : Outcome) → (step (fixed_of given) (run given all) event).done.outcome ≡ Some job' → (number_of job' ≡ t) × EndsWell P job'.ending
-    ended_well job' is = ends_well given can.c0 P t agent (run given all) (facts_of given all can_now) reached.at so_now event calm none' later job' is
+    pub ended_decided : (job' : Outcome) → (step (fixed_of given) (run given all) event).done.outcome ≡ Some job' → (number_of job' ≡ t) × (is_decided job'.ending ≡ true)
+    ended_decided job' is = ends_decided given can.c0 t agent (run given all) (facts_of given all can_now) reached.at kept_now event calm none' later job' is
 
     pub runs_still : is_idle (doing_at (run given all) agent) ≡ false → (step (fixed_of given) (run given all) event).done.outcome ≡ None → is_idle (doing_at (run given (all ++ event ∷ [])) agent) ≡ false
     runs_still runs is =
         ap (λ world. is_idle (doing_at world agent)) (run_more given all event)
-        ∙ still_runs given can.c0 P t agent (run given all) (facts_of given all can_now) reached.at so_now event calm none' runs is
+        ∙ still_runs given can.c0 t agent (run given all) (facts_of given all can_now) reached.at kept_now event calm none' runs is

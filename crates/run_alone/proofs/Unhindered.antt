@@ -15,6 +15,7 @@ use Rattle.rep_core.specs.declared.reply.Reply.TheVariants as reply
 use Rattle.rep_core.specs.declared.reply.Verdict.{Verdict}
 use Rattle.rep_core.specs.declared.reply.Verdict.TheVariants as verdict
 use Rattle.rep_core.specs.Consistency.{IsConsistent}
+use Rattle.rep_core.specs.Fits.{is_lost}
 use Rattle.rep_core.specs.Locks.{in_the_way, has_lock}
 use Rattle.rep_core.specs.Store.{copy_of}
 use Rattle.rep_core.specs.State as state
@@ -24,7 +25,7 @@ use Rattle.rep_core.proofs.Consistent.{consistent_step, consistent_opening}
 use Rattle.rep_core.proofs.FittingReplies.{reply_fits}
 use Rattle.txn_core.specs.declared.ending.Cause.{Cause}
 use Rattle.txn_core.specs.declared.ending.Ending.{Ending}
-use Rattle.txn_core.specs.declared.ending.Ending.TheVariants.{Answered, Refused, Swept, Undecided}
+use Rattle.txn_core.specs.declared.ending.Ending.TheVariants.{Undecided}
 use Rattle.txn_core.specs.declared.word.Word.TheVariants.{Replied}
 use Rattle.txn_core.specs.Doing.{Fixed, Course, Doing, Running, Rounding, After, GoesOn, Ends}
 use Rattle.txn_core.specs.Transactions.{after_word, ending_by}
@@ -42,12 +43,12 @@ use Rattle.run_laws.proofs.Agents.{IsAt}
 use Rattle.run_laws.proofs.Words.{Leaves, leaves_word}
 use Rattle.run_laws.proofs.Worlds.{agent_of, Holds}
 use Rattle.run_alone.specs.Alone.{begins_job}
-use Rattle.run_alone.specs.Undisturbed.{is_crash, disturbs}
+use Rattle.run_alone.specs.Undisturbed.{is_crash, disturbs, is_decided}
 use Rattle.run_alone.proofs.Own.{not_busy, not_down}
 use Rattle.run_alone.proofs.Turns.{doing_of, doing_at}
 use Rattle.run_alone.proofs.Clear.{IsMine, Clear, polls_named, names_mine, is_mine, event_clear}
 use Rattle.run_alone.proofs.Votes.{HasValidVotes}
-use Rattle.run_alone.proofs.Exchanged.{TellsValid, IsFree, Since, since_forget, since_take, IsLeft, ends_left}
+use Rattle.run_alone.proofs.Exchanged.{TellsValid, IsFree, Since, since_forget, since_take, never_undecided}
 use Rattle.run_alone.proofs.Unswept.{is_resolve, never_resolves, Unswept, stays_unswept, not_aborted}
 use Rattle.run_alone.proofs.Walks.{AllServers, event_servers}
 use Rattle.run_alone.proofs.Went.{Went, Stayed, Forgot, Took, Moves, event_moves}
@@ -100,24 +101,17 @@ tells_valid st asked up valid = subst (λ b. TellsValid (cond b (reply_up st ask
 
 -- ---- endings
 
--- an ending that is answered or refused, or has a cause that is left
-abbrev pub EndsWell : (Reply → Type 0) → Ending → Type 0
-EndsWell P (Answered answers) = Unit {0}
-EndsWell P (Refused refusal) = Unit {0}
-EndsWell P (Swept broken finished left) = ⊥
-EndsWell P (Undecided cause) = IsLeft P cause
+decided_by : (v : Verdict) (cause : Cause) → ((cause' : Cause) → ending_by v cause ≡ Undecided cause' → ⊥) → is_decided (ending_by v cause) ≡ true
+decided_by (verdict.Answered answers) cause none = refl
+decided_by (verdict.Refused refusal) cause none = refl
+decided_by verdict.Aborted cause none = absurd (none cause refl)
 
-well_by : (P : Reply → Type 0) (v : Verdict) (cause : Cause) → ((cause' : Cause) → ending_by v cause ≡ Undecided cause' → IsLeft P cause') → EndsWell P (ending_by v cause)
-well_by P (verdict.Answered answers) cause left = tt
-well_by P (verdict.Refused refusal) cause left = tt
-well_by P verdict.Aborted cause left = left cause refl
-
--- how a transaction ends
-after_well : (P : Reply → Type 0) (course : Course) (v : Verdict) (after : After Course) (ending : Ending) → Leaves course.task v after → end_of after ≡ Some ending → ((cause : Cause) → ending ≡ Undecided cause → IsLeft P cause) → EndsWell P ending
-after_well P course v (GoesOn more) ending leaves is left = absurd (none-some ending is)
-after_well P course v (Ends other) ending leaves is left =
+-- a transaction that does not end undecided is decided
+after_decided : (course : Course) (v : Verdict) (after : After Course) (ending : Ending) → Leaves course.task v after → end_of after ≡ Some ending → ((cause : Cause) → ending ≡ Undecided cause → ⊥) → is_decided ending ≡ true
+after_decided course v (GoesOn more) ending leaves is none = absurd (none-some ending is)
+after_decided course v (Ends other) ending leaves is none =
     let as' : ending ≡ ending_by v leaves.0 = sym (same_Some other ending is) ∙ leaves.1 in
-    subst (EndsWell P) (sym as') (well_by P v leaves.0 (λ cause same. left cause (as' ∙ same)))
+    ap is_decided as' ∙ decided_by v leaves.0 (λ cause same. none cause (as' ∙ same))
 
 -- who took a word and did not end goes on
 goes_on : (fixed : Fixed) (agent : Agent) (said : Reply) (doing : Option Doing) (asked : ℕ × Request) → next_in fixed doing ≡ Some asked → (t : ℕ) → IsMine t doing → (take_in fixed agent (Replied said) doing (Some asked)).ending ≡ None
@@ -140,13 +134,13 @@ pub record Facts (given : Opening) (world : World) : Type 0 where
   pub copies : (s : ℕ) (st : State) → server_at world s ≡ Some st → (suite : ℕ) → IsValid (copy_of st.store suite).prefix.votes
   pub caches : (i : ℕ) (actor : Actor) → actor_at world i ≡ Some actor → HasValidVotes actor.agent.cache
 
-pub record At (given : Opening) (P : Reply → Type 0) (t turn : ℕ) (world : World) : Type 0 where
+pub record At (given : Opening) (t turn : ℕ) (world : World) : Type 0 where
   pub clear : Clear world t turn
   pub all : AllConsistent world
   pub unswept : AllServers (Unswept t) world
   pub actor : Actor
   pub there : actor_at world turn ≡ Some actor
-  pub since : Since P (fixed_of given) actor.agent
+  pub since : Since (fixed_of given) actor.agent
 
 pub no_crash : (given : Opening) (world : World) (event : Event) → disturbs given world event ≡ false → is_crash event ≡ false
 no_crash given world (Crash server) calm = absurd (false≢true (sym calm))
@@ -156,8 +150,8 @@ no_crash given world (Return server) calm = refl
 no_crash given world (Forget i site) calm = refl
 no_crash given world (Lack i why) calm = refl
 
-module _ (given : Opening) (c0 : IsValid given.c0) (P : Reply → Type 0) (t turn : ℕ) (world : World) (facts : Facts given world) (at : At given P t turn world)
-    (so : (what : Served) → (step (fixed_of given) world (Step turn)).done.served ≡ Some what → P what.reply.value)
+module _ (given : Opening) (c0 : IsValid given.c0) (t turn : ℕ) (world : World) (facts : Facts given world) (at : At given t turn world)
+    (kept : (what : Served) → (step (fixed_of given) world (Step turn)).done.served ≡ Some what → is_lost what.reply.value ≡ false)
     (event : Event) (calm : disturbs given world event ≡ false) (none : begins_job given world event ≡ None) where
   abbrev fixed : Fixed
   fixed = fixed_of given
@@ -166,7 +160,7 @@ module _ (given : Opening) (c0 : IsValid given.c0) (P : Reply → Type 0) (t tur
   mine = subst (IsMine t) (ap doing_of at.there) at.clear.mine
 
   -- a reply to the transaction is free
-  reply_free : (asked : ℕ × Request) (st : State) (what : Served) → next_of fixed at.actor.agent ≡ Some asked → server_at world asked.0 ≡ Some st → (step fixed world (Step turn)).done.served ≡ Some what → what.reply.value ≡ reply_of st asked.1 → IsFree P asked.1 (reply_of st asked.1)
+  reply_free : (asked : ℕ × Request) (st : State) (what : Served) → next_of fixed at.actor.agent ≡ Some asked → server_at world asked.0 ≡ Some st → (step fixed world (Step turn)).done.served ≡ Some what → what.reply.value ≡ reply_of st asked.1 → IsFree asked.1 (reply_of st asked.1)
   reply_free asked st what next there served is =
       let own = at.clear.servers asked.0 st there in
       let named = names_mine fixed t at.actor.agent.doing asked mine next in
@@ -176,7 +170,7 @@ module _ (given : Opening) (c0 : IsValid given.c0) (P : Reply → Type 0) (t tur
         fit = reply_fits st asked.1 (at.all asked.0 st there).sound;
         valid = tells_valid st asked.1 own.0 (facts.copies asked.0 st there);
         decides = not_aborted t st asked.1 (at.unswept asked.0 st there) named;
-        so = subst P is (so what served);
+        kept = subst (λ said. is_lost said ≡ false) is (kept what served);
       }
 
   moves : Moves given t turn world facts.ds facts.past facts.holds at.clear at.actor at.there (step fixed world event)
@@ -191,7 +185,7 @@ module _ (given : Opening) (c0 : IsValid given.c0) (P : Reply → Type 0) (t tur
       of (Some (Running course)) next own = never_resolves fixed course.task course.suites course.phase asked.0 asked.1 next
 
   -- it still holds after the event
-  pub next_at : Facts given (step fixed world event).world → At given P t turn (step fixed world event).world
+  pub next_at : Facts given (step fixed world event).world → At given t turn (step fixed world event).world
   next_at later = record {
     clear = event_clear given t turn world facts.ds facts.past facts.holds at.clear event (no_crash given world event calm) none;
     all = event_all fixed world at.all event;
@@ -204,12 +198,12 @@ module _ (given : Opening) (c0 : IsValid given.c0) (P : Reply → Type 0) (t tur
       cache : HasValidVotes moves.0.agent.cache
       cache = later.caches turn moves.0 moves.1
 
-      of : Went fixed world turn at.actor moves.0.agent (step fixed world event).done.outcome → Since P fixed moves.0.agent
-      of (Stayed same out) = subst (Since P fixed) (sym same) at.since
-      of (Forgot site same out) = subst (Since P fixed) (sym same) (since_forget P fixed at.actor.agent site (subst (λ (agent : Agent). HasValidVotes agent.cache) same cache) at.since)
+      of : Went fixed world turn at.actor moves.0.agent (step fixed world event).done.outcome → Since fixed moves.0.agent
+      of (Stayed same out) = subst (Since fixed) (sym same) at.since
+      of (Forgot site same out) = subst (Since fixed) (sym same) (since_forget fixed at.actor.agent site (subst (λ (agent : Agent). HasValidVotes agent.cache) same cache) at.since)
       of (Took asked st what next there served is same out) =
-          subst (Since P fixed) (sym same)
-          (since_take P fixed at.actor.agent asked (reply_of st asked.1) next (reply_free asked st what next there served is) (subst (λ (agent : Agent). HasValidVotes agent.cache) same cache) at.since)
+          subst (Since fixed) (sym same)
+          (since_take fixed at.actor.agent asked (reply_of st asked.1) next (reply_free asked st what next there served is) (subst (λ (agent : Agent). HasValidVotes agent.cache) same cache) at.since)
 
   -- how it ends, if it does
   outcome_ending : (ending : Option Ending) (job : Outcome) → outcome_of turn at.actor ending ≡ Some job → (ending ≡ Some job.ending) × (number_of job ≡ 64 * (at.actor.agent.count - 1) + turn)
@@ -225,29 +219,29 @@ module _ (given : Opening) (c0 : IsValid given.c0) (P : Reply → Type 0) (t tur
       of (Some (Rounding round)) next own stands = absurd own
       of (Some (Running course)) next own stands = let numbered = stands.numbered in let last = stands.last in omega (arith, numbered, last, own)
 
-  take_well : (asked : ℕ × Request) (said : Reply) → next_of fixed at.actor.agent ≡ Some asked → (ending : Ending) → (take fixed at.actor.agent (Replied said)).ending ≡ Some ending → ((cause : Cause) → ending ≡ Undecided cause → IsLeft P cause) → EndsWell P ending
-  take_well asked said next ending is left =
+  take_decided : (asked : ℕ × Request) (said : Reply) → next_of fixed at.actor.agent ≡ Some asked → (ending : Ending) → (take fixed at.actor.agent (Replied said)).ending ≡ Some ending → ((cause : Cause) → ending ≡ Undecided cause → ⊥) → is_decided ending ≡ true
+  take_decided asked said next ending is none' =
       of at.actor.agent.doing next mine (facts.holds.agents.at turn at.actor.agent (ap agent_of at.there)) (subst (λ o. (take_in fixed at.actor.agent (Replied said) at.actor.agent.doing o).ending ≡ Some ending) next is)
     where
-      of : (doing : Option Doing) → next_in fixed doing ≡ Some asked → IsMine t doing → IsAt facts.ds turn at.actor.agent.count doing → (take_in fixed at.actor.agent (Replied said) doing (Some asked)).ending ≡ Some ending → EndsWell P ending
+      of : (doing : Option Doing) → next_in fixed doing ≡ Some asked → IsMine t doing → IsAt facts.ds turn at.actor.agent.count doing → (take_in fixed at.actor.agent (Replied said) doing (Some asked)).ending ≡ Some ending → is_decided ending ≡ true
       of None next own stands is = absurd (none-some asked next)
       of (Some (Rounding round)) next own stands is = absurd own
       of (Some (Running course)) next own stands is =
-          after_well P course (cond (is_decide asked.1) (said_by (Replied said) stands.said) stands.said) (after_word fixed course at.actor.agent.cache asked.0 asked.1 (Replied said)).after ending
-          (leaves_word fixed course.task at.actor.agent.cache course.suites course.phase asked.0 asked.1 (Replied said) stands.said next stands.tells) is left
+          after_decided course (cond (is_decide asked.1) (said_by (Replied said) stands.said) stands.said) (after_word fixed course at.actor.agent.cache asked.0 asked.1 (Replied said)).after ending
+          (leaves_word fixed course.task at.actor.agent.cache course.suites course.phase asked.0 asked.1 (Replied said) stands.said next stands.tells) is none'
 
-  pub ends_well : Facts given (step fixed world event).world → (job : Outcome) → (step fixed world event).done.outcome ≡ Some job → (number_of job ≡ t) × EndsWell P job.ending
-  ends_well later job is = of moves.2
+  pub ends_decided : Facts given (step fixed world event).world → (job : Outcome) → (step fixed world event).done.outcome ≡ Some job → (number_of job ≡ t) × (is_decided job.ending ≡ true)
+  ends_decided later job is = of moves.2
     where
-      of : Went fixed world turn at.actor moves.0.agent (step fixed world event).done.outcome → (number_of job ≡ t) × EndsWell P job.ending
+      of : Went fixed world turn at.actor moves.0.agent (step fixed world event).done.outcome → (number_of job ≡ t) × (is_decided job.ending ≡ true)
       of (Stayed same out) = absurd (none-some job (sym out ∙ is))
       of (Forgot site same out) = absurd (none-some job (sym out ∙ is))
       of (Took asked st what next there served told same out) =
           let ended = outcome_ending (take fixed at.actor.agent (Replied (reply_of st asked.1))).ending job (sym out ∙ is) in
           let cache = subst (λ (agent : Agent). HasValidVotes agent.cache) same (later.caches turn moves.0 moves.1) in (
             ended.1 ∙ number_is asked next,
-            take_well asked (reply_of st asked.1) next job.ending ended.0
-                (λ cause undecided. ends_left P fixed c0 at.actor.agent asked (reply_of st asked.1) cause next (reply_free asked st what next there served told) at.since cache (ended.0 ∙ ap Some undecided)),
+            take_decided asked (reply_of st asked.1) next job.ending ended.0
+                (λ cause undecided. never_undecided fixed c0 at.actor.agent asked (reply_of st asked.1) cause next (reply_free asked st what next there served told) at.since cache (ended.0 ∙ ap Some undecided)),
           )
 
   -- and who did not end still runs

@@ -9,10 +9,10 @@ use Rattle.suite_prefix.specs.SettingsRules.{IsAccepted}
 use Rattle.txn_core.specs.declared.job.Job.TheVariants.{Transaction}
 use Rattle.txn_core.specs.Runs.{owner, other}
 use Rattle.run_core.specs.declared.event.Event.{Event}
-use Rattle.run_core.specs.declared.event.Event.TheVariants.{Begin}
+use Rattle.run_core.specs.declared.event.Event.TheVariants.{Begin, Crash, Return}
 use Rattle.run_laws.specs.Worked.{two_agents, so_many, close_a, read_a}
 use Rattle.headline.specs.Premises.{VotesAreValid}
-use Rattle.run_alone.specs.Worked.{with_caches, undisturbed, SomeRunsGoAlone}
+use Rattle.run_alone.specs.Worked.{with_caches, undisturbed, mended, reads, IsUndisturbed, SomeRunsGoAlone}
 
 -- three servers with a vote each, below some number
 three : (most : ℕ) → 2 < most → All (λ (rep : Representative). rep.0 < most) ((0, 1) ∷ (1, 1) ∷ (2, 1) ∷ [])
@@ -95,6 +95,21 @@ with_accepted = record {
   slots_fit = omega arith;
 }
 
+mended_valid : VotesAreValid (mended ++ reads ∷ so_many 11 1)
+mended_valid = ((tt, (tt, tt)), append_valid (so_many 10 0) (Crash 0 ∷ Return 0 ∷ reads ∷ so_many 11 1) (many_valid 10 0) (tt, (tt, fifth_valid)))
+
+undisturbed_read : IsUndisturbed
+undisturbed_read = record {
+  can = record { accepted = without_accepted; c0 = valid_votes; votes = mended_valid };
+  begins = refl;
+  idle = refl;
+  up = refl;
+  unlocked = refl;
+  alone = refl;
+  calm = refl;
+  ends = refl;
+}
+
 pub some_runs_go_alone : SomeRunsGoAlone
 some_runs_go_alone = record {
   alone = refl;
@@ -112,6 +127,5 @@ some_runs_go_alone = record {
   disturbs_some = refl;
   disturbs_none_without = refl;
   disturbs_none_with = refl;
-  disturbs_none_mended = refl;
-  ends_mended = refl;
+  undisturbed_after_crash = undisturbed_read;
 }

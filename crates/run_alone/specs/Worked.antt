@@ -1,5 +1,5 @@
 -- Runs of which the laws say something.
-use Rattle.std.specs.Prelude.{◌≡◌, ℕ, true, false, List, [], ◌∷◌, ◌++◌, map, Result, Ok, Err}
+use Rattle.std.specs.Prelude.{◌≡◌, ℕ, true, false, List, [], ◌∷◌, ◌++◌, map, Some, Result, Ok, Err}
 use Rattle.suite_prefix.specs.SettingsRules.{Opening}
 use Rattle.file_ops.specs.declared.answer.Answer.{Answer}
 use Rattle.file_ops.specs.declared.answer.Answer.TheVariants as answer
@@ -11,12 +11,13 @@ use Rattle.txn_core.specs.Runs.{settings, owner, other}
 use Rattle.run_core.specs.declared.event.Event.{Event}
 use Rattle.run_core.specs.declared.event.Event.TheVariants.{Begin, Crash, Return}
 use Rattle.run_core.specs.declared.done.Outcome.{Outcome}
+use Rattle.run_core.specs.Runs.{run}
 use Rattle.run_laws.specs.Claims.{ended}
 use Rattle.run_laws.specs.Worked.{two_agents, so_many, make_a, close_a, read_a, denial, ending_in}
 use Rattle.headline.specs.Premises.{CanBe}
-use Rattle.run_alone.specs.Alone.{jobs_of, one_at_a_time}
+use Rattle.run_alone.specs.Alone.{all_idle, begins_job, jobs_from, jobs_of, one_at_a_time}
 use Rattle.run_alone.specs.Endings.{decided_endings}
-use Rattle.run_alone.specs.Undisturbed.{all_undisturbed}
+use Rattle.run_alone.specs.Undisturbed.{all_up, no_locks, undisturbed_from, all_undisturbed}
 
 -- the same with room for caches
 abbrev pub with_caches : Opening
@@ -40,11 +41,12 @@ undisturbed =
     ++ Begin 0 (Transaction owner 0 close_a) ∷ so_many 13 0
     ++ Begin 1 (Transaction other 0 read_a) ∷ so_many 11 1
 
--- A file is made. A server falls down and comes back, and what it then has not is read.
+-- A file is made, and a server falls down and comes back. Then the file is read.
 abbrev pub mended : List Event
-mended =
-    Begin 0 (Transaction owner 0 make_a) ∷ so_many 10 0
-    ++ Crash 0 ∷ Return 0 ∷ Begin 1 (Transaction other 0 read_a) ∷ so_many 11 1
+mended = Begin 0 (Transaction owner 0 make_a) ∷ so_many 10 0 ++ Crash 0 ∷ Return 0 ∷ []
+
+abbrev pub reads : Event
+reads = Begin 1 (Transaction other 0 read_a)
 
 -- how many steps each job took
 abbrev pub steps_of : List Outcome → List ℕ
@@ -58,8 +60,19 @@ the_endings =
     ∷ (64, Ok (answer.Set ∷ []))
     ∷ (129, Err denial) ∷ []
 
+-- A transaction that nothing disturbs, though a server fell down before it began.
+pub record IsUndisturbed : Type 0 where
+  pub can : CanBe two_agents (mended ++ reads ∷ so_many 11 1)
+  pub begins : begins_job two_agents (run two_agents mended) reads ≡ Some (1, Transaction other 0 read_a)
+  pub idle : all_idle (run two_agents mended) ≡ true
+  pub up : all_up (run two_agents mended) ≡ true
+  pub unlocked : no_locks (run two_agents mended) ≡ true
+  pub alone : jobs_from two_agents (run two_agents (mended ++ reads ∷ [])) (so_many 11 1) ≡ []
+  pub calm : undisturbed_from two_agents (run two_agents (mended ++ reads ∷ [])) (so_many 11 1) ≡ true
+  pub ends : decided_endings (ended two_agents (mended ++ reads ∷ so_many 11 1)) ≡ (0, Ok (answer.Made 1 ∷ answer.Wrote ∷ [])) ∷ (1, Ok (answer.Read (104 ∷ 105 ∷ []) ∷ [])) ∷ []
+
 -- The first run has an undecided transaction among decided ones. The others have the same jobs and endings; with caches the second read took
--- two steps less. Nothing disturbs any transaction of these, nor of the run in which a server fell down between transactions.
+-- two steps less; and nothing disturbs any of their transactions.
 pub record SomeRunsGoAlone : Type 0 where
   pub alone : one_at_a_time two_agents disturbed ≡ true
   pub ends : map ending_in (ended two_agents disturbed) ≡
@@ -77,5 +90,4 @@ pub record SomeRunsGoAlone : Type 0 where
   pub disturbs_some : all_undisturbed two_agents disturbed ≡ false
   pub disturbs_none_without : all_undisturbed two_agents undisturbed ≡ true
   pub disturbs_none_with : all_undisturbed with_caches undisturbed ≡ true
-  pub disturbs_none_mended : all_undisturbed two_agents mended ≡ true
-  pub ends_mended : decided_endings (ended two_agents mended) ≡ (0, Ok (answer.Made 1 ∷ answer.Wrote ∷ [])) ∷ (1, Ok (answer.Read (104 ∷ 105 ∷ []) ∷ [])) ∷ []
+  pub undisturbed_after_crash : IsUndisturbed
