@@ -5,3 +5,4 @@ pub mod Sources
 pub mod Shortness
 pub mod Fewness
 pub mod Staying
+pub mod Dues

@@ -1,12 +1,42 @@
--- What a `Next` tells of a collector.
-use Rattle.std.specs.Prelude.{◌≡◌}
+-- What a `Next` tells of a collector, and what a reply leaves of one that has no quorum after it.
+use Rattle.std.specs.Prelude.{◌≡◌, ℕ, Bool, true, false, is_some, Some}
+use Rattle.rep_core.specs.declared.reply.Reply.{Reply}
+use Rattle.rep_core.specs.declared.reply.Reply.TheVariants as reply
+use Rattle.suite_collect.specs.declared.told.Told.{Told}
 use Rattle.suite_collect.specs.declared.next.Next.{Next}
 use Rattle.suite_collect.specs.declared.next.Next.TheVariants.{Current, Ask, Short}
 use Rattle.suite_collect.specs.Collecting as spec
-use Rattle.suite_collect.specs.Collecting.{Collecting, Asked, next, request_for}
+use Rattle.suite_collect.specs.Collecting.{Collecting, Asked, next, tell, told_by, request_for}
 
 -- it is what comes next, with the request in its words
 abbrev pub Tells : Next → Collecting → Type 0
 Tells (Current prefix dver members) c = next c.collector ≡ spec.Current prefix.now dver members
 Tells (Ask server request) c = (asked : Asked) × (next c.collector ≡ spec.Ask server asked) × (request ≡ request_for c.t c.suite asked)
 Tells (Short got needed busy) c = next c.collector ≡ spec.Short got needed busy
+
+-- whether a reply shows a lock that is held
+abbrev pub shows_lock : Reply → Bool
+shows_lock (reply.Held prefix dver) = true
+shows_lock other = false
+
+-- a server is asked, or nobody is left to ask
+abbrev pub HasNoQuorum : spec.Next → Type 0
+HasNoQuorum (spec.Current prefix dver members) = true ≡ false
+HasNoQuorum (spec.Ask server asked) = true ≡ true
+HasNoQuorum (spec.Short got needed busy) = true ≡ true
+
+-- it was told the reply, and has no quorum after it
+pub record Takes (before : Collecting) (reply : Reply) (after : Collecting) : Type 0 where
+  pub last : Told
+  pub told : told_by (next before.collector) reply ≡ Some last
+  pub new : after ≡ record before { collector = tell last before.collector }
+  pub short : HasNoQuorum (next (tell last before.collector))
+
+-- or the reply was left: it shows a lock, or does not answer what was asked
+pub record Leaves (before : Collecting) (reply : Reply) (after : Collecting) : Type 0 where
+  pub same : after ≡ before
+  pub told : is_some (told_by (next before.collector) reply) ≡ true → shows_lock reply ≡ true
+
+abbrev pub TakesOn : Bool → Collecting → Reply → Collecting → Type 0
+TakesOn true before reply after = Takes before reply after
+TakesOn false before reply after = Leaves before reply after

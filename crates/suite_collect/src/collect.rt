@@ -1,8 +1,9 @@
 //! The collector.
 
-ghost use Rattle.std.specs.Prelude.{◌≡◌, ◌<◌, ℕ, find, option_map, is_some, IsSome, IfSome};
+ghost use Rattle.std.specs.Prelude.{◌≡◌, ◌<◌, ℕ, find, option_map, is_some, unwrap_or, IsSome, IsTrue, IfSome, IfOk, IfErr, OnErr};
 ghost use Rattle.std.specs.FinSet.{contains};
 ghost use Rattle.vote_core.specs.Validity.{IsValid};
+ghost use Rattle.suite_collect.specs.CollectFields.{IsKnown, due_by};
 ghost use Rattle.suite_collect.specs.Collecting as spec;
 ghost use Rattle.suite_collect.specs.Laws.{HasSource};
 ghost use Rattle.suite_collect.specs.Telling as telling;
@@ -43,6 +44,14 @@ impl Widening {
     }
 }
 
+/// What is due: a quorum is held, a server is to be asked, or nobody is left to ask.
+#[derive(Clone, Copy)]
+enum Due {
+    Current,
+    Ask(u8),
+    Short { got: u32, needed: u32 },
+}
+
 /// What a transaction collects of one suite: locks, until their servers are a quorum under the newest
 /// prefix that they show.
 #[derive(Drop)]
@@ -56,6 +65,8 @@ pub struct Collect {
     /// What was told before a widening.
     told: Heard,
     widening: Option<Widening>,
+    /// What is due. It is found where something changes, and not each time that it is asked for.
+    due: Due,
 }
 
 impl Model for Collect {
@@ -88,27 +99,32 @@ impl Clone for Collect {
             newer,
             told: self.told.same(),
             widening,
+            due: self.due,
         })
     }
 }
 
 impl Collect {
     ghost use Rattle.suite_collect.specs.Telling.{newest};
-    ghost use Rattle.suite_collect.specs.Answering.{Tells};
+    ghost use Rattle.rep_core.specs.declared.reply.Reply.TheVariants as reply;
+    ghost use Rattle.suite_collect.specs.Answering.{Tells, TakesOn, shows_lock};
 
     /// A collector that was told nothing yet. `start` is any prefix that the suite once had, or that of
     /// what was never made.
     pub fn new(t: u64, suite: u64, mode: LockMode, start: Prefix) -> Collect
         ensures { result ≡ record { t = t; suite = suite; collector = spec.collect mode start } }
     {
+        let told = Heard::new();
+        let due = due_of(&start.votes, &told, mode);
         Collect {
             t,
             suite,
             mode,
             start,
             newer: None,
-            told: Heard::new(),
+            told,
             widening: None,
+            due,
         }
     }
 
@@ -118,7 +134,9 @@ impl Collect {
         ensures { self.new ≡ record self.old { collector = spec.raise self.old.collector } }
     {
         if self.widening.is_none() {
+            let due = due_of(&self.newest().votes, &self.told, LockMode::Exclusive);
             self.mode = LockMode::Exclusive;
+            self.due = due;
         }
     }
 
@@ -126,6 +144,7 @@ impl Collect {
     pub fn widen(&mut self, votes: &Votes)
         ensures { self.new ≡ record self.old { collector = spec.widen votes.now self.old.collector } }
     {
+        let due = due_of(votes, self.heard(), LockMode::Exclusive);
         match &mut self.widening {
             Some(widening) => widening.votes = *votes,
             None => {
@@ -136,26 +155,24 @@ impl Collect {
                 });
             }
         }
+        self.due = due;
     }
 
     /// What comes next. It takes no memory.
     pub fn next(&self) -> Next<'_>
         ensures { Tells result self.now }
     {
-        let (got, needed) = (self.got(), self.needed());
-        if got >= needed {
-            return Next::Current {
+        match self.due {
+            Due::Current => Next::Current {
                 prefix: self.newest(),
                 dver: self.version(),
                 members: members_of(self.counted(), &self.heard().holders(self.wanted())),
-            };
-        }
-        match self.left() {
-            Some(server) => Next::Ask {
+            },
+            Due::Ask(server) => Next::Ask {
                 server,
                 request: self.request(server),
             },
-            None => Next::Short {
+            Due::Short { got, needed } => Next::Short {
                 got,
                 needed,
                 busy: self.heard().first_busy(),
@@ -195,6 +212,58 @@ impl Collect {
             _ => Said::Down,
         };
         self.tell(Told { server, mode, said });
+    }
+
+    /// Takes a reply after which there is no quorum, and says that it did. It leaves a reply that does not
+    /// answer what was asked, and may leave one that holds a lock: then nothing changes. Only a lock that is
+    /// held may want memory.
+    pub fn take_on(&mut self, reply: &Reply) -> Result<bool, AllocError>
+        ensures ok { IfOk result (λ taken. TakesOn taken self.old reply.now self.new) }
+        ensures err { OnErr result (self.new ≡ self.old) }
+        ensures memory { IfErr result (λ _. IsTrue (shows_lock reply.now)) }
+    {
+        if !self.accepts(reply) {
+            return Ok(false);
+        }
+        match reply {
+            Reply::Held { prefix, dver } => self.take_lock(prefix, *dver),
+            Reply::Busy { holder, prepared } => {
+                let (holder, prepared) = (*holder, *prepared);
+                self.take(Reply::Busy { holder, prepared });
+                Ok(true)
+            }
+            Reply::Down => {
+                self.take(Reply::Down);
+                Ok(true)
+            }
+            _ => Ok(false),
+        }
+    }
+
+    /// Takes a lock that is held, where it gives no quorum, its prefix is not newer and nothing is widened.
+    fn take_lock(&mut self, prefix: &Prefix, dver: u64) -> Result<bool, AllocError>
+        ensures ok { IfOk result (λ taken. TakesOn taken self.old (reply.Held prefix.now dver) self.new) }
+        ensures err { OnErr result (self.new ≡ self.old) }
+    {
+        let (Due::Ask(server), None) = (self.due, &self.widening) else {
+            return Ok(false);
+        };
+        if prefix.pver > self.newest().pver {
+            return Ok(false);
+        }
+        let mode = self.mode;
+        let prefix = prefix.clone()?;
+        let said = Said::Held { prefix, dver };
+        let last = Told { server, mode, said };
+        let mut told = self.told.same();
+        told.add(&last);
+        let due = due_of(&self.newest().votes, &told, mode);
+        let Due::Ask(_) = due else {
+            return Ok(false);
+        };
+        self.told = told;
+        self.due = due;
+        Ok(true)
     }
 
     /// The mode in which locks are wanted before a widening.
@@ -246,6 +315,7 @@ impl Collect {
         if let Some(widening) = &mut self.widening {
             widening.all.add(&last);
             widening.since = widening.since.and(&last);
+            self.due = due_of(&widening.votes, &widening.all, LockMode::Exclusive);
             return;
         }
         let newest = self.newest().pver;
@@ -255,6 +325,8 @@ impl Collect {
                 self.newer = Some(prefix);
             }
         }
+        let votes = votes_of(&self.newer, &self.start);
+        self.due = due_of(votes, &self.told, self.mode);
     }
 
     /// All that was told.
@@ -285,24 +357,6 @@ impl Collect {
         } else {
             self.mode
         }
-    }
-
-    /// The votes that are needed.
-    fn needed(&self) -> u32
-        ensures { result ≡ spec.needed self.now.collector }
-    {
-        match self.wanted() {
-            LockMode::Shared => u32::from(self.counted().r()),
-            LockMode::Exclusive => u32::from(self.counted().w()),
-        }
-    }
-
-    /// The votes of the members that are held as is wanted.
-    fn got(&self) -> u32
-        ensures { result ≡ spec.got self.now.collector }
-    {
-        self.counted()
-            .votes_of(&self.heard().holders(self.wanted()))
     }
 
     /// The first member that is left to be asked.
@@ -343,5 +397,41 @@ impl Collect {
             greatest = self.told.shown(*server).max(greatest);
         }
         greatest
+    }
+}
+
+/// The votes of the newest prefix.
+fn votes_of<'a>(newer: &'a Option<Prefix>, start: &'a Prefix) -> &'a Votes
+    ensures { result.now ≡ (unwrap_or newer.now start.now).votes }
+{
+    match newer {
+        Some(prefix) => &prefix.votes,
+        None => &start.votes,
+    }
+}
+
+/// What is due where some votes count, a mode is wanted and this was heard.
+fn due_of(votes: &Votes, heard: &Heard, wanted: LockMode) -> Due
+    ensures value { result ≡ due_by votes.now wanted heard.now }
+    ensures known { IsKnown result }
+{
+    let got = votes.votes_of(&heard.holders(wanted));
+    let needed = needed_of(votes, wanted);
+    if got >= needed {
+        return Due::Current;
+    }
+    match first_left(votes, heard, wanted) {
+        Some(server) => Due::Ask(server),
+        None => Due::Short { got, needed },
+    }
+}
+
+/// The votes that are needed.
+fn needed_of(votes: &Votes, wanted: LockMode) -> u32
+    ensures { result ≡ spec.needed_of wanted votes.now }
+{
+    match wanted {
+        LockMode::Shared => u32::from(votes.r()),
+        LockMode::Exclusive => u32::from(votes.w()),
     }
 }

@@ -4,7 +4,7 @@
 //! A [`Collect`] says what comes next ([`Collect::next`]): a server is asked for a lock, or there is a
 //! quorum, or nobody is left to ask. Its caller asks that server, and hands the reply back
 //! ([`Collect::take`]). To contracts it is the list of what servers said; `next` is a function of that
-//! list (`specs/Collecting.antt`), and the laws of this crate speak of it. No call takes memory.
+//! list (`specs/Collecting.antt`), and the laws of this crate speak of it. Only [`Collect::take_on`] may want memory.
 //!
 //! What a caller owes: `start` is a prefix that the suite once had, or that of what was never made; and
 //! what is taken answers what was asked ([`Collect::accepts`]). After any other reply a transaction ends.

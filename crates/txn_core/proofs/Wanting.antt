@@ -1,14 +1,13 @@
 -- Where memory may be wanting, phase by phase.
 use Rattle.std.proofs.Common.{◌≡◌, ℕ, true, Option, Some, None, Result, Ok, Err, refl, sym, ap, ◌∙◌}
-use Rattle.std.specs.Prelude.{List, ◌∷◌, is_some, option_map, IfErr}
+use Rattle.std.specs.Prelude.{List, ◌∷◌, is_some, IfErr}
 use Rattle.std.specs.declared.alloc.AllocError.{AllocError}
 use Rattle.rep_core.specs.declared.reply.Reply.{Reply}
+use Rattle.rep_core.specs.Fits.{is_held}
 use Rattle.rep_core.specs.declared.reply.Verdict.TheVariants as verdict
 use Rattle.rep_core.specs.Service.{is_answered}
 use Rattle.suite_collect.specs.declared.told.Told.{Told}
-use Rattle.suite_collect.specs.declared.told.Said.{Said}
-use Rattle.suite_collect.specs.Collecting as collecting
-use Rattle.suite_collect.specs.Collecting.{Asked, Poll, Upgrade, next, request_for, mode_asked, told_by}
+use Rattle.suite_collect.specs.Collecting.{Asked, Poll, Upgrade, next, request_for, told_by}
 use Rattle.txn_core.specs.declared.ending.Ending.{Ending}
 use Rattle.txn_core.specs.declared.hearing.Hearing.TheVariants as hearing
 use Rattle.txn_core.specs.declared.word.Word.{Word}
@@ -19,7 +18,6 @@ use Rattle.txn_core.specs.Hearing.{heard_one, heard}
 use Rattle.txn_core.specs.Suites.{First, Suite, suite_of}
 use Rattle.txn_core.specs.Transactions.{given_in, verdict_in, asked_by, asked_for, fetched_at, fetched_for, request_in, request_of}
 use Rattle.txn_core.specs.Wanting.{by_reply, by_taking}
-use Rattle.txn_core.proofs.Heard.{same_said}
 use Rattle.txn_core.proofs.Replies.{server_of, asks_of}
 
 -- ---- what a suite was told
@@ -31,42 +29,32 @@ settled_told suite after said is = of (told_by (next suite.collector) said) is
     of (Some one) is = refl
     of None is = cc
 
-mapped : {X Y : Type 0} (f : X → Y) (x : Option X) → is_some (option_map f x) ≡ is_some x
-mapped f (Some x) = refl
-mapped f None = refl
-
-told_wants : (t number server : ℕ) (asked : Asked) (said : Reply) → is_some (told_by (collecting.Ask server asked) said) ≡ true → by_reply (request_for t number asked) said ≡ true
-told_wants t number server (Poll mode) said told =
-    ap is_some (same_said t number (Poll mode) said)
-    ∙ sym (mapped (λ (what : Said). record { server = server; mode = mode; said = what }) (collecting.said_to (Poll mode) said))
-    ∙ told
-told_wants t number server Upgrade said told =
-    ap is_some (same_said t number Upgrade said)
-    ∙ sym (mapped (λ (what : Said). record { server = server; mode = mode_asked Upgrade; said = what }) (collecting.said_to Upgrade said))
-    ∙ told
+told_wants : (t number : ℕ) (asked : Asked) (said : Reply) → is_held said ≡ true → by_reply (request_for t number asked) said ≡ true
+told_wants t number (Poll mode) said held = held
+told_wants t number Upgrade said held = held
 
 -- ---- a course
 
 module _ (fixed : Fixed) (course : Course) (server : ℕ) (said : Reply) where
   -- a suite asks
   asking_wants : (number : ℕ) → request_of fixed course ≡ asked_for course.task number (suite_of course.suites number) → server_of (request_of fixed course) ≡ Some server
-      → ((suite : Suite) → suite_of course.suites number ≡ Some suite → is_some (told_by (next suite.collector) said) ≡ true) → by_taking (request_of fixed course) (Replied said) ≡ true
+      → ((suite : Suite) → suite_of course.suites number ≡ Some suite → is_held said ≡ true) → by_taking (request_of fixed course) (Replied said) ≡ true
   asking_wants number same asked told =
       let a = asks_of course.task course.suites number server (ap server_of (sym same) ∙ asked) in
       ap (λ what. by_taking what (Replied said)) (same ∙ ap (asked_for course.task number) a.there ∙ ap (asked_by course.task number) a.asks)
-      ∙ told_wants course.task.t number server a.asked said (ap (λ n. is_some (told_by n said)) (sym a.asks) ∙ told a.suite a.there)
+      ∙ told_wants course.task.t number a.asked said (told a.suite a.there)
 
   told_if : (number : ℕ) (result : Result (Option Ending) AllocError) → request_of fixed course ≡ asked_for course.task number (suite_of course.suites number) → server_of (request_of fixed course) ≡ Some server
-      → ((suite : Suite) → suite_of course.suites number ≡ Some suite → IfErr result (λ _. is_some (told_by (next suite.collector) said) ≡ true)) → IfErr result (λ _. by_taking (request_of fixed course) (Replied said) ≡ true)
+      → ((suite : Suite) → suite_of course.suites number ≡ Some suite → IfErr result (λ _. is_held said ≡ true)) → IfErr result (λ _. by_taking (request_of fixed course) (Replied said) ≡ true)
   told_if number (Ok ending) same asked told = tt
   told_if number (Err why) same asked told = asking_wants number same asked told
 
   pub gathering_wants : (number : ℕ) (result : Result (Option Ending) AllocError) → course.phase ≡ Gathering number → server_of (request_of fixed course) ≡ Some server
-      → ((suite : Suite) → suite_of course.suites number ≡ Some suite → IfErr result (λ _. is_some (told_by (next suite.collector) said) ≡ true)) → IfErr result (λ _. by_taking (request_of fixed course) (Replied said) ≡ true)
+      → ((suite : Suite) → suite_of course.suites number ≡ Some suite → IfErr result (λ _. is_held said ≡ true)) → IfErr result (λ _. by_taking (request_of fixed course) (Replied said) ≡ true)
   gathering_wants number result is asked told = told_if number result (ap (request_in fixed course.task course.suites) is) asked told
 
   pub widening_wants : (number : ℕ) (left : List ℕ) (granted : Granted) (result : Result (Option Ending) AllocError) → course.phase ≡ Widening (number ∷ left) granted → server_of (request_of fixed course) ≡ Some server
-      → ((suite : Suite) → suite_of course.suites number ≡ Some suite → IfErr result (λ _. is_some (told_by (next suite.collector) said) ≡ true)) → IfErr result (λ _. by_taking (request_of fixed course) (Replied said) ≡ true)
+      → ((suite : Suite) → suite_of course.suites number ≡ Some suite → IfErr result (λ _. is_held said ≡ true)) → IfErr result (λ _. by_taking (request_of fixed course) (Replied said) ≡ true)
   widening_wants number left granted result is asked told = told_if number result (ap (request_in fixed course.task course.suites) is) asked told
 
   -- a content is fetched

@@ -4,7 +4,7 @@ use Rattle.rep_core.specs.declared.request.Request.{Request}
 use Rattle.rep_core.specs.declared.request.Request.TheVariants as request
 use Rattle.rep_core.specs.declared.reply.Verdict.TheVariants as verdict
 use Rattle.rep_core.specs.declared.reply.Reply.{Reply}
-use Rattle.rep_core.specs.Fits.{is_locked}
+use Rattle.rep_core.specs.Fits.{is_held, is_locked}
 use Rattle.rep_core.specs.Service.{is_answered}
 use Rattle.rep_core.specs.Wanting.{by_request}
 use Rattle.txn_core.specs.declared.word.Word.{Word}
@@ -13,7 +13,7 @@ use Rattle.txn_core.specs.declared.job.Job.{Job}
 use Rattle.txn_core.specs.declared.job.Job.TheVariants.{Transaction, Sweep}
 use Rattle.txn_core.specs.Doing.{Fixed}
 use Rattle.txn_core.specs.Agents.{Agent, begins}
-use Rattle.txn_core.specs.Transactions.{said_to, given_in, verdict_in}
+use Rattle.txn_core.specs.Transactions.{given_in, verdict_in}
 
 -- ---- begin
 
@@ -31,10 +31,10 @@ by_asking None = false
 
 -- ---- take
 
--- only what a collector is told, a content, answers, and a list of locks
+-- only a lock that is held, a content, answers, and a list of locks
 abbrev pub by_reply : Request → Reply → Bool
-by_reply (request.Poll t suite mode) said = is_some (said_to (request.Poll t suite mode) said)
-by_reply (request.Upgrade t suite) said = is_some (said_to (request.Upgrade t suite) said)
+by_reply (request.Poll t suite mode) said = is_held said
+by_reply (request.Upgrade t suite) said = is_held said
 by_reply (request.Fetch t suite) said = is_some (given_in said)
 by_reply (request.Decide t asked) said = is_answered (verdict_in said verdict.Aborted)
 by_reply (request.Resolve t) said = is_answered (verdict_in said verdict.Aborted)

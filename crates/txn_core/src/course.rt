@@ -1,11 +1,13 @@
 //! The course of a transaction.
 
 ghost use Rattle.std.specs.Prelude.{◌≡◌, ◌<◌, ◌≤◌, ℕ, List, true, IfOk, IfErr, OnErr, IsSome, IsTrue, Some, [], ◌∷◌, is_some, option_map};
+ghost use Rattle.rep_core.specs.Fits.{is_held};
 ghost use Rattle.suite_collect.specs.Collecting as collecting;
 ghost use Rattle.weak_cache.specs.Entries.{Cache};
 ghost use Rattle.txn_core.specs.Agents.{left};
 ghost use Rattle.txn_core.specs.Doing as doing;
 ghost use Rattle.txn_core.specs.Hearing.{heard, on_hearing};
+ghost use Rattle.txn_core.specs.HearingOn.{GoesOnBy, SettlesBy};
 ghost use Rattle.txn_core.specs.Hears.{Hears};
 ghost use Rattle.txn_core.specs.Sequels.{follow, gather_again};
 ghost use Rattle.txn_core.specs.Standing.{FitsAsked};
@@ -175,7 +177,7 @@ impl Course {
         ensures err { OnErr result ((self.new ≡ self.old) × (cache.new ≡ cache.old)) }
         ensures limits { cache.new.limits ≡ cache.old.limits }
         ensures unused { HasUnused cache.new.entries }
-        ensures memory { (suite : gathering.Suite) → gathering.suite_of self.old.suites number ≡ Some suite → IfErr result (λ _. IsTrue (is_some (collecting.told_by (collecting.next suite.collector) said.now))) }
+        ensures memory { (suite : gathering.Suite) → gathering.suite_of self.old.suites number ≡ Some suite → IfErr result (λ _. IsTrue (is_held said.now)) }
     {
         let suite = match self.hear(number, server, said)? {
             Heard::Settled(suite) => suite,
@@ -201,7 +203,7 @@ impl Course {
         requires there { IsSome (gathering.suite_of self.old.suites number) }
         ensures ok { (suite : gathering.Suite) (left : List ℕ) (granted : doing.Granted) (cache : Cache) → gathering.suite_of self.old.suites number ≡ Some suite → self.old.phase ≡ doing.Widening (number ∷ left) granted → IfOk result (λ ending. Steps (on_hearing self.old.task cache self.old.suites self.old.phase number server (heard suite said.now) (λ suite. course.widen_all self.old.task cache (gathering.with_suite number suite self.old.suites) granted left)) ending self.new cache) }
         ensures err { OnErr result (self.new ≡ self.old) }
-        ensures memory { (suite : gathering.Suite) → gathering.suite_of self.old.suites number ≡ Some suite → IfErr result (λ _. IsTrue (is_some (collecting.told_by (collecting.next suite.collector) said.now))) }
+        ensures memory { (suite : gathering.Suite) → gathering.suite_of self.old.suites number ≡ Some suite → IfErr result (λ _. IsTrue (is_held said.now)) }
     {
         let suite = match self.hear(number, server, said)? {
             Heard::Settled(suite) => suite,
@@ -219,6 +221,41 @@ impl Course {
 
     /// A suite is told what a server said. Once it is settled it is handed back, for its place.
     fn hear(&mut self, number: u64, server: u8, said: &Reply) -> Result<Heard, AllocError>
+        requires shown { shows_unused said.now ≡ true }
+        requires there { IsSome (gathering.suite_of self.old.suites number) }
+        ensures ok { (suite : gathering.Suite) → gathering.suite_of self.old.suites number ≡ Some suite → IfOk result (λ what. Hears self.old number server (heard suite said.now) what self.new) }
+        ensures err { OnErr result (self.new ≡ self.old) }
+        ensures held { (suite : gathering.Suite) → gathering.suite_of self.old.suites number ≡ Some suite → IfOk result (λ what. SettlesBy what said.now) }
+        ensures memory { (suite : gathering.Suite) → gathering.suite_of self.old.suites number ≡ Some suite → IfErr result (λ _. IsTrue (is_held said.now)) }
+    {
+        let Some(coming) = self.hear_on(number, said)? else {
+            return self.hear_apart(number, server, said);
+        };
+        match coming {
+            Coming::Short { got, needed, busy } => {
+                let ending = self.give_up(Cause::of_short(number, got, needed, busy));
+                Ok(Heard::Through(ending))
+            }
+            Coming::Ask { .. } => Ok(Heard::Through(None)),
+            Coming::Current => Ok(Heard::Through(None)),
+        }
+    }
+
+    /// A suite takes a reply that gives no quorum, in its place. Of any other nothing changes.
+    fn hear_on(&mut self, number: u64, said: &Reply) -> Result<Option<Coming>, AllocError>
+        requires shown { shows_unused said.now ≡ true }
+        ensures ok { (suite : gathering.Suite) → gathering.suite_of self.old.suites number ≡ Some suite → IfOk result (λ coming. GoesOnBy coming self.old number suite said.now self.new) }
+        ensures err { OnErr result (self.new ≡ self.old) }
+        ensures memory { IfErr result (λ _. IsTrue (is_held said.now)) }
+    {
+        let Some(suite) = self.suites.get_mut(&number) else {
+            return Ok(None);
+        };
+        suite.hear_on(said)
+    }
+
+    /// The same, of a copy of the suite, which is put in its place once it was told.
+    fn hear_apart(&mut self, number: u64, server: u8, said: &Reply) -> Result<Heard, AllocError>
         requires shown { shows_unused said.now ≡ true }
         requires there { IsSome (gathering.suite_of self.old.suites number) }
         ensures ok { (suite : gathering.Suite) → gathering.suite_of self.old.suites number ≡ Some suite → IfOk result (λ what. Hears self.old number server (heard suite said.now) what self.new) }

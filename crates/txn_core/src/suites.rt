@@ -1,11 +1,13 @@
 //! What a transaction gathered of a suite.
 
-ghost use Rattle.std.specs.Prelude.{◌≡◌, ◌==◌, find, None, Some, is_some, IsSome, OnOk, OnErr, true, false};
+ghost use Rattle.std.specs.Prelude.{◌≡◌, ◌==◌, find, None, Some, is_some, IfOk, IfErr, IsSome, IsTrue, OnOk, OnErr, true, false};
 ghost use Rattle.std.specs.Option.{option_copied};
+ghost use Rattle.rep_core.specs.Fits.{is_held};
 ghost use Rattle.rep_core.specs.Store.{is_used_up};
 ghost use Rattle.suite_collect.specs.Collecting as spec;
 ghost use Rattle.suite_collect.specs.Telling.{shown};
 ghost use Rattle.txn_core.specs.Coming.{Comes, told_one, settled_by};
+ghost use Rattle.txn_core.specs.HearingOn.{HearsOn};
 ghost use Rattle.txn_core.specs.Suites as gathering;
 ghost use Rattle.txn_core.specs.Unused.{shows_unused};
 
@@ -142,6 +144,21 @@ impl Suite {
         ensures { self.new ≡ told_one (spec.told_by (spec.next self.old.collector) reply) self.old }
     {
         self.collect.take(reply);
+    }
+
+    /// Takes a reply that gives no quorum, and tells what comes next. It leaves a reply that does not answer what
+    /// was asked, and may leave one that holds a lock: then it stays as it was. Only a lock that is held may
+    /// want memory.
+    pub(crate) fn hear_on(&mut self, reply: &Reply) -> Result<Option<Coming>, AllocError>
+        requires { shows_unused reply.now ≡ true }
+        ensures ok { IfOk result (λ coming. HearsOn coming self.old reply.now self.new) }
+        ensures err { OnErr result (self.new ≡ self.old) }
+        ensures memory { IfErr result (λ _. IsTrue (is_held reply.now)) }
+    {
+        if !self.collect.take_on(reply)? {
+            return Ok(None);
+        }
+        Ok(Some(self.next()))
     }
 
     /// Where it has a quorum: it is known in the mode that is wanted, and the first quorum gave what is

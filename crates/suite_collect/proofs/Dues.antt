@@ -1,0 +1,168 @@
+-- What is due of a collector is what comes next, and what a reply leaves due.
+use Rattle.std.proofs.Common.{◌≡◌, ℕ, Bool, true, false, cond, List, [], ◌∷◌, ◌++◌, Option, Some, None, refl, sym, ap, subst, ◌∙◌}
+use Rattle.std.specs.Prelude.{nat_le, nat_lt, not, ◌&&◌, ◌||◌, ◌==◌, find, option_map, is_some, IfSome}
+use Rattle.std.proofs.lemmas.Option.{same_Some}
+use Rattle.vote_core.specs.Quorums.{Representative, votes_in}
+use Rattle.suite_prefix.specs.declared.copies.Prefix.{Prefix}
+use Rattle.suite_prefix.specs.declared.lock_mode.LockMode.{LockMode}
+use Rattle.suite_prefix.specs.declared.lock_mode.LockMode.TheVariants.{Shared, Exclusive}
+use Rattle.suite_prefix.specs.LockModes.{serves}
+use Rattle.rep_core.specs.declared.reply.Reply.{Reply}
+use Rattle.rep_core.specs.declared.reply.Reply.TheVariants as reply
+use Rattle.suite_collect.specs.declared.told.Said.{Said}
+use Rattle.suite_collect.specs.declared.told.Said.TheVariants.{Held, Busy, Down}
+use Rattle.suite_collect.specs.declared.told.Told.{Told}
+use Rattle.suite_collect.specs.declared.collect.Due.{Due}
+use Rattle.suite_collect.specs.declared.collect.Due.TheVariants as due
+use Rattle.suite_collect.specs.Telling.{is_held, newer, newest, holds, first_busy}
+use Rattle.suite_collect.specs.Collecting.{Widening, Collector, Collecting, Poll, Upgrade, mode_asked, all_told, counted, wanted, needed, needed_of, got, is_member, is_left, members_of, version, asked_of, ask_or_short, said_to, tell, told_by, Next, Current, Ask, Short, next}
+use Rattle.suite_collect.specs.CollectFields.{due_left, due_by, due_in}
+use Rattle.suite_collect.specs.Answering.{HasNoQuorum, Takes, shows_lock}
+use Rattle.suite_collect.proofs.Collected.{asked_as_wanted}
+
+module _ (c : Collector) where
+  abbrev now : Bool → Option Representative → Due
+  now b found = cond b due.Current (due_left (got c) (needed c) found)
+
+  pub current_next : due_in c ≡ due.Current → next c ≡ Current (newest c.start c.told) (version c) (members_of (counted c) (is_member c))
+  current_next is = at (nat_le (needed c) (got c)) (find (is_left c) (counted c).reps) is
+    where
+      at : (b : Bool) (found : Option Representative) → now b found ≡ due.Current
+          → cond b (Current (newest c.start c.told) (version c) (members_of (counted c) (is_member c))) (ask_or_short c found) ≡ Current (newest c.start c.told) (version c) (members_of (counted c) (is_member c))
+      at true found is = refl
+      at false (Some rep) is = cc
+      at false None is = cc
+
+  pub ask_next : (server : ℕ) → due_in c ≡ due.Ask server → next c ≡ Ask server (asked_of c server)
+  ask_next server is = at (nat_le (needed c) (got c)) (find (is_left c) (counted c).reps) is
+    where
+      at : (b : Bool) (found : Option Representative) → now b found ≡ due.Ask server
+          → cond b (Current (newest c.start c.told) (version c) (members_of (counted c) (is_member c))) (ask_or_short c found) ≡ Ask server (asked_of c server)
+      at true found is = cc
+      at false (Some rep) is = let same : rep.0 ≡ server = cc in ap (λ server. Ask server (asked_of c server)) same
+      at false None is = cc
+
+  pub short_next : (had wanting : ℕ) → due_in c ≡ due.Short had wanting → next c ≡ Short had wanting (first_busy (all_told c))
+  short_next had wanting is = at (nat_le (needed c) (got c)) (find (is_left c) (counted c).reps) is
+    where
+      at : (b : Bool) (found : Option Representative) → now b found ≡ due.Short had wanting
+          → cond b (Current (newest c.start c.told) (version c) (members_of (counted c) (is_member c))) (ask_or_short c found) ≡ Short had wanting (first_busy (all_told c))
+      at true found is = cc
+      at false (Some rep) is = cc
+      at false None is = cc
+
+  -- ---- what is told of a reply
+
+  asked_there : (server : ℕ) → due_in c ≡ due.Ask server → option_map (λ rep. rep.0) (find (is_left c) (counted c).reps) ≡ Some server
+  asked_there server is = at (nat_le (needed c) (got c)) (find (is_left c) (counted c).reps) is
+    where
+      at : (b : Bool) (found : Option Representative) → now b found ≡ due.Ask server → option_map (λ rep. rep.0) found ≡ Some server
+      at true found is = cc
+      at false (Some rep) is = let same : rep.0 ≡ server = cc in ap (λ server. Some server) same
+      at false None is = cc
+
+  pub told_asked : (server : ℕ) (answer : Reply) → due_in c ≡ due.Ask server
+      → told_by (next c) answer ≡ option_map (λ said. record { server = server; mode = wanted c; said = said }) (said_to (asked_of c server) answer)
+  told_asked server answer is =
+      ap (λ next. told_by next answer) (ask_next server is)
+      ∙ ap (λ mode. option_map (λ said. record { server = server; mode = mode; said = said }) (said_to (asked_of c server) answer)) (asked_as_wanted c server (asked_there server is))
+
+  -- ---- what a reply leaves
+
+  asks_no_quorum : (server : ℕ) → due_in c ≡ due.Ask server → HasNoQuorum (next c)
+  asks_no_quorum server is = subst HasNoQuorum (sym (ask_next server is)) refl
+
+  -- it is told something only where it has too few votes
+  too_few : (answer : Reply) (last : Told) → told_by (next c) answer ≡ Some last → nat_le (needed c) (got c) ≡ false
+  too_few answer last is = at (nat_le (needed c) (got c)) is
+    where
+      at : (b : Bool) → told_by (cond b (Current (newest c.start c.told) (version c) (members_of (counted c) (is_member c))) (ask_or_short c (find (is_left c) (counted c).reps))) answer ≡ Some last → b ≡ false
+      at true is = cc
+      at false is = refl
+
+  few_no_quorum : nat_le (needed c) (got c) ≡ false → HasNoQuorum (next c)
+  few_no_quorum few =
+      subst (λ b. HasNoQuorum (cond b (Current (newest c.start c.told) (version c) (members_of (counted c) (is_member c))) (ask_or_short c (find (is_left c) (counted c).reps)))) (sym few)
+      (of (find (is_left c) (counted c).reps))
+    where
+      of : (found : Option Representative) → HasNoQuorum (ask_or_short c found)
+      of (Some rep) = refl
+      of None = refl
+
+-- who is down or busy holds nothing, and shows no prefix
+module _ (one : Told) (none : is_held one.said ≡ false) where
+  holds_same : (mode : LockMode) (told : List Told) → holds mode (one ∷ told) ≡ holds mode told
+  holds_same mode told = λ i server. (of (one.server == server) (serves one.mode mode) (holds mode told server) (is_held one.said) none) i
+    where
+      of : (a x b h : Bool) → h ≡ false → ((a && (h && x)) || b) ≡ b
+      of true x b false is = refl
+      of false x b h is = refl
+      of true x b true is = cc
+
+  newest_same : (prefix : Prefix) → newer prefix one.said ≡ prefix
+  newest_same prefix = of one.said none
+    where
+      of : (said : Said) → is_held said ≡ false → newer prefix said ≡ prefix
+      of (Held other dver) is = cc
+      of (Busy holder) is = refl
+      of Down is = refl
+
+  votes_same : (c : Collector) → nat_le (needed (tell one c)) (got (tell one c)) ≡ nat_le (needed c) (got c)
+  votes_same c = of c.widening
+    where
+      of : (widening : Option Widening) → (let was : Collector = record c { widening = widening } in nat_le (needed (tell one was)) (got (tell one was)) ≡ nat_le (needed was) (got was))
+      of None =
+          ap (λ (prefix : Prefix). nat_le (needed_of c.mode prefix.votes) (votes_in prefix.votes.reps (holds c.mode (one ∷ c.told)))) (newest_same (newest c.start c.told))
+          ∙ ap (λ held. nat_le (needed_of c.mode (newest c.start c.told).votes) (votes_in (newest c.start c.told).votes.reps held)) (holds_same c.mode c.told)
+      of (Some w) = ap (λ held. nat_le w.votes.w (votes_in w.votes.reps held)) (holds_same Exclusive (w.told ++ c.told))
+
+unheld_told : (next : Next) (answer : Reply) (last : Told) → told_by next answer ≡ Some last → shows_lock answer ≡ false → is_held last.said ≡ false
+unheld_told (Ask server asked) (reply.Busy holder prepared) last told none =
+    sym (ap (λ (one : Told). is_held one.said) (same_Some (record { server = server; mode = mode_asked asked; said = Busy holder }) last told))
+unheld_told (Ask server (Poll mode)) reply.Down last told none =
+    sym (ap (λ (one : Told). is_held one.said) (same_Some (record { server = server; mode = mode; said = Down }) last told))
+unheld_told (Ask server Upgrade) reply.Down last told none = cc
+unheld_told (Ask server asked) (reply.Held prefix dver) last told none = cc
+unheld_told (Ask server asked) reply.Lost last told none = cc
+unheld_told (Ask server asked) (reply.Given dver content) last told none = cc
+unheld_told (Ask server asked) reply.Prepared last told none = cc
+unheld_told (Ask server asked) (reply.Verdict v) last told none = cc
+unheld_told (Ask server asked) reply.Done last told none = cc
+unheld_told (Ask server asked) (reply.Locked locks) last told none = cc
+unheld_told (Current prefix dver members) answer last told none = cc
+unheld_told (Short had wanting busy) answer last told none = cc
+
+-- a reply that shows no lock was taken
+pub took : (was after : Collecting) (answer : Reply) → is_some (told_by (next was.collector) answer) ≡ true → shows_lock answer ≡ false
+    → IfSome (told_by (next was.collector) answer) (λ last. after ≡ record was { collector = tell last was.collector }) → Takes was answer after
+took was after answer accepted none is = of (told_by (next was.collector) answer) refl accepted is
+  where
+    of : (one : Option Told) → told_by (next was.collector) answer ≡ one → is_some one ≡ true → IfSome one (λ last. after ≡ record was { collector = tell last was.collector }) → Takes was answer after
+    of (Some last) told some new =
+        let unheld = unheld_told (next was.collector) answer last told none in
+        record { last = last; told = told; new = new; short = few_no_quorum (tell last was.collector) (votes_same last unheld was.collector ∙ too_few was.collector answer last told) }
+    of None told some new = cc
+
+-- a lock that is held was taken, whose prefix is not newer, before a widening
+module _ (server : ℕ) (prefix : Prefix) (dver : ℕ) where
+  abbrev pub last : LockMode → Told
+  last mode = record { server = server; mode = mode; said = Held prefix dver }
+
+  pub record IsTaken (c : Collector) : Type 0 where
+    pub told : told_by (next c) (reply.Held prefix dver) ≡ Some (last c.mode)
+    pub new : tell (last c.mode) c ≡ record c { told = last c.mode ∷ c.told }
+    pub short : HasNoQuorum (next (tell (last c.mode) c))
+
+  pub lock_taken : (c : Collector) (other : ℕ) → c.widening ≡ None → due_in c ≡ due.Ask server → nat_lt (newest c.start c.told).pver prefix.pver ≡ false
+      → due_by (newest c.start c.told).votes c.mode (last c.mode ∷ c.told) ≡ due.Ask other → IsTaken c
+  lock_taken c other narrow is older then' = subst IsTaken (sym same) (record {
+    told = told_asked was server (reply.Held prefix dver) (ap due_in (sym same) ∙ is);
+    new = refl;
+    short = asks_no_quorum (tell (last c.mode) was) other (ap (λ b. due_by (cond b prefix (newest c.start c.told)).votes c.mode (last c.mode ∷ c.told)) older ∙ then');
+  })
+    where
+      was : Collector
+      was = record c { widening = None }
+
+      same : c ≡ was
+      same = ap (λ widening. record c { widening = widening }) narrow

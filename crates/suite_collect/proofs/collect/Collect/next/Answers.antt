@@ -1,0 +1,17 @@
+use Rattle.std.proofs.Common.{◌≡◌, ap, sym, ◌∙◌, rules}
+use Rattle.suite_collect.specs.declared.collect.Due.TheVariants as due
+use Rattle.suite_collect.specs.CollectFields.{due_in}
+use Rattle.suite_collect.specs.Collecting as spec
+use Rattle.suite_collect.specs.Collecting.{Collecting, Current}
+use Rattle.suite_collect.proofs.Dues.{current_next}
+use Rattle.suite_collect.proofs.collect.Collect.next.Goals as goal
+
+pub returns-in-Current : goal.returns-in-Current
+returns-in-Current c =
+    let now = c.args.self.now.collector in
+    let is : due_in now ≡ due.Current = ap (λ (c : Collecting). due_in c.collector) (sym c.self.view_is) ∙ sym c.self.invariant.due ∙ c.in-Current.is in
+    let members : spec.members_of (spec.counted now) (spec.is_member now) ≡ c.members_of.result = search rules in
+    current_next now is
+    ∙ ap (λ prefix. Current prefix (spec.version now) (spec.members_of (spec.counted now) (spec.is_member now))) (sym c.newest.ensures)
+    ∙ ap (λ dver. Current c.newest.result.now dver (spec.members_of (spec.counted now) (spec.is_member now))) (sym c.version.ensures)
+    ∙ ap (λ members. Current c.newest.result.now c.version.result members) members
