@@ -153,7 +153,7 @@ impl Agent {
 
     /// Takes what came of what it asks next, and gives the ending of its job, where that is at its end.
     /// An error leaves the agent as it was, and the same may be taken again. Memory may be wanting for
-    /// what a suite is told, a content, answers and a list of locks, and for nothing else: never where a
+    /// a lock that is held, a content, answers and a list of locks, and for nothing else: never where a
     /// request was not served, at a Prepare, a Finish or a Break, or where a lock or a decision was lost.
     pub fn take(&mut self, word: &Word) -> Result<Option<Ending>, AllocError>
         requires { FitsAsked (agents.next_of self.old.fixed self.old.state) word.now }
