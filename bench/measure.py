@@ -47,3 +47,12 @@ def head(title):
     """Begins a table of figures."""
     idle = least(["/bin/true"], b"")
     print(f"{title} ({os.cpu_count()} cores; a program that does nothing: {1000 * idle[2]:.1f} ms, {idle[3]:.1f} MiB)")
+
+
+def growth(what, counts, played):
+    """A table of runs that grow, of the sizes that the command line names or else these. `played(count)` plays one: how
+    much was done, the input, the seconds and the peak."""
+    print(f"{what:>10} {'input MiB':>10} {'seconds':>8} {'a second':>10} {'peak MiB':>9}")
+    for count in [int(word) for word in sys.argv[1:]] or counts:
+        done, data, seconds, peak = played(count)
+        print(f"{done:>10} {len(data) / 2**20:>10.2f} {seconds:>8.3f} {done / seconds:>10.0f} {peak:>9.1f}")

@@ -21,7 +21,7 @@ FILES = 100
 
 
 def events(steps):
-    """Lines of events, and how many steps they take at most."""
+    """Lines of events that take about so many steps, and how many jobs they begin."""
     lines, taken, number = list(HEADER), 0, 0
     while taken < steps:
         name = f"/file-{number * 7 % FILES}"
@@ -50,16 +50,28 @@ def reads(servers, operations, jobs):
     return "\n".join(lines).encode() + b"\n"
 
 
+def steps_of(status, output, jobs):
+    """How many steps the jobs took, each of which was answered; anything else ends the bench."""
+    lines = output.decode().splitlines()
+    if status != 0 or len(lines) != jobs or any(" answered " not in line for line in lines):
+        sys.exit(f"status {status}, {len(lines)} lines: {[line for line in lines if ' answered ' not in line][:3]}")
+    return sum(int(line.split()[1]) for line in lines)
+
+
 def by_servers():
     measure.head("suites play, one agent that reads a file")
     print(f"{'servers':>8} {'operations':>11} {'steps':>8} {'seconds':>8} {'a second':>10}")
     for servers in (1, 4, 16):
         for operations in (1, 8):
             status, output, seconds, _ = measure.suites(["play"], reads(servers, operations, 5_000))
-            taken = sum(int(line.split()[1]) for line in output.decode().splitlines())
-            if status != 0:
-                sys.exit(f"status {status}")
+            taken = steps_of(status, output, 5_001)
             print(f"{servers:>8} {operations:>11} {taken:>8} {seconds:>8.3f} {taken / seconds:>10.0f}")
+
+
+def played(steps):
+    data, jobs = events(steps)
+    status, output, seconds, peak = measure.suites(["play"], data)
+    return steps_of(status, output, jobs), data, seconds, peak
 
 
 def main():
@@ -67,15 +79,7 @@ def main():
         by_servers()
         return
     measure.head("suites play, two agents on three servers")
-    print(f"{'steps':>9} {'input MiB':>10} {'seconds':>8} {'a second':>10} {'peak MiB':>9}")
-    for steps in [int(word) for word in sys.argv[1:]] or [1_000, 10_000, 100_000, 1_000_000]:
-        data, jobs = events(steps)
-        status, output, seconds, peak = measure.suites(["play"], data)
-        lines = output.decode().splitlines()
-        if status != 0 or len(lines) != jobs or any(" answered " not in line for line in lines):
-            sys.exit(f"status {status}, {len(lines)} lines: {[line for line in lines if ' answered ' not in line][:3]}")
-        taken = sum(int(line.split()[1]) for line in lines)
-        print(f"{taken:>9} {len(data) / 2**20:>10.2f} {seconds:>8.3f} {taken / seconds:>10.0f} {peak:>9.1f}")
+    measure.growth("steps", [1_000, 10_000, 100_000, 1_000_000], played)
 
 
 main()

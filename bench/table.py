@@ -40,19 +40,21 @@ def script(count):
     return "\n".join(lines).encode() + b"\n", answers
 
 
+def played(count):
+    data, answers = script(count)
+    status, output, seconds, peak = measure.suites(["table"], data)
+    lines = output.decode().splitlines()
+    if status != 0 or len(lines) != count:
+        sys.exit(f"status {status}, {len(lines)} lines")
+    for line, answer in zip(lines, answers):
+        if not line.startswith(answer):
+            sys.exit(f"{line[:80]} where {answer} was wanted")
+    return count, data, seconds, peak
+
+
 def main():
     measure.head("suites table, one operation a line")
-    print(f"{'operations':>10} {'input MiB':>10} {'seconds':>8} {'a second':>10} {'peak MiB':>9}")
-    for count in [int(word) for word in sys.argv[1:]] or [1_000, 10_000, 100_000, 340_000]:
-        data, answers = script(count)
-        status, output, seconds, peak = measure.suites(["table"], data)
-        lines = output.decode().splitlines()
-        if status != 0 or len(lines) != count:
-            sys.exit(f"status {status}, {len(lines)} lines")
-        for line, answer in zip(lines, answers):
-            if not line.startswith(answer):
-                sys.exit(f"{line[:80]} where {answer} was wanted")
-        print(f"{count:>10} {len(data) / 2**20:>10.2f} {seconds:>8.3f} {count / seconds:>10.0f} {peak:>9.1f}")
+    measure.growth("operations", [1_000, 10_000, 100_000, 340_000], played)
 
 
 main()

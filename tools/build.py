@@ -160,7 +160,7 @@ def main():
             if is_fresh():
                 return 0
         needs = crates_below(PROGRAM)
-        teller.say(f"proving and building {len(needs)} crates, once (README says how long it takes)")
+        teller.say(f"proving and building {len(needs)} crates, once (docs/PERFORMANCE.md says how long it takes)")
         failed = prove(needs, teller)
         if failed is None:
             text = build(needs, teller)
