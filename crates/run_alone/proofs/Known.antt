@@ -15,10 +15,9 @@ use Rattle.suite_prefix.specs.declared.copies.Replica.{Replica}
 use Rattle.rep_core.specs.declared.intention.Intention as server
 use Rattle.rep_core.specs.Store.{Store, IsSound, is_sound, is_used_up, copy_of, left_by}
 use Rattle.suite_collect.specs.Collecting.{all_told}
-use Rattle.txn_core.specs.Suites.{First, Suite, suite_of}
+use Rattle.txn_core.specs.Suites.{First, Suite, suite_of, told_in}
 use Rattle.txn_core.specs.Doing.{Course, Running}
 use Rattle.txn_core.specs.Agents.{fixed_of}
-use Rattle.txn_core.proofs.Locks.{told_in}
 use Rattle.run_core.specs.Worlds as worlds
 use Rattle.run_core.specs.Worlds.{Actor, actor_at}
 use Rattle.suite_machine.specs.Registers.{Beginning, Known, Entry, row, prefix_at, content_at, empty_of, GoesWith, IsKnown}
@@ -34,7 +33,8 @@ use Rattle.run_machine.specs.Deciding.{showed, showed_to, known_by}
 use Rattle.run_machine.specs.Machines.{servers_of}
 use Rattle.run_machine.specs.Owed.{OwesKnown}
 use Rattle.run_knowledge.proofs.Decided.{suite_was, known_prefix, known_content}
-use Rattle.run_quorums.specs.Telling.{Agrees, told_to, DoingAgrees}
+use Rattle.run_machine.specs.Telling.{told_to}
+use Rattle.run_quorums.specs.Telling.{Agrees, DoingAgrees}
 use Rattle.run_quorums.proofs.Known.{valid_was, knows_from_a_quorum}
 use Rattle.headline.proofs.Firsts.{firsts_given}
 use Rattle.headline.proofs.Together.{Together}

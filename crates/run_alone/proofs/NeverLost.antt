@@ -20,7 +20,8 @@ use Rattle.txn_core.specs.declared.job.Job.TheVariants.{Transaction}
 use Rattle.txn_core.specs.Doing.{Fixed, Task, Course, Doing, Running, Rounding, After, GoesOn, Ends}
 use Rattle.txn_core.specs.Transactions.{execute}
 use Rattle.txn_core.specs.Agents.{Agent, fixed_of, next_in, next_of, is_idle, has_sense, most_jobs, left, begin, started}
-use Rattle.txn_core.proofs.Locks.{told_at, Leaves, are_nil, leaves_execute}
+use Rattle.txn_core.specs.Suites.{told_at}
+use Rattle.txn_core.proofs.Locks.{Leaves, are_nil, leaves_execute}
 use Rattle.run_core.specs.declared.event.Event.{Event}
 use Rattle.run_core.specs.declared.event.Event.TheVariants.{Begin, Step}
 use Rattle.run_core.specs.declared.done.Served.{Served}

@@ -27,12 +27,12 @@ use Rattle.rep_core.proofs.Finding.{find_some}
 use Rattle.rep_core.proofs.IntentionLookups.{get_has}
 use Rattle.suite_collect.specs.Telling.{holds}
 use Rattle.suite_collect.specs.Collecting.{Poll, Upgrade, Next, Ask, Current, Short, next}
-use Rattle.txn_core.specs.Suites.{First, Suite, suite_of, holds_lock, holds_exclusively, lock_mode, known_of}
+use Rattle.txn_core.specs.Suites.{First, Suite, suite_of, holds_lock, holds_exclusively, lock_mode, known_of, told_in, told_at}
 use Rattle.txn_core.specs.Writing.{change_of, take_of_changed, part_of, parts_at}
 use Rattle.txn_core.specs.Doing.{Fixed, home_of, Outcome, Phase, Gathering, Fetching, Widening, Preparing, Deciding, Finishing, Course, Running}
 use Rattle.txn_core.specs.Transactions.{asked_by, asked_for, fetched_at, fetched_for, request_in, changes_of, decision_of}
 use Rattle.txn_core.specs.Agents.{Agent, fixed_of, next_in, next_of, is_idle}
-use Rattle.txn_core.proofs.Locks.{told_in, told_at, a_prepare_rises}
+use Rattle.txn_core.proofs.Locks.{a_prepare_rises}
 use Rattle.run_core.specs.declared.event.Event.{Event}
 use Rattle.run_core.specs.Worlds as worlds
 use Rattle.run_core.specs.Worlds.{Actor, server_at, actor_at}
@@ -51,7 +51,8 @@ use Rattle.run_machine.proofs.Jobs.{IdleOr}
 use Rattle.run_knowledge.proofs.Walk.{InPhase}
 use Rattle.run_knowledge.proofs.Lasting.{DoingFits}
 use Rattle.run_knowledge.proofs.Decided.{suite_was}
-use Rattle.run_quorums.specs.Telling.{Agrees, told_to, DoingAgrees}
+use Rattle.run_machine.specs.Telling.{told_to}
+use Rattle.run_quorums.specs.Telling.{Agrees, DoingAgrees}
 use Rattle.headline.proofs.Carried.{CameWell}
 use Rattle.headline.proofs.Beside.{leaves}
 use Rattle.run_alone.proofs.Standing.{Stands}
