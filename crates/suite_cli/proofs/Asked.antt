@@ -35,7 +35,7 @@ help_done help streams status text line answers unread finishes = helped streams
 help_done topic streams status text line answers unread finishes = inl (helped streams status line unread finishes)
 help_done nothing streams status text line answers unread finishes = absurd answers
 
-acl_ran_out : (names : Result Tables ℕ) (streams : Streams) (status : ℕ) → IsUnread streams → LacksMemory streams status → RunsAcl names streams status
+pub acl_ran_out : (names : Result Tables ℕ) (streams : Streams) (status : ℕ) → IsUnread streams → LacksMemory streams status → RunsAcl names streams status
 acl_ran_out (Ok names) streams status unread lacks = ran_out (acl_output names) streams status streams.input lacks
 acl_ran_out (Err place) streams status unread lacks = (unread, inl lacks)
 
