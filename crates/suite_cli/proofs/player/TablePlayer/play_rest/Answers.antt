@@ -28,11 +28,11 @@ loop-writer-preserved g c =
     let told = g.O.ByteOut.written c.args.writer.now in
     let now = g.O.ByteOut.written c.loop-writer.writer in
     let whole = text_of (in_all c.args.self.now) in
-    let same = same_after c.in_ok-play_next.field-0 (in_all c.loop-writer.self) (in_all next) next.printed.items c.in_ok-play_next.ensures.plays c.if-not-play_next.false in
+    let same = same_after c.in_ok-play_next.field-0 (in_all c.loop-writer.self) (in_all next) next.printed.items c.in_ok-play_next.ensures.plays c.if-not-branch.false in
     let done = subst (λ (output : Output). is_done output ≡ true) (sym same) c.loop-writer.invariant.faultless in
     let so = subst (λ (output : Output). WroteSoFar told whole (text_of output) now) (sym same) c.loop-writer.invariant.written in
     record {
-      numbers = (c.in_ok-play_next.ensures.went_on c.if-not-play_next.false).numbers;
+      numbers = (c.in_ok-play_next.ensures.went_on c.if-not-branch.false).numbers;
       faultless = still_done next.printed.items c.write_if_full.new.text.items lines left done;
       written = moved_on told now (g.O.ByteOut.written c.write_if_full.new.writer) whole next.printed.items c.write_if_full.new.text.items lines left done so c.in_ok-write_if_full.ensures.0;
       failures = c.in_ok-write_if_full.ensures.1 ∙ c.loop-writer.invariant.failures;
@@ -44,7 +44,7 @@ returns g c =
     let told = g.O.ByteOut.written c.args.writer.now in
     let now = g.O.ByteOut.written c.loop-writer.writer in
     let whole = text_of (in_all c.args.self.now) in
-    let all = came_to c.in_ok-play_next.field-0 (in_all c.loop-writer.self) (in_all next) next.printed.items c.in_ok-play_next.ensures.plays c.if-not-play_next.true in
+    let all = came_to c.in_ok-play_next.field-0 (in_all c.loop-writer.self) (in_all next) next.printed.items c.in_ok-play_next.ensures.plays c.if-not-branch.true in
     let so = subst (λ (output : Output). WroteSoFar told whole (text_of output) now) all c.loop-writer.invariant.written in
     (wrote_all (in_all c.args.self.now) told now (g.O.ByteOut.written c.write_gathered.new.writer) next.printed.items c.requires.faultless so c.in_ok-write_gathered.ensures.ok,
      c.in_ok-write_gathered.ensures.kept ∙ c.loop-writer.invariant.failures)
