@@ -31,7 +31,7 @@ returns g c =
       failed_writes = g.O.ByteOut.failed_writes c.args.writer.now;
       failed_writes_after = g.O.ByteOut.failed_writes c.lack_memory-in-Err-Memory-play_script.new.writer;
     } in
-    let plays = c.in-Err-Memory-play_script.ensures in
+    let plays = rw c.in-Err-Memory-play_script.field-0-is at c.in-Err-Memory-play_script.ensures in
     let output = script_output_of c.args.command in
     let now = g.O.ByteOut.written c.play_script.new.writer in
     let so = subst (λ (text : List ℕ). BrokeOff (output text) streams.written now) c.deref.ensures.value plays.0 in

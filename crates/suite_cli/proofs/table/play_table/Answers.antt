@@ -24,7 +24,7 @@ pub returns-in_err-look_ahead : goal.returns-in_err-look_ahead
 returns-in_err-look_ahead g c =
     let error = c.in_err-look_ahead.field-0.0 in
     let player = c.play_first.new.self in
-    let same = same_after c.in_ok-play_first.field-0 (in_all c.in_ok-player.player) (in_all player) player.printed.items c.in_ok-play_first.ensures.plays c.if-play_first.true ∙ c.in_ok-player.ensures.same in
+    let same = same_after c.in_ok-play_first.field-0 (in_all c.in_ok-player.player) (in_all player) player.printed.items c.in_ok-play_first.ensures.plays c.if-branch.true ∙ c.in_ok-player.ensures.same in
     rw (failed c.from_residual-in_err-look_ahead.result (play_error_of error) c.from_residual-in_err-look_ahead.ensures)
     (stops error (table_output c.args.text.now) (g.O.ByteOut.written c.args.writer.now) (g.O.ByteOut.failed_writes c.args.writer.now)
     (subst (λ (output : Output). StopsWith error output) same c.in_err-look_ahead.ensures))
