@@ -29,6 +29,13 @@ impl<'a> Lines<'a> {
     {
         Lines { rest: text }
     }
+
+    /// The text of the lines that are left.
+    pub fn rest(&self) -> &'a [u8]
+        ensures { lines result.now ≡ self.now }
+    {
+        self.rest
+    }
 }
 
 impl<'a> Iterator for Lines<'a> {

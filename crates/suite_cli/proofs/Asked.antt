@@ -1,14 +1,14 @@
 -- What was done is what the words ask for.
-use Rattle.std.proofs.Common.{◌≡◌, ℕ, List, Option, Some, None, Result, Ok, Err, inl, inr}
+use Rattle.std.proofs.Common.{ℕ, List, Result, Ok, Err, inl, inr}
 use Rattle.acl_text.specs.Tables.{Tables}
 use Rattle.suite_args.specs.Answering.{Answers}
 use Rattle.suite_args.specs.CommandLine.{Asked, acl, help, nothing, plays, topic}
 use Rattle.suite_args.specs.declared.request.Request.TheVariants.{Acl, Help, Plays}
 use Rattle.suite_args.specs.declared.script.Script.{Script}
+use Rattle.suite_cli.proofs.Ran.{ran_out}
 use Rattle.suite_cli.specs.Names.{names_from}
 use Rattle.suite_cli.specs.Outputs.{acl_output, script_output_of}
-use Rattle.suite_script.specs.Outputs.{Output}
-use Rattle.suite_cli.specs.Runs.{Does, Finishes, Helps, IsUnread, LacksMemory, Runs, RunsAcl, RunsOn, Streams, done, no_memory}
+use Rattle.suite_cli.specs.Runs.{Does, Finishes, Helps, IsUnread, LacksMemory, Runs, RunsAcl, Streams, done}
 use Rattle.suite_script.specs.Scripts.{no_names}
 
 pub script_done : (asked : Asked) (streams : Streams) (status : ℕ) (given : Script) → Answers asked (Ok (Plays given)) → Runs (script_output_of given) streams status → Does asked streams status
@@ -35,16 +35,12 @@ help_done help streams status text line answers unread finishes = helped streams
 help_done topic streams status text line answers unread finishes = inl (helped streams status line unread finishes)
 help_done nothing streams status text line answers unread finishes = absurd answers
 
-ran_out : (output : List ℕ → Output) (streams : Streams) (status : ℕ) (input : Option (List ℕ)) → status ≡ no_memory → RunsOn output streams status input
-ran_out output streams status None out = tt
-ran_out output streams status (Some input) out = inr (inl out)
-
-acl_ran_out : (names : Result Tables ℕ) (streams : Streams) (status : ℕ) → IsUnread streams → LacksMemory streams status → RunsAcl names streams status
-acl_ran_out (Ok names) streams status unread lacks = ran_out (acl_output names) streams status streams.input lacks.0
+pub acl_ran_out : (names : Result Tables ℕ) (streams : Streams) (status : ℕ) → IsUnread streams → LacksMemory streams status → RunsAcl names streams status
+acl_ran_out (Ok names) streams status unread lacks = ran_out (acl_output names) streams status streams.input lacks
 acl_ran_out (Err place) streams status unread lacks = (unread, inl lacks)
 
 pub lack_done : (asked : Asked) (streams : Streams) (status : ℕ) → IsUnread streams → LacksMemory streams status → Does asked streams status
-lack_done (plays script) streams status unread lacks = ran_out (script_output_of script) streams status streams.input lacks.0
+lack_done (plays script) streams status unread lacks = ran_out (script_output_of script) streams status streams.input lacks
 lack_done (acl names) streams status unread lacks = acl_ran_out (names_from 1 no_names names) streams status unread lacks
 lack_done help streams status unread lacks = (unread, inr (inl lacks))
 lack_done topic streams status unread lacks = inl (unread, inr (inl lacks))

@@ -1,3 +1,4 @@
 pub mod Playing
 pub mod NameWords
+pub mod Ran
 pub mod Asked

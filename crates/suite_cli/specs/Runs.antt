@@ -1,9 +1,9 @@
 -- What a command that ended has done.
-use Rattle.std.specs.Prelude.{◌≡◌, Bool, true, false, alloc_error, Vec, ℕ, ◌<◌, ◌≤◌, ◌⊎◌, List, length, Option, Some, None, Result, Ok, Err}
+use Rattle.std.specs.Prelude.{◌≡◌, Bool, true, false, alloc_error, Vec, ℕ, ◌<◌, ◌≤◌, ◌⊎◌, List, ◌++◌, length, Option, Some, None, Result, Ok, Err}
 use Rattle.byte_streams.specs.Streams.{Adds, one_more}
 use Rattle.suite_args.specs.CommandLine.{Asked}
 use Rattle.suite_args.specs.CommandLine as asked
-use Rattle.suite_script.specs.Outputs.{Output, Done, Faulty}
+use Rattle.suite_script.specs.Outputs.{Output, Done, Faulty, IsBegun}
 use Rattle.suite_script.specs.Scripts.{no_names}
 use Rattle.suite_cli.specs.Names.{names_from}
 use Rattle.suite_cli.specs.Outputs.{acl_output, command_line_fault, memory_line, script_output_of, word_fault_line}
@@ -53,16 +53,26 @@ pub record Streams : Type 0 where
   pub failed_writes : ℕ
   pub failed_writes_after : ℕ
 
--- there are more bytes than the limit
-abbrev pub IsTooLong : Option (List ℕ) → Type 0
-IsTooLong None = Unit {0}
-IsTooLong (Some all) = most_input < length all
+-- nothing was written
+abbrev pub IsUnwritten : Streams → Type 0
+IsUnwritten streams = (streams.written_after ≡ streams.written) × (streams.failed_writes_after ≡ streams.failed_writes)
 
--- a read failed and was counted, or a write was, or the input passed its limit
-abbrev pub StreamFailed : Streams → Type 0
-StreamFailed streams =
-    (streams.failed_reads_after ≡ one_more streams.failed_reads)
-    ⊎ ((streams.failed_writes_after ≡ one_more streams.failed_writes) ⊎ IsTooLong streams.input)
+-- a write failed and was counted
+abbrev pub WriteFailed : Streams → Type 0
+WriteFailed streams = streams.failed_writes_after ≡ one_more streams.failed_writes
+
+-- nothing was written, since a read failed and was counted or the input passed its limit; or a write failed
+abbrev pub StreamFailed : List ℕ → Streams → Type 0
+StreamFailed input streams =
+    (IsUnwritten streams × ((streams.failed_reads_after ≡ one_more streams.failed_reads) ⊎ (most_input < length input)))
+    ⊎ WriteFailed streams
+
+-- memory ran out, and that was said: behind the front of an output, which is empty where the output tells a fault; or a write failed
+abbrev pub BreaksOff : Output → Streams → ℕ → Type 0
+BreaksOff output streams status =
+    (status ≡ no_memory)
+    × (((front : List ℕ) × (IsBegun output front × Adds streams.written (front ++ memory_line) streams.written_after))
+    ⊎ WriteFailed streams)
 
 -- for the input that a stream tells, which is within the limit, all of the command's output is written with its status; or memory
 -- ran out, or a stream failed
@@ -70,7 +80,7 @@ abbrev pub RunsOn : (List ℕ → Output) → Streams → ℕ → Option (List �
 RunsOn output streams status None = Unit {0}
 RunsOn output streams status (Some input) =
     ((length input ≤ most_input) × Writes (output input) status streams.written streams.written_after)
-    ⊎ ((status ≡ no_memory) ⊎ ((status ≡ no_stream) × StreamFailed streams))
+    ⊎ (BreaksOff (output input) streams status ⊎ ((status ≡ no_stream) × StreamFailed input streams))
 
 abbrev pub Runs : (List ℕ → Output) → Streams → ℕ → Type 0
 Runs output streams status = RunsOn output streams status streams.input
@@ -105,7 +115,7 @@ abbrev pub Helps : Streams → ℕ → Type 0
 Helps streams status =
     IsUnread streams
     × (((status ≡ done) × ((text : List ℕ) × Adds streams.written text streams.written_after))
-    ⊎ (LacksMemory streams status ⊎ ((status ≡ no_stream) × (streams.failed_writes_after ≡ one_more streams.failed_writes))))
+    ⊎ (LacksMemory streams status ⊎ ((status ≡ no_stream) × WriteFailed streams)))
 
 -- `acl` has run under the names of its words; or a name was bad, and the line of its place was written
 abbrev pub RunsAcl : Result Tables ℕ → Streams → ℕ → Type 0

@@ -5,6 +5,7 @@ mod acl;
 mod commands;
 mod job;
 mod language;
+mod player;
 mod scripts;
 mod table;
 

@@ -1,6 +1,5 @@
 -- The run of a script, line by line.
 use Rattle.std.proofs.Common.{◌≡◌, ℕ, zero, suc, false, List, [], ◌∷◌, ◌++◌, append_assoc, Option, Some, None, Result, Ok, Err, refl, ◌∙◌, ap, sym, subst}
-use Rattle.std.specs.Prelude.{OnOk}
 use Rattle.std.specs.List.{flat_map}
 use Rattle.std.specs.Prelude.{true, not}
 use Rattle.std.specs.List.{list_all}
@@ -141,7 +140,3 @@ ends_promised text left opened so none promises script is before later events =
 
 pub of_run : (text : List ℕ) (left : Result (List Command) ScriptFault) (opened : Opened) → IsPlayed text left opened → IsOfRun opened
 of_run text left opened so = record { events = events_of so.done; of_them = so.of_them }
-
-pub either_way : {E : Type 0} (result : Result (Unit {0}) E) (P : Type 0) → P → OnOk result P
-either_way (Ok nothing) P so = so
-either_way (Err why) P so = tt

@@ -12,4 +12,4 @@ mod player;
 mod verb;
 
 pub use laws::{lines_are_events, run_is_until_idle};
-pub use player::{check_events, play_events};
+pub use player::play_events;

@@ -9,8 +9,8 @@ ghost use Rattle.suite_play.specs.Promised.{PlayIsPromised, events_in, steps_of}
 ghost use Rattle.suite_play.specs.Texts.{audit_lines, item_line};
 ghost use Rattle.run_core.specs.Worlds.{step};
 ghost use Rattle.txn_core.specs.Agents.{fixed_of};
-ghost use Rattle.suite_script.specs.Gathering.{Moves, Plays};
-ghost use Rattle.suite_script.specs.Outputs.{Finds, is_done, text_of};
+ghost use Rattle.suite_script.specs.Gathering.{Plays, Prints};
+ghost use Rattle.suite_script.specs.Outputs.{Finds, is_done};
 
 use crate::command::Command;
 use crate::header::read_header;
@@ -26,7 +26,7 @@ use suite_prefix::Settings;
 use suite_script::{PlayError, ScriptError, ScriptReader, write_gathered, write_if_full};
 
 /// Looks through a script of events for its first fault.
-pub fn check_events(alloc: Global, text: &[u8]) -> Result<(), ScriptError>
+fn check_events(alloc: Global, text: &[u8]) -> Result<(), ScriptError>
     requires { length text.now < 2 ^ 60 }
     ensures { Finds result (play_output text.now) }
 {
@@ -45,12 +45,23 @@ fn places_of(settings: &Settings) -> Places
     }
 }
 
-/// Plays a script of events that has no fault, and writes what it prints. What is played is promised: of the run of its
-/// events, at each moment, what a world promises (`headline::promise`).
+/// Plays a script of events, and writes what it prints; nothing, where it has a fault. What is played is promised: of the
+/// run of its events, at each moment, what a world promises (`headline::promise`).
 pub fn play_events<O: ByteOut>(alloc: Global, text: &[u8], writer: &mut O) -> Result<(), PlayError>
+    requires { length text.now < 2 ^ 60 }
+    ensures plays { Plays result (play_output text.now) (O.written writer.old) (O.written writer.new)
+        (O.failed_writes writer.old) (O.failed_writes writer.new) }
+    ensures promised { OnOk result (PlayIsPromised text.now) }
+{
+    check_events(alloc, text)?;
+    play_faultless(alloc, text, writer)
+}
+
+/// Plays a script of events that has no fault.
+fn play_faultless<O: ByteOut>(alloc: Global, text: &[u8], writer: &mut O) -> Result<(), PlayError>
     requires short { length text.now < 2 ^ 60 }
     requires faultless { is_done (play_output text.now) ≡ true }
-    ensures plays { Plays result (text_of (play_output text.now)) (O.written writer.old) (O.written writer.new)
+    ensures plays { Plays result (play_output text.now) (O.written writer.old) (O.written writer.new)
         (O.failed_writes writer.old) (O.failed_writes writer.new) }
     ensures promised { OnOk result (PlayIsPromised text.now) }
 {
@@ -75,7 +86,8 @@ pub fn play_events<O: ByteOut>(alloc: Global, text: &[u8], writer: &mut O) -> Re
         play_command(alloc, &mut world, command, &mut gathered, writer)?;
     }
     promise(&world);
-    write_gathered(writer, &mut gathered)
+    write_gathered(writer, &mut gathered)?;
+    Ok(())
 }
 
 /// A law: the votes of the events of a line are valid, by their type. It does nothing.
@@ -103,7 +115,7 @@ fn play_command<O: ByteOut>(
     text: &mut Vec<u8>,
     writer: &mut O,
 ) -> Result<(), PlayError>
-    ensures printed { Moves result (text.old.items ++ (played (fixed_of world.old.given) world.old.world command).text) text.new.items
+    ensures printed { Prints result (text.old.items ++ (played (fixed_of world.old.given) world.old.world command).text) text.new.items
         (O.written writer.old) (O.written writer.new) (O.failed_writes writer.old) (O.failed_writes writer.new) }
     ensures world { OnOk result (world.new ≡ record world.old { world = (played (fixed_of world.old.given) world.old.world command).world }) }
 {
@@ -115,7 +127,8 @@ fn play_command<O: ByteOut>(
             return push_audit(*server, world.audit(*server), text, writer);
         }
     }
-    write_if_full(writer, text)
+    write_if_full(writer, text)?;
+    Ok(())
 }
 
 /// Plays an event, and adds the line of the job that ended in it, if one did.
@@ -161,7 +174,7 @@ fn push_audit<O: ByteOut>(
     text: &mut Vec<u8>,
     writer: &mut O,
 ) -> Result<(), PlayError>
-    ensures { Moves result (text.old.items ++ audit_lines server items.now) text.new.items
+    ensures { Prints result (text.old.items ++ audit_lines server items.now) text.new.items
         (O.written writer.old) (O.written writer.new) (O.failed_writes writer.old) (O.failed_writes writer.new) }
 {
     text.extend_from_slice(b"audit ")?;

@@ -1,26 +1,62 @@
--- Text that is gathered and written in pieces.
-use Rattle.std.specs.Prelude.{◌≡◌, ℕ, List, ◌++◌, Option, Some, None, Result, Ok, Err}
+-- Scripts that are played, and text that is gathered and written in pieces.
+use Rattle.std.specs.Prelude.{◌≡◌, ℕ, Bool, true, false, List, ◌++◌, Option, Result, Ok, Err}
 use Rattle.byte_streams.specs.Streams.{Adds, one_more}
+use Rattle.byte_streams.specs.declared.traits.WriteFailed.{WriteFailed}
+use Rattle.suite_script.specs.Faults.{fault_line}
+use Rattle.suite_script.specs.Outputs.{Output, Done, Faulty, IsBegun, StopsWith, script_output}
+use Rattle.suite_script.specs.declared.fault.ScriptError.{ScriptError}
+use Rattle.suite_script.specs.declared.fault.ScriptFault.{ScriptFault}
 use Rattle.suite_script.specs.declared.play_error.PlayError.{PlayError}
-use Rattle.suite_script.specs.declared.play_error.PlayError.TheVariants.{WriteFailed, Memory}
+use Rattle.suite_script.specs.declared.play_error.PlayError.TheVariants as play
 
--- the text is written but for a rest
-abbrev pub WroteSoFar : Option (List ℕ) → List ℕ → List ℕ → Option (List ℕ) → Type 0
-WroteSoFar None text rest written = Unit {0}
-WroteSoFar (Some before) text rest None = ⊥
-WroteSoFar (Some before) text rest (Some written) = written ++ rest ≡ before ++ text
+-- ---- what is written
 
--- a script was played: its lines are written; where a write failed it was counted
-abbrev pub Plays : Result (Unit {0}) PlayError → List ℕ → Option (List ℕ) → Option (List ℕ) → ℕ → ℕ → Type 0
-Plays (Ok nothing) lines before after failures failures_after = Adds before lines after × (failures_after ≡ failures)
-Plays (Err WriteFailed) lines before after failures failures_after = failures_after ≡ one_more failures
-Plays (Err Memory) lines before after failures failures_after = Unit {0}
+-- so much of a text is written that this is left
+pub record WroteSoFar (before : Option (List ℕ)) (text left : List ℕ) (after : Option (List ℕ)) : Type 0 where
+  pub front : List ℕ
+  pub cut : front ++ left ≡ text
+  pub added : Adds before front after
 
--- text that was gathered is written, or is gathered still
-abbrev pub IsMoved : List ℕ → List ℕ → Option (List ℕ) → Option (List ℕ) → Type 0
-IsMoved gathered left before after = WroteSoFar before gathered left after
+-- all of an output is written
+abbrev pub Wrote : Output → Option (List ℕ) → Option (List ℕ) → Type 0
+Wrote (Done text) before after = Adds before text after
+Wrote (Faulty line) before after = ⊥
 
-abbrev pub Moves : Result (Unit {0}) PlayError → List ℕ → List ℕ → Option (List ℕ) → Option (List ℕ) → ℕ → ℕ → Type 0
-Moves (Ok nothing) gathered left before after failures failures_after = IsMoved gathered left before after × (failures_after ≡ failures)
-Moves (Err WriteFailed) gathered left before after failures failures_after = failures_after ≡ one_more failures
-Moves (Err Memory) gathered left before after failures failures_after = Unit {0}
+-- it was broken off
+pub record BrokeOff (output : Output) (before after : Option (List ℕ)) : Type 0 where
+  pub front : List ℕ
+  pub begun : IsBegun output front
+  pub added : Adds before front after
+
+-- ---- text that is gathered
+
+-- it is written, or gathered still; where a write failed it was counted
+abbrev pub Moves : Result (Unit {0}) WriteFailed → List ℕ → List ℕ → Option (List ℕ) → Option (List ℕ) → ℕ → ℕ → Type 0
+Moves (Ok nothing) gathered left before after failures failures_after = WroteSoFar before gathered left after × (failures_after ≡ failures)
+Moves (Err error) gathered left before after failures failures_after = failures_after ≡ one_more failures
+
+-- the same of a line that is played in pieces; where memory ran out, some of its text may be written
+abbrev pub Prints : Result (Unit {0}) PlayError → List ℕ → List ℕ → Option (List ℕ) → Option (List ℕ) → ℕ → ℕ → Type 0
+Prints (Ok nothing) gathered left before after failures failures_after = WroteSoFar before gathered left after × (failures_after ≡ failures)
+Prints (Err play.Memory) gathered left before after failures failures_after = ((rest : List ℕ) × WroteSoFar before gathered rest after) × (failures_after ≡ failures)
+Prints (Err play.WriteFailed) gathered left before after failures failures_after = failures_after ≡ one_more failures
+Prints (Err (play.Faulty fault)) gathered left before after failures failures_after = ⊥
+
+-- ---- scripts
+
+-- a script was played: what it prints is written; or it is faulty, and nothing is written; or a write failed, or memory ran out
+abbrev pub Plays : Result (Unit {0}) PlayError → Output → Option (List ℕ) → Option (List ℕ) → ℕ → ℕ → Type 0
+Plays (Ok nothing) output before after failures failures_after = Wrote output before after × (failures_after ≡ failures)
+Plays (Err (play.Faulty fault)) output before after failures failures_after = (output ≡ Faulty (fault_line fault)) × ((after ≡ before) × (failures_after ≡ failures))
+Plays (Err play.WriteFailed) output before after failures failures_after = failures_after ≡ one_more failures
+Plays (Err play.Memory) output before after failures failures_after = BrokeOff output before after × (failures_after ≡ failures)
+
+-- what a script comes to, of which some lines were played: what these printed, and what the lines that are left print; or the first fault
+abbrev pub comes_to : {Own : Type 0} → List ℕ → (List Own → List ℕ) → Result (List Own) ScriptFault → Output
+comes_to printed lines left = script_output (λ later. printed ++ lines later) left
+
+-- one more of its lines was played, and it comes to the same; or there is none, and it came to what was printed
+abbrev pub PlaysNext : Result Bool ScriptError → Output → Output → List ℕ → Type 0
+PlaysNext (Ok true) before after printed = after ≡ before
+PlaysNext (Ok false) before after printed = before ≡ Done printed
+PlaysNext (Err error) before after printed = StopsWith error before

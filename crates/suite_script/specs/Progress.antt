@@ -16,6 +16,12 @@ SaysLine (Ok (Some own)) number before after said = (said ≡ Ok (Own own)) × (
 SaysLine (Err (script.Faulty fault)) number before after said = said_at number said ≡ Err fault
 SaysLine (Err script.Memory) number before after said = Unit {0}
 
+-- a line said something of the command's own
+abbrev pub SaysOwn : {A : Type 0} → Result A ScriptError → ℕ → Result (Said A) LineFault → Type 0
+SaysOwn (Ok own) number said = said ≡ Ok (Own own)
+SaysOwn (Err (script.Faulty fault)) number said = said_at number said ≡ Err fault
+SaysOwn (Err script.Memory) number said = Unit {0}
+
 -- a line named a user or a group, which is now known
 abbrev pub GivesNames : Result (Unit {0}) LineError → Tables → Result Tables LineFault → Type 0
 GivesNames (Ok done) after named = named ≡ Ok after

@@ -9,6 +9,8 @@ use Rattle.suite_script.specs.declared.fault.LineFault.TheVariants.{BadName, Nam
 use Rattle.suite_script.specs.declared.fault.LineError.{LineError}
 use Rattle.suite_script.specs.declared.fault.ScriptError.{ScriptError}
 use Rattle.suite_script.specs.declared.fault.ScriptError.TheVariants as script
+use Rattle.suite_script.specs.declared.play_error.PlayError.{PlayError}
+use Rattle.suite_script.specs.declared.play_error.PlayError.TheVariants as play
 use Rattle.suite_script.specs.Words.{Word, Taken}
 use Rattle.suite_script.specs.declared.fault.LineError.TheVariants.{Faulty, Memory}
 
@@ -33,6 +35,11 @@ abbrev pub Reads : {A : Type 0} → Result A LineError → List Word → Result 
 Reads (Ok value) rest reading = reading ≡ Ok (record { value = value; rest = rest })
 Reads (Err (Faulty fault)) rest reading = reading ≡ Err fault
 Reads (Err Memory) rest reading = Unit {0}
+
+-- the error of a script, as one of its playing
+abbrev pub play_error_of : ScriptError → PlayError
+play_error_of (script.Faulty fault) = play.Faulty fault
+play_error_of script.Memory = play.Memory
 
 -- the error of a line, by the line's number
 abbrev pub script_error_at : ℕ → LineError → ScriptError

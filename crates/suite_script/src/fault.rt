@@ -67,6 +67,16 @@ impl LineError {
     }
 }
 
+impl From<AllocError> for ScriptError {
+    ghost use Rattle.suite_script.specs.declared.fault.ScriptError.TheVariants.{Memory};
+
+    ghost from_gives = { λ _ e. e ≡ Memory };
+
+    fn from(_error: AllocError) -> ScriptError {
+        ScriptError::Memory
+    }
+}
+
 impl From<LineFault> for LineError {
     ghost from_gives = { λ fault e. e ≡ Faulty fault };
 

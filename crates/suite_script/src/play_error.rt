@@ -1,22 +1,45 @@
 //! Why a script was not played to its end.
 
 ghost use Rattle.std.specs.Prelude.{◌≡◌};
+ghost use Rattle.suite_script.specs.Readings.{play_error_of};
+ghost use Rattle.suite_script.specs.declared.play_error.PlayError.TheVariants as play;
 
+use crate::fault::{ScriptError, ScriptFault};
+use byte_streams::WriteFailed;
 use std::alloc::AllocError;
 
 /// Why a script was not played to its end.
 #[derive(Clone, Copy, Debug)]
 pub enum PlayError {
+    /// It is faulty, and this is its first faulty line.
+    Faulty(ScriptFault),
     /// A write failed.
     WriteFailed,
     /// Memory ran out.
     Memory,
 }
 
-impl From<AllocError> for PlayError {
-    ghost use Rattle.suite_script.specs.declared.play_error.PlayError.TheVariants.{Memory};
+impl From<ScriptError> for PlayError {
+    ghost from_gives = { λ error e. e ≡ play_error_of error };
 
-    ghost from_gives = { λ _ e. e ≡ Memory };
+    fn from(error: ScriptError) -> PlayError {
+        match error {
+            ScriptError::Faulty(fault) => PlayError::Faulty(fault),
+            ScriptError::Memory => PlayError::Memory,
+        }
+    }
+}
+
+impl From<WriteFailed> for PlayError {
+    ghost from_gives = { λ _ e. e ≡ play.WriteFailed };
+
+    fn from(_error: WriteFailed) -> PlayError {
+        PlayError::WriteFailed
+    }
+}
+
+impl From<AllocError> for PlayError {
+    ghost from_gives = { λ _ e. e ≡ play.Memory };
 
     fn from(_error: AllocError) -> PlayError {
         PlayError::Memory

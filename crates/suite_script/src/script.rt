@@ -1,8 +1,8 @@
 //! A script, read line by line.
 
-ghost use Rattle.std.specs.Prelude.{◌≡◌, ◌∷◌, [], ◌<◌, ◌≤◌, ◌+◌, ◌^◌, Ok, Err, MatchOption, MatchResult, IfOk, OnSome, length};
+ghost use Rattle.std.specs.Prelude.{◌≡◌, ◌∷◌, [], ◌<◌, ◌≤◌, ◌+◌, ◌^◌, true, Ok, Err, MatchOption, MatchResult, IfOk, OnSome, length};
 ghost use Rattle.script_text.specs.Words.{words};
-ghost use Rattle.suite_script.specs.Progress.{Checks, GivesOwn, Heads, SaysLine, fault_of};
+ghost use Rattle.suite_script.specs.Progress.{Checks, GivesOwn, Heads, SaysLine, SaysOwn, fault_of};
 ghost use Rattle.suite_script.specs.Scripts.{header_line, is_skipped, language_of, later_line, lines_from, owns, whole, words_after};
 
 use crate::fault::{LineError, LineFault, ScriptError};
@@ -118,6 +118,7 @@ impl<'a> ScriptReader<'a> {
         ensures own { let of = language_of L.is_known L.begins (L.own language.now) in
             GivesOwn result (owns of self.old) (owns of self.new) }
         ensures fewer { IfOk result (λ own. OnSome own (length self.new.lines < length self.old.lines)) }
+        ensures begun { IfOk result (λ own. OnSome own (self.new.begun ≡ true)) }
     {
         while let Ok(line) = self.next_line() {
             if let Some(own) = self.read_line(alloc, language, line)? {
@@ -133,6 +134,43 @@ impl<'a> ScriptReader<'a> {
     {
         while self.next_own(alloc, language)?.is_some() {}
         Ok(())
+    }
+
+    /// Looks through the lines that are left for the first fault, and leaves them to be read. No name may come any more.
+    pub fn look_ahead<L: Language>(&self, alloc: Global, language: &L) -> Result<(), ScriptError>
+        requires { self.now.begun ≡ true }
+        ensures { Checks result (fault_of (owns (language_of L.is_known L.begins (L.own language.now)) self.now)) }
+    {
+        let mut left = Lines::new(self.left.rest());
+        let mut number = self.number;
+        while let Some((place, line)) = next_said(&mut left, &mut number) {
+            self.read_own(alloc, language, place, Words::new(line))?;
+        }
+        Ok(())
+    }
+
+    /// Reads a line that has to be one of the command's own, since no name may come any more.
+    fn read_own<L: Language>(
+        &self,
+        alloc: Global,
+        language: &L,
+        number: u64,
+        mut words: Words<'_>,
+    ) -> Result<L::Own, ScriptError>
+        ensures { SaysOwn result number
+            (later_line (language_of L.is_known L.begins (L.own language.now)) true self.now.names words.entry) }
+    {
+        let Some(first) = words.next() else {
+            return Err(LineError::Faulty(LineFault::Form).at(number));
+        };
+        if L::begins(first) {
+            match language.read(alloc, &self.known, first, words) {
+                Ok(own) => Ok(own),
+                Err(error) => Err(error.at(number)),
+            }
+        } else {
+            Err(LineError::Faulty(misplaced::<L>(first)).at(number))
+        }
     }
 
     /// Reads a line after the header: a name, which is then known, or one of the command's own.

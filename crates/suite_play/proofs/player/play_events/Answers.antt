@@ -1,72 +1,10 @@
-use Rattle.std.proofs.Common.{◌≡◌, ◌∙◌, ◌++◌, ap, refl, sym}
-use Rattle.suite_play.specs.Headers.{header}
-use Rattle.suite_play.specs.Outputs.{language, lines_of, play_output}
-use Rattle.txn_core.specs.Agents.{fixed_of}
-use Rattle.suite_play.specs.Playing.{all_lines, played}
-use Rattle.suite_play.proofs.Lines.{commands}
-use Rattle.suite_play.proofs.Promised.{begins, either_way, ends_promised, of_run, plays_on}
-use Rattle.suite_play.specs.Promised.{PlayIsPromised}
-use Rattle.headline.proofs.Promised.{opens}
-use Rattle.run_core.specs.Opened.{Opened}
-use Rattle.run_core.specs.Worlds.{opening}
-use Rattle.suite_script.proofs.Gathering.{plays_all, wrote_line, wrote_moved, wrote_nothing}
-use Rattle.suite_script.proofs.Playing.{left_lines, more_lines, more_ok, opened_lines, opened_ok}
-use Rattle.suite_script.specs.Outputs.{text_of}
-use Rattle.suite_script.specs.Scripts.{owns, whole, with_own}
+use Rattle.suite_play.specs.Outputs.{play_output}
+use Rattle.suite_script.proofs.Gathering.{failed, stops}
+use Rattle.suite_script.specs.Readings.{play_error_of}
 use Rattle.suite_play.proofs.player.play_events.Goals as goal
 
-pub loop-command-init : goal.loop-command-init
-loop-command-init g c =
-    let given = header (whole c.args.text.now) in
-    let read = ap header (sym c.new-script.ensures.whole) ∙ c.in-Ok.ensures in
-    let rest = c.read_header.new.script in
-    let opened : Opened = record { given = c.in-Ok.settings; world = opening c.in-Ok.settings } in
-    let so = begins c.args.text.now opened rest read (opens opened c.fits.ensures.accepted c.fits.ensures.root.votes refl) in
-    let lines = opened_lines language lines_of given c.in-Ok.settings rest read c.requires.faultless in
-    record {
-      faultless = rw c.places_of-places.ensures (opened_ok language lines_of given c.in-Ok.settings rest read c.requires.faultless);
-      written = rw (c.new-gathered.ensures.items, c.in_ok-world.ensures, c.places_of-places.ensures, ← lines) (wrote_nothing (g.O.ByteOut.written c.args.writer.now) (text_of (play_output c.args.text.now)));
-      played = rw (c.in_ok-world.ensures, c.places_of-places.ensures) so;
-      failures = refl;
-    }
-
-pub loop-command-preserved : goal.loop-command-preserved
-loop-command-preserved g c =
-    let language = commands c.places_of-places.result in
-    let before = owns language c.loop-command.script in
-    let after = owns language c.next_own.new.self in
-    let command = c.in-Ok-Some.command in
-    let fixed = fixed_of c.loop-command.world.given in
-    let world = c.loop-command.world.world in
-    let printed = played fixed world command in
-    let given : before ≡ with_own command after = rw c.in-Ok-Some.field-0-is at c.in-Ok-Some.ensures.own in
-    let more = more_lines (all_lines fixed world) (all_lines fixed printed.world) printed.text command before after (λ later. refl) given c.loop-command.invariant.faultless in
-    let all = text_of (play_output c.args.text.now) in
-    let lined = wrote_line (g.O.ByteOut.written c.args.writer.now) (g.O.ByteOut.written c.loop-command.writer) all c.loop-command.gathered.items printed.text (left_lines (all_lines fixed world) before) (left_lines (all_lines fixed printed.world) after) c.loop-command.invariant.written more in
-    record {
-      faultless = more_ok before after command given c.loop-command.invariant.faultless;
-      written =
-          rw c.in_ok-play_command.ensures.world (wrote_moved (g.O.ByteOut.written c.args.writer.now) (g.O.ByteOut.written c.loop-command.writer) (g.O.ByteOut.written c.play_command.new.writer) all
-          (c.loop-command.gathered.items ++ printed.text) c.play_command.new.text.items (left_lines (all_lines fixed printed.world) after)
-          lined c.in_ok-play_command.ensures.printed.0);
-      played = plays_on c.args.text.now before after c.loop-command.world c.play_command.new.world command c.loop-command.invariant.played given c.command_is_valid.ensures c.in_ok-play_command.ensures.world;
-      failures = c.in_ok-play_command.ensures.printed.1 ∙ c.loop-command.invariant.failures;
-    }
-
-pub promise-requires : goal.promise-requires
-promise-requires g c = of_run c.args.text.now (owns (commands c.places_of-places.result) c.loop-command.script) c.loop-command.world c.loop-command.invariant.played
-
-pub returns-clause-promised : goal.returns-clause-promised
-returns-clause-promised g c =
-    let none = rw c.in-Ok-None.field-0-is at c.in-Ok-None.ensures.own in
-    either_way c.write_gathered.result (PlayIsPromised c.args.text.now) (ends_promised c.args.text.now (owns (commands c.places_of-places.result) c.loop-command.script) c.loop-command.world c.loop-command.invariant.played none c.promise.ensures)
-
-pub returns-clause-plays : goal.returns-clause-plays
-returns-clause-plays g c =
-    let none = rw c.in-Ok-None.field-0-is at c.in-Ok-None.ensures.own in
-    let language = commands c.places_of-places.result in
-    let world = c.loop-command.world in
-    plays_all c.write_gathered.result (g.O.ByteOut.written c.args.writer.now) (g.O.ByteOut.written c.loop-command.writer) (g.O.ByteOut.written c.write_gathered.new.writer) (text_of (play_output c.args.text.now))
-    c.loop-command.gathered.items (left_lines (all_lines (fixed_of world.given) world.world) (owns language c.loop-command.script))
-    (g.O.ByteOut.failed_writes c.args.writer.now) (g.O.ByteOut.failed_writes c.loop-command.writer) (g.O.ByteOut.failed_writes c.write_gathered.new.writer)
-    c.loop-command.invariant.written (ap (left_lines (all_lines (fixed_of world.given) world.world)) none) c.loop-command.invariant.failures c.write_gathered.ensures.plays
+pub returns-in_err-check_events-clause-plays : goal.returns-in_err-check_events-clause-plays
+returns-in_err-check_events-clause-plays g c =
+    let error = c.in_err-check_events.field-0.0 in
+    rw (failed c.from_residual.result (play_error_of error) c.from_residual.ensures)
+    (stops error (play_output c.args.text.now) (g.O.ByteOut.written c.args.writer.now) (g.O.ByteOut.failed_writes c.args.writer.now) c.in_err-check_events.ensures)

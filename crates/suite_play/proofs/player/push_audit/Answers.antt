@@ -1,9 +1,10 @@
-use Rattle.std.proofs.Common.{◌≡◌, ◌∙◌, ◌+◌, ◌++◌, ap, drop, get_or}
+use Rattle.std.proofs.Common.{◌≡◌, ◌∙◌, ◌+◌, ◌++◌, [], ap, drop, get_or}
 use Rattle.std.specs.List.{flat_map}
 use Rattle.std.proofs.lemmas.List.{drop_more}
 use Rattle.acl_core.specs.declared.check.Decider.TheVariants.{UserObj}
 use Rattle.file_ops.specs.declared.audit.AuditItem.{AuditItem}
-use Rattle.suite_script.proofs.Gathering.{wrote_line, wrote_moved}
+use Rattle.suite_script.proofs.Gathering.{failed, prints_nothing, wrote_line, wrote_moved}
+use Rattle.suite_script.specs.declared.play_error.PlayError.TheVariants.{Memory}
 use Rattle.suite_play.specs.Texts.{audit_lines, item_line}
 use Rattle.suite_play.proofs.player.push_audit.Goals as goal
 
@@ -27,3 +28,25 @@ loop-item-preserved g c =
       written = wrote_moved told now (g.O.ByteOut.written c.write_if_full.new.writer) whole c.push_item.new.text.items c.write_if_full.new.text.items more (rw c.in_ok-push_item.ensures lined) c.in_ok-write_if_full.ensures.0;
       failures = c.in_ok-write_if_full.ensures.1 ∙ c.loop-item.invariant.failures;
     }
+
+-- memory ran out in the first line
+
+pub returns-in_err-extend_from_slice : goal.returns-in_err-extend_from_slice
+returns-in_err-extend_from_slice g c =
+    rw (failed c.from_residual.result Memory c.from_residual.ensures) (prints_nothing (g.O.ByteOut.written c.args.writer.now) (c.args.text.now.items ++ audit_lines c.args.server c.args.items.now) [] (g.O.ByteOut.failed_writes c.args.writer.now))
+
+pub returns-in_err-push_number : goal.returns-in_err-push_number
+returns-in_err-push_number g c =
+    rw (failed c.from_residual-in_err-push_number.result Memory c.from_residual-in_err-push_number.ensures) (prints_nothing (g.O.ByteOut.written c.args.writer.now) (c.args.text.now.items ++ audit_lines c.args.server c.args.items.now) [] (g.O.ByteOut.failed_writes c.args.writer.now))
+
+pub returns-in_err-extend_from_slice-2 : goal.returns-in_err-extend_from_slice-2
+returns-in_err-extend_from_slice-2 g c =
+    rw (failed c.from_residual-in_err-extend_from_slice-2.result Memory c.from_residual-in_err-extend_from_slice-2.ensures) (prints_nothing (g.O.ByteOut.written c.args.writer.now) (c.args.text.now.items ++ audit_lines c.args.server c.args.items.now) [] (g.O.ByteOut.failed_writes c.args.writer.now))
+
+pub returns-in_err-push_number-2 : goal.returns-in_err-push_number-2
+returns-in_err-push_number-2 g c =
+    rw (failed c.from_residual-in_err-push_number-2.result Memory c.from_residual-in_err-push_number-2.ensures) (prints_nothing (g.O.ByteOut.written c.args.writer.now) (c.args.text.now.items ++ audit_lines c.args.server c.args.items.now) [] (g.O.ByteOut.failed_writes c.args.writer.now))
+
+pub returns-in_err-extend_from_slice-3 : goal.returns-in_err-extend_from_slice-3
+returns-in_err-extend_from_slice-3 g c =
+    rw (failed c.from_residual-in_err-extend_from_slice-3.result Memory c.from_residual-in_err-extend_from_slice-3.ensures) (prints_nothing (g.O.ByteOut.written c.args.writer.now) (c.args.text.now.items ++ audit_lines c.args.server c.args.items.now) [] (g.O.ByteOut.failed_writes c.args.writer.now))

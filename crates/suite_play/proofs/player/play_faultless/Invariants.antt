@@ -8,7 +8,7 @@ use Rattle.txn_core.specs.Agents.{fixed_of}
 use Rattle.suite_play.specs.Playing.{all_lines}
 use Rattle.suite_play.proofs.Lines.{commands}
 use Rattle.suite_play.proofs.Promised.{IsPlayed}
-use Rattle.suite_play.proofs.player.play_events.Given as goal
+use Rattle.suite_play.proofs.player.play_faultless.Given as goal
 
 abbrev pub invariant-loop-command : goal.invariant-loop-command
 invariant-loop-command g l = record {
