@@ -2,14 +2,14 @@
 //! what a server is asked; the prefix, its content's version, the members and the first source of a
 //! Current; or the votes of a Short, with the first Busy.
 
-use suite_collect::{
-    Collect, Next, asks_are_few, current_is_a_quorum, nobody_is_asked_twice,
-    prefix_and_version_stay, short_has_none_left, widened_is_a_write_quorum,
-};
 use acl_core::{Acl, Mode};
 use rep_core::{Reply, Request};
 use std::alloc::AllocError;
 use std::process::Abort;
+use suite_collect::{
+    Collect, Next, asks_are_few, current_is_a_quorum, nobody_is_asked_twice,
+    prefix_and_version_stay, short_has_none_left, widened_is_a_write_quorum,
+};
 use suite_prefix::{LockMode, Prefix, PrefixKind};
 use talks::TALKS;
 use vote_core::Votes;

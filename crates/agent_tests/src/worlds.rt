@@ -4,10 +4,10 @@
 //! What memory was refused to is done again, so that each allocation can be refused in turn. What a test
 //! itself lacks stops it.
 
-use run_core::{Event, Outcome, World, runs_go_on, worked_runs};
 use acl_core::{Acl, Caller, Mode};
 use file_ops::{Action, Init, Op, PathText};
 use rep_core::Lack;
+use run_core::{Event, Outcome, World, runs_go_on, worked_runs};
 use std::process::Abort;
 use suite_content::{FileBytes, Kind};
 use suite_prefix::Settings;

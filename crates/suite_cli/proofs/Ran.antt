@@ -66,7 +66,10 @@ pub broke : (output : List ℕ → Output) (streams : Streams) (status : ℕ) (t
     → BrokeOff (output text) streams.written now → failures ≡ streams.failed_writes → status ≡ no_memory
     → SaysMemory now streams.written_after failures streams.failed_writes_after → RunsOn output streams status input
 broke output streams status text input now failures whole so same is says =
-    broken output streams status text input whole (is, elim says [
-      | inl added ↦ inl (so.front, (so.begun, adds_both streams.written now streams.written_after so.front memory_line so.added added))
-      | inr failed ↦ inr (failed ∙ ap one_more same)
-    ])
+    broken output streams status text input whole (
+      is,
+      elim says [
+        | inl added ↦ inl (so.front, (so.begun, adds_both streams.written now streams.written_after so.front memory_line so.added added))
+        | inr failed ↦ inr (failed ∙ ap one_more same)
+      ],
+    )

@@ -71,9 +71,10 @@ returns-clause-plays g c =
     let told = g.O.ByteOut.written c.args.writer.now in
     let now = g.O.ByteOut.written c.loop-command.writer in
     let output = play_output c.args.text.now in
-    let so = wrote_rest told now (text_of output) c.loop-command.gathered.items (lines (owns language c.loop-command.script)) c.loop-command.invariant.written (ap lines none) in
-    (wrote_all output told now (g.O.ByteOut.written c.write_gathered.new.writer) c.loop-command.gathered.items c.requires.faultless so c.in_ok-write_gathered.ensures.ok,
-     c.in_ok-write_gathered.ensures.kept ∙ c.loop-command.invariant.failures)
+    let so = wrote_rest told now (text_of output) c.loop-command.gathered.items (lines (owns language c.loop-command.script)) c.loop-command.invariant.written (ap lines none) in (
+      wrote_all output told now (g.O.ByteOut.written c.write_gathered.new.writer) c.loop-command.gathered.items c.requires.faultless so c.in_ok-write_gathered.ensures.ok,
+      c.in_ok-write_gathered.ensures.kept ∙ c.loop-command.invariant.failures,
+    )
 
 -- ---- memory ran out, or a write failed
 
@@ -86,10 +87,12 @@ returns-in_err-world-clause-plays g c =
 
 pub returns-in-Err-Memory-next_own-clause-plays : goal.returns-in-Err-Memory-next_own-clause-plays
 returns-in-Err-Memory-next_own-clause-plays g c =
-    let world = c.loop-command.world in
-    (broke_off (play_output c.args.text.now) (g.O.ByteOut.written c.args.writer.now) (g.O.ByteOut.written c.loop-command.writer)
-     (c.loop-command.gathered.items ++ left_lines (all_lines (fixed_of world.given) world.world) (owns (commands c.places_of-places.result) c.loop-command.script))
-     c.requires.faultless c.loop-command.invariant.written, c.loop-command.invariant.failures)
+    let world = c.loop-command.world in (
+      broke_off (play_output c.args.text.now) (g.O.ByteOut.written c.args.writer.now) (g.O.ByteOut.written c.loop-command.writer)
+          (c.loop-command.gathered.items ++ left_lines (all_lines (fixed_of world.given) world.world) (owns (commands c.places_of-places.result) c.loop-command.script))
+          c.requires.faultless c.loop-command.invariant.written,
+      c.loop-command.invariant.failures,
+    )
 
 pub returns-in_err-play_command-clause-plays : goal.returns-in_err-play_command-clause-plays
 returns-in_err-play_command-clause-plays g c =

@@ -45,9 +45,10 @@ returns g c =
     let now = g.O.ByteOut.written c.loop-writer.writer in
     let whole = text_of (in_all c.args.self.now) in
     let all = came_to c.in_ok-play_next.field-0 (in_all c.loop-writer.self) (in_all next) next.printed.items c.in_ok-play_next.ensures.plays c.if-not-branch.true in
-    let so = subst (λ (output : Output). WroteSoFar told whole (text_of output) now) all c.loop-writer.invariant.written in
-    (wrote_all (in_all c.args.self.now) told now (g.O.ByteOut.written c.write_gathered.new.writer) next.printed.items c.requires.faultless so c.in_ok-write_gathered.ensures.ok,
-     c.in_ok-write_gathered.ensures.kept ∙ c.loop-writer.invariant.failures)
+    let so = subst (λ (output : Output). WroteSoFar told whole (text_of output) now) all c.loop-writer.invariant.written in (
+      wrote_all (in_all c.args.self.now) told now (g.O.ByteOut.written c.write_gathered.new.writer) next.printed.items c.requires.faultless so c.in_ok-write_gathered.ensures.ok,
+      c.in_ok-write_gathered.ensures.kept ∙ c.loop-writer.invariant.failures,
+    )
 
 pub returns-in_err-play_next : goal.returns-in_err-play_next
 returns-in_err-play_next g c =
