@@ -1,13 +1,13 @@
 -- The run of a script, line by line.
 use Rattle.std.proofs.Common.{◌≡◌, ℕ, zero, suc, false, List, [], ◌∷◌, ◌++◌, append_assoc, Option, Some, None, Result, Ok, Err, refl, ◌∙◌, ap, sym, subst}
-use Rattle.std.specs.List.{flat_map}
-use Rattle.std.specs.Prelude.{true, not}
-use Rattle.std.specs.List.{list_all}
+use Rattle.std.specs.Prelude.{Bool, true, not}
+use Rattle.std.specs.List.{flat_map, list_all}
 use Rattle.std.proofs.lemmas.Bool.{and_parts, false≢true}
-use Rattle.std.proofs.lemmas.List.{append-nil, flat_map-append}
+use Rattle.std.proofs.lemmas.List.{append-nil}
 use Rattle.suite_prefix.specs.SettingsRules.{Opening}
 use Rattle.txn_core.specs.Doing.{Fixed}
 use Rattle.txn_core.specs.Agents.{fixed_of}
+use Rattle.run_core.specs.declared.event.Event.{Event}
 use Rattle.run_core.specs.declared.event.Event.TheVariants.{Step}
 use Rattle.run_core.specs.declared.done.Done.{Done}
 use Rattle.run_core.specs.declared.done.Outcome.{Outcome}
@@ -63,14 +63,20 @@ line_jobs fixed world (line.Steps agent count) is = steps_text fixed world agent
 line_jobs fixed world (line.Run agent) is = steps_text fixed world agent endless
 line_jobs fixed world (line.Audit server) is = absurd (false≢true (sym is))
 
-abbrev printed : Fixed → World → List _ → List ℕ
+abbrev printed : Fixed → World → List Event → List ℕ
 printed fixed world events = flat_map outcome_line (outcomes (dones fixed world events))
 
-printed_more : (fixed : Fixed) (world : World) (events later : List _) → printed fixed world (events ++ later) ≡ printed fixed world events ++ printed fixed (after fixed world events) later
+texts_more : (jobs later : List Outcome) → flat_map outcome_line (jobs ++ later) ≡ flat_map outcome_line jobs ++ flat_map outcome_line later
+texts_more [] later = refl
+texts_more (job ∷ jobs) later =
+    ap (λ text. outcome_line job ++ text) (texts_more jobs later)
+    ∙ sym (append_assoc (outcome_line job) (flat_map outcome_line jobs) (flat_map outcome_line later))
+
+printed_more : (fixed : Fixed) (world : World) (events later : List Event) → printed fixed world (events ++ later) ≡ printed fixed world events ++ printed fixed (after fixed world events) later
 printed_more fixed world events later =
     ap (λ done. flat_map outcome_line (outcomes done)) (dones-append fixed world events later)
     ∙ ap (flat_map outcome_line) (outcomes-append (dones fixed world events) (dones fixed (after fixed world events) later))
-    ∙ flat_map-append outcome_line (outcomes (dones fixed world events)) (outcomes (dones fixed (after fixed world events) later))
+    ∙ texts_more (outcomes (dones fixed world events)) (outcomes (dones fixed (after fixed world events) later))
 
 asks_none : (b : Bool) → not b ≡ true → b ≡ false
 asks_none true is = absurd (false≢true is)
