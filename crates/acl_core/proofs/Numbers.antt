@@ -12,7 +12,7 @@ use Rattle.acl_core.specs.declared.entry.Entry.{Entry}
 use Rattle.acl_core.specs.Entries.{entry_of}
 use Rattle.acl_core.specs.Tags.{rank, same_tag, precedes, is_user, is_group}
 use Rattle.acl_core.specs.AccessLists.{count_of, has_named, has_twice}
-use Rattle.acl_core.specs.Sorted.{IsSortedCopy, stands_beside}
+use Rattle.acl_core.specs.code.Sorted.{IsSortedCopy, stands_beside}
 use Rattle.acl_core.specs.Tallies.{is_doubled, user_of, group_of}
 use Rattle.acl_core.proofs.Doubles.{beside-twice}
 use Rattle.acl_core.proofs.Lists.{count_by-cons}

@@ -8,7 +8,7 @@ use Rattle.acl_core.specs.declared.entry.Entry.{Entry}
 use Rattle.acl_core.specs.declared.fault.AclFault.{AclFault}
 use Rattle.acl_core.specs.declared.fault.AclFault.TheVariants.{NoUserObj, NoGroupObj, NoOther, TwiceSingle, UserTwice, GroupTwice, MaskMissing, TooMany}
 use Rattle.acl_core.specs.Tags.{is_user, is_group}
-use Rattle.acl_core.specs.AccessLists.{count_of, has_twice, has_fault, has_named, most_entries, faults, first_fault}
+use Rattle.acl_core.specs.AccessLists.{count_of, has_twice, has_fault, has_named, max_entries, faults, first_fault}
 use Rattle.acl_core.proofs.Sorting.{count_of_permutation}
 
 twice_permutation : (kind : Tag → Bool) (xs ys : List Entry) → IsPermutation xs ys → has_twice kind ys ≡ has_twice kind xs
@@ -27,7 +27,7 @@ fault_permutation TwiceSingle xs ys h = λ i. list_any (λ tag. ltb 1 (count_of_
 fault_permutation UserTwice xs ys h = twice_permutation is_user xs ys h
 fault_permutation GroupTwice xs ys h = twice_permutation is_group xs ys h
 fault_permutation MaskMissing xs ys h = λ i. named_permutation xs ys h i && eqb (count_of_permutation xs ys h Mask i) 0
-fault_permutation TooMany xs ys h = ap (ltb most_entries) (length_permutation xs ys h)
+fault_permutation TooMany xs ys h = ap (ltb max_entries) (length_permutation xs ys h)
 
 pub first_fault_permutation : (xs ys : List Entry) → IsPermutation xs ys → first_fault ys ≡ first_fault xs
 first_fault_permutation xs ys h = λ i. find (λ fault. fault_permutation fault xs ys h i) faults

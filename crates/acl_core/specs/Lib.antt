@@ -1,13 +1,10 @@
 pub mod Permissions
 pub mod Identity
-pub mod Padding
 pub mod Tags
 pub mod Entries
 pub mod AccessLists
 pub mod Tallies
-pub mod TallyFields
 pub mod Modes
 pub mod InOrder
-pub mod Sorted
 pub mod Checks
-pub mod EntryLaws
+pub mod code

@@ -4,7 +4,7 @@ use Rattle.std.specs.List.{filter_map, list_any}
 use Rattle.acl_core.specs.declared.entry.Tag.{Tag}
 use Rattle.acl_core.specs.declared.entry.Tag.TheVariants.{UserObj, User, GroupObj, Group, Mask, Other}
 use Rattle.acl_core.specs.declared.entry.Entry.{Entry}
-use Rattle.acl_core.specs.AccessLists.{count_of, most_entries}
+use Rattle.acl_core.specs.AccessLists.{count_of, max_entries}
 
 -- counts of the entries that can stand only once, users and groups, and entries
 pub record Tallied : Type 0 where
@@ -38,11 +38,11 @@ pub record IsTallyOf (tally : Tallied) (entries : List Entry) : Type 0 where
   pub others : tally.others ≡ up_to_two (count_of Other entries)
   pub users : tally.users ≡ filter_map (λ e. user_of e.tag) entries
   pub groups : tally.groups ≡ filter_map (λ e. group_of e.tag) entries
-  pub kept : tally.kept ≡ take (most_entries + 1) entries
+  pub kept : tally.kept ≡ take (max_entries + 1) entries
 
 -- as long as no more entries are kept than a list may have, they are all that were taken
 abbrev pub IsWhole : Tallied → Type 0
-IsWhole tally = length tally.kept ≤ most_entries → IsTallyOf tally tally.kept
+IsWhole tally = length tally.kept ≤ max_entries → IsTallyOf tally tally.kept
 
 -- whether a number stands twice
 abbrev pub is_doubled : List ℕ → Bool

@@ -47,7 +47,7 @@ impl Clone for Acl {
 impl PartialEq for Acl {
     ghost use Rattle.std.specs.Cmp.Lexicographic.{pointwise};
     ghost use Rattle.acl_core.specs.Tags.{same_entry};
-    ghost use Rattle.acl_core.specs.EntryLaws.{same_list_partial_laws};
+    ghost use Rattle.acl_core.specs.code.EntryLaws.{same_list_partial_laws};
 
     ghost eq = { λ a b. pointwise same_entry a b };
 
@@ -59,7 +59,7 @@ impl PartialEq for Acl {
 }
 
 impl Eq for Acl {
-    ghost use Rattle.acl_core.specs.EntryLaws.{same_list_laws};
+    ghost use Rattle.acl_core.specs.code.EntryLaws.{same_list_laws};
 
     ghost laws = { same_list_laws };
 }

@@ -5,7 +5,7 @@
 
 ghost use Rattle.std.specs.Prelude.{◌≡◌, ◌==◌, ◌+◌, ◌≤◌, nat_lt, not, ◌&&◌, ◌||◌, ◌⊎◌, IsTrue, List, [], ◌∷◌, ◌++◌, None, Some, IfOk, IsPermutation, MatchResult, OnErr, OnOk, drop, length};
 ghost use Rattle.std.specs.List.{list_any, zip};
-ghost use Rattle.acl_core.specs.AccessLists.{IsAccepted, fault_in, first_fault, most_entries};
+ghost use Rattle.acl_core.specs.AccessLists.{IsAccepted, fault_in, first_fault, max_entries};
 ghost use Rattle.acl_core.specs.InOrder.{in_order};
 ghost use Rattle.acl_core.specs.Tags.{is_group, is_user};
 ghost use Rattle.acl_core.specs.Tallies.{IsTallyOf, is_doubled, up_to_two};
@@ -34,7 +34,7 @@ impl Model for Tally {
 
     ghost Value = { Tallied };
 
-    ghost use Rattle.acl_core.specs.TallyFields.{tallied};
+    ghost use Rattle.acl_core.specs.code.TallyFields.{tallied};
 
     ghost view = { tallied };
 
@@ -69,7 +69,7 @@ impl Tally {
     pub fn take(&mut self, entry: Entry) -> Result<(), AllocError>
         ensures taken { OnOk result ((entries : List Entry) → IsTallyOf self.old entries → IsTallyOf self.new (entries ++ entry ∷ [])) }
         ensures unchanged { OnErr result (self.new ≡ self.old) }
-        ensures room { OnErr result (IsTrue (is_user entry.tag || is_group entry.tag) ⊎ (length self.old.kept ≤ most_entries)) }
+        ensures room { OnErr result (IsTrue (is_user entry.tag || is_group entry.tag) ⊎ (length self.old.kept ≤ max_entries)) }
     {
         let is_kept = self.kept.len() <= MAX_ENTRIES;
         if is_kept {

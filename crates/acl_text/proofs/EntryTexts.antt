@@ -14,7 +14,7 @@ use Rattle.acl_core.specs.declared.entry.Tag.TheVariants as tag
 use Rattle.acl_core.specs.declared.entry.Entry.{Entry}
 use Rattle.acl_core.specs.declared.perms.Perms.{Perms}
 use Rattle.acl_core.specs.Entries.{entry_of}
-use Rattle.acl_core.specs.Permissions.{read, write, execute, has, digit_of}
+use Rattle.acl_core.specs.Permissions.{may_read, may_write, may_execute, has_permission, digit_of}
 use Rattle.acl_core.specs.Tags.{qualifier}
 use Rattle.acl_core.proofs.EntryEquality.{same_by_fields}
 use Rattle.acl_text.specs.declared.keyword.Keyword.{Keyword}
@@ -23,7 +23,7 @@ use Rattle.acl_text.specs.declared.item.ItemFault.{ItemFault}
 use Rattle.acl_text.specs.Grammar.{reading, entry_reading, fits_keyword, numbered, tag_of, are_permissions, permission_digit}
 use Rattle.acl_text.specs.Keywords.{word_of, keyword_of, is_default}
 use Rattle.acl_text.specs.Layout.{is_white, colon, parts, trimmed, fields_of}
-use Rattle.acl_text.specs.Qualifiers.{is_name_byte, most_id}
+use Rattle.acl_text.specs.Qualifiers.{is_name_byte, max_id}
 use Rattle.acl_text.specs.Tables.{Tables}
 use Rattle.acl_text.specs.Writing.{entry_text, tag_text}
 use Rattle.acl_text.proofs.CleanText.{lacks, split_at_byte, trimmed_clean, list_all_wider}
@@ -35,7 +35,7 @@ digits_alone : (digits : List ℕ) → list_all is_ascii_digit digits ≡ all_as
 digits_alone [] = refl
 digits_alone (d ∷ digits) = ap (λ rest. is_ascii_digit d && rest) (digits_alone digits)
 
-decimal_digits : (id : ℕ) → id ≤ most_id → list_all is_ascii_digit (decimal id) ≡ true
+decimal_digits : (id : ℕ) → id ≤ max_id → list_all is_ascii_digit (decimal id) ≡ true
 decimal_digits id small = digits_alone (decimal id) ∙ digits_decimal (numerals_by_value _ tells_all_ascii_digits) id (omega arith)
 
 name_digit : (b : ℕ) → is_ascii_digit b ≡ true → is_name_byte b ≡ true
@@ -103,12 +103,12 @@ group_of : (names : Tables) (q : List ℕ) → 0 < length q → tag_of names Gro
 group_of names [] some = absurd (omega arith)
 group_of names (b ∷ q) some = refl
 
-numbered_decimal : (table : List (List ℕ × ℕ)) (id : ℕ) → id ≤ most_id → numbered table (decimal id) ≡ Ok id
+numbered_decimal : (table : List (List ℕ × ℕ)) (id : ℕ) → id ≤ max_id → numbered table (decimal id) ≡ Ok id
 numbered_decimal table id small =
     let numeral = decimal_is_IsNumeral id (omega arith) in
     rw (decimal_digits id small, ← fits (decimal id) id (sym numeral.1) small) refl
 
-decimal_facts : (id : ℕ) → id ≤ most_id → (0 < length (decimal id)) × (lacks (λ b. eqb b colon) (decimal id) ≡ true) × (trimmed (decimal id) ≡ decimal id) × (list_all is_name_byte (decimal id) ≡ true) × (list_all is_plain (decimal id) ≡ true)
+decimal_facts : (id : ℕ) → id ≤ max_id → (0 < length (decimal id)) × (lacks (λ b. eqb b colon) (decimal id) ≡ true) × (trimmed (decimal id) ≡ decimal id) × (list_all is_name_byte (decimal id) ≡ true) × (list_all is_plain (decimal id) ≡ true)
 decimal_facts id small =
     let digits = decimal_digits id small in (
       (decimal_is_IsNumeral id (omega arith)).0.0,
@@ -118,7 +118,7 @@ decimal_facts id small =
       list_all_wider is_ascii_digit is_plain plain_digit (decimal id) digits,
     )
 
-qualifier_facts : (names : Tables) (t : Tag) → qualifier t ≤ most_id → QualifierFacts names t
+qualifier_facts : (names : Tables) (t : Tag) → qualifier t ≤ max_id → QualifierFacts names t
 qualifier_facts names tag.UserObj small = record { no_colon = refl; trims = refl; fit = refl; whom = refl; plain = refl }
 qualifier_facts names (tag.User id) small =
     let f = decimal_facts id small in
@@ -148,21 +148,21 @@ reading_parts : (names : Tables) (t : Tag) (permissions : List ℕ) → Qualifie
 reading_parts names t permissions q good = rw (q.fit, good, q.whom) refl
 
 -- the digit of an entry's permissions gives the entry back
-same_digit : (n : ℕ) → n < 8 → digit_of (has (record { 0 = n }) read) (has (record { 0 = n }) write) (has (record { 0 = n }) execute) % 8 ≡ n
+same_digit : (n : ℕ) → n < 8 → digit_of (has_permission (record { 0 = n }) may_read) (has_permission (record { 0 = n }) may_write) (has_permission (record { 0 = n }) may_execute) % 8 ≡ n
 same_digit n small =
-    eqb-true _ _ (agree_below_at (λ b. eqb (digit_of (has (record { 0 = b }) read) (has (record { 0 = b }) write) (has (record { 0 = b }) execute) % 8) b) (λ _. true) 8 n refl small)
+    eqb-true _ _ (agree_below_at (λ b. eqb (digit_of (has_permission (record { 0 = b }) may_read) (has_permission (record { 0 = b }) may_write) (has_permission (record { 0 = b }) may_execute) % 8) b) (λ _. true) 8 n refl small)
 
-entry_of-shown : (e : Entry) → entry_of e.tag (digit_of (has e.perms read) (has e.perms write) (has e.perms execute)) ≡ e
+entry_of-shown : (e : Entry) → entry_of e.tag (digit_of (has_permission e.perms may_read) (has_permission e.perms may_write) (has_permission e.perms may_execute)) ≡ e
 entry_of-shown e =
     let set : ℕ → Perms = λ n. record { 0 = n } in
     same_by_fields _ e refl (ap set (same_digit e.perms.0 e.known))
 
 -- an entry's text, also with a tab after it, is read as that entry
-pub entry_text_read : (names : Tables) (e : Entry) (t : Bool) → qualifier e.tag ≤ most_id → reading names (entry_text e ++ tail t) ≡ Ok (Some e)
+pub entry_text_read : (names : Tables) (e : Entry) (t : Bool) → qualifier e.tag ≤ max_id → reading names (entry_text e ++ tail t) ≡ Ok (Some e)
 entry_text_read names e t small =
-    let r = has e.perms read in
-    let w = has e.perms write in
-    let x = has e.perms execute in
+    let r = has_permission e.perms may_read in
+    let w = has_permission e.perms may_write in
+    let x = has_permission e.perms may_execute in
     let k = keyword_of_tag e.tag in
     let q = qualifier_text e.tag in
     let letters = letter_facts r w x t in
@@ -182,11 +182,11 @@ entry_text_read names e t small =
     ∙ ap (λ entry. said (Ok entry)) (entry_of-shown e)
 
 -- an entry's text cuts no text into items
-pub entry_text_plain : (names : Tables) (e : Entry) (t : Bool) → qualifier e.tag ≤ most_id → list_all is_plain (entry_text e ++ tail t) ≡ true
+pub entry_text_plain : (names : Tables) (e : Entry) (t : Bool) → qualifier e.tag ≤ max_id → list_all is_plain (entry_text e ++ tail t) ≡ true
 entry_text_plain names e t small =
-    let r = has e.perms read in
-    let w = has e.perms write in
-    let x = has e.perms execute in
+    let r = has_permission e.perms may_read in
+    let w = has_permission e.perms may_write in
+    let x = has_permission e.perms may_execute in
     let k = keyword_of_tag e.tag in
     let q = qualifier_text e.tag in
     let last = three r w x ++ tail t in

@@ -2,7 +2,8 @@
 use Rattle.std.proofs.Common.{◌≡◌, ℕ, true, eqb, List, ◌∷◌, Option, None, Some, is_some, Err, map, refl}
 use denote.Ref.{Bor}
 use Rattle.acl_text.specs.declared.item.ItemFault.TheVariants.{Syntax}
-use Rattle.acl_text.specs.Layout.{colon, parts_left, trimmed}
+use Rattle.acl_text.specs.Layout.{colon, trimmed}
+use Rattle.acl_text.specs.code.Remaining.{parts_left}
 use Rattle.acl_text.specs.Tables.{Tables}
 use Rattle.acl_text.specs.Grammar.{fields_reading}
 use Rattle.acl_text.proofs.Splits.{some_part}

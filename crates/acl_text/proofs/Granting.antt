@@ -13,7 +13,8 @@ use Rattle.acl_core.specs.Permissions.{digit_of}
 use Rattle.acl_text.specs.declared.item.ItemFault.TheVariants.{Syntax}
 use Rattle.acl_text.specs.declared.item.Letters.{Letters}
 use Rattle.acl_text.specs.declared.keyword.Keyword.{Keyword}
-use Rattle.acl_text.specs.Grammar.{IsReadOf, are_permissions, entry_reading, fits_keyword, hyphen, is_permission_byte, letter_r, letter_w, letter_x, permission_bytes, permission_digit, stands_in, tag_of, times_in}
+use Rattle.acl_text.specs.Grammar.{are_permissions, entry_reading, fits_keyword, hyphen, is_permission_byte, letter_r, letter_w, letter_x, permission_bytes, permission_digit, stands_in, tag_of, times_in}
+use Rattle.acl_text.specs.code.Reading.{IsReadOf}
 use Rattle.acl_text.specs.Items.{Grants}
 use Rattle.acl_text.specs.Qualifiers.{is_name_byte}
 use Rattle.acl_text.specs.Tables.{Tables}

@@ -25,7 +25,7 @@ use Rattle.acl_text.specs.Grammar.{letter_r, letter_w, letter_x, hyphen, times_i
 use Rattle.acl_text.specs.Items.{IsSpaced, Denotes, Says, Grants, IsLong, IsShort, IsLaidOut, IsItemOf, is_single}
 use Rattle.acl_text.specs.Keywords.{word_of, letter_of, keyword_among, keyword_of, single_keyword_of, is_default}
 use Rattle.acl_text.specs.Layout.{colon, is_white, parts, trimmed, fields_of}
-use Rattle.acl_text.specs.Qualifiers.{is_name_byte, most_id, id_of}
+use Rattle.acl_text.specs.Qualifiers.{is_name_byte, max_id, id_of}
 use Rattle.acl_text.specs.Tables.{Tables, number_in}
 use Rattle.acl_text.proofs.CleanText.{lacks, split_lacking, split_at_byte, list_all_wider}
 use Rattle.acl_text.proofs.Trimming.{trimmed_spaced, spaced_by_trimming}
@@ -116,12 +116,12 @@ some_of : {T : Type 0} (o : Option T) (fault : ItemFault) (x : T) → ok_or o fa
 some_of (Some y) fault x h = let same : y ≡ x = cc in ap Some same
 some_of None fault x h = cc
 
-id_parts : (n id : ℕ) → cond (leb n most_id) (Some n) None ≡ Some id → (n ≡ id) × (id ≤ most_id)
-id_parts n id h = elim (cases_Bool (leb n most_id)) [
+id_parts : (n id : ℕ) → cond (leb n max_id) (Some n) None ≡ Some id → (n ≡ id) × (id ≤ max_id)
+id_parts n id h = elim (cases_Bool (leb n max_id)) [
   | inl small ↦
       let f : Some n ≡ Some id = rw small at h in
       let same : n ≡ id = cc in
-      (same, subst (λ m. m ≤ most_id) same (leb-true n most_id small))
+      (same, subst (λ m. m ≤ max_id) same (leb-true n max_id small))
   | inr big ↦ let f : None ≡ Some id = rw big at h in cc
 ]
 
@@ -137,7 +137,7 @@ numbered_from : (table : List (List ℕ × ℕ)) (q : List ℕ) (id : ℕ) → D
 numbered_from table q id it = elim (cases_Bool (list_all is_ascii_digit q)) [
   | inl digits ↦
       let parts = it.number digits in
-      let small : leb (digits_value 10 q) most_id ≡ true = ap (λ n. leb n most_id) parts.0 ∙ le-leb id most_id parts.1 in
+      let small : leb (digits_value 10 q) max_id ≡ true = ap (λ n. leb n max_id) parts.0 ∙ le-leb id max_id parts.1 in
       let found : id_of q ≡ Some id = rw small (ap Some parts.0) in
       rw (digits, found) refl
   | inr other ↦ rw (other, it.name other) refl

@@ -5,7 +5,7 @@ use Rattle.std.specs.Str.Parse.{digits_value}
 use Rattle.std.proofs.lemmas.Bool.Decides.{nat_tests}
 use Rattle.std.proofs.lemmas.Int.Digits.{digits_value_more}
 use Rattle.std.proofs.lemmas.Str.Parse.{digits_value-take-le}
-use Rattle.acl_text.specs.Qualifiers.{id_of, most_id}
+use Rattle.acl_text.specs.Qualifiers.{id_of, max_id}
 
 -- what a digit adds
 pub value_of_digit : (d : ℕ) → is_ascii_digit d ≡ true → digit_value d ≡ d - 48
@@ -17,13 +17,13 @@ pub number_more : (digits : List ℕ) (i : ℕ) → is_ascii_digit (get_or digit
 number_more digits i digit inside = digits_value_more 10 digits i inside ∙ ap (λ v. digits_value 10 (take i digits) * 10 + v) (value_of_digit (get_or digits i 0) digit)
 
 -- a number that is too big after some digits is too big
-pub too_big : (digits : List ℕ) (i n : ℕ) → n ≡ digits_value 10 (take i digits) → most_id < n → id_of digits ≡ None
+pub too_big : (digits : List ℕ) (i n : ℕ) → n ≡ digits_value 10 (take i digits) → max_id < n → id_of digits ≡ None
 too_big digits i n is big =
     let kept = digits_value-take-le 10 digits i (omega arith) in
-    let above : leb (digits_value 10 digits) most_id ≡ false = let over : most_id < digits_value 10 digits = omega (arith, kept, is, big) in grind (arith, nat_tests) in
+    let above : leb (digits_value 10 digits) max_id ≡ false = let over : max_id < digits_value 10 digits = omega (arith, kept, is, big) in grind (arith, nat_tests) in
     ap (λ b. cond b (Some (digits_value 10 digits)) None) above
 
-pub fits : (digits : List ℕ) (n : ℕ) → n ≡ digits_value 10 digits → n ≤ most_id → Some n ≡ id_of digits
+pub fits : (digits : List ℕ) (n : ℕ) → n ≡ digits_value 10 digits → n ≤ max_id → Some n ≡ id_of digits
 fits digits n is small =
-    let below : leb (digits_value 10 digits) most_id ≡ true = let under : digits_value 10 digits ≤ most_id = omega (arith, is, small) in grind (arith, nat_tests) in
+    let below : leb (digits_value 10 digits) max_id ≡ true = let under : digits_value 10 digits ≤ max_id = omega (arith, is, small) in grind (arith, nat_tests) in
     ap Some is ∙ sym (ap (λ b. cond b (Some (digits_value 10 digits)) None) below)

@@ -5,12 +5,12 @@ use Rattle.std.proofs.lemmas.Bool.{cases_Bool, and_parts, and_from}
 use Rattle.std.proofs.lemmas.List.Folds.{list_all-append}
 use Rattle.acl_core.specs.declared.entry.Entry.{Entry}
 use Rattle.acl_core.specs.declared.perms.Perms.{Perms}
-use Rattle.acl_core.specs.Permissions.{read, write, execute, has, has_all}
+use Rattle.acl_core.specs.Permissions.{may_read, may_write, may_execute, has_permission, has_all}
 use Rattle.acl_core.specs.Tags.{qualifier}
 use Rattle.acl_text.specs.Grammar.{reading}
 use Rattle.acl_text.specs.Laws.{LongTextSpells, ShortTextSpells, NumbersFit}
 use Rattle.acl_text.specs.Layout.{items_of, items_of_line, uncommented, parts, comma, line_feed}
-use Rattle.acl_text.specs.Qualifiers.{most_id}
+use Rattle.acl_text.specs.Qualifiers.{max_id}
 use Rattle.acl_text.specs.Tables.{Tables}
 use Rattle.acl_text.specs.Writing.{entry_text, remark, is_limited, common_text, line_text, mask_of}
 use Rattle.acl_text.proofs.CleanText.{lacks, split_lacking, split_at_byte, before_lacking, before_at_byte, list_all_wider}
@@ -35,7 +35,7 @@ remark_of : (mask : Option Perms) (e : Entry) → IsRemark (remark mask e)
 remark_of None e = inl refl
 remark_of (Some mask) e =
     let common = common_text e.perms mask in
-    let letters = letter_facts (has e.perms read && has mask read) (has e.perms write && has mask write) (has e.perms execute && has mask execute) false in
+    let letters = letter_facts (has_permission e.perms may_read && has_permission mask may_read) (has_permission e.perms may_write && has_permission mask may_write) (has_permission e.perms may_execute && has_permission mask may_execute) false in
     elim (cases_Bool (is_limited e.tag && not (has_all mask e.perms))) [
       | inl less ↦ inr (codes "effective:" ++ common, rw less refl, list_all_wider is_plain (λ b. not (eqb b 10)) no_line_feed common letters.plain)
       | inr same ↦ inl (rw same refl)
@@ -51,7 +51,7 @@ record IsLine (names : Tables) (mask : Option Perms) (e : Entry) : Type 0 where
   one_item : items_of_line (body mask e) ≡ item ∷ []
   read_back : reading names item ≡ Ok (Some e)
 
-line_by : (names : Tables) (mask : Option Perms) (e : Entry) → qualifier e.tag ≤ most_id → IsRemark (remark mask e) → IsLine names mask e
+line_by : (names : Tables) (mask : Option Perms) (e : Entry) → qualifier e.tag ≤ max_id → IsRemark (remark mask e) → IsLine names mask e
 line_by names mask e small (inl none) =
     let text = entry_text e ++ tail false in
     let plain = entry_text_plain names e false small in
@@ -111,7 +111,7 @@ long_text_spells list names fit = record {
 no_names : Tables
 no_names = record { users = []; groups = [] }
 
-plain_entry : (e : Entry) → qualifier e.tag ≤ most_id → list_all is_plain (entry_text e) ≡ true
+plain_entry : (e : Entry) → qualifier e.tag ≤ max_id → list_all is_plain (entry_text e) ≡ true
 plain_entry e small = ap (list_all is_plain) (sym (append-nil (entry_text e))) ∙ entry_text_plain no_names e false small
 
 -- the entries after the first, each with a comma before it

@@ -12,7 +12,6 @@ use Rattle.acl_core.specs.Entries.{entry_of}
 use Rattle.acl_core.specs.Permissions.{digit_of}
 use Rattle.acl_text.specs.declared.item.ItemFault.{ItemFault}
 use Rattle.acl_text.specs.declared.item.ItemFault.TheVariants as item
-use Rattle.acl_text.specs.declared.item.Letters.{Letters}
 use Rattle.acl_text.specs.declared.keyword.Keyword.{Keyword}
 use Rattle.acl_text.specs.declared.keyword.Keyword.TheVariants.{User, Group, Mask, Other}
 use Rattle.acl_text.specs.Layout.{fields_of, is_white}
@@ -52,14 +51,6 @@ are_permissions field =
     list_all is_permission_byte field
     && list_all (λ byte. nat_le (times_in byte field) 1) permission_bytes
     && nat_le (times_in hyphen field) 3
-
--- these letters were read of some bytes, which are permissions
-pub record IsReadOf (letters : Letters) (front : List ℕ) : Type 0 where
-  pub known : are_permissions front ≡ true
-  pub reads : letters.reads ≡ stands_in letter_r front
-  pub writes : letters.writes ≡ stands_in letter_w front
-  pub executes : letters.executes ≡ stands_in letter_x front
-  pub hyphens : letters.hyphens ≡ times_in hyphen front
 
 -- as an octal digit
 abbrev pub permission_digit : List ℕ → ℕ

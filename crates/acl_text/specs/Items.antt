@@ -15,7 +15,7 @@ use Rattle.acl_text.specs.declared.keyword.Keyword.TheVariants.{User, Group, Mas
 use Rattle.acl_text.specs.Grammar.{letter_r, letter_w, letter_x, hyphen, is_permission_byte, times_in}
 use Rattle.acl_text.specs.Keywords.{word_of, letter_of}
 use Rattle.acl_text.specs.Layout.{colon, is_white}
-use Rattle.acl_text.specs.Qualifiers.{is_name_byte, most_id}
+use Rattle.acl_text.specs.Qualifiers.{is_name_byte, max_id}
 use Rattle.acl_text.specs.Tables.{Tables, number_in}
 
 -- a text with white space round it
@@ -30,7 +30,7 @@ pub record IsSpaced (inner text : List ℕ) : Type 0 where
 pub record Denotes (table : List (List ℕ × ℕ)) (qualifier : List ℕ) (id : ℕ) : Type 0 where
   pub some : 0 < length qualifier
   pub bytes : list_all is_name_byte qualifier ≡ true
-  pub number : list_all is_ascii_digit qualifier ≡ true → (digits_value 10 qualifier ≡ id) × (id ≤ most_id)
+  pub number : list_all is_ascii_digit qualifier ≡ true → (digits_value 10 qualifier ≡ id) × (id ≤ max_id)
   pub name : list_all is_ascii_digit qualifier ≡ false → number_in table qualifier ≡ Some id
 
 -- the keyword and the qualifier that say whom an entry is about

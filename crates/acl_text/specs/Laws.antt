@@ -8,14 +8,14 @@ use Rattle.acl_core.specs.Tags.{qualifier}
 use Rattle.acl_text.specs.declared.read.TextFault.TheVariants.{Invalid}
 use Rattle.acl_text.specs.Grammar.{reading}
 use Rattle.acl_text.specs.Items.{IsItemOf}
-use Rattle.acl_text.specs.Qualifiers.{most_id}
+use Rattle.acl_text.specs.Qualifiers.{max_id}
 use Rattle.acl_text.specs.Tables.{Tables}
 use Rattle.acl_text.specs.Texts.{Spells, fault}
 use Rattle.acl_text.specs.Writing.{canonical, short_text}
 
 -- the numbers of a list's entries are those that users and groups can have, as those of each `Acl` are
 abbrev pub NumbersFit : List Entry → Type 0
-NumbersFit list = AllByRecursion (λ e. qualifier e.tag ≤ most_id) list
+NumbersFit list = AllByRecursion (λ e. qualifier e.tag ≤ max_id) list
 
 -- the long text of a list spells that list, under all names
 abbrev pub LongTextSpells : Type 0

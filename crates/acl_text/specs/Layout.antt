@@ -1,8 +1,7 @@
 -- How a list's text is laid out, after acl(5), "LONG TEXT FORM" and "SHORT TEXT FORM". One text may mix
 -- the two: a line feed and a comma each end an item, and a comment runs to the end of its line.
-use Rattle.std.specs.Prelude.{ℕ, ◌==◌, ◌-◌, Bool, ◌||◌, List, [], length, take, drop, map, Option, None, Some}
+use Rattle.std.specs.Prelude.{ℕ, ◌==◌, ◌-◌, Bool, ◌||◌, List, length, take, drop, map}
 use Rattle.std.specs.List.{slice_split, before_first, flat_map, prefix_len, suffix_len}
-use denote.Ref.{Bor}
 
 -- the bytes that cut a text
 abbrev pub line_feed : ℕ
@@ -45,8 +44,3 @@ trimmed bytes =
 -- the fields of an item
 abbrev pub fields_of : List ℕ → List (List ℕ)
 fields_of item = map trimmed (parts colon item)
-
--- the parts of what is left, where something is
-abbrev pub parts_left : ℕ → Option (Bor (List ℕ)) → List (List ℕ)
-parts_left separator None = []
-parts_left separator (Some bytes) = parts separator bytes.now

@@ -1,5 +1,4 @@
 pub mod Layout
-pub mod Remaining
 pub mod Qualifiers
 pub mod Tables
 pub mod Keywords
@@ -9,3 +8,4 @@ pub mod Texts
 pub mod Writing
 pub mod Laws
 pub mod Items
+pub mod code

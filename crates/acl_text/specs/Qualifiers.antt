@@ -3,8 +3,6 @@ use Rattle.std.specs.Prelude.{◌≡◌, ℕ, ◌==◌, nat_le, Bool, true, fals
 use Rattle.std.specs.Char.{is_ascii_digit}
 use Rattle.std.specs.List.{list_all}
 use Rattle.std.specs.Str.Parse.{digits_value}
-use Rattle.acl_text.specs.declared.qualifier.Digits.{Digits}
-use Rattle.acl_text.specs.declared.qualifier.Digits.TheVariants.{Number, TooBig, Other}
 use Rattle.acl_text.specs.Layout.{colon, comma, comment_mark}
 
 abbrev pub backslash : ℕ
@@ -16,15 +14,9 @@ abbrev pub is_name_byte : ℕ → Bool
 is_name_byte byte = nat_le 33 byte && nat_le byte 126 && not ((byte == colon) || (byte == comma) || (byte == comment_mark) || (byte == backslash))
 
 -- the greatest number of a user or a group
-abbrev pub most_id : ℕ
-most_id = 4294967295
+abbrev pub max_id : ℕ
+max_id = 4294967295
 
 -- the number that decimal digits write, if a user or a group can have it
 abbrev pub id_of : List ℕ → Option ℕ
-id_of digits = if nat_le (digits_value 10 digits) most_id then Some (digits_value 10 digits) else None
-
--- digits alone with their number, or with none that a user or a group can have; or not digits alone
-abbrev pub AreDigits : Digits → List ℕ → Type 0
-AreDigits (Number id) bytes = (list_all is_ascii_digit bytes ≡ true) × (id_of bytes ≡ Some id)
-AreDigits TooBig bytes = (list_all is_ascii_digit bytes ≡ true) × (id_of bytes ≡ None)
-AreDigits Other bytes = list_all is_ascii_digit bytes ≡ false
+id_of digits = if nat_le (digits_value 10 digits) max_id then Some (digits_value 10 digits) else None

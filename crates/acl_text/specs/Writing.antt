@@ -6,7 +6,7 @@ use Rattle.acl_core.specs.declared.entry.Tag.{Tag}
 use Rattle.acl_core.specs.declared.entry.Tag.TheVariants.{UserObj, User, GroupObj, Group, Mask, Other}
 use Rattle.acl_core.specs.declared.entry.Entry.{Entry}
 use Rattle.acl_core.specs.declared.perms.Perms.{Perms}
-use Rattle.acl_core.specs.Permissions.{read, write, execute, has, has_all}
+use Rattle.acl_core.specs.Permissions.{may_read, may_write, may_execute, has_permission, has_all}
 use Rattle.acl_core.specs.Tags.{same_tag}
 use Rattle.acl_text.specs.Grammar.{letter_r, letter_w, letter_x, hyphen}
 use Rattle.acl_text.specs.Layout.{line_feed}
@@ -22,14 +22,14 @@ tag_text Other = codes "other::"
 
 -- r, w and x, with a hyphen for each that is absent
 abbrev pub letters : (ℕ → Bool) → List ℕ
-letters granted = (if granted read then letter_r else hyphen) ∷ (if granted write then letter_w else hyphen) ∷ (if granted execute then letter_x else hyphen) ∷ []
+letters granted = (if granted may_read then letter_r else hyphen) ∷ (if granted may_write then letter_w else hyphen) ∷ (if granted may_execute then letter_x else hyphen) ∷ []
 
 abbrev pub permission_text : Perms → List ℕ
-permission_text perms = letters (has perms)
+permission_text perms = letters (has_permission perms)
 
 -- what both grant
 abbrev pub common_text : Perms → Perms → List ℕ
-common_text perms mask = letters (λ permission. has perms permission && has mask permission)
+common_text perms mask = letters (λ permission. has_permission perms permission && has_permission mask permission)
 
 abbrev pub entry_text : Entry → List ℕ
 entry_text entry = tag_text entry.tag ++ permission_text entry.perms

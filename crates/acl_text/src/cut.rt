@@ -3,7 +3,8 @@
 ghost use Rattle.std.specs.Prelude.{◌≡◌, ◌==◌, ◌≤◌, ◌∷◌, length};
 ghost use Rattle.std.specs.List.{list_all, position_or_len, prefix_len, suffix_len};
 ghost use Rattle.std.specs.Iterator.{YieldsFirstRef, item_count};
-ghost use Rattle.acl_text.specs.Layout.{parts, parts_left, uncommented, is_white, trimmed, items_of, line_feed};
+ghost use Rattle.acl_text.specs.Layout.{parts, uncommented, is_white, trimmed, items_of, line_feed};
+ghost use Rattle.acl_text.specs.code.Remaining.{parts_left};
 
 use memchr::memchr;
 
@@ -96,7 +97,7 @@ pub(crate) struct Items<'a> {
 }
 
 impl<'a> Items<'a> {
-    ghost use Rattle.acl_text.specs.Remaining.{items_left};
+    ghost use Rattle.acl_text.specs.code.Remaining.{items_left};
 
     /// The items of a text.
     pub(crate) fn of(text: &'a [u8]) -> Items<'a>
@@ -110,7 +111,7 @@ impl<'a> Items<'a> {
 }
 
 impl<'a> Iterator for Items<'a> {
-    ghost use Rattle.acl_text.specs.Remaining.{items_left};
+    ghost use Rattle.acl_text.specs.code.Remaining.{items_left};
 
     type Item = &'a [u8];
 

@@ -2,8 +2,10 @@
 
 ghost use Rattle.std.specs.Prelude.{◌≡◌, ℕ, false, List, [], ◌∷◌, ◌++◌, map, Err, MatchOption, if◌then◌else◌};
 ghost use Rattle.std.specs.List.{list_all};
-ghost use Rattle.acl_text.specs.Layout.{colon, parts_left, trimmed};
-ghost use Rattle.acl_text.specs.Grammar.{IsReadOf, are_permissions, entry_reading, fields_reading, fits_keyword, numbered, reading, tag_of};
+ghost use Rattle.acl_text.specs.Layout.{colon, trimmed};
+ghost use Rattle.acl_text.specs.code.Remaining.{parts_left};
+ghost use Rattle.acl_text.specs.Grammar.{are_permissions, entry_reading, fields_reading, fits_keyword, numbered, reading, tag_of};
+ghost use Rattle.acl_text.specs.code.Reading.{IsReadOf};
 ghost use Rattle.acl_text.specs.Qualifiers.{is_name_byte};
 
 use crate::cut::{cut, is_blank, trimmed};

@@ -3,7 +3,7 @@
 ghost use Rattle.std.specs.Prelude.{◌≤◌};
 ghost use Rattle.acl_core.specs.Tags.{qualifier};
 ghost use Rattle.acl_text.specs.Laws.{LongTextSpells, NumbersFit, ReadsAsWritten, ShortTextSpells, SpelledIsRead};
-ghost use Rattle.acl_text.specs.Qualifiers.{most_id};
+ghost use Rattle.acl_text.specs.Qualifiers.{max_id};
 
 use acl_core::{Entry, Tag};
 
@@ -38,7 +38,7 @@ pub(crate) fn numbers_fit(entries: &[Entry])
 }
 
 fn number_fits(tag: Tag)
-    ensures { qualifier tag ≤ most_id }
+    ensures { qualifier tag ≤ max_id }
 {
     if let Tag::User(_number) | Tag::Group(_number) = tag {}
 }

@@ -4,7 +4,8 @@ ghost use Rattle.std.specs.Prelude.{◌≡◌, ◌+◌, ◌*◌, ◌^◌, ◌<�
 ghost use Rattle.std.specs.Char.{is_ascii_digit};
 ghost use Rattle.std.specs.List.{list_all};
 ghost use Rattle.std.specs.Option.{SomeIff};
-ghost use Rattle.acl_text.specs.Qualifiers.{AreDigits, is_name_byte, id_of};
+ghost use Rattle.acl_text.specs.Qualifiers.{is_name_byte, id_of};
+ghost use Rattle.acl_text.specs.code.Reading.{AreDigits};
 
 /// Whether a byte may stand in a name: printing, and without a meaning of its own in a list's text.
 fn is_name_byte(byte: u8) -> bool

@@ -13,7 +13,7 @@ use Rattle.file_exec.specs.declared.need.Need.TheVariants.{Hold}
 use Rattle.file_exec.specs.Following.{Edits, Ended, looked}
 use Rattle.file_exec.specs.Known.{Known, known_rows, is_met, Heard, Needs, Done}
 use Rattle.file_exec.specs.Runs.{run, then_run}
-use Rattle.file_exec.specs.Steps.{RunsOr}
+use Rattle.file_exec.specs.code.Steps.{RunsOr}
 use Rattle.file_exec.proofs.Running.{runs_in_turn}
 use Rattle.file_exec.proofs.Steps.{HoldsAll}
 

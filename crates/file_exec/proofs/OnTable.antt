@@ -25,7 +25,7 @@ use Rattle.file_ops.specs.declared.operation.Op.{Op}
 use Rattle.file_ops.specs.declared.operation.Action.{Action}
 use Rattle.file_ops.specs.declared.operation.Action.TheVariants as action
 use Rattle.file_ops.specs.declared.refusal.Refusal.{Refusal}
-use Rattle.suite_content.specs.Limits.{most_names}
+use Rattle.suite_content.specs.Limits.{max_names}
 use Rattle.file_exec.specs.Known.{on_table, IsTheTransaction}
 use Rattle.file_ops.specs.KnownVotes.{known_votes, votes_of_new}
 use Rattle.file_ops.specs.declared.service.Service.{Service}
@@ -391,7 +391,7 @@ module _ (rows : Rows) (caller : Identity) where
       ruled rows (Does rows caller names) (does_err rows caller names) (plain_ops.last_name names) _ _ (λ path _.
       ruled rows (Does rows caller names) (does_err rows caller names) (votes_of_new service given) _ _ (λ votes _.
       at_parent path.folders _ _ (λ parent there.
-      let full = plain_ops.refuse_if (nat_le most_names (length parent.names)) why.FolderFull in
+      let full = plain_ops.refuse_if (nat_le max_names (length parent.names)) why.FolderFull in
       let named : Edit = SetContent (Names (folders.with_name parent.names path.name number)) in
       let new = new_row kind init votes caller in
       let last : Course Answer Why = ◌>>◌ (look number Exclusive) (◌>>◌ (set parent.place.suite named) (◌>>◌ (set number (Make new)) (Give (answer.Made number)))) in

@@ -23,8 +23,8 @@ use Rattle.file_exec.specs.Operations.{operation, play}
 use Rattle.file_exec.specs.Known.{Known, known_rows, is_met, Heard, Needs, Done, is_given, exec_of}
 use Rattle.file_exec.specs.Runs.{run, then_run}
 use Rattle.file_exec.specs.Changes.{answered}
-use Rattle.file_exec.specs.Ends.{end_of}
-use Rattle.file_exec.specs.Steps.{Told, Runs}
+use Rattle.file_exec.specs.code.Ends.{end_of}
+use Rattle.file_exec.specs.code.Steps.{Told, Runs}
 use Rattle.file_exec.proofs.Running.{runs_in_turn, exec_runs}
 
 -- what an operation at a place comes to, its refusal naming it

@@ -12,7 +12,7 @@ use Rattle.file_exec.specs.declared.need.Need.TheVariants.{Hold}
 use Rattle.file_exec.specs.Following.{Edits}
 use Rattle.file_exec.specs.Known.{Known, is_met, Heard, Needs, Done, is_given}
 use Rattle.file_exec.specs.Runs.{run, then_run}
-use Rattle.file_exec.specs.Steps.{Told, RunsOr, Runs}
+use Rattle.file_exec.specs.code.Steps.{Told, RunsOr, Runs}
 use Rattle.file_exec.proofs.Running.{runs_in_turn}
 
 -- an error that `?` hands on

@@ -1,5 +1,5 @@
 -- The votes of a suite are set only where its content is known or set, since it is read before.
-use Rattle.std.proofs.Common.{◌≡◌, ℕ, ◌+◌, Bool, true, false, cond, List, [], ◌∷◌, ◌++◌, Option, Some, None, Result, Ok, Err, refl, sym, ap, subst, ◌∙◌}
+use Rattle.std.proofs.Common.{◌≡◌, ℕ, ◌+◌, Bool, true, false, cond, List, [], ◌∷◌, ◌++◌, Option, Some, None, Result, Ok, Err, refl, subst}
 use Rattle.std.specs.Prelude.{◌==◌, ◌&&◌, ◌||◌, nat_lt, nat_le, length, is_some}
 use Rattle.std.proofs.lemmas.Bool.{eqb-true}
 use Rattle.acl_core.specs.Identity.{Identity}
@@ -11,14 +11,13 @@ use Rattle.file_ops.specs.declared.answer.Answer.{Answer}
 use Rattle.file_ops.specs.declared.operation.Action.{Action}
 use Rattle.file_ops.specs.declared.operation.Action.TheVariants as action
 use Rattle.file_ops.specs.declared.operation.Op.{Op}
-use Rattle.file_ops.specs.declared.refusal.Refusal.{Refusal}
 use Rattle.file_ops.specs.declared.refusal.Why.{Why}
 use Rattle.file_ops.specs.declared.service.Service.{Service}
 use Rattle.file_ops.specs.declared.refusal.Why.TheVariants as why
 use Rattle.file_ops.specs.Steps.{found_or}
 use Rattle.file_ops.specs.Paths.{names_of}
 use Rattle.file_ops.specs.KnownVotes.{known_votes, votes_of_new}
-use Rattle.suite_content.specs.Limits.{longest_content, most_names}
+use Rattle.suite_content.specs.Limits.{max_content, max_names}
 use Rattle.file_ops.specs.Walks.{bytes_in, names_in, to_read, to_write, to_search, to_change, permit, permit_others, owner_only}
 use Rattle.file_ops.specs.Operations.{refuse_if, last_name, is_used}
 use Rattle.suite_content.specs.Folders as folders
@@ -150,7 +149,7 @@ act service t at caller names action.List =
 act service t at caller names action.GetAcl = in_turn _ (shown caller names) (λ place. record { first = tt })
 act service t at caller names action.GetVotes = in_turn _ (shown caller names) (λ place. record { first = tt })
 act service t at caller names (action.Write bytes) =
-    ruled (refuse_if (nat_lt longest_content (length bytes)) why.TooLong) _ (λ _.
+    ruled (refuse_if (nat_lt max_content (length bytes)) why.TooLong) _ (λ _.
     in_turn _ (reach caller names Exclusive) (λ place.
     ruled (permit caller place to_write) _ (λ _. ruled (bytes_in place.row.content) _ (λ _. record { first = (tt, tt) }))))
 act service t at caller names (action.SetAcl acl) = in_turn _ (owned caller names) (λ place. record { first = (tt, tt) })
@@ -159,7 +158,7 @@ act service t at caller names (action.SetVotes votes) =
 act service t at caller names (action.Make kind init given) =
     ruled (last_name names) _ (λ path. ruled (votes_of_new service given) _ (λ votes.
     in_turn _ (parent_of caller path.folders) (λ parent.
-    ruled (refuse_if (is_some (folders.number_of parent.names path.name)) why.Exists) _ (λ _. ruled (refuse_if (nat_le most_names (length parent.names)) why.FolderFull) _ (λ _. record { first = λ row. (tt, (tt, tt)) })))))
+    ruled (refuse_if (is_some (folders.number_of parent.names path.name)) why.Exists) _ (λ _. ruled (refuse_if (nat_le max_names (length parent.names)) why.FolderFull) _ (λ _. record { first = λ row. (tt, (tt, tt)) })))))
 act service t at caller names action.Drop =
     ruled (last_name names) _ (λ path.
     in_turn _ (parent_of caller path.folders) (λ parent.

@@ -7,7 +7,7 @@ use Rattle.suite_content.specs.declared.content.Kind.{Kind}
 use Rattle.suite_content.specs.declared.content.Content.{Content}
 use Rattle.suite_content.specs.declared.content.Content.TheVariants.{Bytes, Names}
 use Rattle.suite_content.specs.Folders as folders
-use Rattle.suite_content.specs.Limits.{longest_content, most_names}
+use Rattle.suite_content.specs.Limits.{max_content, max_names}
 use Rattle.file_ops.specs.declared.answer.Answer.{Answer}
 use Rattle.file_ops.specs.declared.answer.Answer.TheVariants as answer
 use Rattle.file_ops.specs.declared.operation.Action.{Action}
@@ -116,7 +116,7 @@ votes_shown caller names = do
 -- all bytes are put in place of those before, which nobody reads
 abbrev pub bytes_written : Identity → List (List ℕ) → List ℕ → Course Answer Why
 bytes_written caller names bytes = do
-  rule (refuse_if (nat_lt longest_content (length bytes)) why.TooLong)
+  rule (refuse_if (nat_lt max_content (length bytes)) why.TooLong)
   place ← reach caller names Exclusive
   rule (permit caller place to_write)
   rule (bytes_in place.row.content)
@@ -154,7 +154,7 @@ made service number caller names kind init given = do
   votes ← rule (votes_of_new service given)
   parent ← parent_of caller path.folders
   rule (refuse_if (is_some (folders.number_of parent.names path.name)) why.Exists)
-  rule (refuse_if (nat_le most_names (length parent.names)) why.FolderFull)
+  rule (refuse_if (nat_le max_names (length parent.names)) why.FolderFull)
   look number Exclusive
   set parent.place.suite (SetContent (Names (folders.with_name parent.names path.name number)))
   set number (Make (new_row kind init votes caller))

@@ -2,15 +2,15 @@
 
 ghost use Rattle.std.specs.Prelude.{◌≡◌, ◌<◌, ◌^◌, nat_lt, nat_le, length, is_some, IfOk};
 ghost use Rattle.suite_content.specs.Folders.{number_of, with_name, without_name};
-ghost use Rattle.suite_content.specs.Limits.{longest_content, most_names};
+ghost use Rattle.suite_content.specs.Limits.{max_content, max_names};
 ghost use Rattle.file_ops.specs.declared.refusal.Why.TheVariants as why;
 ghost use Rattle.file_ops.specs.Operations.{refuse_if};
 ghost use Rattle.file_ops.specs.Steps.{found_or};
 ghost use Rattle.file_ops.specs.Rows.{new_row};
 ghost use Rattle.file_exec.specs.Courses.{set};
 ghost use Rattle.file_exec.specs.Operations.{bytes_read, names_listed, list_shown, votes_shown, bytes_written, list_set, votes_set, made, refuse_used, dropped, operation};
-ghost use Rattle.file_exec.specs.Overlay.{seen_head};
-ghost use Rattle.file_exec.specs.Steps.{Answers, Runs, Sees};
+ghost use Rattle.file_exec.specs.code.Overlay.{seen_head};
+ghost use Rattle.file_exec.specs.code.Steps.{Answers, Runs, Sees};
 
 use crate::known::Known;
 use crate::log::{Edit, Log};
@@ -20,7 +20,9 @@ use crate::seen::Seen;
 use crate::stop::Stop;
 use crate::view::View;
 use acl_core::{Acl, Caller, Perms};
-use file_ops::{Action, Answer, Init, Op, Path, Why, last_name, made_number};
+use file_ops::{
+    Action, Answer, Init, MAX_PATH_NAMES, Op, Why, last_name, made_number, no_name, read_path,
+};
 use std::alloc::{AllocError, Global};
 use suite_content::{Content, FileBytes, FolderNames, Kind, Name};
 use suite_prefix::LockMode;
@@ -38,7 +40,7 @@ pub(crate) struct Transaction<'a> {
 
 /// Refuses bytes that are too long for a file.
 fn require_fit(bytes: &FileBytes) -> Result<(), Why>
-    ensures { result ≡ refuse_if (nat_lt longest_content (length bytes.now)) why.TooLong }
+    ensures { result ≡ refuse_if (nat_lt max_content (length bytes.now)) why.TooLong }
 {
     if bytes.is_too_long() {
         return Err(Why::TooLong);
@@ -58,7 +60,7 @@ fn require_absent(names: &FolderNames, name: &Name) -> Result<(), Why>
 
 /// Refuses one more name in a folder that is full.
 fn require_room(names: &FolderNames) -> Result<(), Why>
-    ensures { result ≡ refuse_if (nat_le most_names (length names.now)) why.FolderFull }
+    ensures { result ≡ refuse_if (nat_le max_names (length names.now)) why.FolderFull }
 {
     if names.is_full() {
         return Err(Why::FolderFull);
@@ -308,8 +310,9 @@ pub(crate) fn operate(
     requires { transaction.t < 2 ^ 60 }
     ensures { Runs (λ answer. answer) result transaction.entry.known.now.suites log.old log.new (operation transaction.entry.known.now.service transaction.entry.t at transaction.entry.caller.now op.now) }
 {
-    let path = Path::parse(op.path.as_bytes()).ok_or(Why::BadPath)?;
-    let names = path.names();
+    let mut array = [no_name(); MAX_PATH_NAMES];
+    let count = read_path(op.path.as_bytes(), &mut array).ok_or(Why::BadPath)?;
+    let names = &array[..count];
     let Transaction {
         known,
         t,

@@ -5,7 +5,7 @@ ghost use Rattle.std.specs.Result.{result_ok};
 ghost use Rattle.file_ops.specs.Transactions.{is_miscounted};
 ghost use Rattle.file_ops.specs.declared.refusal.Why.TheVariants as why;
 ghost use Rattle.file_exec.specs.Changes.{answered};
-ghost use Rattle.file_exec.specs.Ends.{end_of};
+ghost use Rattle.file_exec.specs.code.Ends.{end_of};
 ghost use Rattle.file_exec.specs.Known.{exec_of, is_given};
 ghost use Rattle.file_exec.specs.declared.executor.Outcome.TheVariants as told;
 
@@ -16,7 +16,7 @@ use crate::log::Log;
 use crate::need::Need;
 use crate::stop::Stop;
 use acl_core::Caller;
-use file_ops::{Answers, MOST_OPERATIONS, Op, Refusal, Why};
+use file_ops::{Answers, MAX_OPERATIONS, Op, Refusal, Why};
 use std::alloc::{AllocError, Global};
 
 /// What a transaction comes to on what is known.
@@ -50,7 +50,7 @@ pub fn exec(
     // memory there is.
     ensures first { OnErr result (is_given (exec_of known.now.service known.now.suites t caller.now (take 1 ops.now)) ≡ true) }
 {
-    if ops.is_empty() || ops.len() > MOST_OPERATIONS {
+    if ops.is_empty() || ops.len() > MAX_OPERATIONS {
         return Ok(Outcome::Refused(Refusal {
             op: 0,
             why: Why::OpCount,

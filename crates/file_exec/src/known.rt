@@ -2,7 +2,7 @@
 
 ghost use Rattle.std.specs.Prelude.{◌≡◌, [], OnOk, OnErr};
 ghost use Rattle.std.specs.Option.{option_copied, option_map};
-ghost use Rattle.file_exec.specs.Overlay.{seen_row};
+ghost use Rattle.file_exec.specs.code.Overlay.{seen_row};
 
 use crate::row::KnownRow;
 use crate::seen::Seen;
@@ -34,6 +34,13 @@ impl KnownSuite {
             row.set_content(content);
         }
     }
+
+    /// Its row, if it has one.
+    pub(crate) fn seen(&self) -> Option<Seen<'_>>
+        ensures { option_map seen_row result ≡ self.now.row }
+    {
+        self.row.as_ref().map(Seen::of)
+    }
 }
 
 /// What is known of a service: how many servers there are, C0, and the suites that are held.
@@ -53,7 +60,7 @@ impl Model for Known {
 }
 
 impl Known {
-    ghost use Rattle.file_exec.specs.Known.{known_of, held_suite, opened_suite, is_held, is_opened, known_rows};
+    ghost use Rattle.file_exec.specs.Known.{known_of, held_suite, opened_suite, is_held, known_rows};
 
     /// Nothing is known yet but the service.
     pub fn new(alloc: Global, service: Service) -> Known
@@ -115,22 +122,11 @@ impl Known {
         }
     }
 
-    /// Whether the content of a suite is known.
-    pub fn is_open(&self, suite: u64) -> bool
-        ensures { result ≡ is_opened (known_of self.now.suites suite) }
-    {
-        match self.get(suite) {
-            Some(held) => held.opened,
-            None => false,
-        }
-    }
-
     /// The row of a suite, where it is held and has one.
     pub(crate) fn row(&self, suite: u64) -> Option<Seen<'_>>
         ensures { option_map seen_row result ≡ known_rows self.now.suites suite }
     {
-        let held = self.get(suite)?;
-        held.row.as_ref().map(Seen::of)
+        self.get(suite)?.seen()
     }
 
     /// The suites that are held, which rise.

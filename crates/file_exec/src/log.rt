@@ -4,7 +4,7 @@ ghost use Rattle.std.specs.Prelude.{◌≡◌, ◌∷◌, [], OnOk, OnErr};
 ghost use Rattle.std.specs.Option.{option_map};
 ghost use Rattle.file_exec.specs.Following.{changed, seen, sets_content, is_set};
 ghost use Rattle.file_exec.specs.Changes.{makes, sets_acl, sets_votes, some};
-ghost use Rattle.file_exec.specs.Overlay.{seen_row};
+ghost use Rattle.file_exec.specs.code.Overlay.{seen_row};
 
 use crate::row::KnownRow;
 use crate::seen::Seen;
@@ -118,10 +118,20 @@ pub(crate) fn seen<'a>(
 ) -> Option<Seen<'a>>
     ensures { option_map seen_row result ≡ seen edits.now suite (option_map seen_row row.entry) }
 {
+    if edits.is_empty() {
+        return row;
+    }
+    seen_after(edits, suite, row)
+}
+
+/// The same, where there may be edits.
+fn seen_after<'a>(edits: &'a [(u64, Edit)], suite: u64, row: Option<Seen<'a>>) -> Option<Seen<'a>>
+    ensures { option_map seen_row result ≡ seen edits.now suite (option_map seen_row row.entry) }
+{
     let Some(((of, edit), before)) = edits.split_first() else {
         return row;
     };
-    let row = seen(before, suite, row);
+    let row = seen_after(before, suite, row);
     if *of == suite { edit.changed(row) } else { row }
 }
 

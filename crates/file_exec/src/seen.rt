@@ -1,7 +1,7 @@
 //! A row as a transaction sees it.
 
 ghost use Rattle.std.specs.Prelude.{◌≡◌, IfOk};
-ghost use Rattle.file_exec.specs.Overlay.{seen_row};
+ghost use Rattle.file_exec.specs.code.Overlay.{seen_row};
 
 use crate::row::KnownRow;
 use acl_core::Acl;

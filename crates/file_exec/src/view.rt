@@ -6,8 +6,8 @@ ghost use Rattle.file_ops.specs.Steps.{ok_map};
 ghost use Rattle.file_ops.specs.Walks.{bytes_in, names_in, permit, permit_others, owner_only};
 ghost use Rattle.file_exec.specs.Courses.{look, read};
 ghost use Rattle.file_exec.specs.Operations.{held, bytes_at, names_at, step, walk, reach, shown, owned, parent_of};
-ghost use Rattle.file_exec.specs.Overlay.{seen_row, seen_head, seen_place, seen_parent, seen_content};
-ghost use Rattle.file_exec.specs.Steps.{Answers, Sees};
+ghost use Rattle.file_exec.specs.code.Overlay.{seen_row, seen_head, seen_place, seen_parent, seen_content};
+ghost use Rattle.file_exec.specs.code.Steps.{Answers, Sees};
 
 use crate::known::Known;
 use crate::log::{Log, seen, sets_content};
@@ -106,10 +106,12 @@ impl<'a> View<'a> {
     pub(crate) fn look(self, suite: u64, mode: LockMode) -> Result<Option<Seen<'a>>, Stop>
         ensures { Sees seen_head result self.entry (look suite mode) }
     {
-        if !self.known.holds(suite, mode) {
-            return Err(Stop::Needs(Need::Hold(suite, mode)));
+        match self.known.get(suite) {
+            Some(held) if held.mode.serves(mode) => {
+                Ok(seen(self.log.as_slice(), suite, held.seen()))
+            }
+            _ => Err(Stop::Needs(Need::Hold(suite, mode))),
         }
-        Ok(seen(self.log.as_slice(), suite, self.known.row(suite)))
     }
 
     /// The content of a suite, which is to be known, unless it was set.
@@ -117,10 +119,14 @@ impl<'a> View<'a> {
         ensures { Sees seen_content result self.entry (read suite) }
     {
         let edits = self.log.as_slice();
-        if !sets_content(edits, suite) && !self.known.is_open(suite) {
+        let (opened, row) = match self.known.get(suite) {
+            Some(held) => (held.opened, held.seen()),
+            None => (false, None),
+        };
+        if !opened && !sets_content(edits, suite) {
             return Err(Stop::Needs(Need::Know(suite)));
         }
-        Ok(seen(edits, suite, self.known.row(suite)).map(|row| row.content))
+        Ok(seen(edits, suite, row).map(|row| row.content))
     }
 
     /// A suite with its row, which is to be held in this mode.

@@ -11,8 +11,8 @@ use Rattle.suite_content.specs.Folders.{IsFolder, number_of, with_name, without_
 use Rattle.suite_content.specs.FolderLaws.{length-with_name, length-without_name}
 use Rattle.file_ops.specs.declared.stored.StoredContent.TheVariants.{Names}
 use Rattle.file_ops.specs.declared.stored.StoredRow.{StoredRow}
-use Rattle.file_ops.specs.Stored.{StoredRows}
-use Rattle.file_ops.specs.Capacity.{capacity_in, capacity_of, capacity_at, KeepsCapacity}
+use Rattle.file_ops.specs.code.Stored.{StoredRows}
+use Rattle.file_ops.specs.code.Capacity.{capacity_in, capacity_of, capacity_at, KeepsCapacity}
 
 -- the same number, or another one
 pub each : {P : Type 0} (q s : ℕ) → (q ≡ s → P) → (q ≢ s → P) → P

@@ -13,7 +13,7 @@ use Rattle.suite_content.specs.declared.content.Content.TheVariants.{Bytes, Name
 use Rattle.suite_content.specs.Folders.{with_name, without_name}
 use Rattle.suite_content.specs.FolderLaws.{without-with_name}
 use Rattle.file_ops.specs.Rows.{Row, Rows, row_of, with_row, with_content}
-use Rattle.file_ops.specs.Edits.{edited, number_in, number_at, in_names, put_name, drop_name}
+use Rattle.file_ops.specs.code.Edits.{edited, number_in, number_at, in_names, put_name, drop_name}
 
 -- the row that was put is there
 pub row_of-with_same : (rows : Rows) (suite : ℕ) (row : Row) → row_of (with_row rows suite row) suite ≡ Some row

@@ -6,7 +6,7 @@ use Rattle.std.proofs.Math.Seq.{take-append_seam}
 use Rattle.file_ops.specs.declared.refusal.Why.TheVariants as why
 use Rattle.file_ops.specs.Steps.{ok_map}
 use Rattle.file_ops.specs.Operations.{last_name}
-use Rattle.file_ops.specs.Found.{plain_named}
+use Rattle.file_ops.specs.Operations.{plain_named}
 
 no_last : (names : List (List ℕ)) → length names ≡ 0 → last_name names ≡ Err why.BadPath
 no_last [] none = refl

@@ -14,7 +14,7 @@ use Rattle.file_ops.specs.Steps.{◌>>=◌}
 use Rattle.file_ops.specs.Rows.{Rows}
 use Rattle.file_ops.specs.Operations.{Done, operation}
 use Rattle.file_ops.specs.Transactions.{Played, after, play, transaction, is_miscounted, RefusesFirst}
-use Rattle.file_ops.specs.Done.{AnswersFirst}
+use Rattle.file_ops.specs.code.Done.{AnswersFirst}
 
 abbrev IsAbove : ℕ → Result Played Refusal → Type 0
 IsAbove at outcome = IfErr outcome (λ refusal. at < refusal.op)

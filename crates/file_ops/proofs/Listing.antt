@@ -9,7 +9,7 @@ use Rattle.file_ops.specs.declared.refusal.Why.{Why}
 use Rattle.file_ops.specs.declared.refusal.Why.TheVariants as why
 use Rattle.file_ops.specs.Rows.{Row, Rows, row_of, root}
 use Rattle.file_ops.specs.Steps.{◌>>=◌, found_or}
-use Rattle.file_ops.specs.Stored.{listed_in}
+use Rattle.file_ops.specs.code.Stored.{listed_in}
 use Rattle.file_ops.specs.Operations.{names_listed}
 use Rattle.file_ops.specs.Walks.{Place, names_in, permit, place_of, reach, to_read, walk}
 

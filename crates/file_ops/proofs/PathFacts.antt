@@ -14,15 +14,15 @@ use Rattle.std.proofs.lemmas.List.Splits.{length-slice_split}
 use Rattle.std.proofs.Math.ListN.{set}
 use Rattle.std.proofs.Math.Seq.{take-suc-set}
 use Rattle.std.proofs.lemmas.Slice.Eq.{bytes_eq-Decides}
-use Rattle.suite_content.specs.Limits.{longest_name}
+use Rattle.suite_content.specs.Limits.{max_name}
 use Rattle.suite_content.specs.Names.{IsName, is_name_byte}
-use Rattle.file_ops.specs.Limits.{most_path_names}
+use Rattle.file_ops.specs.Limits.{max_path_names}
 use Rattle.file_ops.specs.Paths.{is_slash, is_name, some_names, names_between, names_of}
 
-pub too_many : (parts : List (List ℕ)) → most_path_names < length parts → some_names parts ≡ None
+pub too_many : (parts : List (List ℕ)) → max_path_names < length parts → some_names parts ≡ None
 too_many parts long = grind (arith, nat_tests)
 
-pub all_names : (parts : List (List ℕ)) → 1 ≤ length parts → length parts ≤ most_path_names → list_all is_name parts ≡ true → some_names parts ≡ Some parts
+pub all_names : (parts : List (List ℕ)) → 1 ≤ length parts → length parts ≤ max_path_names → list_all is_name parts ≡ true → some_names parts ≡ Some parts
 all_names parts some few names = grind (arith, nat_tests)
 
 pub not_all : (parts : List (List ℕ)) → list_all is_name parts ≡ false → some_names parts ≡ None
@@ -43,20 +43,20 @@ apart bytes other test same = false≢true (sym (not-true _ test) ∙ (bytes_eq-
 pub test_name : (bytes : List ℕ) → IsName bytes → is_name bytes ≡ true
 test_name bytes name =
     let long : nat_le 1 (length bytes) ≡ true = grind (arith, nat_tests) in
-    let short : nat_le (length bytes) longest_name ≡ true = grind (arith, nat_tests) in
+    let short : nat_le (length bytes) max_name ≡ true = grind (arith, nat_tests) in
     both_true (both_true (both_true (both_true long short) (list_all-from_AllPass is_name_byte bytes name.portable))
     (differs bytes (codes ".") name.not_dot)) (differs bytes (codes "..") name.not_dot_dot)
 
 at_least_one : (bytes : List ℕ) → nat_le 1 (length bytes) ≡ true → 1 ≤ length bytes
 at_least_one bytes test = grind (arith, nat_tests)
 
-at_most_64 : (bytes : List ℕ) → nat_le (length bytes) longest_name ≡ true → length bytes ≤ longest_name
+at_most_64 : (bytes : List ℕ) → nat_le (length bytes) max_name ≡ true → length bytes ≤ max_name
 at_most_64 bytes test = grind (arith, nat_tests)
 
 pub name_from_test : (bytes : List ℕ) → is_name bytes ≡ true → IsName bytes
 name_from_test bytes test =
     let long = nat_le 1 (length bytes) in
-    let short = nat_le (length bytes) longest_name in
+    let short = nat_le (length bytes) max_name in
     let portable = list_all is_name_byte bytes in
     let not_dot = not (bytes_eq bytes (codes ".")) in
     let p = both (long && short && portable && not_dot) (not (bytes_eq bytes (codes ".."))) test in

@@ -14,9 +14,9 @@ use Rattle.sorted_map.specs.Comparisons.{by_answer}
 use Rattle.sorted_map.specs.Edits.{insert_present, replace_same}
 use Rattle.file_ops.specs.declared.stored.StoredContent.{StoredContent}
 use Rattle.file_ops.specs.declared.stored.StoredRow.{StoredRow}
-use Rattle.file_ops.specs.Stored.{StoredRows, plain, plain_content, plain_row}
+use Rattle.file_ops.specs.code.Stored.{StoredRows, plain, plain_content, plain_row}
 use Rattle.file_ops.specs.Rows.{Row, row_of, with_row, with_content}
-use Rattle.file_ops.specs.Edits.{edited, in_names, number_in, number_at}
+use Rattle.file_ops.specs.code.Edits.{edited, in_names, number_in, number_at}
 
 -- what is seen of a stored row is the row
 pub row_of-plain : (rows : StoredRows) (suite : ℕ) → row_of (plain rows) suite ≡ option_map plain_row (get nat_cmp rows suite)

@@ -23,11 +23,11 @@ use Rattle.file_ops.specs.declared.stored.StoredContent.TheVariants.{Bytes, Name
 use Rattle.file_ops.specs.declared.stored.StoredRow.{StoredRow}
 use Rattle.file_ops.specs.declared.undo.Undo.TheVariants.{Held, Listed, Voted, Made, Dropped}
 use Rattle.file_ops.specs.Rows.{Row, Rows, row_of, with_row, with_acl, with_votes, with_content}
-use Rattle.file_ops.specs.Stored.{StoredRows, plain, plain_content, plain_row, exchanged, restored_row, with_stored_content, with_stored_acl, with_stored_votes}
-use Rattle.file_ops.specs.Edits.{edited, number_at, in_names, put_acl, put_votes, put_content, put_row, put_name, drop_name}
-use Rattle.file_ops.specs.Capacity.{capacity_in, capacity_of, capacity_at, KeepsCapacity, has_room_for, HasRoom}
-use Rattle.file_ops.specs.Restored.{Restores, Makes}
-use Rattle.file_ops.specs.Undo.{restored, TakesBack}
+use Rattle.file_ops.specs.code.Stored.{StoredRows, plain, plain_content, plain_row, exchanged, restored_row, with_stored_content, with_stored_acl, with_stored_votes}
+use Rattle.file_ops.specs.code.Edits.{edited, number_at, in_names, put_acl, put_votes, put_content, put_row, put_name, drop_name}
+use Rattle.file_ops.specs.code.Capacity.{capacity_in, capacity_of, capacity_at, KeepsCapacity, has_room_for, HasRoom}
+use Rattle.file_ops.specs.code.Restored.{Restores, Makes}
+use Rattle.file_ops.specs.code.Undo.{restored, TakesBack}
 use Rattle.file_ops.proofs.Plain.{row_of-plain, ordered-plain, plain-remove, edited-there, edited-absent}
 use Rattle.file_ops.proofs.EditLaws.{row_of-with_same, edited-some, edited-back-at, ordered-edited, drop-put_name}
 use Rattle.file_ops.proofs.CapacityLaws.{each, capacity_at-replace_here, capacity_at-replace_apart, capacity_at-remove_apart}

@@ -2,9 +2,9 @@
 use Rattle.std.specs.Prelude.{ℕ}
 
 -- the most operations of a transaction
-abbrev pub most_operations : ℕ
-most_operations = 8
+abbrev pub max_operations : ℕ
+max_operations = 8
 
 -- the most names of a path
-abbrev pub most_path_names : ℕ
-most_path_names = 8
+abbrev pub max_path_names : ℕ
+max_path_names = 8

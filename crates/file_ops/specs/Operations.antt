@@ -1,5 +1,6 @@
 -- One operation on the table: its reply and the rows after it, or why it is refused.
 use Rattle.std.specs.Prelude.{ℕ, ◌-◌, nat_lt, nat_le, Bool, true, false, List, length, take, is_some, slice_get, Option, Some, None, Result, Ok, Err}
+use Rattle.std.specs.Borrow.{Bor}
 use Rattle.acl_core.specs.Identity.{Identity}
 use Rattle.acl_core.specs.declared.entry.Entry.{Entry}
 use Rattle.vote_core.specs.Quorums.{Configuration}
@@ -7,7 +8,7 @@ use Rattle.suite_content.specs.declared.content.Kind.{Kind}
 use Rattle.suite_content.specs.declared.content.Content.{Content}
 use Rattle.suite_content.specs.declared.content.Content.TheVariants.{Bytes, Names}
 use Rattle.suite_content.specs.Folders as folders
-use Rattle.suite_content.specs.Limits.{longest_content, most_names}
+use Rattle.suite_content.specs.Limits.{max_content, max_names}
 use Rattle.file_ops.specs.declared.answer.Answer.{Answer}
 use Rattle.file_ops.specs.declared.answer.Answer.TheVariants as answer
 use Rattle.file_ops.specs.declared.operation.Action.{Action}
@@ -37,6 +38,10 @@ refuse_if false why = Ok tt
 pub record Named : Type 0 where
   pub folders : List (List ℕ)
   pub name : List ℕ
+
+-- a name and those before it, as they are told
+abbrev pub plain_named : Bor (List ℕ) × Bor (List (List ℕ)) → Named
+plain_named found = record { folders = found.1.now; name = found.0.now }
 
 -- the bytes of a file, answered
 abbrev pub bytes_read : Rows → Identity → List (List ℕ) → Result Done Why
@@ -68,7 +73,7 @@ votes_shown rows caller names = do
 -- other bytes put in a file
 abbrev pub bytes_written : Rows → Identity → List (List ℕ) → List ℕ → Result Done Why
 bytes_written rows caller names bytes = do
-  refuse_if (nat_lt longest_content (length bytes)) why.TooLong
+  refuse_if (nat_lt max_content (length bytes)) why.TooLong
   place ← reach rows caller names
   permit caller place to_write
   before ← bytes_in place.row.content
@@ -121,7 +126,7 @@ made service rows number caller names kind init given = do
   votes ← votes_of_new service given
   parent ← parent_of rows caller path.folders
   refuse_if (is_some (folders.number_of parent.names path.name)) why.Exists
-  refuse_if (nat_le most_names (length parent.names)) why.FolderFull
+  refuse_if (nat_le max_names (length parent.names)) why.FolderFull
   Ok (record { answer = answer.Made number; rows = with_made rows parent path.name number (new_row kind init votes caller) })
 
 -- whether it is a folder that has names

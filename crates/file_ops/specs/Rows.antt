@@ -13,7 +13,7 @@ use Rattle.suite_prefix.specs.SettingsRules.{Opening}
 use Rattle.file_ops.specs.declared.service.Service.{Service}
 use Rattle.file_ops.specs.declared.operation.Init.{Init}
 use Rattle.file_ops.specs.declared.audit.AuditItem.{AuditItem}
-use Rattle.file_ops.specs.Limits.{most_operations}
+use Rattle.file_ops.specs.Limits.{max_operations}
 use Rattle.file_ops.specs.Lists.{list_of}
 
 -- one file or folder: a file holds bytes, and a folder names
@@ -48,7 +48,7 @@ root = 0
 
 -- the number of what the transaction t makes by its operation at a place, counted from 0
 abbrev pub made_number : ℕ → ℕ → ℕ
-made_number t place = most_operations * t + place + 1
+made_number t place = max_operations * t + place + 1
 
 -- the row of a new file or folder: the caller's, in its own group, and empty
 abbrev pub new_row : Kind → Init → Configuration → Identity → Row

@@ -10,7 +10,7 @@ use Rattle.file_ops.specs.declared.refusal.Refusal.{Refusal}
 use Rattle.file_ops.specs.declared.refusal.Why.{Why}
 use Rattle.file_ops.specs.declared.refusal.Why.TheVariants as why
 use Rattle.file_ops.specs.declared.service.Service.{Service}
-pub use Rattle.file_ops.specs.Limits.{most_operations}
+pub use Rattle.file_ops.specs.Limits.{max_operations}
 use Rattle.file_ops.specs.Steps.{◌>>=◌, ◌>>◌}
 use Rattle.file_ops.specs.Rows.{Rows, PlainTable}
 use Rattle.file_ops.specs.Operations.{Done, operation}
@@ -34,7 +34,7 @@ play service played t at caller (op ∷ ops) = do
 
 -- whether there are too few or too many operations
 abbrev pub is_miscounted : List Op → Bool
-is_miscounted ops = (length ops == 0) || nat_lt most_operations (length ops)
+is_miscounted ops = (length ops == 0) || nat_lt max_operations (length ops)
 
 -- all operations of a transaction, on the rows that it meets
 abbrev pub transaction : Service → Rows → ℕ → Identity → List Op → Result Played Refusal

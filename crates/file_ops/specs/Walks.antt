@@ -1,6 +1,6 @@
 -- The way to a file or a folder, and what a caller may do there.
 use Rattle.std.specs.Prelude.{ℕ, ◌==◌, if◌then◌else◌, List, [], ◌∷◌, Result, Ok, Err}
-use Rattle.acl_core.specs.Permissions.{read, write, execute}
+use Rattle.acl_core.specs.Permissions.{may_read, may_write, may_execute}
 use Rattle.acl_core.specs.Identity.{Identity}
 use Rattle.acl_core.specs.Checks.{check_of}
 use Rattle.acl_core.specs.declared.perms.Perms.{Perms}
@@ -32,13 +32,13 @@ names_in (Bytes bytes) = Err why.NotFolder
 
 -- what may be wanted of a file or a folder
 abbrev pub to_read : Perms
-to_read = record { 0 = read }
+to_read = record { 0 = may_read }
 
 abbrev pub to_write : Perms
-to_write = record { 0 = write }
+to_write = record { 0 = may_write }
 
 abbrev pub to_search : Perms
-to_search = record { 0 = execute }
+to_search = record { 0 = may_execute }
 
 abbrev pub nothing : Perms
 nothing = record { 0 = 0 }

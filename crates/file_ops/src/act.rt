@@ -5,15 +5,15 @@ ghost use Rattle.acl_core.specs.declared.perms.Perms.{Perms};
 ghost use Rattle.file_ops.specs.declared.act.OpError.TheVariants as stopped;
 ghost use Rattle.file_ops.specs.Lists.{list_of};
 ghost use Rattle.file_ops.specs.Rows.{row_of, new_row};
-ghost use Rattle.file_ops.specs.Stored.{plain, plain_row};
+ghost use Rattle.file_ops.specs.code.Stored.{plain, plain_row};
 ghost use Rattle.file_ops.specs.Operations.{bytes_read, names_listed, list_shown, votes_shown, bytes_written, list_set, votes_set, made, dropped, has_names, operation};
-ghost use Rattle.file_ops.specs.Restored.{Restores};
-ghost use Rattle.file_ops.specs.Done.{Does, Acts};
+ghost use Rattle.file_ops.specs.code.Restored.{Restores};
+ghost use Rattle.file_ops.specs.code.Done.{Does, Acts};
 
 use crate::answer::Answer;
 use crate::edit::list_names;
 use crate::operation::{Action, Init, Op, made_number};
-use crate::path::Path;
+use crate::path::{MAX_PATH_NAMES, no_name, read_path};
 use crate::refusal::Why;
 use crate::service::Service;
 use crate::stored::{StoredContent, StoredRow, StoredRows};
@@ -21,7 +21,7 @@ use crate::undo::{Undo, make_row, replace_acl, replace_content, replace_votes, t
 use crate::walk::{last_name, owned, parent_of, permit, reach, shown};
 use acl_core::{Acl, Caller, Perms};
 use std::alloc::{AllocError, Global};
-use suite_content::{FileBytes, Kind, MOST_NAMES, Name};
+use suite_content::{FileBytes, Kind, MAX_NAMES, Name};
 use vote_core::Votes;
 
 /// What the operations of a transaction share: memory, the service, the transaction's number, and its
@@ -200,7 +200,7 @@ fn make(
     if parent.names.contains_key(name) {
         return Err(OpError::Refused(Why::Exists));
     }
-    if parent.names.len() >= MOST_NAMES {
+    if parent.names.len() >= MAX_NAMES {
         return Err(OpError::Refused(Why::FolderFull));
     }
     let folder = parent.place.suite;
@@ -272,8 +272,9 @@ pub(crate) fn operate(
     ensures acts { Acts result rows.old rows.new (operation transaction.entry.service.now (plain rows.old) transaction.entry.t at transaction.entry.caller.now op.now) }
     ensures err { OnErr result (Restores rows.old rows.new) }
 {
-    let path = Path::parse(op.path.as_bytes()).ok_or(Why::BadPath)?;
-    let names = path.names();
+    let mut array = [no_name(); MAX_PATH_NAMES];
+    let count = read_path(op.path.as_bytes(), &mut array).ok_or(Why::BadPath)?;
+    let names = &array[..count];
     let Transaction {
         alloc,
         service,

@@ -49,7 +49,7 @@ impl Clone for Answer {
 }
 
 impl PartialEq for Answer {
-    ghost use Rattle.file_ops.specs.AnswerEquality.{same_answer, same_answer_partial_laws};
+    ghost use Rattle.file_ops.specs.code.AnswerEquality.{same_answer, same_answer_partial_laws};
 
     ghost eq = { same_answer };
 
@@ -71,7 +71,7 @@ impl PartialEq for Answer {
 }
 
 impl Eq for Answer {
-    ghost use Rattle.file_ops.specs.AnswerEquality.{same_answer_laws};
+    ghost use Rattle.file_ops.specs.code.AnswerEquality.{same_answer_laws};
 
     ghost laws = { same_answer_laws };
 }
@@ -105,7 +105,7 @@ impl Clone for Answers {
 }
 
 impl PartialEq for Answers {
-    ghost use Rattle.file_ops.specs.AnswerEquality.{same_answers, same_answers_partial_laws};
+    ghost use Rattle.file_ops.specs.code.AnswerEquality.{same_answers, same_answers_partial_laws};
 
     ghost eq = { same_answers };
 
@@ -117,7 +117,7 @@ impl PartialEq for Answers {
 }
 
 impl Eq for Answers {
-    ghost use Rattle.file_ops.specs.AnswerEquality.{same_answers_laws};
+    ghost use Rattle.file_ops.specs.code.AnswerEquality.{same_answers_laws};
 
     ghost laws = { same_answers_laws };
 }

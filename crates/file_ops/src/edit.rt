@@ -4,11 +4,11 @@ ghost use Rattle.std.specs.Prelude.{◌≡◌, ℕ, None, Some, IfOk, OnOk, OnEr
 ghost use Rattle.std.specs.Option.{option_map};
 ghost use Rattle.std.specs.Ordering.{nat_cmp};
 ghost use Rattle.sorted_map.specs.SortedMap.{IsOrdered, get};
-ghost use Rattle.file_ops.specs.Capacity.{KeepsCapacity, HasRoom};
+ghost use Rattle.file_ops.specs.code.Capacity.{KeepsCapacity, HasRoom};
 ghost use Rattle.file_ops.specs.Rows.{Row, row_of};
-ghost use Rattle.file_ops.specs.Stored.{listed_in, plain, exchanged, restored_row, with_stored_content, with_stored_acl, with_stored_votes};
-ghost use Rattle.file_ops.specs.Edits.{edited, number_at, put_name, drop_name};
-ghost use Rattle.file_ops.specs.Restored.{Restores, Makes};
+ghost use Rattle.file_ops.specs.code.Stored.{listed_in, plain, exchanged, restored_row, with_stored_content, with_stored_acl, with_stored_votes};
+ghost use Rattle.file_ops.specs.code.Edits.{edited, number_at, put_name, drop_name};
+ghost use Rattle.file_ops.specs.code.Restored.{Restores, Makes};
 
 use crate::stored::{StoredContent, StoredRow, StoredRows};
 use acl_core::Acl;

@@ -11,7 +11,7 @@ use suite_content::{FileBytes, Kind};
 use vote_core::Votes;
 
 /// The most operations of a transaction.
-pub const MOST_OPERATIONS: usize = 8;
+pub const MAX_OPERATIONS: usize = 8;
 
 /// The access list that a new file or folder gets.
 #[derive(Debug, Drop)]
@@ -70,5 +70,5 @@ pub fn made_number(t: u64, at: u8) -> u64
     requires { t < 2 ^ 60 }
     ensures { result ≡ made_number t at }
 {
-    MOST_OPERATIONS as u64 * t + u64::from(at) + 1
+    MAX_OPERATIONS as u64 * t + u64::from(at) + 1
 }

@@ -1,7 +1,8 @@
 //! Paths.
 
-ghost use Rattle.std.specs.Prelude.{◌≡◌, IfOk};
+ghost use Rattle.std.specs.Prelude.{◌≡◌, ◌≤◌, IfOk, IfSome, codes, option_map, take};
 ghost use Rattle.std.specs.List.{slice_split};
+ghost use Rattle.file_ops.specs.Limits.{max_path_names};
 ghost use Rattle.file_ops.specs.Paths.{is_slash, some_names, names_of};
 
 use std::alloc::{AllocError, Global};
@@ -52,66 +53,40 @@ impl PathText {
 }
 
 /// The most names of a path.
-const MOST_PATH_NAMES: usize = 8;
+pub const MAX_PATH_NAMES: usize = 8;
 
-/// The names that a path leads through, from the root folder down.
-#[derive(Drop)]
-pub struct Path {
-    array: [Name; MOST_PATH_NAMES],
-    count: usize,
-}
-
-impl Model for Path {
-    ghost use Rattle.std.specs.Prelude.{ℕ, ◌≤◌, List, take};
-    ghost use Rattle.file_ops.specs.Limits.{most_path_names};
-
-    ghost Value = { List (List ℕ) };
-
-    ghost view = { λ path. take path.count path.array };
-
-    ghost invariant = { λ path. path.count ≤ most_path_names };
-}
-
-impl Path {
-    /// The names of a path's text, where it is a path.
-    pub fn parse(text: &[u8]) -> Option<Path>
-        ensures { result ≡ names_of text.now }
-    {
-        let rest = text.strip_prefix(b"/")?;
-        if rest.is_empty() {
-            return Some(Path {
-                array: [blank(); MOST_PATH_NAMES],
-                count: 0,
-            });
-        }
-        collect(rest)
-    }
-
-    /// The names.
-    pub fn names(&self) -> &[Name]
-        ensures { result.now ≡ self.now }
-    {
-        &self.array[..self.count]
-    }
-}
-
-/// The names between the slashes of a text, where there are no more parts than a path has names, and each is a name.
-fn collect(text: &[u8]) -> Option<Path>
-    ensures { result ≡ some_names (slice_split is_slash text.now) }
+/// Writes the names of a path's text, from the root folder down, to the front of the array, and answers how many
+/// they are, where it is a path. Of another text the array's names say nothing.
+pub fn read_path(text: &[u8], array: &mut [Name; MAX_PATH_NAMES]) -> Option<usize>
+    ensures names { option_map (λ count. take count array.new) result ≡ names_of text.now }
+    ensures count { IfSome result (λ count. count ≤ max_path_names) }
 {
-    let mut array = [blank(); MOST_PATH_NAMES];
+    let rest = text.strip_prefix(b"/")?;
+    if rest.is_empty() {
+        return Some(0);
+    }
+    collect(rest, array)
+}
+
+/// Writes the names between the slashes of a text, where there are no more parts than a path has names, and each is a name.
+fn collect(text: &[u8], array: &mut [Name; MAX_PATH_NAMES]) -> Option<usize>
+    ensures names { option_map (λ count. take count array.new) result ≡ some_names (slice_split is_slash text.now) }
+    ensures count { IfSome result (λ count. count ≤ max_path_names) }
+{
     let mut count = 0;
     for part in text.split(|byte| *byte == b'/') {
-        if count == MOST_PATH_NAMES {
+        if count == MAX_PATH_NAMES {
             return None;
         }
         array[count] = Name::new(part)?;
         count += 1;
     }
-    Some(Path { array, count })
+    Some(count)
 }
 
-/// A name for the places that no name has taken.
-fn blank() -> Name {
-    Name::new(b"-").unwrap()
+/// A name for the places of an array that no name of a path has taken.
+pub fn no_name() -> Name
+    ensures { result ≡ codes "-" }
+{
+    Name::known(b"-")
 }

@@ -1,10 +1,10 @@
 //! The operations of a transaction, one after the other.
 
 ghost use Rattle.std.specs.Prelude.{◌+◌, ◌<◌, ◌≤◌, ◌^◌, length, OnErr};
-ghost use Rattle.file_ops.specs.Stored.{plain};
-ghost use Rattle.file_ops.specs.Restored.{Restores};
-ghost use Rattle.file_ops.specs.Transactions.{most_operations, play};
-ghost use Rattle.file_ops.specs.Done.{Plays, AnswersFirst};
+ghost use Rattle.file_ops.specs.code.Stored.{plain};
+ghost use Rattle.file_ops.specs.code.Restored.{Restores};
+ghost use Rattle.file_ops.specs.Transactions.{max_operations, play};
+ghost use Rattle.file_ops.specs.code.Done.{Plays, AnswersFirst};
 
 use crate::act::{Done, OpError, Transaction, operate};
 use crate::answer::{Answers, Replies};
@@ -23,7 +23,7 @@ pub(crate) fn play(
     answers: &mut Replies,
 ) -> Result<Answers, ApplyError>
     requires number { transaction.t < 2 ^ 60 }
-    requires few { at + length ops.now ≤ most_operations }
+    requires few { at + length ops.now ≤ max_operations }
     ensures plays { Plays result rows.new (play transaction.entry.service.now (record { answers = answers.old; rows = plain rows.old }) transaction.entry.t at transaction.entry.caller.now ops.now) }
     ensures first { AnswersFirst result at (play transaction.entry.service.now (record { answers = answers.old; rows = plain rows.old }) transaction.entry.t at transaction.entry.caller.now ops.now) }
     ensures err { OnErr result (Restores rows.old rows.new) }

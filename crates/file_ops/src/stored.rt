@@ -4,11 +4,11 @@ ghost use Rattle.std.specs.Prelude.{◌≡◌, ℕ, ◌≤◌, Some, IfOk, OnOk,
 ghost use Rattle.suite_content.specs.Contents.{empty_content};
 ghost use Rattle.suite_content.specs.Folders.{with_name, without_name};
 ghost use Rattle.file_ops.specs.Steps.{ok_map};
-ghost use Rattle.file_ops.specs.Stored.{listed_in, plain_content};
+ghost use Rattle.file_ops.specs.code.Stored.{listed_in, plain_content};
 ghost use Rattle.file_ops.specs.Walks.{bytes_in, names_in};
 ghost use Rattle.file_ops.specs.Operations.{is_used};
-ghost use Rattle.file_ops.specs.Edits.{in_names, number_in};
-ghost use Rattle.file_ops.specs.Capacity.{capacity_in, has_room_for};
+ghost use Rattle.file_ops.specs.code.Edits.{in_names, number_in};
+ghost use Rattle.file_ops.specs.code.Capacity.{capacity_in, has_room_for};
 
 use crate::refusal::Why;
 use crate::stored_names::StoredNames;

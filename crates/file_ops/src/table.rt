@@ -5,7 +5,7 @@ ghost use Rattle.std.specs.Prelude.{◌≡◌, ◌<◌, ◌^◌, [], ◌∷◌, 
 use crate::act::Transaction;
 use crate::answer::{Answers, Replies};
 use crate::audit::AuditItem;
-use crate::operation::{MOST_OPERATIONS, Op};
+use crate::operation::{MAX_OPERATIONS, Op};
 use crate::play::play;
 use crate::refusal::{ApplyError, Refusal, Why};
 use crate::service::Service;
@@ -32,7 +32,7 @@ impl Model for Table {
 
     ghost Value = { PlainTable };
 
-    ghost use Rattle.file_ops.specs.Stored.{plain};
+    ghost use Rattle.file_ops.specs.code.Stored.{plain};
 
     ghost view = { λ table. record { service = table.service; rows = plain table.rows; audit = table.audit.items } };
 }
@@ -74,7 +74,7 @@ impl Table {
         ensures first { RefusesFirst result (transaction self.old.service self.old.rows t caller.now ops.now) }
         ensures after { self.new ≡ left_by result self.old (table_after self.old t caller.now (transaction self.old.service self.old.rows t caller.now ops.now)) }
     {
-        if ops.is_empty() || ops.len() > MOST_OPERATIONS {
+        if ops.is_empty() || ops.len() > MAX_OPERATIONS {
             return Err(ApplyError::Refused(Refusal {
                 op: 0,
                 why: Why::OpCount,

@@ -5,12 +5,12 @@
 //! that was put is taken out, and a name that was taken out finds its place in the folder still free.
 
 ghost use Rattle.std.specs.Prelude.{◌≡◌, None, Some, IfOk, OnOk, OnErr};
-ghost use Rattle.file_ops.specs.Edits.{edited, number_at, put_acl, put_votes, put_content, put_name, drop_name};
-ghost use Rattle.file_ops.specs.Restored.{Restores};
-ghost use Rattle.file_ops.specs.Stored.{plain, plain_content, plain_row};
-ghost use Rattle.file_ops.specs.Stored.{StoredRows as Stored};
+ghost use Rattle.file_ops.specs.code.Edits.{edited, number_at, put_acl, put_votes, put_content, put_name, drop_name};
+ghost use Rattle.file_ops.specs.code.Restored.{Restores};
+ghost use Rattle.file_ops.specs.code.Stored.{plain, plain_content, plain_row};
+ghost use Rattle.file_ops.specs.code.Stored.{StoredRows as Stored};
 ghost use Rattle.file_ops.specs.Rows.{with_row};
-ghost use Rattle.file_ops.specs.Undo.{TakesBack};
+ghost use Rattle.file_ops.specs.code.Undo.{TakesBack};
 
 use crate::edit::{
     drop_name, exchange_acl, exchange_content, exchange_votes, put_back_name, put_made, restore_row,

@@ -1,12 +1,15 @@
 //! The way to a file or a folder, and what a caller may do there.
 
 ghost use Rattle.std.specs.Prelude.{◌≡◌};
+ghost use Rattle.std.specs.Option.{option_copied};
+ghost use Rattle.std.specs.Ordering.{nat_cmp};
+ghost use Rattle.sorted_map.specs.SortedMap.{get};
 ghost use Rattle.file_ops.specs.Steps.{ok_map};
-ghost use Rattle.file_ops.specs.Stored.{plain};
+ghost use Rattle.file_ops.specs.code.Stored.{plain};
 ghost use Rattle.file_ops.specs.Rows.{root};
 ghost use Rattle.file_ops.specs.Walks.{place_of, permit, permit_others, owner_only, step, walk, reach, shown, owned};
-ghost use Rattle.file_ops.specs.Operations.{last_name, parent_of};
-ghost use Rattle.file_ops.specs.Found.{plain_place, plain_named, plain_parent};
+ghost use Rattle.file_ops.specs.Operations.{last_name, parent_of, plain_named};
+ghost use Rattle.file_ops.specs.code.Found.{plain_place, plain_parent};
 
 use crate::guarded::{Guarded, to_change};
 use crate::refusal::Why;
@@ -32,10 +35,22 @@ pub(crate) struct Parent<'a> {
     pub(crate) names: &'a RoomyMap<Name, u64>,
 }
 
+/// The row of a suite. The first row is looked at before the others are searched: it is the root folder's, from
+/// which each walk goes out.
+fn row_at(rows: &StoredRows, suite: u64) -> Option<&StoredRow>
+    ensures { option_copied result ≡ get nat_cmp rows.now suite }
+{
+    match rows.as_slice().first() {
+        Some((first, row)) if *first == suite => Some(row),
+        _ => rows.get(&suite),
+    }
+}
+
+/// A suite with its row.
 fn place_of(rows: &StoredRows, suite: u64) -> Result<Place<'_>, Why>
     ensures { ok_map plain_place result ≡ place_of (plain rows.now) suite }
 {
-    match rows.get(&suite) {
+    match row_at(rows, suite) {
         Some(row) => Ok(Place { suite, row }),
         None => Err(Why::NoName),
     }

@@ -30,7 +30,7 @@ use Rattle.txn_core.specs.Suites.{Suites}
 use Rattle.txn_core.specs.Doing.{Fixed, Task, Outcome, Phase, Gathering, Fetching, Widening, Preparing, Deciding, Finishing, Course, Round, Doing, Running, Rounding, After, GoesOn, Ends}
 use Rattle.txn_core.specs.Transactions.{execute, tell_end, give_up, prepare, prepared, locked_at, lack_cause, after_word, verdict_in, ending_by, cause_of_abort}
 use Rattle.txn_core.specs.Sweeps as sweep
-use Rattle.txn_core.specs.Agents.{Agent, left as left_doing, fixed_of, next_of, take_in, take, begin, started, forget, is_idle, has_sense, most_jobs}
+use Rattle.txn_core.specs.Agents.{Agent, left as left_doing, fixed_of, next_of, take_in, take, begin, started, forget, is_idle, has_sense, max_jobs}
 use Rattle.txn_core.proofs.Walk.{IsEarly, goes_word, goes_execute}
 use Rattle.run_core.specs.declared.event.Event.{Event}
 use Rattle.run_core.specs.declared.event.Event.TheVariants.{Begin, Step, Crash, Return, Forget, Lack}
@@ -207,7 +207,7 @@ module _ (given : Opening) (accepted : IsAccepted given) where
   AllBegun events = AllHave fixed (Was events) (run given events)
 
   -- a transaction that begins now
-  begins_new : (events : List Event) (number : ℕ) (actor : Actor) (job : Job) → actor_at (run given events) number ≡ Some actor → (is_idle actor.agent.doing && has_sense fixed job && nat_lt actor.agent.count most_jobs) ≡ true
+  begins_new : (events : List Event) (number : ℕ) (actor : Actor) (job : Job) → actor_at (run given events) number ≡ Some actor → (is_idle actor.agent.doing && has_sense fixed job && nat_lt actor.agent.count max_jobs) ≡ true
       → Has fixed (Was (events ++ Begin number job ∷ [])) (record (started fixed actor.agent job) { count = actor.agent.count + 1 })
   begins_new events number actor (Sweep server) there now = λ task is. absurd (none-some task is)
   begins_new events number actor (Transaction caller site ops) there now =
@@ -230,7 +230,7 @@ module _ (given : Opening) (accepted : IsAccepted given) where
   begins_has : (events : List Event) (number : ℕ) (job : Job) (actor : Actor) → AllBegun events → actor_at (run given events) number ≡ Some actor → Has fixed (Was (events ++ Begin number job ∷ [])) (begin fixed actor.agent job)
   begins_has events number job actor all there =
       let agent = actor.agent in
-      let now = is_idle agent.doing && has_sense fixed job && nat_lt agent.count most_jobs in
+      let now = is_idle agent.doing && has_sense fixed job && nat_lt agent.count max_jobs in
       elim now as (λ b. now ≡ b → Has fixed (Was (events ++ Begin number job ∷ [])) (cond b (record (started fixed agent job) { count = agent.count + 1 }) agent)) [
         | true ↦ λ e. begins_new events number actor job there e
         | false ↦ λ _. λ task is. more given events (Begin number job) task.t task.caller task.ops (all number actor there task is)

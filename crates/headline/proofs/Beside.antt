@@ -22,7 +22,7 @@ use Rattle.txn_core.specs.Agents.{Agent, fixed_of}
 use Rattle.run_core.specs.declared.event.Event as happening
 use Rattle.run_core.specs.declared.event.Event.TheVariants.{Begin, Step, Crash, Return, Forget, Lack}
 use Rattle.run_core.specs.Worlds as worlds
-use Rattle.run_core.specs.Worlds.{Actor, actor_at, step}
+use Rattle.run_core.specs.Worlds.{Actor, actor_at}
 use Rattle.run_core.specs.Decisions.{Decided}
 use Rattle.suite_machine.specs.Registers.{Beginning, Known, Entry, IsKnown, IsPlain, changed, row}
 use Rattle.suite_machine.specs.Machine.{Told, World}

@@ -14,7 +14,7 @@ use Rattle.txn_core.specs.declared.job.Job.TheVariants.{Transaction, Sweep}
 use Rattle.txn_core.specs.Doing.{Fixed, Task, Outcome, Deciding, Course, Round, Doing, Running, Rounding, After, GoesOn, Ends}
 use Rattle.txn_core.specs.Sweeps as sweep
 use Rattle.txn_core.specs.Agents as agents
-use Rattle.txn_core.specs.Agents.{Agent, Take, Forget, next_in, next_of, left, take, take_in, begin, started, forget, is_idle, has_sense, most_jobs, after_event, after_all}
+use Rattle.txn_core.specs.Agents.{Agent, Take, Forget, next_in, next_of, left, take, take_in, begin, started, forget, is_idle, has_sense, max_jobs, after_event, after_all}
 use Rattle.txn_core.proofs.Upheld.{DoingStands, stands_after}
 use Rattle.run_core.specs.declared.event.Event.{Event}
 use Rattle.run_core.specs.declared.event.Event.TheVariants.{Begin, Step, Crash, Return, Forget as Forgets, Lack}
@@ -68,8 +68,8 @@ forgets fixed agent site (inr is) = inr (told_more fixed agent (Forget site) is)
 begins : (fixed : Fixed) (agent : Agent) (job : Job) → JobGivesValidVotes job → ValidOr fixed agent → ValidOr fixed (begin fixed agent job)
 begins fixed agent job valid (inl idle) = inr (record { before = agent; job = job; told = []; idle = idle; is = refl; valid = valid })
 begins fixed agent job valid (inr is) =
-    elim (is_idle agent.doing) as (λ b. is_idle agent.doing ≡ b → ValidOr fixed (cond (b && has_sense fixed job && nat_lt agent.count most_jobs) (record (started fixed agent job) { count = agent.count + 1 }) agent)) [
-      | true ↦ λ idle. inr (record { before = agent; job = job; told = []; idle = idle; is = ap (λ b. cond (b && has_sense fixed job && nat_lt agent.count most_jobs) (record (started fixed agent job) { count = agent.count + 1 }) agent) (sym idle); valid = valid })
+    elim (is_idle agent.doing) as (λ b. is_idle agent.doing ≡ b → ValidOr fixed (cond (b && has_sense fixed job && nat_lt agent.count max_jobs) (record (started fixed agent job) { count = agent.count + 1 }) agent)) [
+      | true ↦ λ idle. inr (record { before = agent; job = job; told = []; idle = idle; is = ap (λ b. cond (b && has_sense fixed job && nat_lt agent.count max_jobs) (record (started fixed agent job) { count = agent.count + 1 }) agent) (sym idle); valid = valid })
       | false ↦ λ _. inr is
     ] refl
 
@@ -164,7 +164,7 @@ idle_knows fixed (Some doing) idle = absurd (false≢true idle)
 
 begin_knows : (fixed : Fixed) (agent : Agent) (job : Job) → is_idle agent.doing ≡ true → Knows fixed (begin fixed agent job).doing
 begin_knows fixed agent job idle =
-    elim (is_idle agent.doing && has_sense fixed job && nat_lt agent.count most_jobs) as (λ b. Knows fixed (cond b (record (started fixed agent job) { count = agent.count + 1 }) agent).doing) [
+    elim (is_idle agent.doing && has_sense fixed job && nat_lt agent.count max_jobs) as (λ b. Knows fixed (cond b (record (started fixed agent job) { count = agent.count + 1 }) agent).doing) [
       | true ↦ of job
       | false ↦ idle_knows fixed agent.doing idle
     ]

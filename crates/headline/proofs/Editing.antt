@@ -10,7 +10,7 @@ use Rattle.suite_content.specs.declared.content.Content.TheVariants.{Bytes, Name
 use Rattle.suite_content.specs.declared.content.Kind.{Kind}
 use Rattle.suite_content.specs.declared.content.Kind.TheVariants as holds
 use Rattle.suite_content.specs.Contents.{kind_of, empty_content}
-use Rattle.suite_content.specs.Limits.{longest_content, most_names}
+use Rattle.suite_content.specs.Limits.{max_content, max_names}
 use Rattle.suite_content.specs.Folders as folders
 use Rattle.suite_prefix.specs.declared.lock_mode.LockMode.{LockMode}
 use Rattle.suite_prefix.specs.declared.lock_mode.LockMode.TheVariants.{Shared, Exclusive}
@@ -210,7 +210,7 @@ module _ (rows : ℕ → Option Row) where
   act edits service t at caller names action.GetAcl c0 valid = in_turn _ (shown edits caller names) (λ now place _. record { goes = tt })
   act edits service t at caller names action.GetVotes c0 valid = in_turn _ (shown edits caller names) (λ now place _. record { goes = tt })
   act edits service t at caller names (action.Write bytes) c0 valid =
-      ruled (refuse_if (nat_lt longest_content (length bytes)) why.TooLong) _ (λ _ _.
+      ruled (refuse_if (nat_lt max_content (length bytes)) why.TooLong) _ (λ _ _.
       in_turn _ (reach edits caller names Exclusive) (λ now place at.
       ruled (permit caller place to_write) _ (λ _ _. ruled (bytes_in place.row.content) _ (λ before is.
       record { goes = (has_kind holds.File now place at (of_bytes place.row.content before is), tt) }))))
@@ -220,7 +220,7 @@ module _ (rows : ℕ → Option Row) where
   act edits service t at caller names (action.Make kind init given) c0 valid =
       ruled (last_name names) _ (λ path _. ruled (votes_of_new service given) _ (λ votes is.
       in_turn _ (parent_of edits caller path.folders) (λ now parent folder.
-      ruled (refuse_if (is_some (folders.number_of parent.names path.name)) why.Exists) _ (λ _ _. ruled (refuse_if (nat_le most_names (length parent.names)) why.FolderFull) _ (λ _ _.
+      ruled (refuse_if (is_some (folders.number_of parent.names path.name)) why.Exists) _ (λ _ _. ruled (refuse_if (nat_le max_names (length parent.names)) why.FolderFull) _ (λ _ _.
       record { goes = (folder, (valid_new service given votes c0 valid is, tt)) })))))
   act edits service t at caller names action.Drop c0 valid =
       ruled (last_name names) _ (λ path _.

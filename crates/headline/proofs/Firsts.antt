@@ -33,7 +33,7 @@ use Rattle.txn_core.proofs.Gathers.{Each, each_but, each_with, tell_start}
 use Rattle.txn_core.specs.declared.job.Job.{Job}
 use Rattle.txn_core.specs.declared.job.Job.TheVariants.{Transaction, Sweep}
 use Rattle.txn_core.specs.Sweeps as sweep
-use Rattle.txn_core.specs.Agents.{Agent, Event, Take, Forget, next_in, next_of, take_in, begin, started, is_idle, has_sense, most_jobs, after_all, left}
+use Rattle.txn_core.specs.Agents.{Agent, Event, Take, Forget, next_in, next_of, take_in, begin, started, is_idle, has_sense, max_jobs, after_all, left}
 use Rattle.txn_core.proofs.Upheld.{after-append}
 use Rattle.run_machine.proofs.Jobs.{IdleOr}
 use Rattle.run_knowledge.proofs.Walk.{IsNarrow}
@@ -277,7 +277,7 @@ idle_first (Some doing) idle = cc
 
 begin_first : (fixed : Fixed) (agent : Agent) (job : Job) → is_idle agent.doing ≡ true → DoingFirst (begin fixed agent job).doing
 begin_first fixed agent job idle =
-    elim (is_idle agent.doing && has_sense fixed job && nat_lt agent.count most_jobs) as (λ b. DoingFirst (cond b (record (started fixed agent job) { count = agent.count + 1 }) agent).doing) [
+    elim (is_idle agent.doing && has_sense fixed job && nat_lt agent.count max_jobs) as (λ b. DoingFirst (cond b (record (started fixed agent job) { count = agent.count + 1 }) agent).doing) [
       | true ↦ of job
       | false ↦ idle_first agent.doing idle
     ]

@@ -24,7 +24,7 @@ use Rattle.txn_core.specs.declared.job.Job.{Job}
 use Rattle.txn_core.specs.declared.job.Job.TheVariants.{Transaction, Sweep}
 use Rattle.txn_core.specs.Doing.{Outcome, Phase, Gathering, Fetching, Widening, Preparing, Deciding, Finishing, Course, Doing, Running, Rounding}
 use Rattle.txn_core.specs.Transactions.{request_in, changes_of}
-use Rattle.txn_core.specs.Agents.{Agent, fixed_of, next_in, next_of, take, take_in, begin, started, forget, is_idle, has_sense, most_jobs}
+use Rattle.txn_core.specs.Agents.{Agent, fixed_of, next_in, next_of, take, take_in, begin, started, forget, is_idle, has_sense, max_jobs}
 use Rattle.txn_core.specs.Agents as agents
 use Rattle.txn_core.proofs.Asks.{asks_same}
 use Rattle.run_core.specs.declared.event.Event as happening
@@ -304,7 +304,7 @@ module _ (given : Opening) (z : ℕ) (w : World) (world : worlds.World) (linked 
 
   began : (agent : Agent) (job : Job) → DoingPrepared z w agent.doing → DoingPrepared z w (begin (fixed_of given) agent job).doing
   began agent job is =
-      elim (is_idle agent.doing && has_sense (fixed_of given) job && nat_lt agent.count most_jobs) as (λ b. DoingPrepared z w (cond b (record (started (fixed_of given) agent job) { count = agent.count + 1 }) agent).doing) [
+      elim (is_idle agent.doing && has_sense (fixed_of given) job && nat_lt agent.count max_jobs) as (λ b. DoingPrepared z w (cond b (record (started (fixed_of given) agent job) { count = agent.count + 1 }) agent).doing) [
         | true ↦ by job
         | false ↦ is
       ]

@@ -6,8 +6,7 @@ use self::uses::{Row, change_and_back, has, lengths, link, put_and_take, take_an
 use sorted_map::RoomyMap;
 use std::process::Abort;
 use suite_content::{
-    Content, FileBytes, FolderNames, Kind, LONGEST_CONTENT, LONGEST_NAME, MOST_NAMES, Name,
-    NameList,
+    Content, FileBytes, FolderNames, Kind, MAX_CONTENT, MAX_NAME, MAX_NAMES, Name, NameList,
 };
 
 fn name(rt: &impl Abort, text: &str) -> Name {
@@ -74,7 +73,7 @@ fn names_are_1_to_64_portable_bytes(rt: HostRuntime) {
         is_no_name(&rt, bad.as_bytes());
     }
     let longest = [b'x'; 65];
-    assert!(rt; Name::new(&longest[..LONGEST_NAME]).is_some());
+    assert!(rt; Name::new(&longest[..MAX_NAME]).is_some());
     is_no_name(&rt, &longest);
 }
 
@@ -140,7 +139,7 @@ fn edits_undo_others(rt: HostRuntime) {
 #[test]
 fn a_folder_is_full_with_1024_names(rt: HostRuntime) {
     let mut folder = FolderNames::new(rt.alloc());
-    for number in 0..MOST_NAMES as u64 {
+    for number in 0..MAX_NAMES as u64 {
         assert!(rt; !folder.is_full());
         let text = format!(in rt.alloc(); "n{number}").expect(&rt, "memory");
         put(&rt, &mut folder, text.as_str(), number);
@@ -154,13 +153,10 @@ fn file(rt: &(impl Abort + AllocGlobal), bytes: &[u8]) -> FileBytes {
 
 #[test]
 fn a_file_has_at_most_65536_bytes(rt: HostRuntime) {
-    let long = done(
-        &rt,
-        [7u8].as_slice().repeat(rt.alloc(), LONGEST_CONTENT + 1),
-    );
+    let long = done(&rt, [7u8].as_slice().repeat(rt.alloc(), MAX_CONTENT + 1));
     let fits = file(&rt, long.get(1..).unwrap_or_default());
     assert!(rt; !fits.is_too_long());
-    assert!(rt; done(&rt, fits.clone()).len() == LONGEST_CONTENT);
+    assert!(rt; done(&rt, fits.clone()).len() == MAX_CONTENT);
     assert!(rt; done(&rt, FileBytes::from_vec(long)).is_too_long());
 }
 

@@ -200,7 +200,7 @@ fn long_name(rt: &impl Abort, number: u16) -> Name {
 }
 
 /// 1,024 names of 64 bytes.
-fn most_names(rt: &(impl Abort + AllocGlobal)) -> FolderNames {
+fn max_names(rt: &(impl Abort + AllocGlobal)) -> FolderNames {
     let mut names = FolderNames::new(rt.alloc());
     for number in 0..1024 {
         put(rt, &mut names, long_name(rt, number), u64::from(number));
@@ -214,7 +214,7 @@ fn put(rt: &impl Abort, names: &mut FolderNames, name: Name, suite: u64) {
 }
 
 /// 255 votes at each of 16 servers.
-const MOST_VOTES: [(u8, u8); 16] = [
+const MAX_VOTES: [(u8, u8); 16] = [
     (0, 255),
     (1, 255),
     (2, 255),
@@ -237,12 +237,12 @@ const MOST_VOTES: [(u8, u8); 16] = [
 fn the_largest_copies_are_read_again(rt: HostRuntime) {
     let mut copy = file(&rt, &sevens(&rt, 65_536));
     copy.prefix.acl = longest_list(&rt);
-    copy.prefix.votes = Votes::new(16, &MOST_VOTES, 1, 4080)
+    copy.prefix.votes = Votes::new(16, &MAX_VOTES, 1, 4080)
         .ok()
         .expect(&rt, "votes");
     is_spelled_in(&rt, &copy, 65_988);
     copy.prefix.kind = PrefixKind::Folder;
-    copy.content = Content::Names(most_names(&rt));
+    copy.content = Content::Names(max_names(&rt));
     is_spelled_in(&rt, &copy, 75_202);
 }
 

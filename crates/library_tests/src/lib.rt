@@ -13,6 +13,8 @@ mod copies;
 #[cfg(test)]
 mod executor;
 #[cfg(test)]
+mod faults;
+#[cfg(test)]
 mod list_text;
 #[cfg(test)]
 mod lists;

@@ -29,7 +29,7 @@ use Rattle.run_core.specs.declared.event.Event as happening
 use Rattle.run_core.specs.declared.event.Event.TheVariants.{Begin, Step, Crash, Return, Forget, Lack}
 use Rattle.run_core.specs.declared.done.Served.{Served}
 use Rattle.run_core.specs.Worlds as worlds
-use Rattle.run_core.specs.Worlds.{Actor, server_at, actor_at, serve, answered, asks_at, asks, steps_once, step}
+use Rattle.run_core.specs.Worlds.{Actor, server_at, actor_at, answered, asks_at, asks, steps_once, step}
 use Rattle.run_core.specs.Decisions.{Decided, to_decide, answer_in, decided_as, decided_at, decided_by, decided, task_of, task_at}
 use Rattle.run_core.specs.Decisions as decisions
 use Rattle.run_laws.proofs.Asking.{decides, sweep_decides_none}
@@ -37,7 +37,7 @@ use Rattle.run_laws.proofs.Turns.{decides_at, no_decide}
 use Rattle.suite_machine.specs.Registers.{Beginning, Change, Entry}
 use Rattle.suite_machine.specs.Machine.{Verdict, World}
 use Rattle.suite_machine.specs.Events.{Event, Held, Upgrade, Overrule, GiveUp, Lose, happens, run, aimed}
-use Rattle.server_moves.specs.Views.{Shows, ended_as}
+use Rattle.server_moves.specs.Views.{Shows}
 use Rattle.server_moves.specs.Views as views
 use Rattle.server_moves.specs.Preparing.{part_of}
 use Rattle.server_moves.specs.Moves.{moves, first_verdict, prepare_of, left_by_break}

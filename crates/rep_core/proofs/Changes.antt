@@ -5,7 +5,7 @@ use Rattle.sorted_map.specs.Edits.{remove-insert}
 use Rattle.rep_core.specs.declared.plan.Change.{Change}
 use Rattle.rep_core.specs.declared.plan.Change.TheVariants as change
 use Rattle.rep_core.specs.State.{State}
-use Rattle.rep_core.specs.Changing.{begun, taken_back, IsSoundChange, IsFirstRecord}
+use Rattle.rep_core.specs.code.Changing.{begun, taken_back, IsSoundChange, IsFirstRecord}
 
 pub taken_back-begun : (c : Change) (st : State) → IsFirstRecord c st → taken_back c (begun c st) ≡ st
 taken_back-begun change.Nothing st first = refl

@@ -21,7 +21,7 @@ use Rattle.rep_core.specs.declared.request.Part.{Part}
 use Rattle.rep_core.specs.declared.request.Request.{Request}
 use Rattle.rep_core.specs.declared.stamped.Stamped.{Stamped}
 use Rattle.rep_core.specs.Locks.{rise, is_own, has_lock_for, locked, prepared_lock, with_prepared, released}
-use Rattle.rep_core.specs.Store.{Store, IsSound, copy_of, is_keep, goes_with, is_sound_part, lists_twice, with_intention, with_intentions, finished, suites_with, most_suites}
+use Rattle.rep_core.specs.Store.{Store, IsSound, copy_of, is_keep, goes_with, is_sound_part, lists_twice, with_intention, with_intentions, finished, suites_with, max_suites}
 use Rattle.rep_core.specs.State.{State, opening}
 use Rattle.rep_core.specs.Service.{prepares, stands_prepared, is_answered}
 use Rattle.rep_core.specs.Serving.{step}
@@ -227,7 +227,7 @@ copies_ways st rising = record {
   return = rising;
 }
 
-few_ways : (st : State) → IsOrdered nat_cmp st.store.copies → suites_with st.store ≤ most_suites → Ways st (λ _ new. suites_with new.store ≤ most_suites)
+few_ways : (st : State) → IsOrdered nat_cmp st.store.copies → suites_with st.store ≤ max_suites → Ways st (λ _ new. suites_with new.store ≤ max_suites)
 few_ways st rising few = record {
   same = λ _. few;
   poll = λ t suite mode free. few;
@@ -256,7 +256,7 @@ consistent_step st asked is = record {
   alone = alone_contained _ (by_step st (λ _ new. Alone new.locks) (alone_ways st (alone_had st.locks is.alone)) (λ _ _ _ holds. holds) asked);
   locked = by_step st (λ _ new. IntentionsLocked new) (locked_ways st is.sound.rising is.locked) (λ _ _ _ holds. holds) asked;
   sound = by_step st (λ _ new. IsSound new.store) (sound_ways st is.sound) (λ _ _ _ holds. holds) asked;
-  few = by_step st (λ _ new. suites_with new.store ≤ most_suites) (few_ways st is.copies_rise is.few) (λ _ _ _ holds. holds) asked;
+  few = by_step st (λ _ new. suites_with new.store ≤ max_suites) (few_ways st is.copies_rise is.few) (λ _ _ _ holds. holds) asked;
 }
 
 pub consistent_opening : (index : ℕ) (given : Opening) → IsConsistent (opening index given)

@@ -9,6 +9,7 @@ use Rattle.std.proofs.lemmas.Bool.{or_parts}
 use Rattle.std.proofs.lemmas.Bool.Decides.{nat_tests}
 use Rattle.std.proofs.lemmas.Cmp.{nat_cmp_total}
 use Rattle.std.proofs.lemmas.Map.Entries.{lookup_head, lookup_tail}
+use Rattle.std.proofs.lemmas.List.Sums.{count_by-le-length}
 use Rattle.std.proofs.lemmas.Map.Keys.{sorted_tail}
 use Rattle.sorted_map.specs.SortedMap.{IsOrdered, get, insert}
 use Rattle.sorted_map.specs.Comparisons.{by_answer}
@@ -17,7 +18,7 @@ use Rattle.sorted_map.specs.Numbers.{get_insert_apart}
 use Rattle.rep_core.specs.declared.intention.Intention.{Intention}
 use Rattle.rep_core.specs.declared.request.Part.{Part}
 use Rattle.rep_core.proofs.Rising.{count_cons}
-use Rattle.rep_core.specs.Store.{Store, most_suites, is_keep, lists_twice, has_copy, suites_with, with_intention, with_intentions, intended}
+use Rattle.rep_core.specs.Store.{Store, max_suites, is_keep, lists_twice, has_copy, suites_with, with_intention, with_intentions, intended}
 
 one_if : (there : Bool) → there ≡ false → (b : Bool) → ◌≡◌ {A = ℕ} (cond (not there && b) 1 0) (cond b 1 0)
 one_if there absent b = ap (λ h. cond (not h && b) 1 0) absent
@@ -111,5 +112,13 @@ module _ (store : Store) (t : ℕ) where
   suites_intended parts once rising = let counted_all = count_all parts store.intentions once rising in omega (arith, counted_all)
 
 -- a number that is cut at the largest is above the limit where it is
-pub over_most : (cut number : ℕ) → cut ≡ min number 18446744073709551615 → nat_lt most_suites cut ≡ nat_lt most_suites number
+pub over_most : (cut number : ℕ) → cut ≡ min number 18446744073709551615 → nat_lt max_suites cut ≡ nat_lt max_suites number
 over_most cut number is = grind (arith, nat_tests)
+
+-- there are not too many suites where copies, intentions and parts are not, each counted
+pub not_over : (store : Store) (t : ℕ) (parts : List Part) (cut : ℕ) → lists_twice parts ≡ false → IsOrdered nat_cmp store.intentions → cut ≡ min (min (length store.copies + length store.intentions) 18446744073709551615 + length parts) 18446744073709551615 → nat_lt max_suites cut ≡ false → nat_lt max_suites (suites_with (intended t parts store)) ≡ false
+not_over store t parts cut once rising is few =
+    let counted = suites_intended store t parts once rising in
+    let planned = count_by-le-length (λ pair. not (has_copy store pair.0)) store.intentions in
+    let new = count_by-le-length (takes_new store) parts in
+    grind (arith, nat_tests)

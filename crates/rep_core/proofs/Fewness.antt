@@ -18,25 +18,25 @@ use Rattle.rep_core.specs.declared.intention.Intention.{Intention}
 use Rattle.rep_core.specs.declared.request.Part.{Part}
 use Rattle.rep_core.specs.declared.request.Take.{Take}
 use Rattle.rep_core.specs.declared.request.Take.TheVariants as take
-use Rattle.rep_core.specs.Store.{Store, root_copy, opening_store, holds_last, most_suites, has_copy, suites_with, intended, overfills, with_taken, with_copies, finished, left_by, copy_in}
+use Rattle.rep_core.specs.Store.{Store, root_copy, opening_store, holds_last, max_suites, has_copy, suites_with, intended, overfills, with_taken, with_copies, finished, left_by, copy_in}
 use Rattle.rep_core.proofs.Rising.{count_cons}
 use Rattle.rep_core.proofs.Intentions.{is_of}
 
-pub few_opening : (index : ℕ) (given : Opening) → suites_with (opening_store index given) ≤ most_suites
+pub few_opening : (index : ℕ) (given : Opening) → suites_with (opening_store index given) ≤ max_suites
 few_opening index given =
     let copies : Bool → List (ℕ × Replica) = λ b. cond b ((0, root_copy given) ∷ []) [] in
-    elim (list_any (λ rep. rep.0 == index) given.c0.reps) as (λ b. length (copies b) + 0 ≤ most_suites) [ true ↦ omega arith | false ↦ omega arith ]
+    elim (list_any (λ rep. rep.0 == index) given.c0.reps) as (λ b. length (copies b) + 0 ≤ max_suites) [ true ↦ omega arith | false ↦ omega arith ]
 
 pub ordered_opening : (index : ℕ) (given : Opening) → IsOrdered nat_cmp (opening_store index given).copies
 unfolding IsStrictlySortedBy
 ordered_opening index given = elim (list_any (λ rep. rep.0 == index) given.c0.reps) as (λ b. IsOrdered nat_cmp (cond b ((0, root_copy given) ∷ []) [])) [ true ↦ (tt, tt) | false ↦ tt ]
 
-not_more : (number : ℕ) → nat_lt most_suites number ≡ false → number ≤ most_suites
+not_more : (number : ℕ) → nat_lt max_suites number ≡ false → number ≤ max_suites
 not_more number few = grind (arith, nat_tests)
 
-pub few_intended : (store : Store) (t : ℕ) (parts : List Part) → overfills t store parts ≡ false → suites_with (intended t parts store) ≤ most_suites
+pub few_intended : (store : Store) (t : ℕ) (parts : List Part) → overfills t store parts ≡ false → suites_with (intended t parts store) ≤ max_suites
 few_intended store t parts room =
-    not_more (suites_with (intended t parts store)) (or_parts (list_any (λ part. holds_last part.take) parts) (nat_lt most_suites (suites_with (intended t parts store))) room).1
+    not_more (suites_with (intended t parts store)) (or_parts (list_any (λ part. holds_last part.take) parts) (nat_lt max_suites (suites_with (intended t parts store))) room).1
 
 -- ---- counts
 
@@ -167,6 +167,6 @@ few_dropped store t =
     let ways = count_ways (λ e. not (has_copy store e.0)) (is_of t) store.intentions in
     omega (arith, left, ways)
 
-pub few_finished : (store : Store) (t : ℕ) (answered : Bool) → IsOrdered nat_cmp store.copies → suites_with store ≤ most_suites → suites_with (finished t answered store) ≤ most_suites
+pub few_finished : (store : Store) (t : ℕ) (answered : Bool) → IsOrdered nat_cmp store.copies → suites_with store ≤ max_suites → suites_with (finished t answered store) ≤ max_suites
 few_finished store t true rising few = omega (arith, few_answered store t rising, few)
 few_finished store t false rising few = omega (arith, few_dropped store t, few)

@@ -1,105 +1,124 @@
--- The intentions of a transaction become copies, place by place: what was taken at a place is spent there.
-use Rattle.std.proofs.Common.{◌≡◌, ℕ, ◌==◌, ◌+◌, ◌<◌, zero, suc, drop, set, get_or, filter, Less, Equal, Greater, Bool, true, false, cond, not, List, [], ◌∷◌, length, Some, refl, sym, ap, subst, ◌∙◌, arith}
-use Rattle.std.specs.Prelude.{IfSome}
+-- The intentions of a transaction become copies, place by place: what is taken at a place is gone.
+use Rattle.std.proofs.Common.{◌≡◌, ℕ, ◌+◌, ◌<◌, ◌≤◌, zero, suc, add-one, take, drop, get_or, filter, Less, Bool, true, false, cond, not, List, [], ◌∷◌, length, Some, refl, sym, ap, subst, ◌∙◌, arith}
+use Rattle.std.specs.Prelude.{IfSome, remove as without}
+use Rattle.std.specs.List.{list_all}
 use Rattle.std.specs.Ordering.{nat_cmp, is_eq}
 use Rattle.std.specs.BTreeMap.{is_at}
 use Rattle.std.specs.Map.{keys_of}
-use Rattle.std.proofs.lemmas.Bool.Decides.{nat_tests}
-use Rattle.std.proofs.lemmas.List.{drop_more, drop-set-lt, length-set}
-use Rattle.std.proofs.lemmas.List.Filters.{length-filter_both}
+use Rattle.std.proofs.lemmas.Bool.{and_parts, and_from}
+use Rattle.std.proofs.lemmas.List.{drop_more, take_all}
 use Rattle.std.proofs.lemmas.Map.Entries.{lookup_head, lookup_tail}
 use Rattle.std.proofs.lemmas.Map.Keys.{sorted_head, sorted_tail}
-use Rattle.sorted_map.specs.SortedMap.{IsOrdered, get, insert}
-use Rattle.sorted_map.specs.Laws.{insert_step}
+use Rattle.sorted_map.specs.SortedMap.{IsOrdered, get, remove}
 use Rattle.vote_core.specs.Quorums.{Configuration}
 use Rattle.suite_prefix.specs.declared.copies.Replica.{Replica}
 use Rattle.rep_core.specs.declared.intention.Intention.{Intention}
-use Rattle.rep_core.specs.declared.request.Take.TheVariants as take
 use Rattle.rep_core.specs.Store.{with_taken, with_copies, without_intentions}
 use Rattle.rep_core.proofs.Intentions.{is_of, at_index, at_itself, swapped}
 
-same_number : (t : ℕ) → (t == t) ≡ true
-same_number t = grind (arith, nat_tests)
+-- ---- a list without the element at a place
 
-equal_itself : (key : ℕ) → nat_cmp key key ≡ Equal
-equal_itself key = grind (arith, nat_tests)
+module _ {X : Type 0} where
+  length-without : (xs : List X) (i : ℕ) → i < length xs → length (without xs i) + 1 ≡ length xs
+  length-without [] i in_range = absurd (omega arith)
+  length-without (x ∷ xs) zero in_range = omega arith
+  length-without (x ∷ xs) (suc i) in_range = let rest = length-without xs i (omega arith) in omega (arith, rest)
+
+  drop-without : (xs : List X) (i : ℕ) → i < length xs → drop i (without xs i) ≡ drop (suc i) xs
+  drop-without [] i in_range = absurd (omega arith)
+  drop-without (x ∷ xs) zero in_range = refl
+  drop-without (x ∷ xs) (suc i) in_range = drop-without xs i (omega arith)
+
+  take-without : (xs : List X) (i : ℕ) → i < length xs → take i (without xs i) ≡ take i xs
+  take-without [] i in_range = absurd (omega arith)
+  take-without (x ∷ xs) zero in_range = refl
+  take-without (x ∷ xs) (suc i) in_range = ap (λ l. x ∷ l) (take-without xs i (omega arith))
+
+  module _ (p : X → Bool) where
+    -- a filter that drops it sees no difference
+    filter-without : (xs : List X) (i : ℕ) (x : X) → i < length xs → x ≡ get_or xs i x → p x ≡ false → filter p (without xs i) ≡ filter p xs
+    filter-without [] i x in_range is fails = absurd (omega arith)
+    filter-without (e ∷ es) zero x in_range is fails = sym (ap (λ b. cond b (e ∷ filter p es) (filter p es)) (ap p (sym is) ∙ fails))
+    filter-without (e ∷ es) (suc i) x in_range is fails = ap (λ l. cond (p e) (e ∷ l) l) (filter-without es i x (omega arith) is fails)
+
+    -- where the first ones pass, and the next does
+    all_next : (xs : List X) (i : ℕ) (x : X) → i < length xs → x ≡ get_or xs i x → p x ≡ true → list_all p (take i xs) ≡ true → list_all p (take (suc i) xs) ≡ true
+    all_next [] i x in_range is passes all = absurd (omega arith)
+    all_next (e ∷ es) zero x in_range is passes all = and_from (p e) true (ap p (sym is) ∙ passes) refl
+    all_next (e ∷ es) (suc i) x in_range is passes all =
+        let parts = and_parts (p e) (list_all p (take i es)) all in
+        and_from (p e) (list_all p (take (suc i) es)) parts.0 (all_next es i x (omega arith) is passes parts.1)
+
+    filter_all : (xs : List X) → list_all p xs ≡ true → filter p xs ≡ xs
+    filter_all [] all = refl
+    filter_all (e ∷ es) all =
+        let parts = and_parts (p e) (list_all p es) all in
+        ap (λ b. cond b (e ∷ filter p es) (filter p es)) parts.0 ∙ ap (λ l. e ∷ l) (filter_all es parts.1)
+
+-- ---- a map without the key at a place
 
 module _ {V : Type 0} where
   -- the key of a pair behind the first one is greater
-  greater_at : (e : ℕ × V) (es : List (ℕ × V)) (i : ℕ) (pair : ℕ × V) → IsOrdered nat_cmp (e ∷ es) → i < length es → pair ≡ get_or es i pair → nat_cmp pair.0 e.0 ≡ Greater
+  greater_at : (e : ℕ × V) (es : List (ℕ × V)) (i : ℕ) (pair : ℕ × V) → IsOrdered nat_cmp (e ∷ es) → i < length es → pair ≡ get_or es i pair → is_at (nat_cmp pair.0) e.0 ≡ false
   greater_at e es i pair rising in_range is =
-      swapped e.0 pair.0 (at_index (λ b. nat_cmp e.0 b ≡ Less) es i pair in_range is (sorted_head nat_cmp e.0 (keys_of es) rising))
+      ap is_eq (swapped e.0 pair.0 (at_index (λ b. nat_cmp e.0 b ≡ Less) es i pair in_range is (sorted_head nat_cmp e.0 (keys_of es) rising)))
 
   -- the value at a place's key is the one there
-  pub has_at : (pairs : List (ℕ × V)) (i : ℕ) (pair : ℕ × V) → IsOrdered nat_cmp pairs → i < length pairs → pair ≡ get_or pairs i pair → get nat_cmp pairs pair.0 ≡ Some pair.1
+  has_at : (pairs : List (ℕ × V)) (i : ℕ) (pair : ℕ × V) → IsOrdered nat_cmp pairs → i < length pairs → pair ≡ get_or pairs i pair → get nat_cmp pairs pair.0 ≡ Some pair.1
   has_at [] i pair rising in_range is = absurd (omega arith)
   has_at (e ∷ es) zero pair rising in_range is =
       lookup_head (is_at (nat_cmp pair.0)) e es (ap (λ p. is_at (nat_cmp pair.0) p.0) (sym is) ∙ at_itself pair.0) ∙ ap (λ p. Some p.1) (sym is)
   has_at (e ∷ es) (suc i) pair rising in_range is =
-      lookup_tail (is_at (nat_cmp pair.0)) e es (ap is_eq (greater_at e es i pair rising (omega arith) is)) ∙ has_at es i pair (sorted_tail nat_cmp e.0 (keys_of es) rising) (omega arith) is
+      lookup_tail (is_at (nat_cmp pair.0)) e es (greater_at e es i pair rising (omega arith) is) ∙ has_at es i pair (sorted_tail nat_cmp e.0 (keys_of es) rising) (omega arith) is
 
-  -- what is put at a place's key is put there
-  pub put_at : (pairs : List (ℕ × V)) (i : ℕ) (pair : ℕ × V) (value : V) → IsOrdered nat_cmp pairs → i < length pairs → pair ≡ get_or pairs i pair → insert nat_cmp pairs pair.0 value ≡ set pairs i (pair.0, value)
-  put_at [] i pair value rising in_range is = absurd (omega arith)
-  put_at (e ∷ es) zero pair value rising in_range is =
-      insert_step nat_cmp e es pair.0 value Equal (ap (λ p. nat_cmp pair.0 p.0) (sym is) ∙ equal_itself pair.0) ∙ ap (λ p. (p.0, value) ∷ es) (sym is)
-  put_at (e ∷ es) (suc i) pair value rising in_range is =
-      insert_step nat_cmp e es pair.0 value Greater (greater_at e es i pair rising (omega arith) is)
-      ∙ ap (λ l. e ∷ l) (put_at es i pair value (sorted_tail nat_cmp e.0 (keys_of es) rising) (omega arith) is)
+  -- without a place's key it is without the place
+  without_at : (pairs : List (ℕ × V)) (i : ℕ) (pair : ℕ × V) → IsOrdered nat_cmp pairs → i < length pairs → pair ≡ get_or pairs i pair → remove nat_cmp pairs pair.0 ≡ without pairs i
+  without_at [] i pair rising in_range is = absurd (omega arith)
+  without_at (e ∷ es) zero pair rising in_range is =
+      ap (λ b. cond b es (e ∷ remove nat_cmp es pair.0)) (ap (λ p. is_at (nat_cmp pair.0) p.0) (sym is) ∙ at_itself pair.0)
+  without_at (e ∷ es) (suc i) pair rising in_range is =
+      ap (λ b. cond b es (e ∷ remove nat_cmp es pair.0)) (greater_at e es i pair rising (omega arith) is)
+      ∙ ap (λ l. e ∷ l) (without_at es i pair (sorted_tail nat_cmp e.0 (keys_of es) rising) (omega arith) is)
 
--- a filter that drops what is written and what was there sees no difference
-filter-set : {X : Type 0} (p : X → Bool) (xs : List X) (i : ℕ) (x y : X) → i < length xs → x ≡ get_or xs i x → p x ≡ false → p y ≡ false → filter p (set xs i y) ≡ filter p xs
-filter-set p [] i x y in_range is was now = absurd (omega arith)
-filter-set p (e ∷ es) zero x y in_range is was now =
-    ap (λ b. cond b (y ∷ filter p es) (filter p es)) now ∙ sym (ap (λ b. cond b (e ∷ filter p es) (filter p es)) (ap p (sym is) ∙ was))
-filter-set p (e ∷ es) (suc i) x y in_range is was now =
-    ap (λ l. cond (p e) (e ∷ l) l) (filter-set p es i x y (omega arith) is was now)
-
-abbrev pub own : ℕ → List (ℕ × Intention) → List (ℕ × Intention)
-own t intentions = filter (is_of t) intentions
-
-pub own_or_other : (t : ℕ) (intentions : List (ℕ × Intention)) → length (own t intentions) + length (without_intentions t intentions) ≡ length intentions
-own_or_other t intentions = length-filter_both (is_of t) (λ pair. not (is_of t pair)) (λ pair. refl) intentions
+-- ---- the intention at a place
 
 module _ (t : ℕ) (intentions : List (ℕ × Intention)) (i : ℕ) (pair : ℕ × Intention) (in_range : i < length intentions) (is : pair ≡ get_or intentions i pair) where
   next : drop i intentions ≡ pair ∷ drop (i + 1) intentions
   next = drop_more intentions i pair in_range ∙ ap (λ p. p ∷ drop (i + 1) intentions) (sym is)
 
+  -- another's intention stays
   module _ (other : is_of t pair ≡ false) where
-    -- another's intention stays
     pub with_copies-other : (c0 : Configuration) (copies : List (ℕ × Replica)) → with_copies c0 t (drop i intentions) copies ≡ with_copies c0 t (drop (i + 1) intentions) copies
     with_copies-other c0 copies =
         ap (λ l. with_copies c0 t l copies) next
         ∙ ap (λ b. with_copies c0 t (drop (i + 1) intentions) (cond b (with_taken c0 pair.0 pair.1.take copies) copies)) other
 
-    pub own-other : own t (drop i intentions) ≡ own t (drop (i + 1) intentions)
-    own-other = ap (own t) next ∙ ap (λ b. cond b (pair ∷ own t (drop (i + 1) intentions)) (own t (drop (i + 1) intentions))) other
+    pub passed-other : list_all (λ p. not (is_of t p)) (take i intentions) ≡ true → list_all (λ p. not (is_of t p)) (take (i + 1) intentions) ≡ true
+    passed-other all = ap (λ n. list_all (λ p. not (is_of t p)) (take n intentions)) (add-one i) ∙ all_next (λ p. not (is_of t p)) intentions i pair in_range is (ap not other) all
 
-  module _ (mine : is_of t pair ≡ true) where
-    pub own-mine : length (own t (drop i intentions)) ≡ length (own t (drop (i + 1) intentions)) + 1
-    own-mine =
-        let rest : List (ℕ × Intention) = own t (drop (i + 1) intentions) in
-        let longer : length (own t (drop i intentions)) ≡ length (pair ∷ rest) = ap (λ l. length (own t l)) next ∙ ap (λ b. length (cond b (pair ∷ rest) rest)) mine in
-        omega (arith, longer)
+  -- the transaction's own one becomes a copy, and is gone
+  module _ (mine : is_of t pair ≡ true) (after : List (ℕ × Intention)) (rising : IsOrdered nat_cmp intentions) (gone : after ≡ remove nat_cmp intentions pair.0) where
+    left : after ≡ without intentions i
+    left = gone ∙ without_at intentions i pair rising in_range is
 
-    module _ (after : List (ℕ × Intention)) (rising : IsOrdered nat_cmp intentions) (put : after ≡ insert nat_cmp intentions pair.0 (record { t = t; take = take.Keep })) where
-      written : after ≡ set intentions i (pair.0, record { t = t; take = take.Keep })
-      written = put ∙ put_at intentions i pair (record { t = t; take = take.Keep }) rising in_range is
+    pub length-taken : length after + 1 ≡ length intentions
+    length-taken = ap (λ l. length l + 1) left ∙ length-without intentions i in_range
 
-      pub length-spent : length after ≡ length intentions
-      length-spent = ap length written ∙ length-set intentions i _
+    pub passed-taken : take i after ≡ take i intentions
+    passed-taken = ap (take i) left ∙ take-without intentions i in_range
 
-      pub drop-spent : drop (i + 1) after ≡ drop (i + 1) intentions
-      drop-spent = ap (drop (i + 1)) written ∙ drop-set-lt (i + 1) intentions i _ (omega arith)
+    pub others-taken : without_intentions t after ≡ without_intentions t intentions
+    others-taken = ap (without_intentions t) left ∙ filter-without (λ p. not (is_of t p)) intentions i pair in_range is (ap not mine)
 
-      pub others-spent : without_intentions t after ≡ without_intentions t intentions
-      others-spent = ap (without_intentions t) written ∙ filter-set (λ p. not (is_of t p)) intentions i pair _ in_range is (ap not mine) (ap not (same_number t))
+    pub with_copies-taken : (c0 : Configuration) (copies taken : List (ℕ × Replica)) → IfSome (get nat_cmp intentions pair.0) (λ intention. (c : Configuration) → taken ≡ with_taken c pair.0 intention.take copies) → with_copies c0 t (drop i intentions) copies ≡ with_copies c0 t (drop i after) taken
+    with_copies-taken c0 copies taken said =
+        let is_taken : taken ≡ with_taken c0 pair.0 pair.1.take copies = subst (λ o. IfSome o (λ intention. (c : Configuration) → taken ≡ with_taken c pair.0 intention.take copies)) (has_at intentions i pair rising in_range is) said c0 in
+        let rest : drop i after ≡ drop (i + 1) intentions = ap (drop i) left ∙ drop-without intentions i in_range ∙ ap (λ n. drop n intentions) (sym (add-one i)) in
+        ap (λ l. with_copies c0 t l copies) next
+        ∙ ap (λ b. with_copies c0 t (drop (i + 1) intentions) (cond b (with_taken c0 pair.0 pair.1.take copies) copies)) mine
+        ∙ ap (with_copies c0 t (drop (i + 1) intentions)) (sym is_taken)
+        ∙ ap (λ l. with_copies c0 t l taken) (sym rest)
 
-      -- the intention at a place becomes a copy, and then the others do
-      pub with_copies-mine : (c0 : Configuration) (copies taken : List (ℕ × Replica)) → IfSome (get nat_cmp intentions pair.0) (λ intention. (c : Configuration) → taken ≡ with_taken c pair.0 intention.take copies) → with_copies c0 t (drop i intentions) copies ≡ with_copies c0 t (drop (i + 1) after) taken
-      with_copies-mine c0 copies taken said =
-          let is_taken : taken ≡ with_taken c0 pair.0 pair.1.take copies = subst (λ o. IfSome o (λ intention. (c : Configuration) → taken ≡ with_taken c pair.0 intention.take copies)) (has_at intentions i pair rising in_range is) said c0 in
-          ap (λ l. with_copies c0 t l copies) next
-          ∙ ap (λ b. with_copies c0 t (drop (i + 1) intentions) (cond b (with_taken c0 pair.0 pair.1.take copies) copies)) mine
-          ∙ ap (with_copies c0 t (drop (i + 1) intentions)) (sym is_taken)
-          ∙ ap (λ l. with_copies c0 t l taken) (sym drop-spent)
+-- where all are passed, no own one is left
+pub all_passed : (t : ℕ) (intentions : List (ℕ × Intention)) (i : ℕ) → length intentions ≤ i → list_all (λ p. not (is_of t p)) (take i intentions) ≡ true → without_intentions t intentions ≡ intentions
+all_passed t intentions i over all = filter_all (λ p. not (is_of t p)) intentions (ap (list_all (λ p. not (is_of t p))) (sym (take_all i intentions over)) ∙ all)

@@ -1,17 +1,18 @@
 -- The locks of a transaction stand side by side in rising locks; tests and changes of them leave the others out.
 use Rattle.std.proofs.Common.{◌≡◌, ℕ, zero, suc, ◌+◌, ◌-◌, ◌<◌, ◌≤◌, Bool, true, false, cond, ◌&&◌, List, [], ◌∷◌, ◌++◌, length, get_or, take, drop, refl, sym, ap, ◌∙◌, arith}
 use Rattle.std.specs.Prelude.{◌||◌, ◌==◌, not, nat_lt, nat_le, map, filter, count_by, remove}
-use Rattle.std.specs.List.{list_any, list_all, slice_range, remove_range}
+use Rattle.std.specs.List.{list_any, list_all, slice_range, remove_range, copy_within}
 use Rattle.std.specs.List.Sorted.{IsPartitionPoint}
 use Rattle.std.proofs.Math.Bool.{or-false}
 use Rattle.std.proofs.lemmas.Bool.{and_parts, or_parts}
 use Rattle.std.proofs.lemmas.Bool.Decides.{nat_tests}
-use Rattle.std.proofs.lemmas.List.{drop-drop}
+use Rattle.std.proofs.lemmas.List.{drop-drop, length-drop, take_all}
+use Rattle.std.proofs.lemmas.List.Edits.{take-paste}
 use Rattle.suite_prefix.specs.declared.lock_mode.LockMode.TheVariants.{Shared}
 use Rattle.rep_core.specs.declared.lock.Lock.{Lock}
 use Rattle.rep_core.specs.declared.request.Part.{Part}
 use Rattle.rep_core.specs.Locks.{before, rise, is_own, has_lock, has_prepared, prepared_lock, with_prepared, released, broken}
-use Rattle.rep_core.specs.Ranges.{IsRangeOf}
+use Rattle.rep_core.specs.code.Ranges.{IsRangeOf}
 use Rattle.rep_core.proofs.Rising.{count_cons}
 use Rattle.rep_core.proofs.Searching.{stands_before, before_not_own, none_behind}
 
@@ -112,6 +113,13 @@ module _ (t : ℕ) (locks : List Lock) (start end : ℕ) (r : IsRangeOf t locks 
 
   pub released_in : released t locks ≡ remove_range locks start end
   released_in = others_run (λ lock. lock.t == t) locks start (end - start) run ∙ ap (λ l. take start locks ++ l) rest_is
+
+-- what stands behind a range is moved down to its start, and the rest is cut off
+pub moved_down : {X : Type 0} (xs : List X) (start end len : ℕ) → start ≤ end → end ≤ length xs → len ≡ length xs → take (start + (len - end)) (copy_within xs end len start) ≡ remove_range xs start end
+moved_down xs start end len order within is =
+    let behind : len - end ≡ length (drop end xs) = ap (λ n. n - end) is ∙ sym (length-drop end xs) in
+    take-paste xs start (drop end xs) (len - end) (omega arith) (omega (arith, behind))
+    ∙ ap (λ l. take start xs ++ l) (take_all (len - end) (drop end xs) (omega (arith, behind)))
 
 -- ---- their range, found by halving
 

@@ -25,7 +25,7 @@ use Rattle.rep_core.specs.declared.request.Take.{Take}
 use Rattle.rep_core.specs.declared.request.Take.TheVariants as take
 use Rattle.suite_prefix.specs.LockModes.{is_exclusive}
 use Rattle.suite_prefix.specs.Absent.{absent_copy}
-use Rattle.rep_core.specs.Store.{Store, IsSound, is_sound, is_used_up, copy_of, copy_in, left_by, with_prefix, is_keep, may_become, goes_with, holds_last, is_sound_part, with_intention, with_intentions, intended, overfills, suites_with, most_suites, root_copy, opening_store, finished, without_intentions, in_effect}
+use Rattle.rep_core.specs.Store.{Store, IsSound, is_sound, is_used_up, copy_of, copy_in, left_by, with_prefix, is_keep, may_become, goes_with, holds_last, is_sound_part, with_intention, with_intentions, intended, overfills, suites_with, max_suites, root_copy, opening_store, finished, without_intentions, in_effect}
 use Rattle.rep_core.proofs.Intentions.{copy_in-with_copies, get-without}
 
 -- ---- what a take leaves
@@ -157,7 +157,7 @@ all_more store t (part ∷ parts) intentions sound are last before =
 pub sound_intended : (store : Store) (t : ℕ) (parts : List Part) → IsSound store → list_all (is_sound_part store) parts ≡ true → overfills t store parts ≡ false → IsOrdered nat_cmp (with_intentions t parts store.intentions) → IsSound (intended t parts store)
 sound_intended store t parts sound are few rising = record {
   copies = sound.copies;
-  intentions = all_more store t parts store.intentions sound are (or_parts (list_any (λ part. holds_last part.take) parts) (nat_lt most_suites (suites_with (intended t parts store))) few).0 sound.intentions;
+  intentions = all_more store t parts store.intentions sound are (or_parts (list_any (λ part. holds_last part.take) parts) (nat_lt max_suites (suites_with (intended t parts store))) few).0 sound.intentions;
   rising = rising;
 }
 

@@ -6,7 +6,7 @@ use Rattle.suite_prefix.specs.LockModes.{is_exclusive}
 use Rattle.rep_core.specs.declared.intention.Intention.{Intention}
 use Rattle.rep_core.specs.declared.lock.Lock.{Lock}
 use Rattle.rep_core.specs.Locks.{rise}
-use Rattle.rep_core.specs.Store.{IsSound, suites_with, most_suites}
+use Rattle.rep_core.specs.Store.{IsSound, suites_with, max_suites}
 use Rattle.rep_core.specs.State.{State}
 
 -- no exclusive lock stands beside another transaction's lock on the suite
@@ -34,4 +34,4 @@ pub record IsConsistent (st : State) : Type 0 where
   pub alone : IsAlone st.locks
   pub locked : IntentionsLocked st
   pub sound : IsSound st.store
-  pub few : suites_with st.store ≤ most_suites
+  pub few : suites_with st.store ≤ max_suites

@@ -11,7 +11,7 @@ use Rattle.rep_core.specs.declared.reply.Reply.TheVariants as reply
 use Rattle.rep_core.specs.declared.reply.Verdict.{Verdict}
 use Rattle.rep_core.specs.declared.stamped.Stamped.{Stamped}
 use Rattle.rep_core.specs.Locks.{rise, conflicts}
-use Rattle.rep_core.specs.Store.{IsSound, suites_with, most_suites}
+use Rattle.rep_core.specs.Store.{IsSound, suites_with, max_suites}
 use Rattle.rep_core.specs.State.{State, opening, record_of}
 use Rattle.rep_core.specs.Service.{reply_of}
 use Rattle.rep_core.specs.Serving.{is_full, step}
@@ -122,7 +122,7 @@ StoresAreSound = (index : ℕ) (given : Opening) (asked : List (Stamped Request)
 
 -- no server has a copy or an intention of more suites than it may
 abbrev pub SuitesAreFew : Type 0
-SuitesAreFew = (index : ℕ) (given : Opening) (asked : List (Stamped Request)) → suites_with (reached index given asked).store ≤ most_suites
+SuitesAreFew = (index : ℕ) (given : Opening) (asked : List (Stamped Request)) → suites_with (reached index given asked).store ≤ max_suites
 
 -- ---- the laws speak of something
 

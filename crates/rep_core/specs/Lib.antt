@@ -1,10 +1,6 @@
 pub mod Locks
 pub mod Store
-pub mod Holding
-pub mod Ranges
-pub mod StoreFields
 pub mod State
-pub mod ServerFields
 pub mod Service
 pub mod Serving
 pub mod Fits
@@ -12,7 +8,6 @@ pub mod Consistency
 pub mod Steps
 pub mod Laws
 pub mod ValidCopies
-pub mod Equality
 pub mod Given
-pub mod Changing
 pub mod Wanting
+pub mod code

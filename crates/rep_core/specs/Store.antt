@@ -113,8 +113,8 @@ holds_last (take.Prefix prefix) = is_used_up prefix.pver
 holds_last (take.Whole replica) = is_used_up replica.prefix.pver || is_used_up replica.dver
 
 -- the most suites that a server has a copy or an intention of
-abbrev pub most_suites : ℕ
-most_suites = 4096
+abbrev pub max_suites : ℕ
+max_suites = 4096
 
 abbrev pub has_copy : Store → ℕ → Bool
 has_copy store suite = is_some (get nat_cmp store.copies suite)
@@ -141,7 +141,7 @@ intended t parts store = record store { intentions = with_intentions t parts sto
 -- whether the intentions of a Prepare are too much: one holds a version that is used up, or too many suites would have a copy or an
 -- intention
 abbrev pub overfills : ℕ → Store → List Part → Bool
-overfills t store parts = list_any (λ part. holds_last part.take) parts || nat_lt most_suites (suites_with (intended t parts store))
+overfills t store parts = list_any (λ part. holds_last part.take) parts || nat_lt max_suites (suites_with (intended t parts store))
 
 -- the intentions of other transactions
 abbrev pub without_intentions : ℕ → List (ℕ × Intention) → List (ℕ × Intention)

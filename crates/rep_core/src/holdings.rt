@@ -4,8 +4,8 @@ ghost use Rattle.std.specs.Prelude.{◌≡◌, ◌<◌, IfOk, OnOk, OnErr, false
 ghost use Rattle.std.specs.Ordering.{nat_cmp};
 ghost use Rattle.std.specs.Vec.{vec_len, vec_capacity};
 ghost use Rattle.sorted_map.specs.SortedMap.{insert};
-ghost use Rattle.rep_core.specs.Changing as changing;
-ghost use Rattle.rep_core.specs.ServerFields.{state_of};
+ghost use Rattle.rep_core.specs.code.Changing as changing;
+ghost use Rattle.rep_core.specs.code.ServerFields.{state_of};
 ghost use Rattle.rep_core.specs.Service as service;
 ghost use Rattle.rep_core.specs.State.{opening};
 

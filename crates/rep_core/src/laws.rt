@@ -62,7 +62,7 @@ pub fn copies_are_valid()
 {}
 
 /// A law: no server that was opened has a copy or an intention of more suites than
-/// [`crate::MOST_SUITES`]. It does nothing.
+/// [`crate::MAX_SUITES`]. It does nothing.
 pub fn suites_are_few()
     ensures { SuitesAreFew }
 {}

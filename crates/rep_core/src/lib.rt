@@ -48,5 +48,5 @@ pub use reply::{LockList, Reply, Verdict};
 pub use request::{Decision, Part, Parts, Request, Take};
 pub use server::Server;
 pub use stamped::{Lack, Stamped};
-pub use store::MOST_SUITES;
+pub use store::MAX_SUITES;
 pub use types_fit::settings_fit;

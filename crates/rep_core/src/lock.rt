@@ -12,7 +12,7 @@ pub struct Lock {
 }
 
 impl PartialEq for Lock {
-    ghost use Rattle.rep_core.specs.Equality.{same_lock, same_lock_partial_laws};
+    ghost use Rattle.rep_core.specs.code.Equality.{same_lock, same_lock_partial_laws};
 
     ghost eq = { same_lock };
 
@@ -27,7 +27,7 @@ impl PartialEq for Lock {
 }
 
 impl Eq for Lock {
-    ghost use Rattle.rep_core.specs.Equality.{same_lock_laws};
+    ghost use Rattle.rep_core.specs.code.Equality.{same_lock_laws};
 
     ghost laws = { same_lock_laws };
 }

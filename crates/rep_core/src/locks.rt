@@ -6,7 +6,7 @@ ghost use Rattle.std.specs.List.{list_any};
 ghost use Rattle.std.specs.Vec.{vec_len, vec_capacity};
 ghost use Rattle.suite_prefix.specs.LockModes.{serves};
 ghost use Rattle.rep_core.specs.Locks as locking;
-ghost use Rattle.rep_core.specs.Ranges.{IsRangeOf};
+ghost use Rattle.rep_core.specs.code.Ranges.{IsRangeOf};
 
 use crate::lock::Lock;
 use crate::request::Part;
@@ -24,7 +24,7 @@ impl Model for LockTable {
     ghost use Rattle.std.specs.Prelude.{◌-◌, IsTrue};
     ghost use Rattle.std.specs.Vec.{vec_len, vec_capacity};
     ghost use Rattle.rep_core.specs.Locks.{rise};
-    ghost use Rattle.rep_core.specs.Holding.{Locking};
+    ghost use Rattle.rep_core.specs.code.Holding.{Locking};
 
     ghost Value = { Locking };
 
@@ -128,6 +128,16 @@ pub(crate) fn has_lock(locks: &[Lock], t: u64, suite: u64) -> bool
     ensures { result ≡ locking.has_lock t suite locks.now }
 {
     let at = place_of(locks, t, suite);
+    is_own_at(locks, at, t, suite)
+}
+
+/// Whether a transaction has a lock on a suite, where it is, or would be, at this place.
+fn is_own_at(locks: &[Lock], at: usize, t: u64, suite: u64) -> bool
+    requires rising { IsTrue (locking.rise locks.now) }
+    requires place { at ≡ count_by (λ lock. nat_lt lock.t t || ((lock.t == t) && nat_lt lock.suite suite)) locks.now }
+    ensures has { result ≡ locking.has_lock t suite locks.now }
+    ensures within { IsTrue result → at < length locks.now }
+{
     if at < locks.len() {
         is_own(&locks[at], t, suite)
     } else {
@@ -185,8 +195,10 @@ fn set_lock(locks: &mut Vec<Lock>, t: u64, suite: u64, mode: LockMode)
     requires room { vec_len locks.old < vec_capacity locks.old }
     ensures { locks.new.items ≡ locking.locked t suite mode locks.old.items }
 {
-    if has_lock(locks, t, suite) {
-        raise(locks, t, suite, mode);
+    let at = place_of(locks, t, suite);
+    if is_own_at(locks, at, t, suite) {
+        let lock = locks[at];
+        locks[at] = raised_lock(t, suite, mode, lock);
         return;
     }
     let new = Lock {
@@ -195,7 +207,6 @@ fn set_lock(locks: &mut Vec<Lock>, t: u64, suite: u64, mode: LockMode)
         mode,
         prepared: false,
     };
-    let at = place_of(locks, t, suite);
     locks.insert(at, new).unwrap();
 }
 
@@ -212,19 +223,6 @@ fn is_own(lock: &Lock, t: u64, suite: u64) -> bool
     ensures { result ≡ locking.is_own t suite lock.now }
 {
     lock.t == t && lock.suite == suite
-}
-
-/// Makes the transaction's own lock stronger.
-fn raise(locks: &mut [Lock], t: u64, suite: u64, mode: LockMode)
-    requires { IsTrue (locking.rise locks.old) }
-    ensures { locks.new ≡ locking.raised t suite mode locks.old }
-{
-    let at = place_of(locks, t, suite);
-    if at >= locks.len() {
-        return;
-    }
-    let lock = locks[at];
-    locks[at] = raised_lock(t, suite, mode, lock);
 }
 
 fn raised_lock(t: u64, suite: u64, mode: LockMode, lock: Lock) -> Lock
@@ -279,7 +277,9 @@ fn release(locks: &mut Vec<Lock>, t: u64)
     ensures { locks.new.items ≡ locking.released t locks.old.items }
 {
     let (start, end) = range_of(locks, t);
-    locks.drain(start..end);
+    let left = start + (locks.len() - end);
+    locks.copy_within(end.., start);
+    locks.truncate(left);
 }
 
 /// Lets a lock go that is not prepared.

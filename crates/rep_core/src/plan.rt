@@ -3,10 +3,10 @@
 ghost use Rattle.std.specs.Prelude.{◌≡◌, ◌≢◌, ◌<◌, ◌==◌, ◌↔◌, ◌&&◌, IfOk, IsOk, OnOk, OnErr, IsTrue, Err, false, true};
 ghost use Rattle.std.specs.List.{list_all, list_any};
 ghost use Rattle.rep_core.specs.declared.stamped.Lack.TheVariants.{Full, Memory};
-ghost use Rattle.rep_core.specs.Changing as changing;
+ghost use Rattle.rep_core.specs.code.Changing as changing;
 ghost use Rattle.rep_core.specs.Fits.{fits};
 ghost use Rattle.rep_core.specs.Locks as locking;
-ghost use Rattle.rep_core.specs.ServerFields.{state_of};
+ghost use Rattle.rep_core.specs.code.ServerFields.{state_of};
 ghost use Rattle.rep_core.specs.Service as service;
 ghost use Rattle.rep_core.specs.Serving as serving;
 ghost use Rattle.rep_core.specs.State.{State, record_of};

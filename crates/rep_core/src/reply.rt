@@ -37,7 +37,7 @@ impl Clone for Verdict {
 }
 
 impl PartialEq for Verdict {
-    ghost use Rattle.rep_core.specs.Equality.{same_verdict, same_verdict_partial_laws};
+    ghost use Rattle.rep_core.specs.code.Equality.{same_verdict, same_verdict_partial_laws};
 
     ghost eq = { same_verdict };
 
@@ -54,7 +54,7 @@ impl PartialEq for Verdict {
 }
 
 impl Eq for Verdict {
-    ghost use Rattle.rep_core.specs.Equality.{same_verdict_laws};
+    ghost use Rattle.rep_core.specs.code.Equality.{same_verdict_laws};
 
     ghost laws = { same_verdict_laws };
 }
@@ -87,7 +87,7 @@ impl Clone for LockList {
 }
 
 impl PartialEq for LockList {
-    ghost use Rattle.rep_core.specs.Equality.{same_locks, same_locks_partial_laws};
+    ghost use Rattle.rep_core.specs.code.Equality.{same_locks, same_locks_partial_laws};
 
     ghost eq = { same_locks };
 
@@ -99,7 +99,7 @@ impl PartialEq for LockList {
 }
 
 impl Eq for LockList {
-    ghost use Rattle.rep_core.specs.Equality.{same_locks_laws};
+    ghost use Rattle.rep_core.specs.code.Equality.{same_locks_laws};
 
     ghost laws = { same_locks_laws };
 }
@@ -189,7 +189,7 @@ impl Clone for Reply {
 }
 
 impl PartialEq for Reply {
-    ghost use Rattle.rep_core.specs.Equality.{same_reply, same_reply_partial_laws};
+    ghost use Rattle.rep_core.specs.code.Equality.{same_reply, same_reply_partial_laws};
 
     ghost eq = { same_reply };
 
@@ -230,7 +230,7 @@ impl PartialEq for Reply {
 }
 
 impl Eq for Reply {
-    ghost use Rattle.rep_core.specs.Equality.{same_reply_laws};
+    ghost use Rattle.rep_core.specs.code.Equality.{same_reply_laws};
 
     ghost laws = { same_reply_laws };
 }

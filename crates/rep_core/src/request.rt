@@ -33,7 +33,7 @@ impl Clone for Take {
 }
 
 impl PartialEq for Take {
-    ghost use Rattle.rep_core.specs.Equality.{same_take, same_take_partial_laws};
+    ghost use Rattle.rep_core.specs.code.Equality.{same_take, same_take_partial_laws};
 
     ghost eq = { same_take };
 
@@ -50,7 +50,7 @@ impl PartialEq for Take {
 }
 
 impl Eq for Take {
-    ghost use Rattle.rep_core.specs.Equality.{same_take_laws};
+    ghost use Rattle.rep_core.specs.code.Equality.{same_take_laws};
 
     ghost laws = { same_take_laws };
 }
@@ -79,7 +79,7 @@ impl Clone for Part {
 }
 
 impl PartialEq for Part {
-    ghost use Rattle.rep_core.specs.Equality.{same_part, same_part_partial_laws};
+    ghost use Rattle.rep_core.specs.code.Equality.{same_part, same_part_partial_laws};
 
     ghost eq = { same_part };
 
@@ -91,7 +91,7 @@ impl PartialEq for Part {
 }
 
 impl Eq for Part {
-    ghost use Rattle.rep_core.specs.Equality.{same_part_laws};
+    ghost use Rattle.rep_core.specs.code.Equality.{same_part_laws};
 
     ghost laws = { same_part_laws };
 }
@@ -123,7 +123,7 @@ impl Clone for Parts {
 }
 
 impl PartialEq for Parts {
-    ghost use Rattle.rep_core.specs.Equality.{same_parts, same_parts_partial_laws};
+    ghost use Rattle.rep_core.specs.code.Equality.{same_parts, same_parts_partial_laws};
 
     ghost eq = { same_parts };
 
@@ -135,7 +135,7 @@ impl PartialEq for Parts {
 }
 
 impl Eq for Parts {
-    ghost use Rattle.rep_core.specs.Equality.{same_parts_laws};
+    ghost use Rattle.rep_core.specs.code.Equality.{same_parts_laws};
 
     ghost laws = { same_parts_laws };
 }
@@ -197,7 +197,7 @@ impl Clone for Decision {
 }
 
 impl PartialEq for Decision {
-    ghost use Rattle.rep_core.specs.Equality.{same_decision, same_decision_partial_laws};
+    ghost use Rattle.rep_core.specs.code.Equality.{same_decision, same_decision_partial_laws};
 
     ghost eq = { same_decision };
 
@@ -219,7 +219,7 @@ impl PartialEq for Decision {
 }
 
 impl Eq for Decision {
-    ghost use Rattle.rep_core.specs.Equality.{same_decision_laws};
+    ghost use Rattle.rep_core.specs.code.Equality.{same_decision_laws};
 
     ghost laws = { same_decision_laws };
 }
@@ -301,7 +301,7 @@ impl Clone for Request {
 }
 
 impl PartialEq for Request {
-    ghost use Rattle.rep_core.specs.Equality.{same_request, same_request_partial_laws};
+    ghost use Rattle.rep_core.specs.code.Equality.{same_request, same_request_partial_laws};
 
     ghost eq = { same_request };
 
@@ -345,7 +345,7 @@ impl PartialEq for Request {
 }
 
 impl Eq for Request {
-    ghost use Rattle.rep_core.specs.Equality.{same_request_laws};
+    ghost use Rattle.rep_core.specs.code.Equality.{same_request_laws};
 
     ghost laws = { same_request_laws };
 }

@@ -24,7 +24,7 @@ pub struct Server {
 
 impl Model for Server {
     ghost use Rattle.rep_core.specs.State.{State};
-    ghost use Rattle.rep_core.specs.ServerFields.{state_of};
+    ghost use Rattle.rep_core.specs.code.ServerFields.{state_of};
 
     ghost Value = { State };
 

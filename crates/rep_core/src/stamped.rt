@@ -13,7 +13,7 @@ pub struct Stamped<T> {
 }
 
 impl<T: PartialEq> PartialEq for Stamped<T> {
-    ghost use Rattle.rep_core.specs.Equality.{same_stamped, same_stamped_partial_laws};
+    ghost use Rattle.rep_core.specs.code.Equality.{same_stamped, same_stamped_partial_laws};
 
     ghost eq = { same_stamped T.eq };
 
@@ -25,7 +25,7 @@ impl<T: PartialEq> PartialEq for Stamped<T> {
 }
 
 impl<T: Eq> Eq for Stamped<T> {
-    ghost use Rattle.rep_core.specs.Equality.{same_stamped_laws};
+    ghost use Rattle.rep_core.specs.code.Equality.{same_stamped_laws};
 
     ghost laws = { same_stamped_laws T.Eq.laws };
 }

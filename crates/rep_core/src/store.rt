@@ -1,16 +1,15 @@
 //! Stored copies and intentions. Nothing else touches them.
 
-ghost use Rattle.std.specs.Prelude.{◌≡◌, ℕ, ◌≤◌, ◌<◌, ◌+◌, ◌==◌, ◌&&◌, not, length, [], is_some, IfOk, OnOk, OnErr, IsTrue, IsSome, IfSome, true, false, unwrap_or, None, Some, nat_le, min, count_by};
+ghost use Rattle.std.specs.Prelude.{◌≡◌, ℕ, ◌≤◌, ◌<◌, ◌+◌, ◌==◌, ◌&&◌, not, length, [], is_some, IfOk, OnOk, OnErr, IsTrue, IfSome, true, false, unwrap_or, None, Some, nat_le, nat_lt, min, count_by};
 ghost use Rattle.std.specs.List.{list_any, list_all};
 ghost use Rattle.std.specs.Option.{option_copied};
 ghost use Rattle.std.specs.Ordering.{nat_cmp};
-ghost use Rattle.sorted_map.specs.SortedMap.{IsOrdered, get, insert};
+ghost use Rattle.sorted_map.specs.SortedMap.{IsOrdered, get, remove};
 ghost use Rattle.vote_core.specs.Quorums.{Configuration};
 ghost use Rattle.suite_prefix.specs.declared.copies.Replica.{Replica};
 ghost use Rattle.suite_prefix.specs.Absent.{absent_copy};
 ghost use Rattle.rep_core.specs.declared.intention.Intention.{Intention};
 ghost use Rattle.rep_core.specs.Service.{held, given};
-ghost use Rattle.rep_core.specs.declared.request.Take.TheVariants as take;
 ghost use Rattle.rep_core.specs.Store as store;
 
 use crate::copying::copied;
@@ -25,7 +24,7 @@ use suite_prefix::{Prefix, PrefixKind, Replica, Settings};
 use vote_core::Votes;
 
 /// The most suites that a server has a copy or an intention of.
-pub const MOST_SUITES: usize = 4_096;
+pub const MAX_SUITES: usize = 4_096;
 
 /// The number of the root folder.
 const ROOT: u64 = 0;
@@ -45,8 +44,8 @@ impl Model for Store {
     ghost use Rattle.std.specs.Prelude.{◌≡◌, ◌≤◌, length};
     ghost use Rattle.suite_prefix.specs.Absent.{absent_prefix};
     ghost use Rattle.rep_core.specs.Store.{IsSound};
-    ghost use Rattle.rep_core.specs.Holding.{Storing};
-    ghost use Rattle.rep_core.specs.StoreFields.{store_of, storing_of};
+    ghost use Rattle.rep_core.specs.code.Holding.{Storing};
+    ghost use Rattle.rep_core.specs.code.StoreFields.{store_of, storing_of};
 
     ghost Value = { Storing };
 
@@ -177,7 +176,21 @@ impl Store {
         requires { store.lists_twice parts.now ≡ false }
         ensures { (t : ℕ) → result ≡ store.overfills t self.now.store parts.now }
     {
-        any_holds_last(parts) || self.suites_with(parts) > MOST_SUITES
+        any_holds_last(parts) || self.exceeds(parts)
+    }
+
+    /// Whether too many suites would have a copy or an intention. They are counted only where they may be
+    /// too many.
+    fn exceeds(&self, parts: &[Part]) -> bool
+        requires { store.lists_twice parts.now ≡ false }
+        ensures { (t : ℕ) → result ≡ nat_lt store.max_suites (store.suites_with (store.intended t parts.now self.now.store)) }
+    {
+        let most = self
+            .copies
+            .len()
+            .saturating_add(self.intentions.len())
+            .saturating_add(parts.len());
+        most > MAX_SUITES && self.suites_with(parts) > MAX_SUITES
     }
 
     /// How many suites have a copy or an intention, and how many parts take another.
@@ -349,35 +362,31 @@ fn install(
     ensures room { length intentions.new.pairs ≤ copies.new.room }
     ensures rising { IsOrdered nat_cmp intentions.new.pairs }
 {
-    for place in 0..intentions.len() {
+    let mut place = 0;
+    while place < intentions.len() {
         let pair = &intentions.as_slice()[place];
         if pair.1.t == t {
             let suite = pair.0;
-            install_at(alloc, copies, intentions, suite, t);
+            install_at(alloc, copies, intentions, suite);
+        } else {
+            place += 1;
         }
     }
-    forget(intentions, t);
 }
 
-/// Makes the transaction's intention on a suite a copy, and leaves one there that takes nothing.
+/// Makes the intention on a suite a copy, and takes it out.
 fn install_at(
     alloc: Global,
     copies: &mut RoomyMap<u64, Replica>,
     intentions: &mut RoomyMap<u64, Intention>,
     suite: u64,
-    t: u64,
 )
-    requires there { IsSome (get nat_cmp intentions.old.pairs suite) }
-    requires room { 0 < copies.old.room }
+    requires { 0 < copies.old.room }
     ensures copies { IfSome (get nat_cmp intentions.old.pairs suite) (λ intention. (c0 : Configuration) → copies.new.pairs ≡ store.with_taken c0 suite intention.take copies.old.pairs) }
-    ensures intentions { intentions.new.pairs ≡ insert nat_cmp intentions.old.pairs suite (record { t = t; take = take.Keep }) }
+    ensures intentions { intentions.new.pairs ≡ remove nat_cmp intentions.old.pairs suite }
     ensures room { copies.old.room ≤ copies.new.room + 1 }
 {
-    let spent = Intention {
-        t,
-        take: Take::Keep,
-    };
-    if let Some(intention) = intentions.insert_in_room(suite, spent) {
+    if let Some(intention) = intentions.remove(&suite) {
         put(alloc, copies, suite, intention.take);
     }
 }

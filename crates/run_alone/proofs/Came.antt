@@ -9,7 +9,7 @@ use Rattle.txn_core.specs.declared.job.Job.TheVariants.{Transaction, Sweep}
 use Rattle.txn_core.specs.Doing.{Fixed, Task, Outcome, Preparing, Course, Round, Doing, Running, Rounding, After, GoesOn, Ends}
 use Rattle.txn_core.specs.Sweeps as sweep
 use Rattle.txn_core.specs.Agents as agents
-use Rattle.txn_core.specs.Agents.{Agent, Take, Forget, next_of, left, take, take_in, begin, started, forget, is_idle, has_sense, most_jobs, after_all}
+use Rattle.txn_core.specs.Agents.{Agent, Take, Forget, next_of, left, take, take_in, begin, started, forget, is_idle, has_sense, max_jobs, after_all}
 use Rattle.txn_core.proofs.Upheld.{DoingStands, stands_after}
 use Rattle.run_laws.proofs.Knowing.{none_fit}
 use Rattle.run_laws.proofs.Executed.{Keeps, Left, left_execute, left_word}
@@ -48,7 +48,7 @@ idle_knows fixed (Some doing) idle = absurd (false≢true idle)
 
 begin_knows : (fixed : Fixed) (agent : Agent) (job : Job) → is_idle agent.doing ≡ true → Knows fixed (begin fixed agent job).doing
 begin_knows fixed agent job idle =
-    elim (is_idle agent.doing && has_sense fixed job && nat_lt agent.count most_jobs) as (λ b. Knows fixed (cond b (record (started fixed agent job) { count = agent.count + 1 }) agent).doing) [
+    elim (is_idle agent.doing && has_sense fixed job && nat_lt agent.count max_jobs) as (λ b. Knows fixed (cond b (record (started fixed agent job) { count = agent.count + 1 }) agent).doing) [
       | true ↦ of job
       | false ↦ idle_knows fixed agent.doing idle
     ]

@@ -28,7 +28,7 @@ use Rattle.txn_core.specs.declared.word.Word.TheVariants.{Replied, Lacked}
 use Rattle.txn_core.specs.Doing.{Fixed, Task, Course, Doing, Running, Rounding, After, GoesOn, Ends}
 use Rattle.txn_core.specs.Transactions.{after_word, execute}
 use Rattle.txn_core.specs.Laws.{is_decide, said_by}
-use Rattle.txn_core.specs.Agents.{Agent, fixed_of, is_idle, has_sense, most_jobs, next_in, next_of, left, take_in, take, begin, started, forget}
+use Rattle.txn_core.specs.Agents.{Agent, fixed_of, is_idle, has_sense, max_jobs, next_in, next_of, left, take_in, take, begin, started, forget}
 use Rattle.run_core.specs.declared.event.Event.{Event}
 use Rattle.run_core.specs.declared.event.Event.TheVariants.{Begin, Step, Crash, Return, Forget, Lack}
 use Rattle.run_core.specs.declared.done.Served.{Served}
@@ -165,7 +165,7 @@ module _ (given : Opening) (t turn : ℕ) (world : World) (ds : List Decided) (p
   begin_clear i job None is none = clear
   begin_clear i job (Some actor) is none =
       let begun : Agent = record (started fixed actor.agent job) { count = actor.agent.count + 1 } in
-      elim (is_idle actor.agent.doing && has_sense fixed job && nat_lt actor.agent.count most_jobs) as
+      elim (is_idle actor.agent.doing && has_sense fixed job && nat_lt actor.agent.count max_jobs) as
       (λ b. with_job job (cond b (Some (64 * actor.agent.count + i)) None) ≡ None → Clear (with_actor i (record actor { agent = cond b begun actor.agent }) world) t turn) [
         | true ↦ λ none. absurd (none-some (64 * actor.agent.count + i, job) (sym none))
         | false ↦ λ _. same_clear i actor (record actor { agent = actor.agent }) is refl
@@ -327,7 +327,7 @@ pub begun_clear : (given : Opening) (world : World) (ds : List Decided) (past : 
 begun_clear given world ds past holds i t caller site ops idle up locks None is begins = absurd (none-some (t, Transaction caller site ops) begins)
 begun_clear given world ds past holds i t caller site ops idle up locks (Some actor) is begins =
     let begun : Agent = record (started (fixed_of given) actor.agent job) { count = actor.agent.count + 1 } in
-    elim (is_idle actor.agent.doing && has_sense (fixed_of given) job && nat_lt actor.agent.count most_jobs) as
+    elim (is_idle actor.agent.doing && has_sense (fixed_of given) job && nat_lt actor.agent.count max_jobs) as
     (λ b. with_job job (cond b (Some (64 * actor.agent.count + i)) None) ≡ Some (t, job) → Clear (with_actor i (record actor { agent = cond b begun actor.agent }) world) t i) [
       | true ↦ λ begins.
           let puts = puts_in world.agents i actor (record actor { agent = begun }) is in

@@ -12,7 +12,7 @@ use Rattle.suite_content.specs.declared.content.Content.TheVariants.{Bytes, Name
 use Rattle.suite_content.specs.declared.content.Kind.{Kind}
 use Rattle.suite_content.specs.declared.content.Kind.TheVariants as holds
 use Rattle.suite_content.specs.Contents.{empty_content}
-use Rattle.suite_content.specs.Limits.{longest_content, most_names}
+use Rattle.suite_content.specs.Limits.{max_content, max_names}
 use Rattle.suite_content.specs.Folders as folders
 use Rattle.suite_content.specs.FolderLaws.{length-without_name}
 use Rattle.suite_prefix.specs.declared.lock_mode.LockMode.{LockMode}
@@ -28,7 +28,7 @@ use Rattle.file_ops.specs.declared.service.Service.{Service}
 use Rattle.file_ops.specs.Steps.{found_or}
 use Rattle.file_ops.specs.Paths.{names_of}
 use Rattle.file_ops.specs.KnownVotes.{known_votes, votes_of_new}
-use Rattle.file_ops.specs.Limits.{most_operations}
+use Rattle.file_ops.specs.Limits.{max_operations}
 use Rattle.file_ops.specs.Walks.{bytes_in, names_in, to_read, to_write, to_search, to_change, permit, permit_others, owner_only}
 use Rattle.file_ops.specs.Operations.{Parent, refuse_if, last_name, is_used}
 use Rattle.file_ops.specs.Rows.{Row, root, made_number, new_row}
@@ -45,7 +45,7 @@ use Rattle.file_exec.proofs.Alike.{goes_alike}
 
 -- the number of something that the transaction makes
 abbrev pub IsNumber : ℕ → ℕ → Type 0
-IsNumber t suite = (at : ℕ) × (suite ≡ made_number t at) × (at < most_operations)
+IsNumber t suite = (at : ℕ) × (suite ≡ made_number t at) × (at < max_operations)
 
 abbrev pub AllNumbered : ℕ → Edits → Type 0
 AllNumbered t [] = Unit {0}
@@ -147,8 +147,8 @@ ruled (Err why) next rest = record { goes = tt }
 
 -- ---- names
 
-names_small : (content : Content) (names : List (List ℕ × ℕ)) → names_in content ≡ Ok names → is_within_limits content ≡ true → nat_le (length names) most_names ≡ true
-names_small (Names names) other is small = let same : names ≡ other = cc in subst (λ names. nat_le (length names) most_names ≡ true) same small
+names_small : (content : Content) (names : List (List ℕ × ℕ)) → names_in content ≡ Ok names → is_within_limits content ≡ true → nat_le (length names) max_names ≡ true
+names_small (Names names) other is small = let same : names ≡ other = cc in subst (λ names. nat_le (length names) max_names ≡ true) same small
 names_small (Bytes bytes) other is small = cc
 
 not_refused : (b : Bool) (why : Why) (x : Unit {0}) → refuse_if b why ≡ Ok x → b ≡ false
@@ -165,22 +165,22 @@ one_longer (e ∷ es) name number =
       | Greater ↦ omega (arith, rest)
     ]
 
-with_name_small : (names : List (List ℕ × ℕ)) (name : List ℕ) (number : ℕ) → nat_le most_names (length names) ≡ false → nat_le (length (folders.with_name names name number)) most_names ≡ true
+with_name_small : (names : List (List ℕ × ℕ)) (name : List ℕ) (number : ℕ) → nat_le max_names (length names) ≡ false → nat_le (length (folders.with_name names name number)) max_names ≡ true
 with_name_small names name number room = fits (length (folders.with_name names name number)) (length names) (one_longer names name number) room
   where
-    fits : (more few : ℕ) → more ≤ few + 1 → nat_le most_names few ≡ false → nat_le more most_names ≡ true
+    fits : (more few : ℕ) → more ≤ few + 1 → nat_le max_names few ≡ false → nat_le more max_names ≡ true
     fits more few longer room = grind (arith, nat_tests)
 
-without_name_small : (names : List (List ℕ × ℕ)) (name : List ℕ) → nat_le (length names) most_names ≡ true → nat_le (length (folders.without_name names name)) most_names ≡ true
+without_name_small : (names : List (List ℕ × ℕ)) (name : List ℕ) → nat_le (length names) max_names ≡ true → nat_le (length (folders.without_name names name)) max_names ≡ true
 without_name_small names name small = fits (length (folders.without_name names name)) (cond (is_some (folders.number_of names name)) 1 0) (length names) (length-without_name names name) small
   where
-    fits : (fewer one all : ℕ) → fewer + one ≡ all → nat_le all most_names ≡ true → nat_le fewer most_names ≡ true
+    fits : (fewer one all : ℕ) → fewer + one ≡ all → nat_le all max_names ≡ true → nat_le fewer max_names ≡ true
     fits fewer one all is small = grind (arith, nat_tests)
 
-short : (bytes : List ℕ) → nat_lt longest_content (length bytes) ≡ false → nat_le (length bytes) longest_content ≡ true
+short : (bytes : List ℕ) → nat_lt max_content (length bytes) ≡ false → nat_le (length bytes) max_content ≡ true
 short bytes is = fits (length bytes) is
   where
-    fits : (n : ℕ) → nat_lt longest_content n ≡ false → nat_le n longest_content ≡ true
+    fits : (n : ℕ) → nat_lt max_content n ≡ false → nat_le n max_content ≡ true
     fits n is = grind (arith, nat_tests)
 
 empty_small : (kind : Kind) → is_within_limits (empty_content kind) ≡ true
@@ -202,7 +202,7 @@ module _ (t : ℕ) (rows : ℕ → Option Row) where
 
   -- so many names
   abbrev AreFew : List (List ℕ × ℕ) → Type 0
-  AreFew names = AreSmall rows → nat_le (length names) most_names ≡ true
+  AreFew names = AreSmall rows → nat_le (length names) max_names ≡ true
 
   abbrev NamesFew : Edits → List (List ℕ × ℕ) → Type 0
   NamesFew edits names = IsWell edits × AreFew names
@@ -268,7 +268,7 @@ module _ (t : ℕ) (rows : ℕ → Option Row) where
   refuse_used P edits is suite None = is
   refuse_used P edits is suite (Some row) = used_content P edits is suite row row.content
 
-  act : (edits : Edits) → IsWell edits → (service : Service) (at : ℕ) → at < most_operations → (caller : Identity) (names : List (List ℕ)) (action : Action) → Does rows Well edits (asked.act service t at caller names action)
+  act : (edits : Edits) → IsWell edits → (service : Service) (at : ℕ) → at < max_operations → (caller : Identity) (names : List (List ℕ)) (action : Action) → Does rows Well edits (asked.act service t at caller names action)
   act edits well service at small caller names action.Read =
       in_turn {P = Well} _ (reach edits well caller names Shared) (λ now place well.
       ruled (permit caller place to_read) _ (λ _ _. ruled (bytes_in place.row.content) _ (λ _ _.
@@ -280,10 +280,10 @@ module _ (t : ℕ) (rows : ℕ → Option Row) where
   act edits well service at small caller names action.GetAcl = in_turn {P = Well} _ (shown edits well caller names) (λ now place well. record { goes = well })
   act edits well service at small caller names action.GetVotes = in_turn {P = Well} _ (shown edits well caller names) (λ now place well. record { goes = well })
   act edits well service at small caller names (action.Write bytes) =
-      ruled (refuse_if (nat_lt longest_content (length bytes)) why.TooLong) _ (λ x fits.
+      ruled (refuse_if (nat_lt max_content (length bytes)) why.TooLong) _ (λ x fits.
       in_turn {P = Well} _ (reach edits well caller names Exclusive) (λ now place well.
       ruled (permit caller place to_write) _ (λ _ _. ruled (bytes_in place.row.content) _ (λ _ _.
-      record { goes = one_more now place.suite (SetContent (Bytes bytes)) well (λ is. absurd (false≢true is)) (λ _. short bytes (not_refused (nat_lt longest_content (length bytes)) why.TooLong x fits)) }))))
+      record { goes = one_more now place.suite (SetContent (Bytes bytes)) well (λ is. absurd (false≢true is)) (λ _. short bytes (not_refused (nat_lt max_content (length bytes)) why.TooLong x fits)) }))))
   act edits well service at small caller names (action.SetAcl acl) =
       in_turn {P = Well} _ (owned edits well caller names) (λ now place well. record { goes = one_more now place.suite (SetAcl acl) well (λ is. absurd (false≢true is)) (λ _. tt) })
   act edits well service at small caller names (action.SetVotes given) =
@@ -292,11 +292,11 @@ module _ (t : ℕ) (rows : ℕ → Option Row) where
   act edits well service at small caller names (action.Make kind init given) =
       ruled (last_name names) _ (λ path _. ruled (votes_of_new service given) _ (λ votes _.
       in_turn {P = IsParent} _ (parent_of edits well caller path.folders) (λ now parent few.
-      ruled (refuse_if (is_some (folders.number_of parent.names path.name)) why.Exists) _ (λ _ _. ruled (refuse_if (nat_le most_names (length parent.names)) why.FolderFull) _ (λ x room.
+      ruled (refuse_if (is_some (folders.number_of parent.names path.name)) why.Exists) _ (λ _ _. ruled (refuse_if (nat_le max_names (length parent.names)) why.FolderFull) _ (λ x room.
       record {
         goes = one_more ((parent.place.suite, SetContent (Names (folders.with_name parent.names path.name (made_number t at)))) ∷ now) (made_number t at) (Make (new_row kind init votes caller))
             (one_more now parent.place.suite (SetContent (Names (folders.with_name parent.names path.name (made_number t at)))) few.0 (λ is. absurd (false≢true is))
-            (λ _. with_name_small parent.names path.name (made_number t at) (not_refused (nat_le most_names (length parent.names)) why.FolderFull x room)))
+            (λ _. with_name_small parent.names path.name (made_number t at) (not_refused (nat_le max_names (length parent.names)) why.FolderFull x room)))
             (λ _. (at, refl, small)) (λ _. empty_small kind);
       })))))
   act edits well service at small caller names action.Drop =
@@ -309,19 +309,19 @@ module _ (t : ℕ) (rows : ℕ → Option Row) where
             (λ later _ is. one_more later parent.place.suite (SetContent (Names (folders.without_name parent.names path.name))) is.0 (λ made. absurd (false≢true made)) (λ small. without_name_small parent.names path.name (is.1 small)));
       })))
 
-  operation : (edits : Edits) → IsWell edits → (service : Service) (at : ℕ) → at < most_operations → (caller : Identity) (op : Op) → Does rows Well edits (asked.operation service t at caller op)
+  operation : (edits : Edits) → IsWell edits → (service : Service) (at : ℕ) → at < max_operations → (caller : Identity) (op : Op) → Does rows Well edits (asked.operation service t at caller op)
   operation edits well service at small caller op = ruled (found_or (names_of op.path) why.BadPath) _ (λ names _. act edits well service at small caller names op.action)
 
-  play : (edits : Edits) → IsWell edits → (service : Service) (answers : List Answer) (at : ℕ) (caller : Identity) (ops : List Op) → at + length ops ≤ most_operations → Does rows Well edits (asked.play service answers t at caller ops)
+  play : (edits : Edits) → IsWell edits → (service : Service) (answers : List Answer) (at : ℕ) (caller : Identity) (ops : List Op) → at + length ops ≤ max_operations → Does rows Well edits (asked.play service answers t at caller ops)
   play edits well service answers at caller [] few = record { goes = well }
   play edits well service answers at caller (op ∷ ops) few =
       in_turn {P = Well} _ (record { goes = placed rows Well edits at (asked.operation service t at caller op) (operation edits well service at (first (length ops) few) caller op).goes })
       (λ now answer well. play now well service (answers ++ answer ∷ []) (at + 1) caller ops (rest (length ops) few))
     where
-      first : (n : ℕ) → at + suc n ≤ most_operations → at < most_operations
+      first : (n : ℕ) → at + suc n ≤ max_operations → at < max_operations
       first n few = omega arith
 
-      rest : (n : ℕ) → at + suc n ≤ most_operations → at + 1 + n ≤ most_operations
+      rest : (n : ℕ) → at + suc n ≤ max_operations → at + 1 + n ≤ max_operations
       rest n few = omega arith
 
   transaction : (service : Service) (caller : Identity) (ops : List Op) → Goes rows Well [] (asked.transaction service t caller ops)
@@ -331,7 +331,7 @@ module _ (t : ℕ) (rows : ℕ → Option Row) where
         | false ↦ λ counted. (play [] (tt, λ _. tt) service [] 0 caller ops (few (length ops) counted)).goes
       ] refl
     where
-      few : (n : ℕ) → ((n == 0) || nat_lt most_operations n) ≡ false → 0 + n ≤ most_operations
+      few : (n : ℕ) → ((n == 0) || nat_lt max_operations n) ≡ false → 0 + n ≤ max_operations
       few n counted = grind (arith, nat_tests)
 
   -- ---- where it ends

@@ -13,7 +13,7 @@ use Rattle.suite_prefix.specs.declared.copies.Replica.{Replica}
 use Rattle.vote_core.specs.Validity.{IsValid}
 use Rattle.rep_core.specs.Store.{root_copy}
 use Rattle.rep_core.proofs.Members.{Has}
-use Rattle.file_ops.specs.Limits.{most_operations}
+use Rattle.file_ops.specs.Limits.{max_operations}
 use Rattle.file_ops.specs.Rows.{made_number}
 use Rattle.file_exec.specs.declared.changes.Change as executor
 use Rattle.txn_core.specs.Suites.{First, Suite, suite_of}
@@ -53,7 +53,7 @@ pub record Grown (z : ℕ) (start : Beginning) (log : List Entry) : Type 0 where
 one_maker : (t u z : ℕ) → IsNumber t z → IsNumber u z → t ≡ u
 one_maker t u z a b = by a.0 b.0 a.2 b.2 (sym a.1 ∙ b.1)
   where
-    by : (i j : ℕ) → i < most_operations → j < most_operations → made_number t i ≡ made_number u j → t ≡ u
+    by : (i j : ℕ) → i < max_operations → j < max_operations → made_number t i ≡ made_number u j → t ≡ u
     by i j small small' same = omega arith
 
 pub not_root : (t z : ℕ) → IsNumber t z → z ≡ 0 → ⊥

@@ -23,12 +23,12 @@ use Rattle.txn_core.specs.Writing.{parts_at}
 use Rattle.txn_core.specs.Doing.{Fixed, Task, home_of, Phase, Gathering, Fetching, Widening, Preparing, Deciding, Finishing, Round, Doing, Running, Rounding, After, GoesOn, Ends}
 use Rattle.txn_core.specs.Sweeps as sweep
 use Rattle.txn_core.specs.Transactions.{tell_end, after_word, request_in, changes_of, decision_of}
-use Rattle.txn_core.specs.Agents.{Agent, fixed_of, is_idle, has_sense, most_jobs, next_in, next_of, left, take_in, take, begin, started, forget}
+use Rattle.txn_core.specs.Agents.{Agent, fixed_of, is_idle, has_sense, max_jobs, next_in, next_of, left, take_in, take, begin, started, forget}
 use Rattle.txn_core.proofs.Asks.{asks_same, asked_as, fetched_as}
 use Rattle.run_core.specs.declared.event.Event.{Event}
 use Rattle.run_core.specs.declared.event.Event.TheVariants.{Begin, Step, Crash, Return, Forget, Lack}
 use Rattle.run_core.specs.Worlds as worlds
-use Rattle.run_core.specs.Worlds.{Actor, server_at, actor_at, with_actor, serve, answered, becomes, asks_at, asks, steps_once, lacks_for, lacks, operated, operates, step}
+use Rattle.run_core.specs.Worlds.{Actor, server_at, actor_at, serve, answered, becomes, asks_at, asks, steps_once, lacks_for, lacks, operated, operates, step}
 use Rattle.run_core.specs.Decisions.{Decided}
 use Rattle.run_core.specs.declared.done.Outcome.{Outcome}
 use Rattle.run_laws.specs.Numbers.{begins_now}
@@ -179,7 +179,7 @@ module _ (given : Opening) (t turn : ℕ) (world : worlds.World) (ds : List Deci
       same_stands (begin_events given z job (Some actor)) (spare_begun z actor.agent.doing (begin fixed actor.agent job).doing) i actor (record actor { agent = begin fixed actor.agent job }) is same found
     where
       same : (begin fixed actor.agent job).doing ≡ actor.agent.doing
-      same = elim (is_idle actor.agent.doing && has_sense fixed job && nat_lt actor.agent.count most_jobs) as
+      same = elim (is_idle actor.agent.doing && has_sense fixed job && nat_lt actor.agent.count max_jobs) as
           (λ b. with_job job (cond b (Some (64 * actor.agent.count + i)) None) ≡ None → (cond b (record (started fixed actor.agent job) { count = actor.agent.count + 1 }) actor.agent).doing ≡ actor.agent.doing) [
             | true ↦ λ none. absurd (none-some (64 * actor.agent.count + i, job) (sym none))
             | false ↦ λ _. refl

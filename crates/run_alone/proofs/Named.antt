@@ -37,7 +37,7 @@ use Rattle.txn_core.specs.declared.word.Word.TheVariants.{Replied, Lacked}
 use Rattle.txn_core.specs.Doing.{home_of, Fixed, Course, Round, Sweeping, Listing, Resolving, Telling, Breaking, Doing, Running, Rounding, After, GoesOn, Ends}
 use Rattle.txn_core.specs.Sweeps as sweep
 use Rattle.txn_core.specs.Transactions.{after_word, execute}
-use Rattle.txn_core.specs.Agents.{Agent, fixed_of, is_idle, has_sense, most_jobs, next_in, next_of, left, take_in, take, begin, started, forget}
+use Rattle.txn_core.specs.Agents.{Agent, fixed_of, is_idle, has_sense, max_jobs, next_in, next_of, left, take_in, take, begin, started, forget}
 use Rattle.txn_core.proofs.Asks.{asks_same}
 use Rattle.run_core.specs.declared.event.Event.{Event}
 use Rattle.run_core.specs.declared.event.Event.TheVariants.{Begin, Step, Crash, Return, Forget, Lack}
@@ -235,7 +235,7 @@ module _ (B : ℕ → Type 0) where
 
   begin_of : (fixed : Fixed) (agent : Agent) (job : Job) → InSweep agent.doing → InSweep (begin fixed agent job).doing
   begin_of fixed agent job all =
-      elim (is_idle agent.doing && has_sense fixed job && nat_lt agent.count most_jobs) as (λ b. InSweep (cond b (record (started fixed agent job) { count = agent.count + 1 }) agent).doing) [
+      elim (is_idle agent.doing && has_sense fixed job && nat_lt agent.count max_jobs) as (λ b. InSweep (cond b (record (started fixed agent job) { count = agent.count + 1 }) agent).doing) [
         | true ↦ of job
         | false ↦ all
       ]
@@ -398,7 +398,7 @@ no_record given accepted events i t job begins s st at v is = of (actor_at (run 
     of : (found : Option Actor) → actor_at (run given events) i ≡ found → with_job job (begins_now (fixed_of given) i job found) ≡ Some (t, job) → ⊥
     of None there begins = none-some (t, job) begins
     of (Some actor) there begins =
-        elim (is_idle actor.agent.doing && has_sense (fixed_of given) job && nat_lt actor.agent.count most_jobs) as (λ b. with_job job (cond b (Some (64 * actor.agent.count + i)) None) ≡ Some (t, job) → ⊥) [
+        elim (is_idle actor.agent.doing && has_sense (fixed_of given) job && nat_lt actor.agent.count max_jobs) as (λ b. with_job job (cond b (Some (64 * actor.agent.count + i)) None) ≡ Some (t, job) → ⊥) [
           | true ↦ λ begins.
               let number : 64 * actor.agent.count + i ≡ t = ap (λ (pair : ℕ × Job). pair.0) (same_Some (64 * actor.agent.count + i, job) (t, job) begins) in
               let found : agent_at (run given events) i ≡ Some actor.agent = ap agent_of there in

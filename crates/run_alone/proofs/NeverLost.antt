@@ -19,7 +19,7 @@ use Rattle.txn_core.specs.declared.job.Job.{Job}
 use Rattle.txn_core.specs.declared.job.Job.TheVariants.{Transaction}
 use Rattle.txn_core.specs.Doing.{Fixed, Task, Course, Doing, Running, Rounding, After, GoesOn, Ends}
 use Rattle.txn_core.specs.Transactions.{execute}
-use Rattle.txn_core.specs.Agents.{Agent, fixed_of, next_in, next_of, is_idle, has_sense, most_jobs, left, begin, started}
+use Rattle.txn_core.specs.Agents.{Agent, fixed_of, next_in, next_of, is_idle, has_sense, max_jobs, left, begin, started}
 use Rattle.txn_core.specs.Suites.{told_at}
 use Rattle.txn_core.proofs.Locks.{Leaves, are_nil, leaves_execute}
 use Rattle.run_core.specs.declared.event.Event.{Event}
@@ -130,7 +130,7 @@ started_untold : (given : Opening) (world : worlds.World) (i t : ℕ) (caller : 
     → (actor : Actor) (course : Course) → actor_at (becomes world i (λ agent. begin (fixed_of given) agent (Transaction caller site ops)) found).world i ≡ Some actor → actor.agent.doing ≡ Some (Running course) → (z : ℕ) → told_at course.suites z ≡ []
 started_untold given world i t caller site ops None is begins actor course there running z = absurd (none-some (t, Transaction caller site ops) begins)
 started_untold given world i t caller site ops (Some old) is begins actor course there running z =
-    elim (is_idle old.agent.doing && has_sense fixed job && nat_lt old.agent.count most_jobs) as
+    elim (is_idle old.agent.doing && has_sense fixed job && nat_lt old.agent.count max_jobs) as
     (λ b. with_job job (cond b (Some (64 * old.agent.count + i)) None) ≡ Some (t, job) → slice_get (slice_set world.agents i (record old { agent = cond b begun old.agent })) i ≡ Some actor → told_at course.suites z ≡ []) [
       | true ↦ λ _ there. (of (execute fixed task (record { suites = []; cache = old.agent.cache })).after (leaves_execute (λ number. []) fixed task (record { suites = []; cache = old.agent.cache }) are_nil)
           (ap (λ (actor : Actor). actor.agent.doing) (same_Some _ actor (sym (set_here world.agents i old (record old { agent = begun }) is) ∙ there)) ∙ running))

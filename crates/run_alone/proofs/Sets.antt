@@ -24,7 +24,7 @@ use Rattle.file_exec.specs.Changes as changes
 use Rattle.file_exec.specs.Changes.{makes, some, touches}
 use Rattle.file_exec.specs.Following.{Edits, Ended, seen, head}
 use Rattle.file_exec.specs.Known as known
-use Rattle.file_exec.specs.Known.{Known, IsSo, IsSoAt, AgreesWith, is_held, known_rows, Done, exec_of}
+use Rattle.file_exec.specs.Known.{Known, IsSoAt, AgreesWith, is_held, known_rows, Done, exec_of}
 use Rattle.file_exec.proofs.Leading.{changes_by_suite}
 use Rattle.file_exec.proofs.Unset.{changes_are_held}
 use Rattle.txn_core.specs.Suites.{First, Suite, Suites, suite_of, row_with, known_of}

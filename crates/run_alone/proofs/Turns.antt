@@ -28,7 +28,7 @@ use Rattle.txn_core.specs.Doing.{Fixed, Task, Course, Round, Doing, Running, Rou
 use Rattle.txn_core.specs.Sweeps as sweep
 use Rattle.txn_core.specs.Transactions.{Step as Taking, after_word, execute}
 use Rattle.txn_core.specs.Laws.{is_decide, said_by}
-use Rattle.txn_core.specs.Agents.{Agent, Taken, fixed_of, is_idle, has_sense, most_jobs, next_in, next_of, left, end_of, take_in, take, begin, started, forget}
+use Rattle.txn_core.specs.Agents.{Agent, Taken, fixed_of, is_idle, has_sense, max_jobs, next_in, next_of, left, end_of, take_in, take, begin, started, forget}
 use Rattle.txn_core.proofs.Asks.{asks_same}
 use Rattle.run_core.specs.declared.event.Event.{Event}
 use Rattle.run_core.specs.declared.event.Event.TheVariants.{Begin, Step, Crash, Return, Forget, Lack}
@@ -258,7 +258,7 @@ module _ (given : Opening) (world : World) (ds : List Decided) (past : List Outc
   begin_goes i job None is idle = quiet_goes
   begin_goes i job (Some actor) is idle =
       let begun : Agent = record (started fixed actor.agent job) { count = actor.agent.count + 1 } in
-      elim (is_idle actor.agent.doing && has_sense fixed job && nat_lt actor.agent.count most_jobs) as
+      elim (is_idle actor.agent.doing && has_sense fixed job && nat_lt actor.agent.count max_jobs) as
       (λ b. (not (is_some (with_job job (cond b (Some (64 * actor.agent.count + i)) None))) || all_idle world) ≡ true
       → Goes world turn (with_actor i (record actor { agent = cond b begun actor.agent }) world) None None (with_job job (cond b (Some (64 * actor.agent.count + i)) None))) [
         | true ↦ λ idle. begun_goes i actor (record actor { agent = begun }) (64 * actor.agent.count + i) job is idle (job_begins actor.agent job i (holds.agents.index i actor.agent (ap agent_of is)))

@@ -14,7 +14,7 @@ use Rattle.rep_core.specs.Serving.{is_full, served, answer_of}
 use Rattle.txn_core.specs.declared.job.Job.{Job}
 use Rattle.txn_core.specs.declared.word.Word.TheVariants.{Replied, Lacked}
 use Rattle.txn_core.specs.Doing.{Fixed, Doing}
-use Rattle.txn_core.specs.Agents.{Agent, fixed_of, is_idle, has_sense, most_jobs, next_in, next_of, take, begin, started, forget}
+use Rattle.txn_core.specs.Agents.{Agent, fixed_of, is_idle, has_sense, max_jobs, next_in, next_of, take, begin, started, forget}
 use Rattle.run_core.specs.declared.event.Event.{Event}
 use Rattle.run_core.specs.declared.event.Event.TheVariants.{Begin, Step, Crash, Return, Forget, Lack}
 use Rattle.run_core.specs.declared.done.Served.{Served}
@@ -73,7 +73,7 @@ module _ (given : Opening) (t turn : ℕ) (world : World) (ds : List Decided) (p
   begin_moves i job None is none = still
   begin_moves i job (Some actor) is none =
       let begun : Agent = record (started fixed actor.agent job) { count = actor.agent.count + 1 } in
-      elim (is_idle actor.agent.doing && has_sense fixed job && nat_lt actor.agent.count most_jobs) as
+      elim (is_idle actor.agent.doing && has_sense fixed job && nat_lt actor.agent.count max_jobs) as
       (λ b. with_job job (cond b (Some (64 * actor.agent.count + i)) None) ≡ None → Moves (quiet (with_actor i (record actor { agent = cond b begun actor.agent }) world))) [
         | true ↦ λ none. absurd (none-some (64 * actor.agent.count + i, job) (sym none))
         | false ↦ λ _. put world.servers i actor (record actor { agent = actor.agent }) None None is (λ at. Stayed refl refl) (λ _. refl)

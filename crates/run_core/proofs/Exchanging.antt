@@ -17,8 +17,8 @@ use Rattle.run_core.specs.declared.done.Done.{Done}
 use Rattle.run_core.specs.declared.done.Served.{Served}
 use Rattle.run_core.specs.declared.seat.Heard.{Heard}
 use Rattle.run_core.specs.Worlds.{with_actor, answered, outcome_of}
-use Rattle.run_core.specs.Seats.{Seated, Fits, after_word}
-use Rattle.run_core.specs.Exchanges.{Hears, IsExchange, IsUnserved}
+use Rattle.run_core.specs.code.Seats.{Seated, Fits, after_word}
+use Rattle.run_core.specs.code.Exchanges.{Hears, IsExchange, IsUnserved}
 
 pub not_true : (b : Bool) → (b ≡ true → ⊥) → b ≡ false
 not_true true never = absurd (never refl)

@@ -12,8 +12,8 @@ use Rattle.txn_core.specs.Agents.{Agent, next_of, take}
 use Rattle.run_core.specs.declared.done.Done.{Done}
 use Rattle.run_core.specs.declared.done.Outcome.{Outcome}
 use Rattle.run_core.specs.Worlds.{Actor, World, becomes, quiet, steps_once, asks, asks_at, answered, serve, lacks, lacks_for, lacked, outcome_of}
-use Rattle.run_core.specs.Seats.{Seated, changed, actors_in, world_of, AreOf, Becomes, after_word}
-use Rattle.run_core.specs.Exchanges.{IsExchange}
+use Rattle.run_core.specs.code.Seats.{Seated, changed, actors_in, world_of, AreOf, Becomes, after_word}
+use Rattle.run_core.specs.code.Exchanges.{IsExchange}
 use Rattle.run_core.proofs.Exchanging.{set_there}
 
 -- ---- places

@@ -6,7 +6,7 @@ use Rattle.rep_core.specs.State as state
 use Rattle.rep_core.specs.State.{State}
 use Rattle.txn_core.specs.Agents.{fixed_of}
 use Rattle.run_core.specs.Worlds.{Actor, servers_from, actors_from}
-use Rattle.run_core.specs.Seats.{Seated, opening, seats_from, actors_in, AreOf}
+use Rattle.run_core.specs.code.Seats.{Seated, opening, seats_from, actors_in, AreOf}
 
 servers_from-more : (given : Opening) (start count : ℕ) → servers_from given start (suc count) ≡ servers_from given start count ++ state.opening (start + count) given ∷ []
 servers_from-more given start zero = let same : start ≡ start + 0 = omega arith in ap (λ n. state.opening n given ∷ []) same

@@ -11,7 +11,7 @@ use Rattle.rep_core.specs.State.{State}
 use Rattle.rep_core.specs.Serving.{answer_of, served, is_full, takes_no_memory}
 use Rattle.run_core.specs.declared.operator.Order.{Order}
 use Rattle.run_core.specs.declared.operator.Order.TheVariants as order
-use Rattle.run_core.specs.Orders.{request_of}
+use Rattle.run_core.specs.code.Orders.{request_of}
 use Rattle.run_core.specs.Worlds.{Actor, World, operates, operated, quiet}
 use Rattle.run_core.proofs.Exchanging.{set_there, not_true}
 

@@ -17,7 +17,7 @@ use Rattle.run_core.specs.declared.done.Done.{Done}
 use Rattle.run_core.specs.declared.event.Event.{Event}
 use Rattle.run_core.specs.Runs.{after, dones}
 use Rattle.run_core.specs.Worlds.{Actor, World, Stepped, step}
-use Rattle.run_core.specs.Seats.{Seated, actors_in, world_of, AreOf}
+use Rattle.run_core.specs.code.Seats.{Seated, actors_in, world_of, AreOf}
 use Rattle.run_core.specs.Wanting.{by_begin, by_exchange, by_asking, by_step, by_event, by_next, by_outcome, by_stop}
 use Rattle.run_core.proofs.Appending.{dones-append}
 use Rattle.run_core.proofs.Moving.{actor_there, fixed_there}

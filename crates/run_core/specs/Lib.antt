@@ -5,9 +5,5 @@ pub mod TableOfRun
 pub mod Laws
 pub mod WorkedRuns
 pub mod Opened
-pub mod Seats
-pub mod SeatFields
-pub mod Exchanges
-pub mod Orders
-pub mod WorldFields
 pub mod Wanting
+pub mod code

@@ -4,8 +4,8 @@ ghost use Rattle.std.specs.Prelude.{◌≡◌, ◌||◌, IfOk, IfErr, IsTrue, On
 ghost use Rattle.rep_core.specs.Wanting.{by_request};
 ghost use Rattle.rep_core.specs.declared.stamped.Lack.TheVariants.{Memory};
 ghost use Rattle.txn_core.specs.Agents.{next_of};
-ghost use Rattle.run_core.specs.Exchanges.{Hears, IsExchange, IsUnserved};
-ghost use Rattle.run_core.specs.Seats.{Fits};
+ghost use Rattle.run_core.specs.code.Exchanges.{Hears, IsExchange, IsUnserved};
+ghost use Rattle.run_core.specs.code.Seats.{Fits};
 ghost use Rattle.run_core.specs.Wanting.{by_exchange};
 ghost use Rattle.txn_core.specs.declared.word.Word.TheVariants.{Replied, Lacked};
 
@@ -44,10 +44,7 @@ pub(crate) fn exchange(
     );
     let heard = match told {
         Ok(heard) => heard?,
-        Err(lack) => {
-            let done = unserved(seat, number, lack)?;
-            return Ok(done);
-        }
+        Err(lack) => return unserved(seat, number, lack),
     };
     let Heard { reply, outcome } = heard;
     let request = Stamped {

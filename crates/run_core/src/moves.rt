@@ -6,7 +6,7 @@ ghost use Rattle.txn_core.specs.Doing.{Fixed};
 ghost use Rattle.txn_core.specs.declared.word.Word.TheVariants.{Lacked};
 ghost use Rattle.run_core.specs.Wanting as wanting;
 ghost use Rattle.run_core.specs.Worlds as worlds;
-ghost use Rattle.run_core.specs.Seats.{AreOf, Becomes, actors_in, changed, world_of};
+ghost use Rattle.run_core.specs.code.Seats.{AreOf, Becomes, actors_in, changed, world_of};
 ghost use Rattle.rep_core.specs.State.{State};
 
 use crate::done::Done;
@@ -58,8 +58,7 @@ pub(crate) fn ask(
     let Some(host) = servers.get_mut(usize::from(server)) else {
         return Ok(Done::nothing());
     };
-    let done = exchange(host, server, seat, number, request)?;
-    Ok(done)
+    exchange(host, server, seat, number, request)
 }
 
 /// The agent of this number is told that its request is not served, which takes no memory.

@@ -1,7 +1,7 @@
 //! The servers and the agents of a service, as it opens.
 
 ghost use Rattle.std.specs.Prelude.{◌≡◌, IfOk};
-ghost use Rattle.run_core.specs.Seats.{seats_from};
+ghost use Rattle.run_core.specs.code.Seats.{seats_from};
 ghost use Rattle.run_core.specs.Worlds.{servers_from};
 
 use crate::seat::Seat;

@@ -1,7 +1,7 @@
 //! What the operator asks of servers.
 
 ghost use Rattle.std.specs.Prelude.{◌≡◌, List, slice_get};
-ghost use Rattle.run_core.specs.Orders.{request_of};
+ghost use Rattle.run_core.specs.code.Orders.{request_of};
 ghost use Rattle.run_core.specs.Worlds.{Actor, operates};
 
 use crate::done::{Done, Served};

@@ -5,7 +5,7 @@ ghost use Rattle.txn_core.specs.Agents as agents;
 ghost use Rattle.txn_core.specs.Wanting as wanting;
 ghost use Rattle.txn_core.specs.declared.word.Word.TheVariants.{Replied};
 ghost use Rattle.run_core.specs.Worlds.{outcome_of};
-ghost use Rattle.run_core.specs.Seats as seats;
+ghost use Rattle.run_core.specs.code.Seats as seats;
 
 use crate::done::Outcome;
 use rep_core::{Reply, Request, Stamped};
@@ -23,8 +23,8 @@ pub(crate) struct Seat {
 }
 
 impl Model for Seat {
-    ghost use Rattle.run_core.specs.Seats.{Seated};
-    ghost use Rattle.run_core.specs.SeatFields.{seated_of};
+    ghost use Rattle.run_core.specs.code.Seats.{Seated};
+    ghost use Rattle.run_core.specs.code.SeatFields.{seated_of};
 
     ghost Value = { Seated };
 

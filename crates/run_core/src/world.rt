@@ -36,7 +36,7 @@ pub struct World {
 
 impl Model for World {
     ghost use Rattle.run_core.specs.Opened.{Opened};
-    ghost use Rattle.run_core.specs.WorldFields.{IsOfOneService, opened_of};
+    ghost use Rattle.run_core.specs.code.WorldFields.{IsOfOneService, opened_of};
 
     ghost Value = { Opened };
 

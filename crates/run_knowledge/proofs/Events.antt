@@ -30,7 +30,7 @@ use Rattle.txn_core.specs.Doing.{Fixed, Task, Granted, Phase, Gathering, Fetchin
 use Rattle.txn_core.specs.Transactions.{Step, execute, after_word, request_of, request_in, asked_for, said_to}
 use Rattle.txn_core.specs.Sweeps as sweep
 use Rattle.txn_core.specs.Agents as agents
-use Rattle.txn_core.specs.Agents.{Agent, fixed_of, next_in, next_of, left, take_in, take, begin, started, forget, is_idle, has_sense, most_jobs, after_all}
+use Rattle.txn_core.specs.Agents.{Agent, fixed_of, next_in, next_of, left, take_in, take, begin, started, forget, is_idle, has_sense, max_jobs}
 use Rattle.txn_core.proofs.Causes.{Stands}
 use Rattle.txn_core.specs.Laws.{Exchange, of_job}
 use Rattle.txn_core.proofs.Upheld.{Started, Begins, Runs, DoingStands, stands_after}
@@ -151,7 +151,7 @@ module _ (start : Beginning) (z : ℕ) (w : World) (inv : Inv start w) (fixed : 
 
   pub begun_fits : (agent : Agent) (job : Job) → AgentFits z start w agent → AgentFits z start w (begin fixed agent job)
   begun_fits agent job fits =
-      elim (is_idle agent.doing && has_sense fixed job && nat_lt agent.count most_jobs) as (λ b. AgentFits z start w (cond b (record (started fixed agent job) { count = agent.count + 1 }) agent)) [
+      elim (is_idle agent.doing && has_sense fixed job && nat_lt agent.count max_jobs) as (λ b. AgentFits z start w (cond b (record (started fixed agent job) { count = agent.count + 1 }) agent)) [
         | true ↦ counted (started fixed agent job) (agent.count + 1) (started_fits agent job fits)
         | false ↦ fits
       ]

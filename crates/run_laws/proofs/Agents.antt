@@ -20,7 +20,7 @@ use Rattle.txn_core.specs.declared.job.Job.TheVariants.{Transaction, Sweep}
 use Rattle.txn_core.specs.Doing.{home_of, Fixed, Task, Course, Round, Doing, Running, Rounding, After, GoesOn, Ends, Sweeping, Listing, Resolving, Telling, Breaking}
 use Rattle.txn_core.specs.Sweeps as sweep
 use Rattle.txn_core.specs.Laws.{is_decide, said_by}
-use Rattle.txn_core.specs.Agents.{Agent, next_in, left, end_of, take_in, begin, started, is_idle, has_sense, most_jobs}
+use Rattle.txn_core.specs.Agents.{Agent, next_in, left, end_of, take_in, begin, started, is_idle, has_sense, max_jobs}
 use Rattle.run_core.specs.Decisions.{Decided}
 use Rattle.run_laws.proofs.Standing.{In, NotIn, Stands, in_more, not_in_more, stands_more, has_append}
 use Rattle.run_laws.proofs.Places.{Puts, at_puts, same_or}
@@ -206,9 +206,9 @@ begins_index fixed agent (Sweep server) = refl
 pub begins : (fixed : Fixed) (agent : Agent) (job : Job) (i : ℕ) (ds : List Decided) → agent.index ≡ i → NotIn ds (64 * agent.count + i) → (begin fixed agent job ≡ agent) ⊎ Begins ds i agent (begin fixed agent job)
 begins fixed agent job i ds index new =
     let begun : Agent = record (started fixed agent job) { count = agent.count + 1 } in
-    elim (is_idle agent.doing && has_sense fixed job && nat_lt agent.count most_jobs) as (λ b. (is_idle agent.doing && has_sense fixed job && nat_lt agent.count most_jobs) ≡ b → (cond b begun agent ≡ agent) ⊎ Begins ds i agent (cond b begun agent)) [
+    elim (is_idle agent.doing && has_sense fixed job && nat_lt agent.count max_jobs) as (λ b. (is_idle agent.doing && has_sense fixed job && nat_lt agent.count max_jobs) ≡ b → (cond b begun agent ≡ agent) ⊎ Begins ds i agent (cond b begun agent)) [
       | true ↦ λ is. inr (record {
-        idle = idle_none agent.doing (and_parts (is_idle agent.doing) (has_sense fixed job) (and_parts (is_idle agent.doing && has_sense fixed job) (nat_lt agent.count most_jobs) is).0).0;
+        idle = idle_none agent.doing (and_parts (is_idle agent.doing) (has_sense fixed job) (and_parts (is_idle agent.doing && has_sense fixed job) (nat_lt agent.count max_jobs) is).0).0;
         more = refl;
         index = begins_index fixed agent job;
         at = begins_job fixed agent job i ds index new;

@@ -25,13 +25,13 @@ use Rattle.txn_core.specs.Doing.{Fixed, Task, Outcome, Course, Round, Doing, Run
 use Rattle.txn_core.specs.Transactions.{decision_of}
 use Rattle.txn_core.specs.Sweeps as sweep
 use Rattle.txn_core.specs.Laws.{is_decide}
-use Rattle.txn_core.specs.Agents.{Agent, next_in, next_of, left, take_in, begin, started, fixed_of, is_idle, has_sense, most_jobs}
+use Rattle.txn_core.specs.Agents.{Agent, next_in, next_of, left, take_in, begin, started, fixed_of, is_idle, has_sense, max_jobs}
 use Rattle.run_core.specs.declared.event.Event.{Event}
 use Rattle.run_core.specs.declared.event.Event.TheVariants.{Begin, Step, Crash, Return, Forget, Lack}
 use Rattle.run_core.specs.declared.done.Served.{Served}
 use Rattle.run_core.specs.Worlds.{Actor, World, server_at, actor_at, opening, answered, asks_at, asks, steps_once, step}
 use Rattle.run_core.specs.Runs.{after, run}
-use Rattle.run_core.specs.Decisions.{Decided, to_decide, answer_in, decided_as, decided_at, decided_by, decided, task_of, task_at}
+use Rattle.run_core.specs.Decisions.{Decided, to_decide, answer_in, decided_as, decided_at, decided_by, task_of, task_at}
 use Rattle.run_core.specs.Decisions as decisions
 use Rattle.run_laws.specs.Answers.{IsAnsweredAsKnown, AnswersFollowKnowledge}
 use Rattle.run_laws.proofs.Asking.{decides}
@@ -73,7 +73,7 @@ starts_knowing fixed agent (Sweep server) = tt
 
 begin_knows : (fixed : Fixed) (agent : Agent) (job : Job) → Knows fixed agent.doing → Knows fixed (begin fixed agent job).doing
 begin_knows fixed agent job knows =
-    elim (is_idle agent.doing && has_sense fixed job && nat_lt agent.count most_jobs) as (λ b. Knows fixed (cond b (record (started fixed agent job) { count = agent.count + 1 }) agent).doing) [
+    elim (is_idle agent.doing && has_sense fixed job && nat_lt agent.count max_jobs) as (λ b. Knows fixed (cond b (record (started fixed agent job) { count = agent.count + 1 }) agent).doing) [
       | true ↦ starts_knowing fixed agent job
       | false ↦ knows
     ]

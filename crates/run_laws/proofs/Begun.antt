@@ -12,7 +12,7 @@ use Rattle.txn_core.specs.declared.ending.Ending.TheVariants.{Answered}
 use Rattle.txn_core.specs.declared.job.Job.{Job}
 use Rattle.txn_core.specs.declared.word.Word.{Word}
 use Rattle.txn_core.specs.Doing.{Fixed, Doing, Running, Rounding}
-use Rattle.txn_core.specs.Agents.{Agent, next_in, next_of, take, begin, started, fixed_of, is_idle, has_sense, most_jobs}
+use Rattle.txn_core.specs.Agents.{Agent, next_in, next_of, take, begin, started, fixed_of, is_idle, has_sense, max_jobs}
 use Rattle.txn_core.proofs.Asks.{asks_same}
 use Rattle.run_core.specs.declared.event.Event.{Event}
 use Rattle.run_core.specs.declared.event.Event.TheVariants.{Begin, Step, Crash, Return, Forget, Lack}
@@ -38,7 +38,7 @@ Rises f g = (i : ℕ) (a : Agent) → f i ≡ Some a → (b : Agent) × (g i ≡
 
 begin_more : (fixed : Fixed) (agent : Agent) (job : Job) → agent.count ≤ (begin fixed agent job).count
 begin_more fixed agent job =
-    elim (is_idle agent.doing && has_sense fixed job && nat_lt agent.count most_jobs) as (λ b. agent.count ≤ (cond b (record (started fixed agent job) { count = agent.count + 1 }) agent).count) [
+    elim (is_idle agent.doing && has_sense fixed job && nat_lt agent.count max_jobs) as (λ b. agent.count ≤ (cond b (record (started fixed agent job) { count = agent.count + 1 }) agent).count) [
       | true ↦ omega arith
       | false ↦ omega arith
     ]
@@ -67,13 +67,13 @@ still_begun f g t rises begun =
 pub record BeginsNow (fixed : Fixed) (world : World) (i t : ℕ) (job : Job) : Type 0 where
   pub actor : Actor
   pub at : actor_at world i ≡ Some actor
-  pub may : (is_idle actor.agent.doing && has_sense fixed job && nat_lt actor.agent.count most_jobs) ≡ true
+  pub may : (is_idle actor.agent.doing && has_sense fixed job && nat_lt actor.agent.count max_jobs) ≡ true
   pub numbered : t ≡ 64 * actor.agent.count + i
 
 begins_in : (fixed : Fixed) (world : World) (i t : ℕ) (job : Job) (found : Option Actor) → actor_at world i ≡ found → begins_now fixed i job found ≡ Some t → BeginsNow fixed world i t job
 begins_in fixed world i t job None at is = absurd (none-some t is)
 begins_in fixed world i t job (Some actor) at is =
-    let parts = cond_some (is_idle actor.agent.doing && has_sense fixed job && nat_lt actor.agent.count most_jobs) (64 * actor.agent.count + i) t is in
+    let parts = cond_some (is_idle actor.agent.doing && has_sense fixed job && nat_lt actor.agent.count max_jobs) (64 * actor.agent.count + i) t is in
     record { actor = actor; at = at; may = parts.0; numbered = sym parts.1 }
 
 not_yet : (fixed : Fixed) (world : World) (ds : List Decided) (past : List Outcome) (i t : ℕ) (job : Job) → Holds fixed world ds past → BeginsNow fixed world i t job → Begun (agent_at world) t → ⊥

@@ -8,7 +8,7 @@ use Rattle.std.specs.Ordering.{nat_cmp}
 use Rattle.sorted_map.specs.SortedMap.{get}
 use Rattle.suite_prefix.specs.SettingsRules.{Opening, IsAccepted}
 use Rattle.rep_core.specs.State as state
-use Rattle.rep_core.specs.State.{State, record_of}
+use Rattle.rep_core.specs.State.{State}
 use Rattle.rep_core.proofs.Members.{Has, has_from, contains_from}
 use Rattle.txn_core.specs.declared.ending.Ending.{Ending}
 use Rattle.txn_core.specs.declared.ending.Ending.TheVariants.{Answered, Refused, Swept, Undecided}

@@ -6,7 +6,7 @@ use Rattle.rep_core.specs.declared.request.Request.{Request}
 use Rattle.txn_core.specs.declared.job.Job.{Job}
 use Rattle.txn_core.specs.Doing.{Fixed, Task, home_of}
 use Rattle.txn_core.specs.Laws.{is_decide}
-use Rattle.txn_core.specs.Agents.{Agent, fixed_of, next_of, is_idle, has_sense, most_jobs}
+use Rattle.txn_core.specs.Agents.{Agent, fixed_of, next_of, is_idle, has_sense, max_jobs}
 use Rattle.run_core.specs.declared.event.Event.{Event}
 use Rattle.run_core.specs.declared.event.Event.TheVariants.{Begin}
 use Rattle.run_core.specs.declared.done.Outcome.{Outcome}
@@ -32,7 +32,7 @@ was_begun world t = has_begun (actor_at world (t % 64)) (t / 64)
 -- the number of the job that an event begins, if it begins one
 abbrev pub begins_now : Fixed → ℕ → Job → Option Actor → Option ℕ
 begins_now fixed number job (Some actor) =
-    if is_idle actor.agent.doing && has_sense fixed job && nat_lt actor.agent.count most_jobs then Some (64 * actor.agent.count + number) else None
+    if is_idle actor.agent.doing && has_sense fixed job && nat_lt actor.agent.count max_jobs then Some (64 * actor.agent.count + number) else None
 begins_now fixed number job None = None
 
 abbrev pub begins_at : Opening → World → Event → Option ℕ

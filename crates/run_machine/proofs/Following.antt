@@ -17,7 +17,7 @@ use Rattle.txn_core.specs.Agents.{Agent, fixed_of, next_of, take, begin}
 use Rattle.run_core.specs.declared.event.Event as happening
 use Rattle.run_core.specs.declared.event.Event.TheVariants.{Begin, Step, Crash, Return, Forget, Lack}
 use Rattle.run_core.specs.Worlds as worlds
-use Rattle.run_core.specs.Worlds.{Actor, Stepped, server_at, actor_at, with_server, after_serving, serve, answered, asks_at, asks, steps_once, lacks_for, lacks, operated, operates, becomes, step}
+use Rattle.run_core.specs.Worlds.{Actor, server_at, actor_at, with_server, answered, asks_at, asks, steps_once, lacks_for, lacks, operated, operates, becomes, step}
 use Rattle.run_core.specs.Runs.{after}
 use Rattle.suite_machine.specs.Machine.{World, set1, begun}
 use Rattle.suite_machine.specs.Events.{Event, run}

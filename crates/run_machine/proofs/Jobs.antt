@@ -16,7 +16,7 @@ use Rattle.txn_core.specs.Suites.{First, Suite, suite_of}
 use Rattle.txn_core.specs.Doing.{Fixed, Outcome, Deciding, Course, Doing, Running}
 use Rattle.txn_core.proofs.Quorums.{decides_on_quorums}
 use Rattle.txn_core.specs.Agents as agents
-use Rattle.txn_core.specs.Agents.{Agent, Take, Forget, fixed_of, next_in, next_of, take, begin, started, forget, is_idle, has_sense, most_jobs, after_event, after_all}
+use Rattle.txn_core.specs.Agents.{Agent, Take, Forget, fixed_of, next_in, next_of, take, begin, started, forget, is_idle, has_sense, max_jobs, after_event, after_all}
 use Rattle.run_core.specs.declared.event.Event.{Event}
 use Rattle.run_core.specs.declared.event.Event.TheVariants.{Begin, Step, Crash, Return, Forget as Forgets, Lack}
 use Rattle.run_core.specs.Worlds.{World, Actor, server_at, actor_at, answered, asks_at, asks, steps_once, lacks_for, lacks, operated, operates, becomes, step, opening, actors_from}
@@ -53,8 +53,8 @@ takes fixed agent word asked next (inr is) = inr (told_more fixed agent (Take wo
 begins : (fixed : Fixed) (agent : Agent) (job : Job) → IdleOr fixed agent → IdleOr fixed (begin fixed agent job)
 begins fixed agent job (inl idle) = inr (record { before = agent; job = job; told = []; idle = idle; is = refl })
 begins fixed agent job (inr is) =
-    elim (is_idle agent.doing) as (λ b. is_idle agent.doing ≡ b → IdleOr fixed (cond (b && has_sense fixed job && nat_lt agent.count most_jobs) (record (started fixed agent job) { count = agent.count + 1 }) agent)) [
-      | true ↦ λ idle. inr (record { before = agent; job = job; told = []; idle = idle; is = ap (λ b. cond (b && has_sense fixed job && nat_lt agent.count most_jobs) (record (started fixed agent job) { count = agent.count + 1 }) agent) (sym idle) })
+    elim (is_idle agent.doing) as (λ b. is_idle agent.doing ≡ b → IdleOr fixed (cond (b && has_sense fixed job && nat_lt agent.count max_jobs) (record (started fixed agent job) { count = agent.count + 1 }) agent)) [
+      | true ↦ λ idle. inr (record { before = agent; job = job; told = []; idle = idle; is = ap (λ b. cond (b && has_sense fixed job && nat_lt agent.count max_jobs) (record (started fixed agent job) { count = agent.count + 1 }) agent) (sym idle) })
       | false ↦ λ _. inr is
     ] refl
 

@@ -21,7 +21,7 @@ use Rattle.txn_core.specs.Agents as agents
 use Rattle.run_core.specs.declared.event.Event as happening
 use Rattle.run_core.specs.declared.event.Event.TheVariants.{Begin, Step, Crash, Return, Forget, Lack}
 use Rattle.run_core.specs.Worlds as worlds
-use Rattle.run_core.specs.Worlds.{Actor, server_at, actor_at, with_server, with_actor, answered, asks_at, asks, steps_once, lacks_for, lacks, operated, operates, becomes, step}
+use Rattle.run_core.specs.Worlds.{Actor, server_at, actor_at, answered, asks_at, asks, steps_once, lacks_for, lacks, operated, operates, becomes, step}
 use Rattle.suite_machine.specs.Registers.{Beginning}
 use Rattle.suite_machine.specs.Machine.{World, begun}
 use Rattle.suite_machine.specs.Events.{Event, run}

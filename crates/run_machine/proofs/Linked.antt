@@ -9,7 +9,7 @@ use Rattle.txn_core.specs.Doing.{Phase, Gathering, Fetching, Widening, Preparing
 use Rattle.txn_core.specs.Agents.{Agent, left}
 use Rattle.txn_core.specs.Laws.{locks}
 use Rattle.run_core.specs.Worlds as worlds
-use Rattle.run_core.specs.Worlds.{Actor, server_at, actor_at, with_server, with_actor, moved}
+use Rattle.run_core.specs.Worlds.{Actor, actor_at}
 use Rattle.suite_machine.specs.Machine.{World}
 use Rattle.suite_machine.specs.Conditions.{MayFinish}
 use Rattle.server_moves.specs.Views.{ended_as}

@@ -20,7 +20,7 @@ use Rattle.txn_core.specs.declared.job.Job.{Job}
 use Rattle.txn_core.specs.declared.job.Job.TheVariants.{Transaction, Sweep}
 use Rattle.txn_core.specs.Doing.{Preparing, Doing, Running, Rounding}
 use Rattle.txn_core.specs.Transactions.{request_in, changes_of}
-use Rattle.txn_core.specs.Agents.{Agent, fixed_of, next_in, next_of, take, take_in, begin, started, forget, is_idle, has_sense, most_jobs}
+use Rattle.txn_core.specs.Agents.{Agent, fixed_of, next_in, next_of, take, take_in, begin, started, forget, is_idle, has_sense, max_jobs}
 use Rattle.txn_core.proofs.Asks.{asks_same}
 use Rattle.run_core.specs.declared.event.Event as happening
 use Rattle.run_core.specs.declared.event.Event.TheVariants.{Begin, Step, Crash, Return, Forget, Lack}
@@ -217,7 +217,7 @@ module _ (given : Opening) (z : ℕ) (w : World) (world : worlds.World) (is : Re
 
   began_ready : (agent : Agent) (job : Job) → IsReadying z w agent.doing → IsReadying z w (begin (fixed_of given) agent job).doing
   began_ready agent job ready =
-      elim (is_idle agent.doing && has_sense (fixed_of given) job && nat_lt agent.count most_jobs) as (λ b. IsReadying z w (cond b (record (started (fixed_of given) agent job) { count = agent.count + 1 }) agent).doing) [
+      elim (is_idle agent.doing && has_sense (fixed_of given) job && nat_lt agent.count max_jobs) as (λ b. IsReadying z w (cond b (record (started (fixed_of given) agent job) { count = agent.count + 1 }) agent).doing) [
         | true ↦ by job
         | false ↦ ready
       ]

@@ -14,7 +14,7 @@ use Rattle.rep_core.specs.declared.lock.Lock.{Lock}
 use Rattle.rep_core.specs.Locks.{has_prepared}
 use Rattle.rep_core.specs.State.{State}
 use Rattle.rep_core.specs.Service.{reply_of}
-use Rattle.rep_core.specs.Serving.{answer_of, is_full, served}
+use Rattle.rep_core.specs.Serving.{is_full, served}
 use Rattle.rep_core.specs.Serving as serving
 use Rattle.acl_core.specs.Identity.{Identity}
 use Rattle.file_ops.specs.declared.operation.Op.{Op}
@@ -26,11 +26,11 @@ use Rattle.txn_core.specs.declared.job.Job.TheVariants.{Transaction, Sweep}
 use Rattle.txn_core.specs.Doing.{Fixed, Task, Outcome, Phase, Gathering, Fetching, Widening, Preparing, Deciding, Finishing, Course, Sweeping, Listing, Resolving, Telling, Breaking, Round, Doing, Running, Rounding, After, GoesOn, Ends, home_of}
 use Rattle.txn_core.specs.Transactions.{execute, decision_of}
 use Rattle.txn_core.specs.Sweeps.{asked_now}
-use Rattle.txn_core.specs.Agents.{Agent, fixed_of, next_in, next_of, take, take_in, begin, started, is_idle, has_sense, most_jobs, left}
+use Rattle.txn_core.specs.Agents.{Agent, fixed_of, next_in, next_of, take, take_in, begin, started, is_idle, has_sense, max_jobs, left}
 use Rattle.txn_core.specs.Laws.{locks, says_held, is_decide}
 use Rattle.txn_core.proofs.Locks.{Keeps, nothing_held, begin_keeps}
 use Rattle.run_core.specs.Worlds as worlds
-use Rattle.run_core.specs.Worlds.{Actor, server_at, actor_at, with_server, with_actor}
+use Rattle.run_core.specs.Worlds.{Actor, server_at, actor_at, with_server}
 use Rattle.suite_machine.specs.Registers.{Beginning, Known, Change}
 use Rattle.suite_machine.specs.Machine.{World, Verdict, set1}
 use Rattle.suite_machine.specs.Events.{Event, GiveUp, run}
@@ -379,7 +379,7 @@ module _ (start : Beginning) (z : ℕ) (w : World) (n : ℕ) (fixed : Fixed) (ag
 
   pub begun_so : (job : Job) → Begun start z w n agent.doing (begin fixed agent job)
   begun_so job =
-      elim (is_idle agent.doing && has_sense fixed job && nat_lt agent.count most_jobs) as (λ b. (is_idle agent.doing && has_sense fixed job && nat_lt agent.count most_jobs) ≡ b → (is_idle agent.doing ≡ true → Keeps nothing_held (cond b (record (started fixed agent job) { count = agent.count + 1 }) agent).doing) → Begun start z w n agent.doing (cond b (record (started fixed agent job) { count = agent.count + 1 }) agent)) [
-        | true ↦ λ is keeps. let idle = (and_parts (is_idle agent.doing) (has_sense fixed job) (and_parts (is_idle agent.doing && has_sense fixed job) (nat_lt agent.count most_jobs) is).0).0 in begins_so job (idle_none agent.doing idle) (keeps idle)
+      elim (is_idle agent.doing && has_sense fixed job && nat_lt agent.count max_jobs) as (λ b. (is_idle agent.doing && has_sense fixed job && nat_lt agent.count max_jobs) ≡ b → (is_idle agent.doing ≡ true → Keeps nothing_held (cond b (record (started fixed agent job) { count = agent.count + 1 }) agent).doing) → Begun start z w n agent.doing (cond b (record (started fixed agent job) { count = agent.count + 1 }) agent)) [
+        | true ↦ λ is keeps. let idle = (and_parts (is_idle agent.doing) (has_sense fixed job) (and_parts (is_idle agent.doing && has_sense fixed job) (nat_lt agent.count max_jobs) is).0).0 in begins_so job (idle_none agent.doing idle) (keeps idle)
         | false ↦ λ _ _. stays_so
       ] refl (begin_keeps fixed agent job)

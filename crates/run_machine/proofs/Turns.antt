@@ -19,7 +19,7 @@ use Rattle.txn_core.specs.Doing.{Fixed, Outcome, Course, Sweeping, Listing, Reso
 use Rattle.txn_core.specs.Transactions as course
 use Rattle.txn_core.specs.Transactions.{request_of}
 use Rattle.txn_core.specs.Sweeps as sweep
-use Rattle.txn_core.specs.Sweeps.{asked_now, sweep_on, others}
+use Rattle.txn_core.specs.Sweeps.{sweep_on, others}
 use Rattle.txn_core.specs.Agents.{Agent, Taken, Take, next_of, take_in, left, with_step, end_of}
 use Rattle.txn_core.specs.Laws.{locks, says_held}
 use Rattle.txn_core.proofs.Locks.{Keeps, plus_all, all_keep}

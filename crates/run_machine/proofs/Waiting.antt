@@ -31,7 +31,7 @@ use Rattle.txn_core.specs.declared.ending.Ending.TheVariants.{Undecided}
 use Rattle.txn_core.specs.Doing.{Fixed, Task, Outcome, Phase, Gathering, Fetching, Widening, Preparing, Deciding, Finishing, Course, Round, Doing, Running, Rounding, After, GoesOn, Ends}
 use Rattle.txn_core.specs.Transactions.{execute, tell_end, give_up, prepare, locked_at, numbers_from, lack_cause, after_word, request_in, changes_of, verdict_in, ending_by, cause_of_abort}
 use Rattle.txn_core.specs.Sweeps as sweep
-use Rattle.txn_core.specs.Agents.{Agent, next_in, take_in, begin, started, is_idle, has_sense, most_jobs, left}
+use Rattle.txn_core.specs.Agents.{Agent, next_in, take_in, begin, started, is_idle, has_sense, max_jobs, left}
 use Rattle.txn_core.proofs.Asks.{asked_as, fetched_as}
 use Rattle.txn_core.proofs.Walk.{IsEarly, goes_word, goes_execute}
 use Rattle.run_core.specs.Worlds as worlds
@@ -244,7 +244,7 @@ started_waiting fixed agent n servers (Sweep server) index waiting = tt
 
 pub begin_waiting : (fixed : Fixed) (agent : Agent) (n : ℕ) (servers : ℕ → State) (job : Job) → agent.index ≡ n → Waiting servers n agent → Waiting servers n (begin fixed agent job)
 begin_waiting fixed agent n servers job index waiting =
-    elim (is_idle agent.doing && has_sense fixed job && nat_lt agent.count most_jobs) as (λ b. Waiting servers n (cond b (record (started fixed agent job) { count = agent.count + 1 }) agent)) [
+    elim (is_idle agent.doing && has_sense fixed job && nat_lt agent.count max_jobs) as (λ b. Waiting servers n (cond b (record (started fixed agent job) { count = agent.count + 1 }) agent)) [
       | true ↦ record { fresh = λ place past j. waiting.fresh place (omega arith) j; now = started_waiting fixed agent n servers job index waiting }
       | false ↦ waiting
     ]

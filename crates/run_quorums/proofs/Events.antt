@@ -20,7 +20,7 @@ use Rattle.txn_core.specs.declared.job.Job.{Job}
 use Rattle.txn_core.specs.declared.job.Job.TheVariants.{Transaction, Sweep}
 use Rattle.txn_core.specs.Doing.{Task, Course, Doing, Running, Rounding, After, GoesOn, Ends}
 use Rattle.txn_core.specs.Transactions.{execute}
-use Rattle.txn_core.specs.Agents.{Agent, fixed_of, next_in, next_of, take, take_in, begin, started, forget, is_idle, has_sense, most_jobs, left}
+use Rattle.txn_core.specs.Agents.{Agent, fixed_of, next_in, next_of, take, take_in, begin, started, forget, is_idle, has_sense, max_jobs, left}
 use Rattle.txn_core.proofs.Locks.{Leaves, are_nil, leaves_execute}
 use Rattle.run_core.specs.declared.event.Event as happening
 use Rattle.run_core.specs.declared.event.Event.TheVariants.{Begin, Step, Crash, Return, Forget, Lack}
@@ -210,7 +210,7 @@ module _ (given : Opening) (z : ℕ) (w : World) (world : worlds.World) (inv : I
   began : (later : World) (number : ℕ) (agent : Agent) (job : Job) → ((i : ℕ) → w.told i (64 * agent.count + number) ≡ None) → DoingAgrees z w agent.doing → IsDoing z later number (begin (fixed_of given) agent job).count (begin (fixed_of given) agent job).doing
       → DoingAgrees z w (begin (fixed_of given) agent job).doing
   began later number agent job untold agrees =
-      elim (is_idle agent.doing && has_sense (fixed_of given) job && nat_lt agent.count most_jobs) as (λ b. IsDoing z later number (cond b (record (started (fixed_of given) agent job) { count = agent.count + 1 }) agent).count (cond b (record (started (fixed_of given) agent job) { count = agent.count + 1 }) agent).doing
+      elim (is_idle agent.doing && has_sense (fixed_of given) job && nat_lt agent.count max_jobs) as (λ b. IsDoing z later number (cond b (record (started (fixed_of given) agent job) { count = agent.count + 1 }) agent).count (cond b (record (started (fixed_of given) agent job) { count = agent.count + 1 }) agent).doing
       → DoingAgrees z w (cond b (record (started (fixed_of given) agent job) { count = agent.count + 1 }) agent).doing) [
         | true ↦ of job
         | false ↦ λ _. agrees

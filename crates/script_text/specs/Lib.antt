@@ -1,4 +1,4 @@
 pub mod Words
 pub mod Phrases
-pub mod Parts
 pub mod Numbers
+pub mod code

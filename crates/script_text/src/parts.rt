@@ -3,7 +3,7 @@
 ghost use Rattle.std.specs.Prelude.{◌≡◌, ◌==◌, ◌∷◌, List, ℕ};
 ghost use Rattle.std.specs.Iterator.{YieldsFirstRef, item_count};
 ghost use Rattle.std.specs.List.{position, slice_split};
-ghost use Rattle.script_text.specs.Parts.{parts_left};
+ghost use Rattle.script_text.specs.code.Parts.{parts_left};
 
 use std::marker::Model;
 

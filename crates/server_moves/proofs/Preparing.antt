@@ -16,7 +16,7 @@ use Rattle.rep_core.specs.declared.request.Part.{Part}
 use Rattle.rep_core.specs.declared.request.Request.TheVariants as request
 use Rattle.rep_core.specs.declared.reply.Reply.TheVariants as reply
 use Rattle.rep_core.specs.Locks.{rise, is_own, has_prepared, has_lock_for}
-use Rattle.rep_core.specs.Store.{IsSound, is_sound, is_used_up, copy_of, left_by, is_keep, goes_with, holds_last, is_sound_part, lists_twice, intended, suites_with, most_suites, overfills}
+use Rattle.rep_core.specs.Store.{IsSound, is_sound, is_used_up, copy_of, left_by, is_keep, goes_with, holds_last, is_sound_part, lists_twice, intended, suites_with, max_suites, overfills}
 use Rattle.rep_core.specs.State.{State}
 use Rattle.rep_core.specs.Service.{stands_prepared, can_prepare, prepares}
 use Rattle.rep_core.proofs.Ways.{laid}
@@ -164,6 +164,6 @@ module _ (start : Beginning) (z : ℕ) (home : ℕ → ℕ) (servers : ℕ → S
   prepare_moves sends up sound few false true is_stands is_can =
       let does = both_tests (stands_prepared (servers i) t parts) (can_prepare (servers i) t parts) is_stands is_can in
       let room : overfills t (servers i).store parts ≡ false = ap (λ b. b && overfills t (servers i).store parts) (sym does) ∙ few in
-      let last = or_parts (list_any (λ part. holds_last part.take) parts) (nat_lt most_suites (suites_with (intended t parts (servers i).store))) room in
+      let last = or_parts (list_any (λ part. holds_last part.take) parts) (nat_lt max_suites (suites_with (intended t parts (servers i).store))) room in
       preparing sends up sound last.0 (looked (servers i) t parts does) (part_of z parts) refl
   prepare_moves sends up sound few false false is_stands is_can = nothing start z home servers i w shows

@@ -15,7 +15,7 @@ use Rattle.std.proofs.lemmas.Map.Entries.{length-keys_of}
 use Rattle.std.proofs.lemmas.Map.Keys.{sorted_head, sorted_tail, Less-from_sorted}
 use Rattle.std.proofs.lemmas.List.Sorted.{searchable_from_sorted}
 use Rattle.sorted_map.specs.SortedMap.{IsOrdered, replace, remove}
-use Rattle.sorted_map.specs.Place.{IsPlaceOf, IsGapFor}
+use Rattle.sorted_map.specs.code.Place.{IsPlaceOf, IsGapFor}
 use Rattle.sorted_map.specs.Laws.{insert_step, get_below}
 
 module _ {K V : Type 0} {cmp : K → K → Ordering} (o : IsTotalOrder cmp) (key : K) where

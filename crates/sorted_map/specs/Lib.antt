@@ -6,5 +6,5 @@ pub mod Edits
 pub mod Exact
 pub mod Numbers
 pub mod Texts
-pub mod Place
 pub mod Lends
+pub mod code

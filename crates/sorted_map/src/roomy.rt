@@ -7,7 +7,7 @@ ghost use Rattle.std.specs.Fn.{CalledAt};
 ghost use Rattle.std.specs.List.Retain.{IsFiltered};
 ghost use Rattle.sorted_map.specs.SortedMap.{IsOrdered, get, insert, remove};
 ghost use Rattle.sorted_map.specs.Lends.{roomy_lends_value, roomy_lends_get};
-ghost use Rattle.sorted_map.specs.Place.{IsPlaceOf, IsGapFor};
+ghost use Rattle.sorted_map.specs.code.Place.{IsPlaceOf, IsGapFor};
 
 use std::alloc::{AllocError, AllocFailed, Global};
 use std::cmp::Ord;

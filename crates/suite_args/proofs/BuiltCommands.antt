@@ -4,7 +4,7 @@ use Rattle.std.specs.Prelude.{if◌then◌else◌}
 use Rattle.std.specs.List.{slice_index_or}
 use Rattle.std.specs.Str.{bytes_eq}
 use Rattle.clap.specs.Simple.{App, Shape, built, new_shape}
-use Rattle.suite_args.specs.Commands.{suites}
+use Rattle.suite_args.specs.code.Commands.{suites}
 use Rattle.suite_args.specs.declared.script.Script.{Script}
 use Rattle.suite_args.specs.declared.script.Script.TheVariants.{Play, Table}
 use Rattle.suite_args.proofs.OptionWords.{KnowsHelp, help_flag}

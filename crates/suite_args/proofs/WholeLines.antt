@@ -11,7 +11,7 @@ use Rattle.clap.specs.Walk.{Held, Names, Row, Text, Walk, finished, idle, nothin
 use Rattle.clap.proofs.WalkLemmas.{walk_stopped}
 use Rattle.clap.specs.declared.error.kind.ErrorKind.TheVariants.{DisplayHelp, InvalidSubcommand}
 use Rattle.suite_args.specs.Answering.{asked_in}
-use Rattle.suite_args.specs.Commands.{script_word, suites}
+use Rattle.suite_args.specs.code.Commands.{script_word, suites}
 use Rattle.suite_args.specs.CommandLine.{Asked, help, nothing, topic, asked_by, asked_by_option, asked_of_acl, asked_of_script, ends_options, is_help_option}
 use Rattle.suite_args.proofs.Meanings.{Meets, are_mistakes, mistakes_first}
 use Rattle.suite_args.specs.declared.script.Script.{Script}

@@ -1,4 +1,4 @@
 pub mod CommandLine
-pub mod Commands
 pub mod Answering
 pub mod Texts
+pub mod code

@@ -2,7 +2,7 @@
 
 ghost use Rattle.std.specs.Prelude.{◌≡◌, IfOk};
 ghost use Rattle.clap.specs.Words.{app_of};
-ghost use Rattle.suite_args.specs.Commands.{IsCommand, acl_command, script_command, suites};
+ghost use Rattle.suite_args.specs.code.Commands.{IsCommand, acl_command, script_command, suites};
 ghost use Rattle.suite_args.specs.declared.script.Script.TheVariants.{Play, Table};
 
 use clap::{Arg, Command};

@@ -1,4 +1,5 @@
 pub mod Playing
+pub mod KeptJobs
 pub mod NameWords
 pub mod Ran
 pub mod Asked

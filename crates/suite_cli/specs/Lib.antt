@@ -1,5 +1,5 @@
 pub mod Scripts
 pub mod Outputs
-pub mod Playing
 pub mod Names
 pub mod Runs
+pub mod code

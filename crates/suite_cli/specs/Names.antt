@@ -4,7 +4,7 @@ use Rattle.std.specs.List.{starts_with, before_last, after_last}
 use Rattle.acl_text.specs.Tables.{Tables, name_fault}
 use Rattle.acl_text.specs.declared.names.NameError.{NameError}
 use Rattle.script_text.specs.Numbers.{number_up_to}
-use Rattle.suite_script.specs.Words.{Word, most_id}
+use Rattle.suite_script.specs.Words.{Word, max_id}
 
 -- a name with its number
 abbrev pub Given : Type 0
@@ -18,7 +18,7 @@ numbered name (Some number) = Some (name, number)
 abbrev pub given_in : Word → Option Given
 given_in text =
     if nat_lt (length (after_last (λ byte. byte == 61) text)) (length text)
-    then numbered (before_last (λ byte. byte == 61) text) (number_up_to most_id (after_last (λ byte. byte == 61) text))
+    then numbered (before_last (λ byte. byte == 61) text) (number_up_to max_id (after_last (λ byte. byte == 61) text))
     else None
 
 -- a table with one name more, where it takes the name

@@ -34,8 +34,8 @@ abbrev pub no_stream : ℕ
 no_stream = 6
 
 -- the most bytes of an input; a limit of this project
-abbrev pub most_input : ℕ
-most_input = 16777216
+abbrev pub max_input : ℕ
+max_input = 16777216
 
 -- all that is written for an output, with its status
 abbrev pub Writes : Output → ℕ → Option (List ℕ) → Option (List ℕ) → Type 0
@@ -64,7 +64,7 @@ WriteFailed streams = streams.failed_writes_after ≡ one_more streams.failed_wr
 -- nothing was written, since a read failed and was counted or the input passed its limit; or a write failed
 abbrev pub StreamFailed : List ℕ → Streams → Type 0
 StreamFailed input streams =
-    (IsUnwritten streams × ((streams.failed_reads_after ≡ one_more streams.failed_reads) ⊎ (most_input < length input)))
+    (IsUnwritten streams × ((streams.failed_reads_after ≡ one_more streams.failed_reads) ⊎ (max_input < length input)))
     ⊎ WriteFailed streams
 
 -- memory ran out, and that was said: behind the front of an output, which is empty where the output tells a fault; or a write failed
@@ -79,7 +79,7 @@ BreaksOff output streams status =
 abbrev pub RunsOn : (List ℕ → Output) → Streams → ℕ → Option (List ℕ) → Type 0
 RunsOn output streams status None = Unit {0}
 RunsOn output streams status (Some input) =
-    ((length input ≤ most_input) × Writes (output input) status streams.written streams.written_after)
+    ((length input ≤ max_input) × Writes (output input) status streams.written streams.written_after)
     ⊎ (BreaksOff (output input) streams status ⊎ ((status ≡ no_stream) × StreamFailed input streams))
 
 abbrev pub Runs : (List ℕ → Output) → Streams → ℕ → Type 0

@@ -9,7 +9,7 @@ use Rattle.file_ops.specs.Steps.{◌>>=◌}
 use Rattle.suite_script.specs.declared.fault.LineFault.{LineFault}
 use Rattle.suite_script.specs.declared.fault.ScriptFault.{ScriptFault}
 use Rattle.suite_script.specs.declared.root.Root.{Root}
-use Rattle.suite_script.specs.Operations.{kept, operations}
+use Rattle.suite_script.specs.Operations.{operations}
 use Rattle.suite_script.specs.Scripts.{Language, Script, headed, language_of, root_in, script_of, whole}
 use Rattle.suite_script.specs.Words.{Word, caller}
 
@@ -23,7 +23,7 @@ abbrev pub job_in : Tables → List Word → Result Job LineFault
 job_in names words = do
   caller ← caller words
   ops ← operations names caller.rest
-  Ok (record { caller = caller.value; ops = kept ops })
+  Ok (record { caller = caller.value; ops = ops })
 
 -- the words that begin the lines of a script
 abbrev pub is_root : Word → Bool

@@ -1,7 +1,7 @@
 //! The lines of a script of `table` after its root folder and names.
 
 ghost use Rattle.std.specs.Prelude.{◌≡◌};
-ghost use Rattle.suite_cli.specs.Scripts.{job_in};
+ghost use Rattle.suite_cli.specs.code.Kept.{kept_job_in};
 ghost use Rattle.suite_script.specs.Readings.{Gives};
 
 use crate::job::Job;
@@ -15,7 +15,8 @@ use suite_script::{Language, LineError, next_word, read_caller, read_id, read_op
 pub(crate) struct TableLanguage;
 
 impl Language for TableLanguage {
-    ghost use Rattle.suite_cli.specs.Scripts.{is_do, is_known, job_in};
+    ghost use Rattle.suite_cli.specs.Scripts.{is_do, is_known};
+    ghost use Rattle.suite_cli.specs.code.Kept.{kept_job_in};
 
     type Own = Job;
 
@@ -23,7 +24,7 @@ impl Language for TableLanguage {
 
     ghost begins = { is_do };
 
-    ghost own = { λ _ names first words. job_in names words };
+    ghost own = { λ _ names first words. kept_job_in names words };
 
     fn is_known(word: &[u8]) -> bool {
         word == b"root".as_slice() || word == b"do".as_slice()
@@ -44,9 +45,9 @@ impl Language for TableLanguage {
     }
 }
 
-/// What follows the word `do`.
+/// What follows the word `do`, so far as it is kept.
 fn read_job(alloc: Global, names: &Names, mut words: Words<'_>) -> Result<Job, LineError>
-    ensures { Gives result (job_in names.now words.entry) }
+    ensures { Gives result (kept_job_in names.now words.entry) }
 {
     let uid = read_id(next_word(&mut words)?)?;
     let caller = read_caller(uid, next_word(&mut words)?)?;

@@ -3,7 +3,7 @@
 ghost use Rattle.std.specs.Prelude.{◌≡◌, ◌<◌, ◌^◌, ◌++◌, true, length, IfErr, IfOk, OnOk};
 ghost use Rattle.file_ops.specs.Transactions.{replies, table_after, transaction};
 ghost use Rattle.suite_cli.specs.Outputs.{outcome_line, settings_of, table_output};
-ghost use Rattle.suite_cli.specs.Playing.{HasNumbers, WentOn, in_all};
+ghost use Rattle.suite_cli.specs.code.Playing.{HasNumbers, WentOn, in_all};
 ghost use Rattle.suite_script.specs.Gathering.{Plays, PlaysNext};
 ghost use Rattle.suite_script.specs.Outputs.{Finds, StopsWith, is_done};
 

@@ -1,11 +1,11 @@
 -- What is due of a collector is what comes next, and what a reply leaves due.
-use Rattle.std.proofs.Common.{◌≡◌, ℕ, Bool, true, false, cond, List, [], ◌∷◌, ◌++◌, Option, Some, None, refl, sym, ap, subst, ◌∙◌}
-use Rattle.std.specs.Prelude.{nat_le, nat_lt, not, ◌&&◌, ◌||◌, ◌==◌, find, option_map, is_some, IfSome}
+use Rattle.std.proofs.Common.{◌≡◌, ℕ, Bool, true, false, cond, List, ◌∷◌, ◌++◌, Option, Some, None, refl, sym, ap, subst, ◌∙◌}
+use Rattle.std.specs.Prelude.{nat_le, nat_lt, ◌&&◌, ◌||◌, ◌==◌, find, option_map, is_some, IsSome, IfSome}
 use Rattle.std.proofs.lemmas.Option.{same_Some}
 use Rattle.vote_core.specs.Quorums.{Representative, votes_in}
 use Rattle.suite_prefix.specs.declared.copies.Prefix.{Prefix}
 use Rattle.suite_prefix.specs.declared.lock_mode.LockMode.{LockMode}
-use Rattle.suite_prefix.specs.declared.lock_mode.LockMode.TheVariants.{Shared, Exclusive}
+use Rattle.suite_prefix.specs.declared.lock_mode.LockMode.TheVariants.{Exclusive}
 use Rattle.suite_prefix.specs.LockModes.{serves}
 use Rattle.rep_core.specs.declared.reply.Reply.{Reply}
 use Rattle.rep_core.specs.declared.reply.Reply.TheVariants as reply
@@ -15,8 +15,8 @@ use Rattle.suite_collect.specs.declared.told.Told.{Told}
 use Rattle.suite_collect.specs.declared.collect.Due.{Due}
 use Rattle.suite_collect.specs.declared.collect.Due.TheVariants as due
 use Rattle.suite_collect.specs.Telling.{is_held, newer, newest, holds, first_busy}
-use Rattle.suite_collect.specs.Collecting.{Widening, Collector, Collecting, Poll, Upgrade, mode_asked, all_told, counted, wanted, needed, needed_of, got, is_member, is_left, members_of, version, asked_of, ask_or_short, said_to, tell, told_by, Next, Current, Ask, Short, next}
-use Rattle.suite_collect.specs.CollectFields.{due_left, due_by, due_in}
+use Rattle.suite_collect.specs.Collecting.{Widening, Collector, Collecting, Asked, Poll, Upgrade, mode_asked, all_told, counted, wanted, needed, needed_of, got, is_member, is_left, members_of, version, asked_of, ask_or_short, said_to, tell, told_by, Next, Current, Ask, Short, next}
+use Rattle.suite_collect.specs.code.CollectFields.{due_left, due_by, due_in}
 use Rattle.suite_collect.specs.Answering.{HasNoQuorum, Takes, shows_lock}
 use Rattle.suite_collect.proofs.Collected.{asked_as_wanted}
 
@@ -88,6 +88,37 @@ module _ (c : Collector) where
       of : (found : Option Representative) → HasNoQuorum (ask_or_short c found)
       of (Some rep) = refl
       of None = refl
+
+-- what a reply says where it answers what was asked
+abbrev pub said_by : Reply → Said
+said_by (reply.Held prefix dver) = Held prefix dver
+said_by (reply.Busy holder prepared) = Busy holder
+said_by other = Down
+
+-- a reply that answers was taken
+module _ (was after : Collecting) (server : ℕ) (is : due_in was.collector ≡ due.Ask server) where
+  abbrev told_of : Said → Told
+  told_of said = record { server = server; mode = wanted was.collector; said = said }
+
+  abbrev Took : Option Told → Type 0
+  Took one = IfSome one (λ last. after ≡ record was { collector = tell last was.collector })
+
+  pub took_answer : (answer : Reply) → IsSome (told_by (next was.collector) answer) → after ≡ record was { collector = tell (told_of (said_by answer)) was.collector } → Took (told_by (next was.collector) answer)
+  took_answer answer some new =
+      let told = told_asked was.collector server answer is in
+      subst Took (sym told) (of (asked_of was.collector server) answer (subst IsSome told some) new)
+    where
+      of : (asked : Asked) (answer : Reply) → IsSome (option_map told_of (said_to asked answer)) → after ≡ record was { collector = tell (told_of (said_by answer)) was.collector } → Took (option_map told_of (said_to asked answer))
+      of asked (reply.Held prefix dver) some new = new
+      of asked (reply.Busy holder prepared) some new = new
+      of (Poll mode) reply.Down some new = new
+      of Upgrade reply.Down some new = cc
+      of asked reply.Lost some new = cc
+      of asked (reply.Given dver content) some new = cc
+      of asked reply.Prepared some new = cc
+      of asked (reply.Verdict v) some new = cc
+      of asked reply.Done some new = cc
+      of asked (reply.Locked locks) some new = cc
 
 -- who is down or busy holds nothing, and shows no prefix
 module _ (one : Told) (none : is_held one.said ≡ false) where

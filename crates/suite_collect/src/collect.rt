@@ -3,7 +3,7 @@
 ghost use Rattle.std.specs.Prelude.{◌≡◌, ◌<◌, ℕ, find, option_map, is_some, unwrap_or, IsSome, IsTrue, IfSome, IfOk, IfErr, OnErr};
 ghost use Rattle.std.specs.FinSet.{contains};
 ghost use Rattle.vote_core.specs.Validity.{IsValid};
-ghost use Rattle.suite_collect.specs.CollectFields.{IsKnown, due_by};
+ghost use Rattle.suite_collect.specs.code.CollectFields.{IsKnown, due_by};
 ghost use Rattle.suite_collect.specs.Collecting as spec;
 ghost use Rattle.suite_collect.specs.Laws.{HasSource};
 ghost use Rattle.suite_collect.specs.Telling as telling;
@@ -74,7 +74,7 @@ impl Model for Collect {
 
     ghost Value = { Collecting };
 
-    ghost use Rattle.suite_collect.specs.CollectFields.{collecting_of, IsSummed};
+    ghost use Rattle.suite_collect.specs.code.CollectFields.{collecting_of, IsSummed};
 
     ghost view = { collecting_of };
 
@@ -163,11 +163,15 @@ impl Collect {
         ensures { Tells result self.now }
     {
         match self.due {
-            Due::Current => Next::Current {
-                prefix: self.newest(),
-                dver: self.version(),
-                members: members_of(self.counted(), &self.heard().holders(self.wanted())),
-            },
+            Due::Current => {
+                let first = self.first_members();
+                let dver = self.greatest(&first);
+                Next::Current {
+                    prefix: self.newest(),
+                    dver,
+                    members: self.members(first),
+                }
+            }
             Due::Ask(server) => Next::Ask {
                 server,
                 request: self.request(server),
@@ -185,24 +189,23 @@ impl Collect {
     pub fn accepts(&self, reply: &Reply) -> bool
         ensures { result ≡ is_some (spec.told_by (spec.next self.now.collector) reply.now) }
     {
-        let Next::Ask { request, .. } = self.next() else {
+        let Due::Ask(server) = self.due else {
             return false;
         };
         match reply {
             Reply::Held { .. } | Reply::Busy { .. } => true,
-            Reply::Down => matches!(request, Request::Poll { .. }),
+            Reply::Down => !self.holds(LockMode::Shared, server),
             _ => false,
         }
     }
 
     /// Takes the reply to what was asked next. A lock is asked for in the mode that is wanted: one that is
     /// held, and not as is wanted, is to become exclusive.
-    #[tactic(auto, using(crate::proofs::Collected::asked_as_wanted))]
     pub fn take(&mut self, reply: Reply)
         requires { IsSome (spec.told_by (spec.next self.old.collector) reply) }
         ensures { IfSome (spec.told_by (spec.next self.old.collector) reply) (λ last. self.new ≡ record self.old { collector = spec.tell last self.old.collector }) }
     {
-        let Some(server) = self.left() else {
+        let Due::Ask(server) = self.due else {
             return;
         };
         let mode = self.wanted();
@@ -295,7 +298,8 @@ impl Collect {
         ensures value { result ≡ spec.source self.now.collector }
         ensures found { HasSource self.now.collector }
     {
-        let (members, version) = (self.first_members(), self.version());
+        let members = self.first_members();
+        let version = self.greatest(&members);
         let shows = |server: &u8| self.told.shown(*server) == version;
         members.as_slice().iter().copied().find(shows)
     }
@@ -359,14 +363,6 @@ impl Collect {
         }
     }
 
-    /// The first member that is left to be asked.
-    fn left(&self) -> Option<u8>
-        ensures value { let c = self.now.collector in result ≡ option_map (λ rep. rep.0) (find (spec.is_left c) (spec.counted c).reps) }
-        ensures known { IfSome result (λ server. server < MAX_SERVERS) }
-    {
-        first_left(self.counted(), self.heard(), self.wanted())
-    }
-
     /// What a server is asked.
     fn request(&self, server: u8) -> Request
         ensures { let c = self.now.collector in result ≡ spec.request_for self.now.t self.now.suite (spec.asked_of c server) }
@@ -388,12 +384,25 @@ impl Collect {
         members_of(&self.newest().votes, &self.told.holders(self.mode))
     }
 
-    /// The greatest version of the content that they showed.
-    fn version(&self) -> u64
-        ensures { result ≡ spec.version self.now.collector }
+    /// The members that are held of the votes that count: before a widening, the first ones.
+    fn members(&self, first: Members) -> Members
+        requires { first ≡ spec.first_members self.now.collector }
+        ensures { let c = self.now.collector in result ≡ spec.members_of (spec.counted c) (spec.is_member c) }
+    {
+        match &self.widening {
+            Some(widening) => {
+                members_of(&widening.votes, &widening.all.holders(LockMode::Exclusive))
+            }
+            None => first,
+        }
+    }
+
+    /// The greatest version of the content that some servers showed, before a widening.
+    fn greatest(&self, servers: &Members) -> u64
+        ensures { result ≡ telling.greatest self.now.collector.told servers.now }
     {
         let mut greatest = 0;
-        for server in self.first_members().as_slice() {
+        for server in servers.as_slice() {
             greatest = self.told.shown(*server).max(greatest);
         }
         greatest

@@ -29,7 +29,7 @@ impl Model for Heard {
 
     ghost Value = { List Told };
 
-    ghost use Rattle.suite_collect.specs.HeardFields.{told_in, Summarizes};
+    ghost use Rattle.suite_collect.specs.code.HeardFields.{told_in, Summarizes};
 
     ghost view = { told_in };
 

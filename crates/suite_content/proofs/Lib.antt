@@ -1,1 +1,2 @@
+mod ByteOrder
 mod Lists

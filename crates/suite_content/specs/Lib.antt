@@ -1,9 +1,6 @@
 pub mod Limits
 pub mod Names
-pub mod Padding
 pub mod Folders
 pub mod FolderLaws
-pub mod Shared
 pub mod Contents
-pub mod Equality
-pub mod ContentEquality
+pub mod code

@@ -2,13 +2,13 @@
 use Rattle.std.specs.Prelude.{ℕ}
 
 -- the most bytes of a name
-abbrev pub longest_name : ℕ
-longest_name = 64
+abbrev pub max_name : ℕ
+max_name = 64
 
 -- the most names of a folder
-abbrev pub most_names : ℕ
-most_names = 1024
+abbrev pub max_names : ℕ
+max_names = 1024
 
 -- the most bytes of a file
-abbrev pub longest_content : ℕ
-longest_content = 65536
+abbrev pub max_content : ℕ
+max_content = 65536

@@ -1,7 +1,7 @@
 -- Names in a folder: 1 to 64 bytes of POSIX's portable filename character set, and neither `.` nor `..`, which stand for the folder itself and the one above it.
 use Rattle.std.specs.Prelude.{◌≢◌, ℕ, ◌≤◌, ◌==◌, nat_le, Bool, IsTrue, ◌&&◌, ◌||◌, List, length, All, codes}
 use Rattle.std.specs.List.{list_any}
-use Rattle.suite_content.specs.Limits.{longest_name}
+use Rattle.suite_content.specs.Limits.{max_name}
 
 -- A to Z and a to z
 abbrev pub is_letter : ℕ → Bool
@@ -18,7 +18,7 @@ is_name_byte byte = is_letter byte || is_digit byte || list_any (λ mark. byte =
 -- bytes are a name
 pub record IsName (bytes : List ℕ) : Type 0 where
   pub nonempty : 1 ≤ length bytes
-  pub short : length bytes ≤ longest_name
+  pub short : length bytes ≤ max_name
   pub portable : All (λ byte. IsTrue (is_name_byte byte)) bytes
   pub not_dot : bytes ≢ codes "."
   pub not_dot_dot : bytes ≢ codes ".."

@@ -38,7 +38,7 @@ impl Clone for Content {
 
 impl PartialEq for Content {
     ghost use Rattle.suite_content.specs.Contents.{same_content};
-    ghost use Rattle.suite_content.specs.ContentEquality.{same_content_partial_laws};
+    ghost use Rattle.suite_content.specs.code.ContentEquality.{same_content_partial_laws};
 
     ghost eq = { same_content };
 
@@ -54,7 +54,7 @@ impl PartialEq for Content {
 }
 
 impl Eq for Content {
-    ghost use Rattle.suite_content.specs.ContentEquality.{same_content_laws};
+    ghost use Rattle.suite_content.specs.code.ContentEquality.{same_content_laws};
 
     ghost laws = { same_content_laws };
 }

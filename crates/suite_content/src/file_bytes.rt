@@ -1,14 +1,14 @@
 //! What a file holds.
 
 ghost use Rattle.std.specs.Prelude.{◌≡◌, ◌<◌, ◌↔◌, [], length, IfOk, IsOk, IsTrue};
-ghost use Rattle.suite_content.specs.Limits.{longest_content};
+ghost use Rattle.suite_content.specs.Limits.{max_content};
 
 use std::alloc::{AllocError, Global};
 use std::marker::Model;
 use std::sync::ArcSlice;
 
 /// The most bytes of a file.
-pub const LONGEST_CONTENT: usize = 65_536;
+pub const MAX_CONTENT: usize = 65_536;
 
 /// The bytes of a file. They are never changed, and a clone shares them; where there are none, they
 /// take no memory.
@@ -19,7 +19,7 @@ pub struct FileBytes {
 
 impl Model for FileBytes {
     ghost use Rattle.std.specs.Prelude.{ℕ, List};
-    ghost use Rattle.suite_content.specs.Shared.{bytes_of};
+    ghost use Rattle.suite_content.specs.code.Shared.{bytes_of};
 
     ghost Value = { List ℕ };
 
@@ -123,8 +123,8 @@ impl FileBytes {
 
     /// Whether there are more than a file may hold.
     pub fn is_too_long(&self) -> bool
-        ensures { IsTrue result ↔ (longest_content < length self.now) }
+        ensures { IsTrue result ↔ (max_content < length self.now) }
     {
-        self.len() > LONGEST_CONTENT
+        self.len() > MAX_CONTENT
     }
 }

@@ -2,7 +2,7 @@
 
 ghost use Rattle.std.specs.Prelude.{◌≡◌, ◌≤◌, ◌↔◌, [], length, None, IsOk, OnOk, OnErr, IfOk, IsTrue};
 ghost use Rattle.std.specs.Arc.{arc_value};
-ghost use Rattle.suite_content.specs.Limits.{most_names};
+ghost use Rattle.suite_content.specs.Limits.{max_names};
 ghost use Rattle.suite_content.specs.Folders.{IsFolder, number_of, with_name, without_name, names_in};
 
 use crate::name::Name;
@@ -14,7 +14,7 @@ use std::marker::Model;
 use std::sync::Arc;
 
 /// The most names of a folder.
-pub const MOST_NAMES: usize = 1024;
+pub const MAX_NAMES: usize = 1024;
 
 /// A folder's names, each with the number of its suite, in byte order. A clone shares them, and so
 /// does a list of the names. Names are put in and taken out in place where nothing shares them, and
@@ -28,7 +28,7 @@ pub struct FolderNames {
 impl Model for FolderNames {
     ghost use Rattle.std.specs.Prelude.{ℕ, List};
     ghost use Rattle.suite_content.specs.Folders.{IsFolder};
-    ghost use Rattle.suite_content.specs.Shared.{names_of};
+    ghost use Rattle.suite_content.specs.code.Shared.{names_of};
 
     ghost Value = { List (List ℕ × ℕ) };
 
@@ -56,7 +56,7 @@ impl Clone for FolderNames {
 
 impl PartialEq for FolderNames {
     ghost use Rattle.suite_content.specs.Folders.{same_folder};
-    ghost use Rattle.suite_content.specs.Equality.{same_folder_partial_laws};
+    ghost use Rattle.suite_content.specs.code.Equality.{same_folder_partial_laws};
 
     ghost eq = { same_folder };
 
@@ -68,7 +68,7 @@ impl PartialEq for FolderNames {
 }
 
 impl Eq for FolderNames {
-    ghost use Rattle.suite_content.specs.Equality.{same_folder_laws};
+    ghost use Rattle.suite_content.specs.code.Equality.{same_folder_laws};
 
     ghost laws = { same_folder_laws };
 }
@@ -132,9 +132,9 @@ impl FolderNames {
 
     /// Whether there are as many names as a folder may have.
     pub fn is_full(&self) -> bool
-        ensures { IsTrue result ↔ (most_names ≤ length self.now) }
+        ensures { IsTrue result ↔ (max_names ≤ length self.now) }
     {
-        self.len() >= MOST_NAMES
+        self.len() >= MAX_NAMES
     }
 
     /// The number of a name's suite.

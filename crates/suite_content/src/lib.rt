@@ -17,7 +17,7 @@ mod name;
 mod name_list;
 
 pub use content::{Content, Kind};
-pub use file_bytes::{FileBytes, LONGEST_CONTENT};
-pub use folder_names::{FolderNames, MOST_NAMES};
-pub use name::{LONGEST_NAME, Name, is_name};
+pub use file_bytes::{FileBytes, MAX_CONTENT};
+pub use folder_names::{FolderNames, MAX_NAMES};
+pub use name::{MAX_NAME, Name, is_name};
 pub use name_list::{NameIter, NameList};

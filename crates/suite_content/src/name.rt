@@ -1,6 +1,8 @@
 //! Names in a folder.
 
-ghost use Rattle.std.specs.Prelude.{◌≡◌, ◌↔◌, All, IsSome, IfSome, IsTrue};
+ghost use Rattle.std.specs.Prelude.{◌≡◌, ◌↔◌, ◌⊎◌, All, IsSome, IfSome, IsTrue, codes};
+ghost use Rattle.std.specs.Ordering.{nat_cmp};
+ghost use Rattle.std.specs.Cmp.Lexicographic.{slice_cmp};
 ghost use Rattle.suite_content.specs.Names.{IsName, is_name_byte};
 
 use std::cmp::Ordering;
@@ -9,13 +11,13 @@ use std::fmt::Write;
 use std::marker::Model;
 
 /// The most bytes of a name.
-pub const LONGEST_NAME: usize = 64;
+pub const MAX_NAME: usize = 64;
 
 /// A name in a folder: 1 to 64 bytes of `A` to `Z`, `a` to `z`, `0` to `9`, `.`, `_` and `-`, and
 /// neither `.` nor `..`. It takes no memory. Names are ordered by their bytes.
 #[derive(Clone, Copy)]
 pub struct Name {
-    array: [u8; LONGEST_NAME],
+    array: [u8; MAX_NAME],
     count: u8,
 }
 
@@ -25,7 +27,7 @@ impl Model for Name {
     ghost Value = { List ℕ };
 
     ghost use Rattle.suite_content.specs.Names.{IsName};
-    ghost use Rattle.suite_content.specs.Padding.{IsPadded, padded, fields_back};
+    ghost use Rattle.suite_content.specs.code.Padding.{IsPadded, padded, fields_back};
 
     ghost view = { λ n. take n.count n.array };
 
@@ -93,7 +95,7 @@ impl Ord for Name {
     ghost matches_eq = { texts_ties };
 
     fn cmp(&self, other: &Name) -> Ordering {
-        self.as_bytes().cmp(other.as_bytes())
+        order(self.as_bytes(), other.as_bytes())
     }
 }
 
@@ -114,7 +116,7 @@ impl Name {
         requires { IsName bytes.now }
         ensures { result ≡ bytes.now }
     {
-        let mut array = [0; LONGEST_NAME];
+        let mut array = [0; MAX_NAME];
         array[..bytes.len()].copy_from_slice(bytes);
         let count = bytes.len() as u8;
         Name { array, count }
@@ -133,9 +135,33 @@ impl Name {
 pub fn is_name(bytes: &[u8]) -> bool
     ensures { IsTrue result ↔ IsName bytes.now }
 {
-    let fits = !bytes.is_empty() && bytes.len() <= LONGEST_NAME;
-    let reserved = bytes == b".".as_slice() || bytes == b"..".as_slice();
-    fits && !reserved && are_portable(bytes)
+    let fits = !bytes.is_empty() && bytes.len() <= MAX_NAME;
+    fits && !is_reserved(bytes) && are_portable(bytes)
+}
+
+/// Whether bytes are `.` or `..`.
+fn is_reserved(bytes: &[u8]) -> bool
+    ensures { IsTrue result ↔ ((bytes.now ≡ codes ".") ⊎ (bytes.now ≡ codes "..")) }
+{
+    match bytes {
+        [first] => *first == b'.',
+        [first, second] => *first == b'.' && *second == b'.',
+        _ => false,
+    }
+}
+
+/// The order of two runs of bytes. It goes byte by byte: names are short, and most differ early.
+fn order(left: &[u8], right: &[u8]) -> Ordering
+    ensures { result ≡ slice_cmp nat_cmp left.now right.now }
+{
+    let both = left.len().min(right.len());
+    for at in 0..both {
+        let found = left[at].cmp(&right[at]);
+        if found.is_ne() {
+            return found;
+        }
+    }
+    left.len().cmp(&right.len())
 }
 
 /// Whether each byte may stand in a name. It looks at all of them: that many at once are compared is

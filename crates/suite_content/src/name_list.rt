@@ -47,7 +47,7 @@ impl Clone for NameList {
 
 impl PartialEq for NameList {
     ghost use Rattle.suite_content.specs.Folders.{same_names};
-    ghost use Rattle.suite_content.specs.Equality.{same_names_partial_laws};
+    ghost use Rattle.suite_content.specs.code.Equality.{same_names_partial_laws};
 
     ghost eq = { same_names };
 
@@ -60,7 +60,7 @@ impl PartialEq for NameList {
 }
 
 impl Eq for NameList {
-    ghost use Rattle.suite_content.specs.Equality.{same_names_laws};
+    ghost use Rattle.suite_content.specs.code.Equality.{same_names_laws};
 
     ghost laws = { same_names_laws };
 }

@@ -1,4 +1,7 @@
 pub mod Idle
 pub mod Lines
+pub mod KeptLines
+pub mod ValidLines
 pub mod Promised
 pub mod Until
+pub mod kept

@@ -1,32 +1,32 @@
 -- The run of a script, line by line.
 use Rattle.std.proofs.Common.{◌≡◌, ℕ, zero, suc, false, List, [], ◌∷◌, ◌++◌, append_assoc, Option, Some, None, Result, Ok, Err, refl, ◌∙◌, ap, sym, subst}
-use Rattle.std.specs.Prelude.{Bool, true, not}
+use Rattle.std.specs.Prelude.{Bool, IfOk, true, not}
 use Rattle.std.specs.List.{flat_map, list_all}
 use Rattle.std.proofs.lemmas.Bool.{and_parts, false≢true}
 use Rattle.std.proofs.lemmas.List.{append-nil}
-use Rattle.suite_prefix.specs.SettingsRules.{Opening}
+use Rattle.suite_prefix.specs.SettingsRules.{IsAccepted, Opening}
+use Rattle.vote_core.specs.Validity.{IsValid}
 use Rattle.txn_core.specs.Doing.{Fixed}
-use Rattle.txn_core.specs.Agents.{fixed_of}
 use Rattle.run_core.specs.declared.event.Event.{Event}
 use Rattle.run_core.specs.declared.event.Event.TheVariants.{Step}
 use Rattle.run_core.specs.declared.done.Done.{Done}
 use Rattle.run_core.specs.declared.done.Outcome.{Outcome}
 use Rattle.run_core.specs.Worlds.{World, step}
 use Rattle.run_core.specs.Runs.{after, dones, outcomes}
-use Rattle.run_core.specs.Opened.{Opened}
 use Rattle.run_core.proofs.Appending.{dones-append, outcomes-append}
 use Rattle.headline.specs.Premises.{VotesAreValid}
-use Rattle.headline.specs.Promises.{IsRunOf, IsOfRun, IsPromised, Promises}
-use Rattle.headline.proofs.Promised.{goes_on}
+use Rattle.headline.specs.Promises.{IsPromised}
+use Rattle.headline.proofs.Promised.{front, promised}
 use Rattle.suite_script.specs.declared.fault.ScriptFault.{ScriptFault}
-use Rattle.suite_script.specs.Scripts.{Pending, Script, owns, script_of, scripted, whole, with_own}
+use Rattle.suite_script.specs.Scripts.{Pending, Script, owns, script_of, scripted, whole}
 use Rattle.suite_play.specs.declared.command.Command.{Command}
 use Rattle.suite_play.specs.declared.command.Command.TheVariants as line
 use Rattle.suite_play.specs.Headers.{header}
-use Rattle.suite_play.specs.Outputs.{language, script_in}
+use Rattle.suite_play.specs.Outputs.{language}
 use Rattle.suite_play.specs.Playing.{all_lines, endless, played, steps}
 use Rattle.suite_play.specs.Promised.{steps_of, events_in, events_of, is_audit, LinesAreEvents, PlayIsPromised}
 use Rattle.suite_play.specs.Texts.{outcome_line, outcome_text}
+use Rattle.suite_play.proofs.ValidLines.{valid_lines}
 
 -- ---- what a line makes of a world
 
@@ -94,55 +94,24 @@ lines_jobs fixed world (command ∷ later) none =
 pub lines_are_events : LinesAreEvents
 lines_are_events = record { world = line_world; jobs = line_jobs; audits = λ fixed world server. refl; lines = lines_jobs }
 
--- steps give no votes
-pub steps_valid : (agent count : ℕ) → VotesAreValid (steps_of agent count)
-unfolding steps_of
-steps_valid agent zero = tt
-steps_valid agent (suc more) = (tt, steps_valid agent more)
+-- ---- what is promised of a script
 
--- ---- the lines that were played so far
+same_script : (a b : Script Opening Command) → ◌≡◌ {A = Result (Script Opening Command) ScriptFault} (Ok a) (Ok b) → a ≡ b
+same_script a b is = cc
 
-pub record IsPlayed (text : List ℕ) (left : Result (List Command) ScriptFault) (opened : Opened) : Type 0 where
-  pub done : List Command
-  pub of_them : IsRunOf opened (events_of done)
-  pub script : (later : List Command) → left ≡ Ok later → script_in text ≡ Ok (record { header = opened.given; owns = done ++ later })
+header_is : (given : Opening) (left : Result (List Command) ScriptFault) (script : Script Opening Command) → scripted given left ≡ Ok script → given ≡ script.header
+header_is given (Ok lines) script is = ap (λ (script : Script Opening Command). script.header) (same_script (record { header = given; owns = lines }) script is)
+header_is given (Err fault) script is = cc
 
-events_more : (done : List Command) (command : Command) → events_of (done ++ command ∷ []) ≡ events_of done ++ events_in command
-events_more [] command = append-nil (events_in command)
-events_more (one ∷ done) command = ap (λ rest. events_in one ++ rest) (events_more done command) ∙ sym (append_assoc (events_in one) (events_of done) (events_in command))
+lines_are : (given : Opening) (left : Result (List Command) ScriptFault) (script : Script Opening Command) → scripted given left ≡ Ok script → left ≡ Ok script.owns
+lines_are given (Ok lines) script is = ap (λ (script : Script Opening Command). Ok script.owns) (same_script (record { header = given; owns = lines }) script is)
+lines_are given (Err fault) script is = cc
 
-pub begins : (text : List ℕ) (opened : Opened) (rest : Pending) → header (whole text) ≡ Ok (record { value = opened.given; rest = rest }) → IsRunOf opened [] → IsPlayed text (owns (language opened.given) rest) opened
-begins text opened rest read so = record {
-  done = [];
-  of_them = so;
-  script = λ later is. ap (script_of language) read ∙ ap (scripted opened.given) is;
-}
-
-pub plays_on : (text : List ℕ) (left after_it : Result (List Command) ScriptFault) (opened next : Opened) (command : Command) → IsPlayed text left opened → left ≡ with_own command after_it
-    → VotesAreValid (events_in command) → next ≡ record opened { world = (played (fixed_of opened.given) opened.world command).world } → IsPlayed text after_it next
-plays_on text left after_it opened next command so is valid becomes =
-    subst (IsPlayed text after_it) (sym becomes) (record {
-      done = so.done ++ command ∷ [];
-      of_them = subst (IsRunOf (record opened { world = (played (fixed_of opened.given) opened.world command).world })) (sym (events_more so.done command))
-          (goes_on opened (events_of so.done) (events_in command) (played (fixed_of opened.given) opened.world command).world so.of_them valid (line_world (fixed_of opened.given) opened.world command));
-      script = λ later ends. so.script (command ∷ later) (is ∙ ap (with_own command) ends) ∙ ap (λ owns. Ok (record { header = opened.given; owns = owns })) (sym (append_assoc so.done (command ∷ []) later));
-    })
-
-pub ends_promised : (text : List ℕ) (left : Result (List Command) ScriptFault) (opened : Opened) → IsPlayed text left opened → left ≡ Ok [] → Promises opened → PlayIsPromised text
-ends_promised text left opened so none promises script is before later events =
-    of script (sym (so.script [] none) ∙ is) events
-  where
-    all : List Command
-    all = so.done ++ []
-
-    same_script : (a b : Script Opening Command) → ◌≡◌ {A = Result (Script Opening Command) ScriptFault} (Ok a) (Ok b) → a ≡ b
-    same_script a b is = cc
-
-    of : (script : Script Opening Command) → ◌≡◌ {A = Result (Script Opening Command) ScriptFault} (Ok (record { header = opened.given; owns = all })) (Ok script) → events_of script.owns ≡ before ++ later → IsPromised script.header before
-    of script same events =
-        let it = same_script (record { header = opened.given; owns = all }) script same in
-        subst (λ (script : Script Opening Command). IsPromised script.header before) it
-        (promises before later (subst (IsRunOf opened) (ap events_of (sym (append-nil so.done)) ∙ ap (λ (script : Script Opening Command). events_of script.owns) it ∙ events) so.of_them))
-
-pub of_run : (text : List ℕ) (left : Result (List Command) ScriptFault) (opened : Opened) → IsPlayed text left opened → IsOfRun opened
-of_run text left opened so = record { events = events_of so.done; of_them = so.of_them }
+-- a script whose header was read, and is accepted
+pub play_promised : (text : List ℕ) (given : Opening) (rest : Pending) → header (whole text) ≡ Ok (record { value = given; rest = rest }) → IsAccepted given → IsValid given.c0 → PlayIsPromised text
+play_promised text given rest read accepted c0 script is before later events =
+    let left = owns (language given) rest in
+    let so : scripted given left ≡ Ok script = sym (ap (script_of language) read) ∙ is in
+    let valid = subst (λ (left : Result (List Command) ScriptFault). IfOk left (λ lines. VotesAreValid (events_of lines))) (lines_are given left script so) (valid_lines given rest) in
+    subst (λ (given : Opening). IsPromised given before) (header_is given left script so)
+    (promised given before (front given before later (record { accepted = accepted; c0 = c0; votes = subst VotesAreValid events valid })))

@@ -8,7 +8,7 @@ use Rattle.txn_core.specs.declared.job.Job.TheVariants.{Transaction, Sweep}
 use Rattle.run_core.specs.declared.event.Event.TheVariants as event
 use Rattle.suite_script.specs.declared.fault.LineFault.{LineFault}
 use Rattle.suite_script.specs.declared.fault.LineFault.TheVariants.{Form}
-use Rattle.suite_script.specs.Operations.{kept, operations}
+use Rattle.suite_script.specs.Operations.{operations}
 use Rattle.suite_script.specs.Words.{Taken, Word, at_end, caller, number}
 use Rattle.suite_play.specs.declared.command.Command.{Command}
 use Rattle.suite_play.specs.declared.command.Command.TheVariants.{Event, Steps, Run, Audit}
@@ -37,8 +37,8 @@ abbrev pub is_command : Word → Bool
 is_command text = is_some (verb_in text)
 
 -- the most steps of a line
-abbrev pub most_steps : ℕ
-most_steps = 1000000
+abbrev pub max_steps : ℕ
+max_steps = 1000000
 
 -- the last site of an agent
 abbrev pub last_site : ℕ
@@ -51,7 +51,7 @@ begin_in places names words = do
   caller ← caller agent.rest
   site ← number last_site caller.rest
   ops ← operations names site.rest
-  Ok (Event (event.Begin agent.value (Transaction caller.value site.value (kept ops))))
+  Ok (Event (event.Begin agent.value (Transaction caller.value site.value ops)))
 
 -- a sweep of a server that an agent begins
 abbrev pub sweep_in : Places → List Word → Result Command LineFault
@@ -64,7 +64,7 @@ sweep_in places words = do
 -- how many steps: one, where no number is left
 abbrev pub steps_in : List Word → Result (Taken ℕ) LineFault
 steps_in [] = Ok (record { value = 1; rest = [] })
-steps_in (next ∷ words) = number most_steps (next ∷ words)
+steps_in (next ∷ words) = number max_steps (next ∷ words)
 
 abbrev pub step_in : Places → List Word → Result Command LineFault
 step_in places words = do

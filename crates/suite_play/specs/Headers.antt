@@ -3,7 +3,7 @@
 use Rattle.std.specs.Prelude.{ℕ, ◌-◌, ◌==◌, ◌^◌, nat_lt, Bool, ◌||◌, if◌then◌else◌, List, codes, Result, Ok, Err}
 use Rattle.std.specs.Str.{bytes_eq}
 use Rattle.file_ops.specs.Steps.{◌>>=◌, ◌>>◌, found_or}
-use Rattle.suite_prefix.specs.SettingsRules.{Opening, largest_cache, most_agents, most_servers, most_slots}
+use Rattle.suite_prefix.specs.SettingsRules.{Opening, max_cache, max_agents, max_servers, max_slots}
 use Rattle.suite_prefix.specs.declared.settings.SettingsFault.{SettingsFault}
 use Rattle.suite_prefix.specs.declared.settings.SettingsFault.TheVariants.{BadCount, BadCache}
 use Rattle.vote_core.specs.Quorums.{Configuration}
@@ -18,13 +18,13 @@ use Rattle.suite_play.specs.declared.caches.Caches.{Caches}
 use Rattle.suite_play.specs.Commands.{is_command}
 
 -- the largest number that is judged; a larger one is none
-abbrev pub largest_number : ℕ
-largest_number = 2 ^ 64 - 1
+abbrev pub max_number : ℕ
+max_number = 2 ^ 64 - 1
 
 -- a number that keeps to its limits, or the fault of one that does not
 abbrev pub judged : (ℕ → Bool) → SettingsFault → Word → Result ℕ LineFault
 judged is_wrong fault text = do
-  given ← found_or (number_up_to largest_number text) Form
+  given ← found_or (number_up_to max_number text) Form
   if is_wrong given then Err (Settings fault) else Ok given
 
 -- how many there are: at least one
@@ -54,11 +54,11 @@ opening_votes servers words = do
 abbrev pub caches_in : List Word → Result Caches LineFault
 caches_in words = do
   first ← word words
-  budget ← limit largest_cache first.value
+  budget ← limit max_cache first.value
   second ← word first.rest
-  quota ← limit largest_cache second.value
+  quota ← limit max_cache second.value
   third ← word second.rest
-  slots ← limit most_slots third.value
+  slots ← limit max_slots third.value
   at_end third.rest
   Ok (record { budget = budget; quota = quota; slots = slots })
 
@@ -74,8 +74,8 @@ is_known text = is_header text || is_command text
 
 abbrev pub header : Pending → Result (Headed Opening) ScriptFault
 header script = do
-  servers ← headed is_known (codes "servers") (count_in most_servers) script
-  agents ← headed is_known (codes "agents") (count_in most_agents) servers.rest
+  servers ← headed is_known (codes "servers") (count_in max_servers) script
+  agents ← headed is_known (codes "agents") (count_in max_agents) servers.rest
   votes ← headed is_known (codes "votes") (opening_votes servers.value) agents.rest
   root ← headed is_known (codes "root") root_in votes.rest
   caches ← headed is_known (codes "cache") caches_in root.rest

@@ -5,3 +5,4 @@ pub mod Playing
 pub mod Outputs
 pub mod Promised
 pub mod Laws
+pub mod code

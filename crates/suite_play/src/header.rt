@@ -9,7 +9,7 @@ use crate::caches::Caches;
 use crate::places::Places;
 use script_text::{Words, read_number};
 use std::alloc::Global;
-use suite_prefix::{LARGEST_CACHE, MAX_AGENTS, MOST_SLOTS, Settings, SettingsFault};
+use suite_prefix::{MAX_AGENTS, MAX_CACHE, MAX_SLOTS, Settings, SettingsFault};
 use suite_script::{
     LineError, LineFault, Root, ScriptError, ScriptReader, at_end, next_word, read_root, read_votes,
 };
@@ -35,7 +35,7 @@ fn settings_of(servers: usize, agents: usize, c0: Votes, root: Root, caches: Cac
     requires servers { (1 ≤ servers) × (servers ≤ MAX_SERVERS) }
     requires agents { (1 ≤ agents) × (agents ≤ MAX_AGENTS) }
     requires known { All (λ rep. rep.0 < servers) c0.reps }
-    requires caches { (caches.budget ≤ LARGEST_CACHE) × (caches.quota ≤ LARGEST_CACHE) × (caches.slots ≤ MOST_SLOTS) }
+    requires caches { (caches.budget ≤ MAX_CACHE) × (caches.quota ≤ MAX_CACHE) × (caches.slots ≤ MAX_SLOTS) }
     ensures { result ≡ record {
       servers = servers;
       agents = agents;
@@ -121,7 +121,7 @@ fn votes_of(words: &mut Words<'_>, servers: usize) -> Result<Votes, LineFault>
 /// The next line, which has the limits of the caches.
 fn read_caches(script: &mut ScriptReader<'_>) -> Result<Caches, ScriptError>
     ensures caches { Heads result script.new (headed is_known (codes "cache") caches_in script.old) }
-    ensures range { IfOk result (λ caches. (caches.budget ≤ LARGEST_CACHE) × (caches.quota ≤ LARGEST_CACHE) × (caches.slots ≤ MOST_SLOTS)) }
+    ensures range { IfOk result (λ caches. (caches.budget ≤ MAX_CACHE) × (caches.quota ≤ MAX_CACHE) × (caches.slots ≤ MAX_SLOTS)) }
 {
     let mut line = script.header_line::<Places>(b"cache")?;
     match caches_of(&mut line.words) {
@@ -132,11 +132,11 @@ fn read_caches(script: &mut ScriptReader<'_>) -> Result<Caches, ScriptError>
 
 fn caches_of(words: &mut Words<'_>) -> Result<Caches, LineFault>
     ensures caches { result ≡ caches_in words.old }
-    ensures range { IfOk result (λ caches. (caches.budget ≤ LARGEST_CACHE) × (caches.quota ≤ LARGEST_CACHE) × (caches.slots ≤ MOST_SLOTS)) }
+    ensures range { IfOk result (λ caches. (caches.budget ≤ MAX_CACHE) × (caches.quota ≤ MAX_CACHE) × (caches.slots ≤ MAX_SLOTS)) }
 {
-    let budget = limit_of(next_word(words)?, LARGEST_CACHE)?;
-    let quota = limit_of(next_word(words)?, LARGEST_CACHE)?;
-    let slots = limit_of(next_word(words)?, MOST_SLOTS)?;
+    let budget = limit_of(next_word(words)?, MAX_CACHE)?;
+    let quota = limit_of(next_word(words)?, MAX_CACHE)?;
+    let slots = limit_of(next_word(words)?, MAX_SLOTS)?;
     at_end(words)?;
     Ok(Caches {
         budget,

@@ -1,10 +1,11 @@
 //! The lines of a script of events after its header and names.
 
 ghost use Rattle.std.specs.Prelude.{◌≡◌};
-ghost use Rattle.file_ops.specs.Steps.{found_or};
+ghost use Rattle.file_ops.specs.Steps.{found_or, ok_map};
 ghost use Rattle.script_text.specs.Numbers.{number_up_to};
-ghost use Rattle.suite_play.specs.Commands.{audit_in, begin_in, crash_in, forget_in, most_steps, return_in, run_in, said_by, server_in, step_in, sweep_in};
+ghost use Rattle.suite_play.specs.Commands.{audit_in, begin_in, crash_in, forget_in, max_steps, return_in, run_in, said_by, server_in, step_in, sweep_in};
 ghost use Rattle.suite_play.specs.Headers.{is_header};
+ghost use Rattle.suite_play.specs.code.Kept.{kept_command};
 ghost use Rattle.suite_script.specs.Readings.{Gives};
 
 use crate::command::Command;
@@ -23,11 +24,13 @@ use txn_core::{Job, Ops};
 const LAST_SITE: u8 = 15;
 
 /// The most steps of a line.
-const MOST_STEPS: u64 = 1_000_000;
+const MAX_STEPS: u64 = 1_000_000;
 
 impl Language for Places {
     ghost use Rattle.suite_play.specs.Commands.{command_in, is_command};
+    ghost use Rattle.file_ops.specs.Steps.{ok_map};
     ghost use Rattle.suite_play.specs.Headers.{is_known};
+    ghost use Rattle.suite_play.specs.code.Kept.{kept_command};
 
     type Own = Command;
 
@@ -35,7 +38,7 @@ impl Language for Places {
 
     ghost begins = { is_command };
 
-    ghost own = { λ places names first words. command_in places names first words };
+    ghost own = { λ places names first words. ok_map kept_command (command_in places names first words) };
 
     fn is_known(word: &[u8]) -> bool {
         is_header(word) || Verb::of(word).is_some()
@@ -70,7 +73,7 @@ fn is_header(word: &[u8]) -> bool
         || word == b"cache".as_slice()
 }
 
-/// What the words after a verb say.
+/// What the words after a verb say, so far as it is kept.
 fn read_command(
     alloc: Global,
     places: Places,
@@ -78,7 +81,7 @@ fn read_command(
     verb: Verb,
     mut words: Words<'_>,
 ) -> Result<Command, LineError>
-    ensures { Gives result (said_by places names.now verb words.entry) }
+    ensures { Gives result (ok_map kept_command (said_by places names.now verb words.entry)) }
 {
     match verb {
         Verb::Begin => read_begin(alloc, places, names, words),
@@ -111,14 +114,14 @@ fn read_place(word: &[u8], last: u8) -> Result<u8, LineFault>
     }
 }
 
-/// A transaction that an agent begins, for a caller, at a site.
+/// A transaction that an agent begins, for a caller, at a site, so far as it is kept.
 fn read_begin(
     alloc: Global,
     places: Places,
     names: &Names,
     mut words: Words<'_>,
 ) -> Result<Command, LineError>
-    ensures { Gives result (begin_in places names.now words.entry) }
+    ensures { Gives result (ok_map kept_command (begin_in places names.now words.entry)) }
 {
     let agent = read_place(next_word(&mut words)?, places.last_agent)?;
     let uid = read_id(next_word(&mut words)?)?;
@@ -154,9 +157,9 @@ fn read_step(places: Places, words: &mut Words<'_>) -> Result<Command, LineError
 }
 
 fn read_steps(word: &[u8]) -> Result<u64, LineFault>
-    ensures { result ≡ found_or (number_up_to most_steps word.now) LineFault.Form }
+    ensures { result ≡ found_or (number_up_to max_steps word.now) LineFault.Form }
 {
-    match read_number(word, MOST_STEPS) {
+    match read_number(word, MAX_STEPS) {
         Some(number) => Ok(number),
         None => Err(LineFault::Form),
     }

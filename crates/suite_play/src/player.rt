@@ -2,10 +2,9 @@
 
 ghost use Rattle.std.specs.Prelude.{◌≡◌, ◌<◌, ◌^◌, ◌++◌, true, length, OnOk};
 ghost use Rattle.std.specs.List.{flat_map};
-ghost use Rattle.headline.specs.Premises.{VotesAreValid};
 ghost use Rattle.suite_play.specs.Outputs.{places_of, play_output};
 ghost use Rattle.suite_play.specs.Playing.{endless, of_event, played, steps};
-ghost use Rattle.suite_play.specs.Promised.{PlayIsPromised, events_in, steps_of};
+ghost use Rattle.suite_play.specs.Promised.{PlayIsPromised};
 ghost use Rattle.suite_play.specs.Texts.{audit_lines, item_line};
 ghost use Rattle.run_core.specs.Worlds.{step};
 ghost use Rattle.txn_core.specs.Agents.{fixed_of};
@@ -18,7 +17,6 @@ use crate::outcome::{push_item, push_outcome};
 use crate::places::Places;
 use byte_streams::ByteOut;
 use file_ops::AuditItem;
-use headline::{promise, votes_are_valid};
 use run_core::{Event, World};
 use script_text::push_number;
 use std::alloc::{AllocError, Global};
@@ -46,7 +44,7 @@ fn places_of(settings: &Settings) -> Places
 }
 
 /// Plays a script of events, and writes what it prints; nothing, where it has a fault. What is played is promised: of the
-/// run of its events, at each moment, what a world promises (`headline::promise`).
+/// run of its events, at each moment, all that `headline::promise` promises of a world.
 pub fn play_events<O: ByteOut>(alloc: Global, text: &[u8], writer: &mut O) -> Result<(), PlayError>
     requires { length text.now < 2 ^ 60 }
     ensures plays { Plays result (play_output text.now) (O.written writer.old) (O.written writer.new)
@@ -82,30 +80,11 @@ fn play_faultless<O: ByteOut>(alloc: Global, text: &[u8], writer: &mut O) -> Res
             Err(ScriptError::Memory) => return Err(PlayError::Memory),
             Err(ScriptError::Faulty(_)) => unreachable!(),
         };
-        command_is_valid(&command);
         play_command(alloc, &mut world, command, &mut gathered, writer)?;
     }
-    promise(&world);
     write_gathered(writer, &mut gathered)?;
     Ok(())
 }
-
-/// A law: the votes of the events of a line are valid, by their type. It does nothing.
-fn command_is_valid(command: &Command)
-    ensures { VotesAreValid (events_in command.now) }
-{
-    match command {
-        Command::Event(event) => votes_are_valid(event),
-        Command::Steps { agent, count } => steps_are_valid(*agent, *count),
-        Command::Run { agent } => steps_are_valid(*agent, u64::MAX),
-        Command::Audit { .. } => {}
-    }
-}
-
-/// A law: steps have no votes. It does nothing.
-fn steps_are_valid(agent: u8, count: u64)
-    ensures { VotesAreValid (steps_of agent count) }
-{}
 
 /// Plays a line, and adds what it prints to the text.
 fn play_command<O: ByteOut>(

@@ -15,7 +15,7 @@ use Rattle.suite_prefix.specs.declared.shapes.EntryShape.{EntryShape}
 use Rattle.suite_prefix.specs.Bytes.{bytes_of}
 use Rattle.suite_prefix.specs.Copies.{IsCopy, IsContent}
 use Rattle.suite_prefix.specs.Faults.{SpellsCopy, IsFaultOf, IsFaultIn, IsOfValidCopy, Explains, FaultsTellApart, is_canonical, numbers_belong, entries_rise, content_rises}
-use Rattle.suite_prefix.specs.Judging.{IsWhole, Refuses}
+use Rattle.suite_prefix.specs.code.Judging.{IsWhole, Refuses}
 use Rattle.suite_prefix.specs.Reading.{Shape, copy_of, shape_at}
 use Rattle.suite_prefix.proofs.Back.{whole_again}
 use Rattle.suite_prefix.proofs.Judged.{belongs}

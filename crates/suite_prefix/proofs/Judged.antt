@@ -15,7 +15,7 @@ use Rattle.suite_content.specs.declared.content.Content.TheVariants.{Bytes, Name
 use Rattle.suite_prefix.specs.declared.shapes.EntryShape.{EntryShape}
 use Rattle.suite_prefix.specs.Copies.{IsContent}
 use Rattle.suite_prefix.specs.Faults.{SpellsCopy, is_canonical, numbers_belong, entries_rise, content_rises}
-use Rattle.suite_prefix.specs.Judging.{FitsForm, ContentFits, IsWithin, IsSound}
+use Rattle.suite_prefix.specs.code.Judging.{FitsForm, ContentFits, IsWithin, IsSound}
 use Rattle.suite_prefix.specs.Reading.{Shape, entry_from}
 use Rattle.suite_prefix.proofs.Orders.{canonical_if_rise, folder_if_rise}
 

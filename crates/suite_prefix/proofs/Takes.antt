@@ -22,7 +22,7 @@ use Rattle.suite_prefix.specs.declared.shapes.Identity.{Identity}
 use Rattle.suite_prefix.specs.Bytes.{kind_code, tag_code, entry_bytes, representative_bytes, name_bytes, content_bytes, bytes_of}
 use Rattle.suite_prefix.specs.Copies.{held_by}
 use Rattle.suite_prefix.specs.Faults.{numbers_belong}
-use Rattle.suite_prefix.specs.Judging.{FitsForm, ContentFits}
+use Rattle.suite_prefix.specs.code.Judging.{FitsForm, ContentFits}
 use Rattle.suite_prefix.specs.Reading.{◌>>=◌, Shape, byte_at, number_at, bytes_at, form_at, kind_of_code, identity_at, code_at, tag_of, entry_at, representative_at, name_at, many_at, list_at, listed_at, votes_at, file_at, folder_at, content_at, shape_at, entry_from, copy_of}
 use Rattle.suite_prefix.proofs.Loop.{ok_is}
 

@@ -9,7 +9,7 @@ use Rattle.suite_content.specs.declared.content.Kind.{Kind}
 use Rattle.suite_content.specs.declared.content.Kind.TheVariants as holds
 use Rattle.suite_content.specs.declared.content.Content.{Content}
 use Rattle.suite_content.specs.declared.content.Content.TheVariants.{Bytes, Names}
-use Rattle.suite_content.specs.Limits.{most_names, longest_content}
+use Rattle.suite_content.specs.Limits.{max_names, max_content}
 use Rattle.suite_content.specs.Names.{IsName}
 use Rattle.suite_content.specs.Folders.{IsFolder}
 use Rattle.suite_content.specs.Contents.{kind_of, empty_content}
@@ -49,11 +49,11 @@ held_by Folder = holds.Folder
 
 -- a content within its limits
 pub record IsFile (bytes : List ℕ) : Type 0 where
-  pub few : length bytes ≤ longest_content
+  pub few : length bytes ≤ max_content
   pub bytes_fit : All (λ byte. byte < 256) bytes
 
 pub record IsFolderContent (names : List (List ℕ × ℕ)) : Type 0 where
-  pub few : length names ≤ most_names
+  pub few : length names ≤ max_names
   pub rising : IsFolder names
   pub are_names : All (λ entry. IsName entry.0) names
   pub suites_fit : All (λ entry. entry.1 < 2 ^ 64) names

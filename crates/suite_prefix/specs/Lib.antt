@@ -6,8 +6,5 @@ pub mod LockModes
 pub mod Bytes
 pub mod Reading
 pub mod Faults
-pub mod Judging
 pub mod SettingsRules
-pub mod SettingsView
-pub mod Equality
-pub mod SettingsEquality
+pub mod code

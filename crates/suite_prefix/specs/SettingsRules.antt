@@ -20,32 +20,32 @@ pub record Opening : Type 0 where
   pub slots : ℕ
 
 -- limits of this project
-abbrev pub most_servers : ℕ
-most_servers = 16
+abbrev pub max_servers : ℕ
+max_servers = 16
 
-abbrev pub most_agents : ℕ
-most_agents = 64
+abbrev pub max_agents : ℕ
+max_agents = 64
 
-abbrev pub largest_cache : ℕ
-largest_cache = 268435456
+abbrev pub max_cache : ℕ
+max_cache = 268435456
 
-abbrev pub most_slots : ℕ
-most_slots = 4096
+abbrev pub max_slots : ℕ
+max_slots = 4096
 
 -- settings that are accepted
 pub record IsAccepted (given : Opening) : Type 0 where
-  pub some_servers : (1 ≤ given.servers) × (given.servers ≤ most_servers)
-  pub some_agents : (1 ≤ given.agents) × (given.agents ≤ most_agents)
+  pub some_servers : (1 ≤ given.servers) × (given.servers ≤ max_servers)
+  pub some_agents : (1 ≤ given.agents) × (given.agents ≤ max_agents)
   pub known_servers : All (λ rep. rep.0 < given.servers) given.c0.reps
-  pub budget_fits : given.budget ≤ largest_cache
-  pub quota_fits : given.quota ≤ largest_cache
-  pub slots_fit : given.slots ≤ most_slots
+  pub budget_fits : given.budget ≤ max_cache
+  pub quota_fits : given.quota ≤ max_cache
+  pub slots_fit : given.slots ≤ max_slots
 
 -- whether settings have a fault
 abbrev pub has_fault : SettingsFault → Opening → Bool
-has_fault BadCount given = (given.servers == 0) || nat_lt most_servers given.servers || (given.agents == 0) || nat_lt most_agents given.agents
+has_fault BadCount given = (given.servers == 0) || nat_lt max_servers given.servers || (given.agents == 0) || nat_lt max_agents given.agents
 has_fault UnknownServer given = list_any (λ rep. nat_le given.servers rep.0) given.c0.reps
-has_fault BadCache given = nat_lt largest_cache given.budget || nat_lt largest_cache given.quota || nat_lt most_slots given.slots
+has_fault BadCache given = nat_lt max_cache given.budget || nat_lt max_cache given.quota || nat_lt max_slots given.slots
 
 -- the faults in the order in which they are answered
 abbrev pub faults : List SettingsFault

@@ -7,7 +7,7 @@ use Rattle.acl_core.specs.Tags.{same_entry}
 use Rattle.acl_core.specs.Modes.{minimal_list}
 use Rattle.suite_content.specs.declared.content.Content.{Content}
 use Rattle.suite_content.specs.declared.content.Content.TheVariants.{Bytes, Names}
-use Rattle.suite_content.specs.Limits.{most_names, longest_content}
+use Rattle.suite_content.specs.Limits.{max_names, max_content}
 use Rattle.suite_prefix.specs.declared.copies.PrefixKind.{PrefixKind}
 use Rattle.suite_prefix.specs.declared.copies.PrefixKind.TheVariants.{Absent, File, Folder}
 use Rattle.suite_prefix.specs.declared.copies.Prefix.{Prefix}
@@ -51,8 +51,8 @@ is_empty (Bytes bytes) = length bytes == 0
 is_empty (Names names) = length names == 0
 
 abbrev pub is_within_limits : Content → Bool
-is_within_limits (Bytes bytes) = nat_le (length bytes) longest_content
-is_within_limits (Names names) = nat_le (length names) most_names
+is_within_limits (Bytes bytes) = nat_le (length bytes) max_content
+is_within_limits (Names names) = nat_le (length names) max_names
 
 -- content of version 0 is empty, and so is that of what was never made
 abbrev pub version_agrees : Replica → Bool

@@ -47,7 +47,7 @@ impl Clone for Prefix {
 }
 
 impl PartialEq for Prefix {
-    ghost use Rattle.suite_prefix.specs.Equality.{same_prefix, same_prefix_partial_laws};
+    ghost use Rattle.suite_prefix.specs.code.Equality.{same_prefix, same_prefix_partial_laws};
 
     ghost eq = { same_prefix };
 
@@ -64,7 +64,7 @@ impl PartialEq for Prefix {
 }
 
 impl Eq for Prefix {
-    ghost use Rattle.suite_prefix.specs.Equality.{same_prefix_laws};
+    ghost use Rattle.suite_prefix.specs.code.Equality.{same_prefix_laws};
 
     ghost laws = { same_prefix_laws };
 }
@@ -94,7 +94,7 @@ impl Clone for Replica {
 }
 
 impl PartialEq for Replica {
-    ghost use Rattle.suite_prefix.specs.Equality.{same_replica, same_replica_partial_laws};
+    ghost use Rattle.suite_prefix.specs.code.Equality.{same_replica, same_replica_partial_laws};
 
     ghost eq = { same_replica };
 
@@ -106,7 +106,7 @@ impl PartialEq for Replica {
 }
 
 impl Eq for Replica {
-    ghost use Rattle.suite_prefix.specs.Equality.{same_replica_laws};
+    ghost use Rattle.suite_prefix.specs.code.Equality.{same_replica_laws};
 
     ghost laws = { same_replica_laws };
 }

@@ -9,7 +9,7 @@ ghost use Rattle.suite_content.specs.Contents.{empty_content, kind_of};
 ghost use Rattle.suite_prefix.specs.Bytes.{bytes_of};
 ghost use Rattle.suite_prefix.specs.Copies.{IsCopy, IsNothing};
 ghost use Rattle.suite_prefix.specs.Faults.{Explains, FaultsTellApart, FrontsAreShort, content_rises, entries_rise, is_canonical, numbers_belong};
-ghost use Rattle.suite_prefix.specs.Judging.{FitsForm, IsSound, IsWhole, IsWithin, KeepsRules, Refuses, content_in};
+ghost use Rattle.suite_prefix.specs.code.Judging.{FitsForm, IsSound, IsWhole, IsWithin, KeepsRules, Refuses, content_in};
 ghost use Rattle.suite_prefix.specs.Reading.{copy_of, entry_from};
 ghost use Rattle.suite_prefix.specs.declared.copies.Replica.{Replica};
 ghost use Rattle.suite_prefix.specs.declared.faults.CopyFault.TheVariants.{Invalid};
@@ -22,7 +22,7 @@ use crate::shapes::{ContentShape, EntryShape, Parts};
 use crate::writing::parts_of_tag;
 use acl_core::{Acl, AclError, Entry, MAX_ENTRIES, Tag};
 use std::alloc::{AllocError, Global};
-use suite_content::{Content, FileBytes, LONGEST_CONTENT, MOST_NAMES};
+use suite_content::{Content, FileBytes, MAX_CONTENT, MAX_NAMES};
 use vote_core::{MAX_SERVERS, Votes};
 
 /// What an entry's place has before an entry is put there.
@@ -217,8 +217,8 @@ fn is_within(content: &ContentShape) -> bool
     ensures { IsTrue result ↔ IsWithin (content_in content.now) }
 {
     match content {
-        ContentShape::File(bytes) => bytes.len() <= LONGEST_CONTENT,
-        ContentShape::Folder(names) => names.len() <= MOST_NAMES && names.are_names(),
+        ContentShape::File(bytes) => bytes.len() <= MAX_CONTENT,
+        ContentShape::Folder(names) => names.len() <= MAX_NAMES && names.are_names(),
     }
 }
 

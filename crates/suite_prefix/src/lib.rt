@@ -24,7 +24,7 @@ pub use copies::{Prefix, PrefixKind, Replica};
 pub use decoding::{decode, faults_tell_apart, fronts_are_short};
 pub use faults::{CopyFault, DecodeError};
 pub use lock_mode::LockMode;
-pub use settings::{LARGEST_CACHE, MAX_AGENTS, MOST_SLOTS, Settings, SettingsFault};
+pub use settings::{MAX_AGENTS, MAX_CACHE, MAX_SLOTS, Settings, SettingsFault};
 pub use suite_content::Content;
 pub use validity::tests_are_exact;
 pub use writing::{encode, no_bytes_begin_others};

@@ -3,7 +3,7 @@
 ghost use Rattle.std.specs.Prelude.{◌≡◌, ◌≤◌, length};
 ghost use Rattle.std.specs.Int.{w16, w32, w64};
 ghost use Rattle.suite_prefix.specs.Reading.{Reads, byte_at, number_at, bytes_at, form_at, kind_of_code, identity_at, code_at, tag_of, entry_at, representative_at, name_at, many_at, list_at, listed_at, file_at, content_at, shape_at};
-ghost use Rattle.suite_prefix.specs.Judging.{content_in};
+ghost use Rattle.suite_prefix.specs.code.Judging.{content_in};
 ghost use Rattle.suite_content.specs.declared.content.Content.TheVariants as content;
 
 use crate::copies::PrefixKind;

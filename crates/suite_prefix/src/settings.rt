@@ -8,25 +8,29 @@ ghost use Rattle.suite_prefix.specs.SettingsRules.{IsAccepted, first_fault};
 use acl_core::Acl;
 use std::alloc::AllocError;
 use std::marker::Model;
+use thiserror::Error;
 use vote_core::{MAX_SERVERS, Votes};
 
 /// The most agents that there are.
 pub const MAX_AGENTS: usize = 64;
 
 /// The most bytes of an agent's cache, and of a site's part of it.
-pub const LARGEST_CACHE: usize = 268_435_456;
+pub const MAX_CACHE: usize = 268_435_456;
 
 /// The most entries of an agent's cache.
-pub const MOST_SLOTS: usize = 4_096;
+pub const MAX_SLOTS: usize = 4_096;
 
 /// Why settings are refused, in the order in which it is answered.
-#[derive(Clone, Copy, Debug, PartialEq, Eq)]
+#[derive(Clone, Copy, Debug, PartialEq, Eq, Error)]
 pub enum SettingsFault {
     /// There are not 1 to 16 servers, or not 1 to 64 agents.
+    #[error("there have to be 1 to 16 servers, and 1 to 64 agents")]
     BadCount,
     /// The opening votes list a server that there is not.
+    #[error("a server is listed that is not there")]
     UnknownServer,
     /// The cache's budget, its quota or its slots are above their limit.
+    #[error("a cache has at most 268,435,456 bytes, a site of it as many, and 4,096 entries")]
     BadCache,
 }
 
@@ -47,7 +51,7 @@ pub struct Settings {
 
 impl Model for Settings {
     ghost use Rattle.suite_prefix.specs.SettingsRules.{Opening, IsAccepted};
-    ghost use Rattle.suite_prefix.specs.SettingsView.{opening_of};
+    ghost use Rattle.suite_prefix.specs.code.SettingsView.{opening_of};
 
     ghost Value = { Opening };
 
@@ -76,7 +80,7 @@ impl Clone for Settings {
 }
 
 impl PartialEq for Settings {
-    ghost use Rattle.suite_prefix.specs.SettingsEquality.{same_settings, same_settings_partial_laws};
+    ghost use Rattle.suite_prefix.specs.code.SettingsEquality.{same_settings, same_settings_partial_laws};
 
     ghost eq = { same_settings };
 
@@ -95,7 +99,7 @@ impl PartialEq for Settings {
 }
 
 impl Eq for Settings {
-    ghost use Rattle.suite_prefix.specs.SettingsEquality.{same_settings_laws};
+    ghost use Rattle.suite_prefix.specs.code.SettingsEquality.{same_settings_laws};
 
     ghost laws = { same_settings_laws };
 }
@@ -123,7 +127,7 @@ impl Settings {
         if lists_unknown(servers, &c0) {
             return Err(SettingsFault::UnknownServer);
         }
-        if budget > LARGEST_CACHE || quota > LARGEST_CACHE || slots > MOST_SLOTS {
+        if budget > MAX_CACHE || quota > MAX_CACHE || slots > MAX_SLOTS {
             return Err(SettingsFault::BadCache);
         }
         Ok(Settings {

@@ -52,7 +52,7 @@ pub(crate) struct Parts<'a> {
 }
 
 impl<'a> Model for Parts<'a> {
-    ghost use Rattle.suite_prefix.specs.Judging.{content_in};
+    ghost use Rattle.suite_prefix.specs.code.Judging.{content_in};
     ghost use Rattle.suite_prefix.specs.Reading.{Shape};
 
     ghost Value = { Shape };

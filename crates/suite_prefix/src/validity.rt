@@ -3,7 +3,7 @@
 ghost use Rattle.std.specs.Prelude.{◌≡◌, ◌<◌, ◌^◌, ◌↔◌, All, IsTrue, nat_le, length};
 ghost use Rattle.acl_core.specs.Modes.{minimal_list};
 ghost use Rattle.acl_core.specs.Tags.{qualifier};
-ghost use Rattle.suite_content.specs.Limits.{most_names, longest_content};
+ghost use Rattle.suite_content.specs.Limits.{max_names, max_content};
 ghost use Rattle.suite_content.specs.Names.{IsName};
 ghost use Rattle.suite_content.specs.Contents.{kind_of, empty_content};
 ghost use Rattle.suite_content.specs.Folders.{IsFolder};
@@ -16,7 +16,7 @@ ghost use Rattle.suite_prefix.specs.TestsExact.{ContentFits, CopyFits, TestsAreE
 use crate::copies::{Prefix, PrefixKind, Replica};
 use crate::settings::Settings;
 use acl_core::{Acl, Entry, Tag};
-use suite_content::{Content, Kind, LONGEST_CONTENT, MOST_NAMES, Name};
+use suite_content::{Content, Kind, MAX_CONTENT, MAX_NAMES, Name};
 
 impl Prefix {
     /// Whether some valid copy has this prefix.
@@ -184,19 +184,19 @@ fn is_within_limits(content: &Content) -> bool
 /// Whether a file may hold these bytes.
 fn is_file(bytes: &[u8]) -> bool
     ensures file { IsTrue result ↔ IsFile bytes.now }
-    ensures test { result ≡ nat_le (length bytes.now) longest_content }
+    ensures test { result ≡ nat_le (length bytes.now) max_content }
 {
-    bytes.len() <= LONGEST_CONTENT
+    bytes.len() <= MAX_CONTENT
 }
 
 /// Whether a folder may hold these names.
 fn is_folder(names: &[(Name, u64)]) -> bool
     requires { IsFolder names.now }
     ensures folder { IsTrue result ↔ IsFolderContent names.now }
-    ensures test { result ≡ nat_le (length names.now) most_names }
+    ensures test { result ≡ nat_le (length names.now) max_names }
 {
     names_fit(names);
-    names.len() <= MOST_NAMES
+    names.len() <= MAX_NAMES
 }
 
 /// A law: what the type of a content says of it. It does nothing.

@@ -4,3 +4,6 @@ pub mod Fields
 pub mod Gathering
 pub mod LineCounts
 pub mod Playing
+pub mod Seen
+pub mod ValidVotes
+pub mod ValidOperations

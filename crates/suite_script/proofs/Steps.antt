@@ -5,13 +5,14 @@ use Rattle.std.proofs.lemmas.Bool.Decides.{nat_tests}
 use Rattle.std.proofs.lemmas.List.{length-take-le, take-append-le, take_all}
 use Rattle.acl_core.specs.Identity.{Identity}
 use Rattle.file_ops.specs.Rows.{Rows}
-use Rattle.file_ops.specs.Transactions.{is_miscounted, most_operations, transaction}
+use Rattle.file_ops.specs.Transactions.{is_miscounted, max_operations, transaction}
 use Rattle.file_ops.specs.declared.service.Service.{Service}
 use Rattle.file_ops.specs.declared.refusal.Why.TheVariants.{OpCount}
 use Rattle.acl_text.specs.Tables.{Tables}
 use Rattle.file_ops.specs.Steps.{◌>>=◌, ok_map}
 use Rattle.file_ops.specs.declared.operation.Op.{Op}
-use Rattle.suite_script.specs.Operations.{KeptAreEnough, kept, operation, operations_in}
+use Rattle.suite_script.specs.Operations.{FirstAreEnough, operation, operations_in}
+use Rattle.suite_script.specs.code.Kept.{kept}
 use Rattle.suite_script.specs.declared.fault.LineFault.{LineFault}
 
 -- operations, where some were read already
@@ -49,15 +50,15 @@ take_front (suc n) (op ∷ front) ops = ap (λ more. op ∷ more) (take_front n 
 
 -- what is kept of some operations is kept of them with those after them
 kept_before : (front : List Op) (ops : Result (List Op) LineFault) → ok_map kept (ops_after (kept front) ops) ≡ ok_map kept (ops_after front ops)
-kept_before front (Ok ops) = ap Ok (take_front (most_operations + 1) front ops)
+kept_before front (Ok ops) = ap Ok (take_front (max_operations + 1) front ops)
 kept_before front (Err fault) = refl
 
 -- where enough are kept, one more is not kept
-pub kept_full : (ops : List Op) (op : Op) → length ops ≡ most_operations + 1 → ops ≡ kept (ops ++ op ∷ [])
+pub kept_full : (ops : List Op) (op : Op) → length ops ≡ max_operations + 1 → ops ≡ kept (ops ++ op ∷ [])
 kept_full ops op full =
-    sym (take-append-le (most_operations + 1) ops (op ∷ []) (omega (arith, full)) ∙ take_all (most_operations + 1) ops (omega (arith, full)))
+    sym (take-append-le (max_operations + 1) ops (op ∷ []) (omega (arith, full)) ∙ take_all (max_operations + 1) ops (omega (arith, full)))
 
-too_many : (service : Service) (rows : Rows) (t : ℕ) (caller : Identity) (ops : List Op) → most_operations < length ops → transaction service rows t caller ops ≡ Err (record { op = 0; why = OpCount })
+too_many : (service : Service) (rows : Rows) (t : ℕ) (caller : Identity) (ops : List Op) → max_operations < length ops → transaction service rows t caller ops ≡ Err (record { op = 0; why = OpCount })
 too_many service rows t caller ops many =
     let counted : is_miscounted ops ≡ true = grind (arith, nat_tests) in
     rw counted refl
@@ -68,14 +69,14 @@ pub kept_more : (names : Tables) (front : List Op) (phrase : List (List ℕ)) (p
 kept_more names front phrase phrases op read =
     kept_before (front ++ op ∷ []) (operations_in names phrases) ∙ ap (ok_map kept) (ops_more names front phrase phrases op read)
 
-pub kept_enough : KeptAreEnough
+pub kept_enough : FirstAreEnough
 kept_enough service rows t caller ops =
-    elim (cases_Bool (nat_le (length ops) (most_operations + 1))) [
+    elim (cases_Bool (nat_le (length ops) (max_operations + 1))) [
       | inl few ↦
-          let fits : length ops ≤ most_operations + 1 = grind (arith, nat_tests) in
-          ap (transaction service rows t caller) (take_all (most_operations + 1) ops fits)
+          let fits : length ops ≤ max_operations + 1 = grind (arith, nat_tests) in
+          ap (transaction service rows t caller) (take_all (max_operations + 1) ops fits)
       | inr many ↦
-          let above : most_operations + 1 < length ops = grind (arith, nat_tests) in
-          let nine : length (kept ops) ≡ most_operations + 1 = length-take-le (most_operations + 1) ops (omega arith) in
+          let above : max_operations + 1 < length ops = grind (arith, nat_tests) in
+          let nine : length (kept ops) ≡ max_operations + 1 = length-take-le (max_operations + 1) ops (omega arith) in
           too_many service rows t caller (kept ops) (omega (arith, nine)) ∙ sym (too_many service rows t caller ops (omega arith))
     ]

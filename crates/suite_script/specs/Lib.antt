@@ -9,3 +9,4 @@ pub mod Progress
 pub mod Texts
 pub mod Outputs
 pub mod Gathering
+pub mod code

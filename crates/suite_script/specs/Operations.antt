@@ -16,7 +16,7 @@ use Rattle.file_ops.specs.declared.operation.Action.TheVariants as action
 use Rattle.file_ops.specs.declared.service.Service.{Service}
 use Rattle.file_ops.specs.Rows.{Rows}
 use Rattle.file_ops.specs.Steps.{◌>>=◌, ◌>>◌, found_or}
-use Rattle.file_ops.specs.Transactions.{most_operations, transaction}
+use Rattle.file_ops.specs.Transactions.{max_operations, transaction}
 use Rattle.acl_core.specs.Identity.{Identity}
 use Rattle.suite_script.specs.declared.fault.LineFault.{LineFault}
 use Rattle.suite_script.specs.declared.fault.LineFault.TheVariants.{Form}
@@ -117,11 +117,8 @@ operations_in names (phrase ∷ phrases) = do
 abbrev pub operations : Tables → List Word → Result (List Op) LineFault
 operations names words = operations_in names (slice_split is_semicolon words)
 
--- the operations that are kept for a transaction: one more than it may have are as good as any more
-abbrev pub kept : List Op → List Op
-kept ops = take (most_operations + 1) ops
-
--- they make the same transaction as all of them
-abbrev pub KeptAreEnough : Type 0
-KeptAreEnough =
-    (service : Service) (rows : Rows) (t : ℕ) (caller : Identity) (ops : List Op) → transaction service rows t caller (kept ops) ≡ transaction service rows t caller ops
+-- one operation more than a transaction may have makes the same transaction as any more
+abbrev pub FirstAreEnough : Type 0
+FirstAreEnough =
+    (service : Service) (rows : Rows) (t : ℕ) (caller : Identity) (ops : List Op)
+    → transaction service rows t caller (take (max_operations + 1) ops) ≡ transaction service rows t caller ops

@@ -14,11 +14,11 @@ use Rattle.suite_script.specs.declared.fault.LineFault.{LineFault}
 use Rattle.suite_script.specs.declared.fault.LineFault.TheVariants.{Form, Votes}
 
 -- the most votes of a server, and the most votes that a read or a write may be said to collect
-abbrev pub most_votes : ℕ
-most_votes = 255
+abbrev pub max_votes : ℕ
+max_votes = 255
 
-abbrev pub most_collected : ℕ
-most_collected = 65535
+abbrev pub max_collected : ℕ
+max_collected = 65535
 
 -- a server with its votes, before others
 abbrev pub with_votes : ℕ → Option ℕ → Option (List Representative) → Option (List Representative)
@@ -27,7 +27,7 @@ with_votes server _ _ = None
 
 -- what the field of a server adds to those after it
 abbrev pub with_field : ℕ → Word → Option (List Representative) → Option (List Representative)
-with_field server field reps = if bytes_eq field (codes "-") then reps else with_votes server (number_up_to most_votes field) reps
+with_field server field reps = if bytes_eq field (codes "-") then reps else with_votes server (number_up_to max_votes field) reps
 
 -- what the fields of the servers from one on list; there is no field for a server that there cannot be
 abbrev pub reps_from : ℕ → List Word → Option (List Representative)
@@ -40,7 +40,7 @@ collected _ _ _ = None
 
 abbrev pub configuration_of : List Word → Option Configuration
 configuration_of (fields ∷ r ∷ w ∷ []) =
-    collected (reps_from 0 (slice_split (λ byte. byte == 44) fields)) (number_up_to most_collected r) (number_up_to most_collected w)
+    collected (reps_from 0 (slice_split (λ byte. byte == 44) fields)) (number_up_to max_collected r) (number_up_to max_collected w)
 configuration_of parts = None
 
 -- the configuration that a word writes down, be it valid or not

@@ -33,30 +33,30 @@ number limit words = do
   Ok (record { value = number; rest = next.rest })
 
 -- the number of a user or a group
-abbrev pub most_id : ℕ
-most_id = 4294967295
+abbrev pub max_id : ℕ
+max_id = 4294967295
 
 abbrev pub id : List Word → Result (Taken ℕ) LineFault
-id words = number most_id words
+id words = number max_id words
 
 -- the numbers of some parts, where each is the number of a user or a group
 abbrev pub ids_in : List (List ℕ) → Option (List ℕ)
 ids_in [] = Some []
-ids_in (part ∷ parts) = joined (number_up_to most_id part) (ids_in parts)
+ids_in (part ∷ parts) = joined (number_up_to max_id part) (ids_in parts)
   where
     joined : Option ℕ → Option (List ℕ) → Option (List ℕ)
     joined (Some number) (Some numbers) = Some (number ∷ numbers)
     joined _ _ = None
 
 -- the most groups beside a caller's own; a limit of this project
-abbrev pub most_groups : ℕ
-most_groups = 32
+abbrev pub max_groups : ℕ
+max_groups = 32
 
 -- a caller's own group and its other groups, from their numbers
 abbrev pub caller_with : ℕ → List ℕ → Result Identity LineFault
 caller_with uid [] = Err Form
 caller_with uid (gid ∷ groups) =
-    if nat_le (length groups) most_groups then Ok (record { uid = uid; gid = gid; groups = groups }) else Err Form
+    if nat_le (length groups) max_groups then Ok (record { uid = uid; gid = gid; groups = groups }) else Err Form
 
 -- a caller of some user: between commas its own group and its other groups
 abbrev pub caller_in : ℕ → Word → Result Identity LineFault

@@ -7,49 +7,62 @@ ghost use Rattle.suite_script.specs.Readings.{line_error_of, name_error_of};
 use acl_text::{NameError, TextFault};
 use std::alloc::{AllocError, AllocFailed};
 use suite_prefix::SettingsFault;
+use thiserror::Error;
 use vote_core::VotesFault;
 
 /// What is wrong with a line, by the first fault from its left.
-#[derive(Clone, Copy, PartialEq, Eq, Debug)]
+#[derive(Clone, Copy, PartialEq, Eq, Debug, Error)]
 pub enum LineFault {
     /// The line has none of the forms of the script's lines.
+    #[error("the line is of no form that the command has, a number is out of its range, or an agent, a server or a site is not there")]
     Form,
     /// A line of the header is missing, doubled or out of place.
+    #[error("a line of the header is missing, doubled or out of its place, or a name stands below the first transaction or event")]
     Order,
     /// What should name a user or a group is no name.
+    #[error("this is no name")]
     BadName,
     /// A user or a group has that name already.
+    #[error("the name has a number already")]
     NameTwice,
     /// A list is none.
+    #[error(transparent)]
     List(TextFault),
     /// Votes are of the right form, and not valid.
+    #[error("the votes are not valid: {0}")]
     Votes(VotesFault),
     /// A number of the header is refused.
+    #[error(transparent)]
     Settings(SettingsFault),
 }
 
 /// Why a line was not read.
-#[derive(Clone, Copy, PartialEq, Eq, Debug)]
+#[derive(Clone, Copy, PartialEq, Eq, Debug, Error)]
 pub enum LineError {
     /// It is faulty.
+    #[error(transparent)]
     Faulty(LineFault),
     /// Memory ran out.
+    #[error("out of memory")]
     Memory,
 }
 
 /// A faulty line of a script, by its number from 1.
-#[derive(Clone, Copy, PartialEq, Eq, Debug)]
+#[derive(Clone, Copy, PartialEq, Eq, Debug, Error)]
+#[error("line {line}: {fault}")]
 pub struct ScriptFault {
     pub line: u64,
     pub fault: LineFault,
 }
 
 /// Why a script was not read.
-#[derive(Clone, Copy, PartialEq, Eq, Debug)]
+#[derive(Clone, Copy, PartialEq, Eq, Debug, Error)]
 pub enum ScriptError {
     /// It is faulty, and this is its first faulty line.
+    #[error(transparent)]
     Faulty(ScriptFault),
     /// Memory ran out.
+    #[error("out of memory")]
     Memory,
 }
 

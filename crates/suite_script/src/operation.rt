@@ -1,18 +1,19 @@
 //! Operations as words.
 
-ghost use Rattle.std.specs.Prelude.{◌≡◌, ◌+◌, ◌≤◌, ◌∷◌, ◌++◌, [], vec_len, MatchResult, OnOk};
+ghost use Rattle.std.specs.Prelude.{◌≡◌, ◌+◌, ◌≤◌, ◌∷◌, ◌++◌, [], take, vec_len, MatchResult, OnOk};
 ghost use Rattle.file_ops.specs.Steps.{ok_map};
-ghost use Rattle.file_ops.specs.Transactions.{most_operations};
+ghost use Rattle.file_ops.specs.Transactions.{max_operations};
 ghost use Rattle.std.specs.Result.{result_map_both};
 ghost use Rattle.suite_script.specs.Words.{at_end};
-ghost use Rattle.suite_script.specs.Operations.{KeptAreEnough, act, kept, make, operation, operations, verb_in};
+ghost use Rattle.suite_script.specs.Operations.{FirstAreEnough, act, make, operation, operations, verb_in};
 ghost use Rattle.suite_script.specs.Readings.{Gives, Reads};
+ghost use Rattle.suite_script.specs.code.Kept.{kept};
 
 use crate::fault::{LineError, LineFault};
 use crate::votes::read_votes;
 use crate::word::{read_bytes, read_init, read_list};
 use acl_text::Names;
-use file_ops::{Action, MOST_OPERATIONS, Op, PathText};
+use file_ops::{Action, MAX_OPERATIONS, Op, PathText};
 use script_text::{Phrases, Words};
 use std::alloc::{AllocError, Global};
 use suite_content::Kind;
@@ -63,11 +64,11 @@ impl Verb {
     }
 }
 
-/// The operations of the words that are left, with a semicolon between each two. No more are kept than
-/// tell what their transaction answers, and all are read for their faults.
+/// The operations of the words that are left, with a semicolon between each two. Only the first are kept, one more
+/// than a transaction may have, which make the same transaction as all; all are read for their faults.
 pub fn read_operations(alloc: Global, names: &Names, words: Words<'_>) -> Result<Vec<Op>, LineError>
-    ensures kept { Gives (result_map_both (λ ops. ops.items) (λ e. e) result) (ok_map kept (operations names.now words.entry)) }
-    ensures enough { KeptAreEnough }
+    ensures first { Gives (result_map_both (λ ops. ops.items) (λ e. e) result) (ok_map (take (max_operations + 1)) (operations names.now words.entry)) }
+    ensures enough { FirstAreEnough }
 {
     let mut phrases = Phrases::new(words);
     let mut ops = Vec::new(alloc);
@@ -81,11 +82,11 @@ pub fn read_operations(alloc: Global, names: &Names, words: Words<'_>) -> Result
 
 /// Keeps an operation, where there are not too many already.
 fn keep(ops: &mut Vec<Op>, op: Op) -> Result<(), AllocError>
-    requires { vec_len ops.old ≤ most_operations + 1 }
+    requires { vec_len ops.old ≤ max_operations + 1 }
     ensures ok { OnOk result (ops.new.items ≡ kept (ops.old.items ++ op ∷ [])) }
-    ensures few { OnOk result (vec_len ops.new ≤ most_operations + 1) }
+    ensures few { OnOk result (vec_len ops.new ≤ max_operations + 1) }
 {
-    if ops.len() <= MOST_OPERATIONS {
+    if ops.len() <= MAX_OPERATIONS {
         ops.push(op)?;
     }
     Ok(())

@@ -7,15 +7,19 @@ ghost use Rattle.suite_script.specs.declared.play_error.PlayError.TheVariants as
 use crate::fault::{ScriptError, ScriptFault};
 use byte_streams::WriteFailed;
 use std::alloc::AllocError;
+use thiserror::Error;
 
 /// Why a script was not played to its end.
-#[derive(Clone, Copy, Debug)]
+#[derive(Clone, Copy, Debug, Error)]
 pub enum PlayError {
     /// It is faulty, and this is its first faulty line.
+    #[error(transparent)]
     Faulty(ScriptFault),
     /// A write failed.
+    #[error("a write failed")]
     WriteFailed,
     /// Memory ran out.
+    #[error("out of memory")]
     Memory,
 }
 

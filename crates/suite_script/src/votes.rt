@@ -11,10 +11,10 @@ use std::marker::Model;
 use vote_core::{MAX_SERVERS, Votes};
 
 /// The most votes that a read or a write may be said to collect.
-const MOST_COLLECTED: u64 = 65_535;
+const MAX_COLLECTED: u64 = 65_535;
 
 /// The most votes of a server.
-const MOST_VOTES: u64 = 255;
+const MAX_VOTES: u64 = 255;
 
 /// The representatives that a word lists.
 #[derive(Drop)]
@@ -52,10 +52,10 @@ pub fn read_votes(servers: usize, word: &[u8]) -> Result<Votes, LineFault>
     let Some(listed) = read_fields(fields) else {
         return Err(LineFault::Form);
     };
-    let Some(r) = read_number(r, MOST_COLLECTED) else {
+    let Some(r) = read_number(r, MAX_COLLECTED) else {
         return Err(LineFault::Form);
     };
-    let Some(w) = read_number(w, MOST_COLLECTED) else {
+    let Some(w) = read_number(w, MAX_COLLECTED) else {
         return Err(LineFault::Form);
     };
     judge(servers, listed.as_slice(), r as u16, w as u16)
@@ -89,7 +89,7 @@ fn read_fields(fields: &[u8]) -> Option<Listed>
             return None;
         }
         if field != b"-".as_slice() {
-            reps[count] = (server as u8, read_number(field, MOST_VOTES)? as u8);
+            reps[count] = (server as u8, read_number(field, MAX_VOTES)? as u8);
             count += 1;
         }
         server += 1;

@@ -5,7 +5,7 @@ ghost use Rattle.std.specs.List.{list_any};
 ghost use Rattle.acl_text.specs.Layout.{is_white};
 ghost use Rattle.file_ops.specs.Steps.{found_or};
 ghost use Rattle.script_text.specs.Numbers.{number_up_to};
-ghost use Rattle.suite_script.specs.Words.{most_id, at_end, caller_in, caller_with};
+ghost use Rattle.suite_script.specs.Words.{max_id, at_end, caller_in, caller_with};
 ghost use Rattle.suite_script.specs.Lists.{list_in, init_in, is_mode, mode_of};
 ghost use Rattle.suite_script.specs.Operations.{bytes_in};
 ghost use Rattle.suite_script.specs.Readings.{Gives};
@@ -42,7 +42,7 @@ pub fn at_end(words: &mut Words<'_>) -> Result<(), LineFault>
 
 /// The number of a user or a group.
 pub fn read_id(word: &[u8]) -> Result<u32, LineFault>
-    ensures { result ≡ found_or (number_up_to most_id word.now) LineFault.Form }
+    ensures { result ≡ found_or (number_up_to max_id word.now) LineFault.Form }
 {
     match read_number(word, u64::from(u32::MAX)) {
         Some(number) => Ok(number as u32),
@@ -51,16 +51,16 @@ pub fn read_id(word: &[u8]) -> Result<u32, LineFault>
 }
 
 /// The most numbers of a caller's groups: its own and the others.
-const MOST_NUMBERS: usize = 33;
+const MAX_NUMBERS: usize = 33;
 
 /// A caller of some user, with the numbers of its groups between commas, its own first.
 pub fn read_caller(uid: u32, word: &[u8]) -> Result<Caller, LineFault>
     ensures { result ≡ caller_in uid word.now }
 {
-    let mut numbers = [0; MOST_NUMBERS];
+    let mut numbers = [0; MAX_NUMBERS];
     let mut count = 0;
     for part in Parts::new(word, b',') {
-        if count == MOST_NUMBERS {
+        if count == MAX_NUMBERS {
             return Err(LineFault::Form);
         }
         numbers[count] = read_id(part)?;

@@ -11,7 +11,7 @@ use Rattle.txn_core.specs.declared.job.Job.{Job}
 use Rattle.txn_core.specs.declared.job.Job.TheVariants.{Transaction, Sweep}
 use Rattle.txn_core.specs.Doing.{Fixed, Task, Fetching, Course, Doing, Running, Rounding}
 use Rattle.txn_core.specs.Transactions.{request_in, fetched_for, fetched_at}
-use Rattle.txn_core.specs.Agents.{Agent, Event, Take, next_in, next_of, take_in, take, begin, started, is_idle, has_sense, most_jobs, after_all}
+use Rattle.txn_core.specs.Agents.{Agent, Event, Take, next_in, next_of, take_in, take, begin, started, is_idle, has_sense, max_jobs, after_all}
 use Rattle.txn_core.specs.Laws.{of_job, task_of}
 use Rattle.txn_core.specs.Caching.{FirstGave, IsFetched, CachesWhatWasFetched}
 use Rattle.txn_core.proofs.Gathers.{Kept}
@@ -63,7 +63,7 @@ module _ (fixed : Fixed) (agent : Agent) (job : Job) (events : List Event) (word
   told_has None None x was next is stands has = inl has
 
 begun_has : (fixed : Fixed) (agent : Agent) (job : Job) (x : Entry) → Has (begin fixed agent job).cache x → Has agent.cache x
-begun_has fixed agent job x has = of (is_idle agent.doing && has_sense fixed job && nat_lt agent.count most_jobs) has
+begun_has fixed agent job x has = of (is_idle agent.doing && has_sense fixed job && nat_lt agent.count max_jobs) has
   where
     at : (job : Job) → Has (started fixed agent job).cache x → Has agent.cache x
     at (Transaction caller site ops) has = execute_has fixed (task_of agent caller site ops) (record { suites = []; cache = agent.cache }) x has

@@ -1,5 +1,5 @@
 -- How suites stand once a plan was carried out.
-use Rattle.std.proofs.Common.{◌≡◌, ℕ, Option, Some, None, sym, ap, ◌∙◌}
+use Rattle.std.proofs.Common.{◌≡◌, ℕ, Option, Some, None, refl, sym, ap, ◌∙◌}
 use Rattle.std.specs.Prelude.{is_some, IsSome, IfSome}
 use Rattle.std.specs.Ordering.{nat_cmp}
 use Rattle.std.proofs.lemmas.Cmp.{nat_cmp_total}
@@ -12,7 +12,7 @@ use Rattle.suite_collect.specs.Collecting.{raise}
 use Rattle.txn_core.specs.Suites.{First, Suite, Suites, suite_of, with_suite}
 use Rattle.txn_core.specs.Doing.{Task}
 use Rattle.txn_core.specs.Transactions.{Gathered}
-use Rattle.txn_core.specs.Plans.{opened_by, raised_at}
+use Rattle.txn_core.specs.code.Plans.{opened_by, raised_at, content_in, with_content}
 use Rattle.txn_core.proofs.Rounds.{opens}
 
 -- another value of a suite that is there
@@ -50,3 +50,30 @@ put_back suites now then' number suite (Some before) ordered there is now_is the
     ∙ insert-insert nat_cmp_total suites number suite before
     ∙ insert_same nat_cmp_total suites number before ordered (sym is)
 put_back suites now then' number suite None ordered there is now_is then_is = absurd (false≢true (ap is_some is ∙ there))
+
+-- a suite gets another content in its place, and then the one before
+pub exchanged : (suites : Suites) (number : ℕ) (content : Option Content) (suite new : Suite) → IsOrdered nat_cmp suites → Some suite ≡ suite_of suites number → new ≡ record suite { content = content }
+    → replace nat_cmp suites number new ≡ with_content number content (suite_of suites number) suites
+exchanged suites number content suite new ordered is more =
+    set_there suites number suite new ordered (sym is)
+    ∙ ap (λ new. with_suite number new suites) more
+    ∙ ap (λ o. with_content number content o suites) is
+
+pub exchanged_back : (suites now then' : Suites) (number : ℕ) (content before : Option Content) → IsOrdered nat_cmp suites → before ≡ content_in (suite_of suites number) → now ≡ with_content number content (suite_of suites number) suites
+    → then' ≡ with_content number before (suite_of now number) now → then' ≡ suites
+exchanged_back suites now then' number content before ordered had now_is then_is =
+    let other = with_content number content (suite_of suites number) suites in
+    then_is
+    ∙ ap (λ now. with_content number before (suite_of now number) now) now_is
+    ∙ ap (λ before. with_content number before (suite_of other number) other) had
+    ∙ of (suite_of suites number) refl
+  where
+    of : (found : Option Suite) → suite_of suites number ≡ found →
+        let other = with_content number content found suites in
+        with_content number (content_in found) (suite_of other number) other ≡ suites
+    of (Some suite) is =
+        let new : Suite = record suite { content = content } in
+        ap (λ o. with_content number suite.content o (with_suite number new suites)) (get_insert_here suites number new)
+        ∙ insert-insert nat_cmp_total suites number new suite
+        ∙ insert_same nat_cmp_total suites number suite ordered is
+    of None is = ap (λ o. with_content number None o suites) is

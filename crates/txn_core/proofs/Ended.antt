@@ -5,8 +5,8 @@ use Rattle.rep_core.specs.declared.stamped.Lack.{Lack}
 use Rattle.weak_cache.specs.Entries.{Cache}
 use Rattle.txn_core.specs.declared.ending.Ending.{Ending}
 use Rattle.txn_core.specs.Doing.{Task, Outcome, Phase, Finishing, Course}
-use Rattle.txn_core.specs.Steps.{Steps}
-use Rattle.txn_core.specs.Hearing.{on_hearing}
+use Rattle.txn_core.specs.code.Steps.{Steps}
+use Rattle.txn_core.specs.code.Hearing.{on_hearing}
 use Rattle.txn_core.specs.Suites.{Suite, Suites, with_suite}
 use Rattle.txn_core.specs.declared.ending.Cause.{Cause}
 use Rattle.txn_core.specs.declared.hearing.Hearing.{Hearing}

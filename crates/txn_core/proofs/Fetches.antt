@@ -43,7 +43,7 @@ use Rattle.txn_core.specs.Doing.{Granted, home_of, Fixed, Task, Outcome, Phase, 
 use Rattle.txn_core.specs.Writing.{parts_at}
 use Rattle.txn_core.specs.Transactions.{Step, Gathered, tell_end, give_up, prepare, locked_at, short_cause, gather_by, widen_by, widen_one, widened, widen_all, opened, or_all, open_needed, open_suite, open_first, opened_with, free_content, heard_on, raised_or_new, keep_content, heard_of, said_to, proceed, execute, collected, hear, fetched, prepared, after_lack, after_word, asked_for, fetched_at, fetched_for, request_in, changes_of, decision_of, given_in, verdict_in, ending_by, cause_of_abort, lack_cause}
 use Rattle.txn_core.specs.Agents as agents
-use Rattle.txn_core.specs.Agents.{Agent, Event, Take, Forget, next_in, next_of, take_in, take, begin, started, forget, is_idle, has_sense, most_jobs}
+use Rattle.txn_core.specs.Agents.{Agent, Event, Take, Forget, next_in, next_of, take_in, take, begin, started, forget, is_idle, has_sense, max_jobs}
 use Rattle.txn_core.specs.Laws.{Exchange, exchange_of, exchanges, of_job, count_of}
 use Rattle.txn_core.proofs.Asks.{asks_same, asked_as}
 use Rattle.txn_core.proofs.Setting.{known_at}
@@ -424,7 +424,7 @@ all_bounded before fixed agent (Take word ∷ events) number in' =
 
 begin_in : (fixed : Fixed) (agent : Agent) (caller : Identity) (site : ℕ) (ops : List Op) → is_idle agent.doing ≡ true → InDoing (λ number. 0) (begin fixed agent (Transaction caller site ops)).doing
 begin_in fixed agent caller site ops idle =
-    elim (is_idle agent.doing && has_sense fixed (Transaction caller site ops) && nat_lt agent.count most_jobs) as (λ b. InDoing (λ number. 0) (cond b (record (started fixed agent (Transaction caller site ops)) { count = agent.count + 1 }) agent).doing) [
+    elim (is_idle agent.doing && has_sense fixed (Transaction caller site ops) && nat_lt agent.count max_jobs) as (λ b. InDoing (λ number. 0) (cond b (record (started fixed agent (Transaction caller site ops)) { count = agent.count + 1 }) agent).doing) [
       | true ↦ in_left (λ number. 0) _ (l_execute (λ number. 0) fixed (record { t = 64 * agent.count + agent.index; caller = caller; site = site; ops = ops }) (record { suites = []; cache = agent.cache }) (λ number. omega arith))
       | false ↦ at agent.doing idle
     ]

@@ -22,7 +22,7 @@ use Rattle.txn_core.specs.declared.ending.Ending.TheVariants.{Undecided}
 use Rattle.txn_core.specs.declared.job.Job.TheVariants.{Transaction}
 use Rattle.txn_core.specs.Doing.{Fixed, Task, Outcome, Phase, Gathering, Fetching, Widening, Preparing, Deciding, Finishing, Course, Doing, Running, Rounding, After, GoesOn, Ends}
 use Rattle.txn_core.specs.Transactions.{numbers_from, tell_end, give_up, prepare, locked_at, after_word, request_in, decision_of, verdict_in, ending_by, cause_of_abort, lack_cause}
-use Rattle.txn_core.specs.Agents.{Agent, Event, Take, Forget, next_in, next_of, left, take_in, take, begin, started, forget, is_idle, has_sense, most_jobs}
+use Rattle.txn_core.specs.Agents.{Agent, Event, Take, Forget, next_in, next_of, left, take_in, take, begin, started, forget, is_idle, has_sense, max_jobs}
 use Rattle.txn_core.specs.Laws.{Exchange, exchange_of, exchanges, of_job, count_of}
 use Rattle.txn_core.proofs.Asks.{asks_same, asked_as, fetched_as}
 use Rattle.txn_core.proofs.Walk.{IsEarly, goes_word, goes_execute}
@@ -219,7 +219,7 @@ all_few who fixed agent (Take word ∷ events) none =
 begin_few : (who : ℕ) (fixed : Fixed) (agent : Agent) (caller : Identity) (site : ℕ) (ops : List Op) → is_idle agent.doing ≡ true
     → IsNoRound (begin fixed agent (Transaction caller site ops)).doing × (may who (begin fixed agent (Transaction caller site ops)).doing ≤ 2)
 begin_few who fixed agent caller site ops idle =
-    elim (is_idle agent.doing && has_sense fixed (Transaction caller site ops) && nat_lt agent.count most_jobs) as (λ b.
+    elim (is_idle agent.doing && has_sense fixed (Transaction caller site ops) && nat_lt agent.count max_jobs) as (λ b.
     IsNoRound (cond b (record (started fixed agent (Transaction caller site ops)) { count = agent.count + 1 }) agent).doing
     × (may who (cond b (record (started fixed agent (Transaction caller site ops)) { count = agent.count + 1 }) agent).doing ≤ 2)) [
       | true ↦ let task : Task = record { t = 64 * agent.count + agent.index; caller = caller; site = site; ops = ops } in (no_round _, goes_execute task (IsFew who) (few_early who task) (few_given_up who task) (few_prepares who task) fixed (record { suites = []; cache = agent.cache }))

@@ -12,8 +12,8 @@ use Rattle.weak_cache.specs.Entries.{Cache}
 use Rattle.txn_core.specs.Suites.{Suite, Suites, source_of}
 use Rattle.txn_core.specs.Doing.{Task, Phase}
 use Rattle.txn_core.specs.Transactions.{Step, said_to, collected, hear}
-use Rattle.txn_core.specs.Coming.{told_one}
-use Rattle.txn_core.specs.Hearing.{heard_next, heard_one, heard, on_hearing}
+use Rattle.txn_core.specs.code.Coming.{told_one}
+use Rattle.txn_core.specs.code.Hearing.{heard_next, heard_one, heard, on_hearing}
 
 -- a reply says to a transaction what it says to a collector
 pub same_said : (t number : ℕ) (asked : Asked) (answer : Reply) → said_to (request_for t number asked) answer ≡ collecting.said_to asked answer

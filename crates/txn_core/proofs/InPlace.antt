@@ -1,5 +1,5 @@
 -- A reply that gives no quorum is taken by a suite in its place.
-use Rattle.std.proofs.Common.{◌≡◌, ℕ, Bool, true, false, List, Option, Some, None, Result, Ok, Err, refl, sym, ap, subst, ◌∙◌}
+use Rattle.std.proofs.Common.{◌≡◌, ℕ, true, Option, Some, None, Result, Ok, Err, refl, sym, ap, subst, ◌∙◌}
 use Rattle.std.specs.Prelude.{is_some, IsSome, IfOk, IfErr, OnErr}
 use Rattle.std.specs.Ordering.{nat_cmp}
 use Rattle.std.specs.declared.alloc.AllocError.{AllocError}
@@ -23,16 +23,15 @@ use Rattle.txn_core.specs.declared.course.Heard.TheVariants.{Settled, Through}
 use Rattle.txn_core.specs.declared.ending.Cause.{Cause}
 use Rattle.txn_core.specs.declared.ending.Ending.{Ending}
 use Rattle.txn_core.specs.declared.hearing.Hearing.{Hearing}
-use Rattle.txn_core.specs.declared.hearing.Hearing.TheVariants as hearing
-use Rattle.txn_core.specs.Coming.{Comes}
+use Rattle.txn_core.specs.code.Coming.{Comes}
 use Rattle.txn_core.specs.Doing.{Course}
-use Rattle.txn_core.specs.Hearing.{heard_next, heard_one, heard, on_hearing}
-use Rattle.txn_core.specs.HearingOn.{IsLeft, HearsOn, GoesOnBy, SettlesBy}
-use Rattle.txn_core.specs.Hears.{Hears}
-use Rattle.txn_core.specs.Steps.{Steps}
+use Rattle.txn_core.specs.code.Hearing.{heard_next, heard_one, heard, on_hearing}
+use Rattle.txn_core.specs.code.HearingOn.{IsLeft, HearsOn, GoesOnBy, SettlesBy}
+use Rattle.txn_core.specs.code.Hears.{Hears}
+use Rattle.txn_core.specs.code.Steps.{Steps}
 use Rattle.txn_core.specs.Suites.{Suite, Suites, suite_of, with_suite}
 use Rattle.txn_core.specs.Transactions.{Step, give_up, short_cause}
-use Rattle.txn_core.specs.Unused.{shows_unused}
+use Rattle.txn_core.specs.code.Unused.{shows_unused}
 use Rattle.txn_core.proofs.Ended.{hears_short}
 use Rattle.txn_core.proofs.Wanting.{settled_told}
 

@@ -16,9 +16,9 @@ use Rattle.weak_cache.proofs.Origins.{search_keeps_all}
 use Rattle.txn_core.specs.Suites.{First, Suite, Suites, suite_of, with_suite}
 use Rattle.txn_core.specs.Doing.{Task}
 use Rattle.txn_core.specs.Transactions.{Gathered, after_search, free_content}
-use Rattle.txn_core.specs.Unused.{HasUnused}
+use Rattle.txn_core.specs.code.Unused.{HasUnused}
 use Rattle.txn_core.proofs.Unused.{unused_searched}
-use Rattle.txn_core.specs.Plans.{opened_first, opened_at, opened_by, opened_all, free_first, free_of}
+use Rattle.txn_core.specs.code.Plans.{opened_first, opened_at, opened_by, opened_all, free_first, free_of}
 
 -- what the first quorum of a suite gave
 abbrev pub first_in : Option Suite → Option First

@@ -37,7 +37,7 @@ use Rattle.txn_core.specs.declared.job.Job.TheVariants.{Transaction, Sweep}
 use Rattle.txn_core.specs.Doing.{Granted, Fixed, Task, Outcome, Phase, Gathering, Fetching, Widening, Preparing, Deciding, Finishing, Course, Round, Doing, Running, Rounding, After, GoesOn, Ends}
 use Rattle.txn_core.specs.Transactions.{Step, Gathered, tell_end, give_up, prepare, locked_at, short_cause, gather_by, widen_by, widen_one, widened, widen_all, opened, or_all, open_needed, open_suite, open_first, opened_with, free_content, after_search, heard_on, raised_or_new, keep_content, heard_of, said_to, proceed, execute, collected, hear, fetched, fetched_at, fetched_for, after_lack, after_word, given_in, lack_cause, verdict_in, ending_by, cause_of_abort, request_in}
 use Rattle.txn_core.specs.Sweeps as sweep
-use Rattle.txn_core.specs.Agents.{Agent, Event, Take, Forget, next_in, next_of, left, take_in, begin, started, is_idle, has_sense, most_jobs, after_all}
+use Rattle.txn_core.specs.Agents.{Agent, Event, Take, Forget, next_in, next_of, left, take_in, begin, started, is_idle, has_sense, max_jobs, after_all}
 use Rattle.txn_core.specs.Laws.{Exchange, exchange_of, of_job, task_of}
 use Rattle.txn_core.specs.Caching.{IsContentOf, KnowsContents}
 use Rattle.txn_core.proofs.Asks.{asks_same}
@@ -403,7 +403,7 @@ module _ (fixed : Fixed) (agent : Agent) (job : Job) where
       subst (λ events. DoingKnows events (after_all fixed (begin fixed agent job) events).doing) (append_assoc events (event ∷ []) more) (all_know (events ++ event ∷ []) more (knows_more events event knows))
 
   begin_knows : is_idle agent.doing ≡ true → DoingKnows [] (begin fixed agent job).doing
-  begin_knows idle = of (is_idle agent.doing && has_sense fixed job && nat_lt agent.count most_jobs) refl job refl
+  begin_knows idle = of (is_idle agent.doing && has_sense fixed job && nat_lt agent.count max_jobs) refl job refl
     where
       none : (doing : Option Doing) → is_idle doing ≡ true → DoingKnows [] doing
       none None idle = tt
@@ -416,7 +416,7 @@ module _ (fixed : Fixed) (agent : Agent) (job : Job) where
           let step = execute fixed task (record { suites = []; cache = agent.cache }) in
           left_knows [] task step.after (knows_execute (Content_of [] site) task fixed (record { suites = []; cache = agent.cache }) (free_now [] task step.cache (ap (λ (agent : Agent). agent.cache) is)) (λ number suite there. cc))
 
-      of : (b : Bool) → (is_idle agent.doing && has_sense fixed job && nat_lt agent.count most_jobs) ≡ b → (j : Job) → job ≡ j → DoingKnows [] (begin fixed agent job).doing
+      of : (b : Bool) → (is_idle agent.doing && has_sense fixed job && nat_lt agent.count max_jobs) ≡ b → (j : Job) → job ≡ j → DoingKnows [] (begin fixed agent job).doing
       of true is j same =
           let has_begun : begin fixed agent job ≡ record (started fixed agent j) { count = agent.count + 1 } =
           ap (λ b. cond b (record (started fixed agent job) { count = agent.count + 1 }) agent) is ∙ ap (λ job. record (started fixed agent job) { count = agent.count + 1 }) same in

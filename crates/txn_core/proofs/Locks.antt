@@ -28,7 +28,7 @@ use Rattle.rep_core.specs.declared.reply.Reply.TheVariants as reply
 use Rattle.suite_prefix.specs.LockModes.{serves}
 use Rattle.txn_core.specs.Laws.{Exchange, exchange_of, exchanges, of_job, locks, says_held, is_prepare, was_held, PrepareListsTheLocks, APrepareRises}
 use Rattle.txn_core.specs.Agents as agents
-use Rattle.txn_core.specs.Agents.{Agent, Event, Take, Forget, next_in, next_of, take_in, take, begin, started, forget, is_idle, has_sense, most_jobs, after_all}
+use Rattle.txn_core.specs.Agents.{Agent, Event, Take, Forget, next_in, next_of, take_in, take, begin, started, forget, is_idle, has_sense, max_jobs, after_all}
 use Rattle.txn_core.specs.Sweeps as sweep
 use Rattle.rep_core.specs.declared.request.Part.{Part}
 use Rattle.rep_core.specs.Fits.{is_prepared}
@@ -466,7 +466,7 @@ nothing_held number who = false
 
 pub begin_keeps : (fixed : Fixed) (agent : Agent) (job : Job) → is_idle agent.doing ≡ true → Keeps nothing_held (begin fixed agent job).doing
 begin_keeps fixed agent job idle =
-    elim (is_idle agent.doing && has_sense fixed job && nat_lt agent.count most_jobs) as (λ b. Keeps nothing_held (cond b (record (started fixed agent job) { count = agent.count + 1 }) agent).doing) [
+    elim (is_idle agent.doing && has_sense fixed job && nat_lt agent.count max_jobs) as (λ b. Keeps nothing_held (cond b (record (started fixed agent job) { count = agent.count + 1 }) agent).doing) [
       | true ↦ of job
       | false ↦ at agent.doing idle
     ]

@@ -3,7 +3,7 @@ use Rattle.std.proofs.Common.{◌≡◌, ℕ, ◌+◌, true, false, cond, List, 
 use Rattle.std.specs.Prelude.{nat_lt, ◌&&◌, ◌*◌}
 use Rattle.rep_core.specs.declared.request.Request.TheVariants as request
 use Rattle.txn_core.specs.Laws.{Exchange, exchange_of, exchanges, of_job, is_decide, said_by, told_verdict, FinishCarriesTheVerdict}
-use Rattle.txn_core.specs.Agents.{Agent, Event, Take, Forget, next_in, next_of, left, take_in, take, begin, started, forget, is_idle, has_sense, most_jobs, after_all}
+use Rattle.txn_core.specs.Agents.{Agent, Event, Take, Forget, next_in, next_of, left, take_in, take, begin, started, forget, is_idle, has_sense, max_jobs, after_all}
 use Rattle.txn_core.specs.Sweeps as sweep
 use Rattle.txn_core.specs.Writing.{parts_at}
 use Rattle.rep_core.specs.declared.request.Request.{Request}
@@ -159,7 +159,7 @@ all_tell fixed agent v (Take word ∷ events) tells =
 
 begin_tells : (fixed : Fixed) (agent : Agent) (job : Job) → is_idle agent.doing ≡ true → Tells verdict.Aborted (begin fixed agent job).doing
 begin_tells fixed agent job idle =
-    elim (is_idle agent.doing && has_sense fixed job && nat_lt agent.count most_jobs) as (λ b. Tells verdict.Aborted (cond b (record (started fixed agent job) { count = agent.count + 1 }) agent).doing) [
+    elim (is_idle agent.doing && has_sense fixed job && nat_lt agent.count max_jobs) as (λ b. Tells verdict.Aborted (cond b (record (started fixed agent job) { count = agent.count + 1 }) agent).doing) [
       | true ↦ of job
       | false ↦ at agent.doing idle
     ]

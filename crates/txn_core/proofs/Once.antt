@@ -15,7 +15,7 @@ use Rattle.txn_core.specs.Transactions.{tell_end, locked_at, after_word, request
 use Rattle.txn_core.specs.Writing.{parts_at}
 use Rattle.txn_core.specs.Sweeps as sweep
 use Rattle.txn_core.specs.Agents as agents
-use Rattle.txn_core.specs.Agents.{Agent, Event, Take, Forget, next_in, next_of, left, take_in, take, begin, started, forget, is_idle, has_sense, most_jobs}
+use Rattle.txn_core.specs.Agents.{Agent, Event, Take, Forget, next_in, next_of, left, take_in, take, begin, started, forget, is_idle, has_sense, max_jobs}
 use Rattle.txn_core.specs.Laws.{Exchange, exchange_of, exchanges, count_of, is_decide, DecideIsSentOnce}
 use Rattle.txn_core.proofs.Asks.{asks_same, asked_as, fetched_as}
 

@@ -23,7 +23,7 @@ use Rattle.txn_core.specs.Doing.{Fixed, Task, Phase, Gathering, Fetching, Wideni
 use Rattle.txn_core.specs.Transactions.{Step, tell_end, give_up, locked_at, prepare, prepared, fetched, heard_of, hear, is_poll, said_to, given_in, verdict_in, ending_by, cause_of_abort, lack_cause, after_lack, after_word, request_in}
 use Rattle.txn_core.specs.Sweeps as sweep
 use Rattle.txn_core.specs.Agents as agents
-use Rattle.txn_core.specs.Agents.{Agent, Event, Take, Forget, next_in, next_of, take_in, take, begin, started, forget, is_idle, has_sense, most_jobs, after_all}
+use Rattle.txn_core.specs.Agents.{Agent, Event, Take, Forget, next_in, next_of, take_in, take, begin, started, forget, is_idle, has_sense, max_jobs, after_all}
 use Rattle.txn_core.specs.Laws.{Exchange, exchange_of, exchanges, is_decide, is_prepare, is_down, ends_it, NothingFollowsAnEnd}
 use Rattle.txn_core.proofs.Asks.{asks_same}
 

@@ -11,7 +11,7 @@ use Rattle.rep_core.specs.declared.request.Request.TheVariants as request
 use Rattle.rep_core.specs.declared.reply.Reply.{Reply}
 use Rattle.txn_core.specs.Laws.{Exchange, exchange_of, exchanges, of_job, locks, was_asked, count_of, NobodyIsPolledTwice}
 use Rattle.txn_core.specs.Agents as agents
-use Rattle.txn_core.specs.Agents.{Agent, Event, Take, Forget, next_in, next_of, take_in, take, begin, started, forget, is_idle, has_sense, most_jobs, after_all}
+use Rattle.txn_core.specs.Agents.{Agent, Event, Take, Forget, next_in, next_of, take_in, take, begin, started, forget, is_idle, has_sense, max_jobs, after_all}
 use Rattle.txn_core.specs.Sweeps as sweep
 use Rattle.suite_collect.specs.declared.told.Told.{Told}
 use Rattle.suite_collect.specs.declared.told.Said.{Said}
@@ -313,7 +313,7 @@ nobody number who = 0
 
 begin_keeps : (fixed : Fixed) (agent : Agent) (job : Job) → is_idle agent.doing ≡ true → Keeps nobody (begin fixed agent job).doing
 begin_keeps fixed agent job idle =
-    elim (is_idle agent.doing && has_sense fixed job && nat_lt agent.count most_jobs) as (λ b. Keeps nobody (cond b (record (started fixed agent job) { count = agent.count + 1 }) agent).doing) [
+    elim (is_idle agent.doing && has_sense fixed job && nat_lt agent.count max_jobs) as (λ b. Keeps nobody (cond b (record (started fixed agent job) { count = agent.count + 1 }) agent).doing) [
       | true ↦ of job
       | false ↦ at agent.doing idle
     ]

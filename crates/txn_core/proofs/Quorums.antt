@@ -47,7 +47,7 @@ use Rattle.txn_core.specs.Doing.{Changes, Granted, Fixed, Task, Outcome, Phase, 
 use Rattle.txn_core.specs.Transactions.{Step, Gathered, tell_end, give_up, prepare, locked_at, short_cause, gather_by, widen_by, widen_one, widened, widen_all, to_widen, votes_then, votes_after, opened, or_all, open_needed, open_suite, open_first, opened_with, free_content, heard_on, raised_or_new, keep_content, heard_of, said_to, proceed, execute, collected, hear, fetched, prepared, after_lack, after_word, changes_of, given_in, verdict_in, ending_by, cause_of_abort, lack_cause}
 use Rattle.txn_core.specs.Sweeps as sweep
 use Rattle.txn_core.specs.Agents as agents
-use Rattle.txn_core.specs.Agents.{Agent, Event, Take, Forget, next_in, next_of, take_in, take, begin, started, forget, is_idle, has_sense, most_jobs, after_event, after_all}
+use Rattle.txn_core.specs.Agents.{Agent, Event, Take, Forget, next_in, next_of, take_in, take, begin, started, forget, is_idle, has_sense, max_jobs, after_event, after_all}
 use Rattle.txn_core.specs.Laws.{newest_of, IsReady, DecidesOnQuorums}
 use Rattle.txn_core.proofs.Setting.{Keeps, changed_held, changed_keeps}
 use Rattle.txn_core.proofs.Locks.{all_told-tell}
@@ -551,7 +551,7 @@ all_ready fixed agent (Take word ∷ events) ready = all_ready fixed (take fixed
 
 begin_ready : (fixed : Fixed) (agent : Agent) (job : Job) → is_idle agent.doing ≡ true → DoingReady (begin fixed agent job).doing
 begin_ready fixed agent job idle =
-    elim (is_idle agent.doing && has_sense fixed job && nat_lt agent.count most_jobs) as (λ b. DoingReady (cond b (record (started fixed agent job) { count = agent.count + 1 }) agent).doing) [
+    elim (is_idle agent.doing && has_sense fixed job && nat_lt agent.count max_jobs) as (λ b. DoingReady (cond b (record (started fixed agent job) { count = agent.count + 1 }) agent).doing) [
       | true ↦ of job
       | false ↦ at agent.doing idle
     ]

@@ -11,12 +11,12 @@ use Rattle.suite_collect.specs.Collecting.{Asked, Next, Current, Ask, Short, nex
 use Rattle.weak_cache.specs.Entries.{Cache}
 use Rattle.txn_core.specs.declared.word.Word.TheVariants.{Replied}
 use Rattle.txn_core.specs.Doing.{Fixed, Task, Granted, Outcome, Phase, Gathering, Widening, Preparing, Finishing, Course}
-use Rattle.txn_core.specs.Hearing.{heard, on_hearing}
+use Rattle.txn_core.specs.code.Hearing.{heard, on_hearing}
 use Rattle.txn_core.specs.Standing.{FitsAsked}
-use Rattle.txn_core.specs.Steps.{Steps, taken}
+use Rattle.txn_core.specs.code.Steps.{Steps, taken}
 use Rattle.txn_core.specs.Suites.{Suite, Suites, suite_of, with_suite}
 use Rattle.txn_core.specs.Transactions.{Step, execute, widen_all, asked_by, asked_for, request_in, request_of, heard_of, after_reply, changes_of, prepared, tell_end}
-use Rattle.txn_core.specs.Unused.{shows_unused}
+use Rattle.txn_core.specs.code.Unused.{shows_unused}
 use Rattle.txn_core.specs.Writing.{parts_at}
 use Rattle.txn_core.specs.declared.ending.Ending.{Ending}
 use Rattle.txn_core.proofs.Heard.{hears}

@@ -12,7 +12,7 @@ use Rattle.file_exec.specs.Known.{Known, Knowledge, exec_of, opened_suite}
 use Rattle.txn_core.specs.Suites.{First, Suite, suite_of, known_of}
 use Rattle.txn_core.specs.Doing.{Fixed, Task}
 use Rattle.txn_core.specs.Transactions.{Gathered, heard_on, free_content, open_first, open_suite, opened_with, open_needed, or_all, opened}
-use Rattle.txn_core.specs.Plans.{opened_first, opened_at, opened_by, opened_all, free_first, free_of, to_open, IsPlayed}
+use Rattle.txn_core.specs.code.Plans.{opened_first, opened_at, opened_by, opened_all, free_first, free_of, to_open, IsPlayed}
 use Rattle.txn_core.proofs.Kept.{keeps_all, free_kept, Keeps}
 use Rattle.txn_core.proofs.Openings.{known_opened}
 

@@ -14,7 +14,7 @@ use Rattle.txn_core.specs.declared.job.Job.TheVariants.{Sweep}
 use Rattle.txn_core.specs.Doing.{home_of, Fixed, Sweeping, Listing, Resolving, Telling, Breaking, Round, Doing, Running, Rounding, After, GoesOn, Ends}
 use Rattle.txn_core.specs.Sweeps.{rising, others, sweep_on, lost, after_answer, after_word, asked_now}
 use Rattle.txn_core.specs.Agents as agents
-use Rattle.txn_core.specs.Agents.{Agent, Event, Take, Forget, next_in, next_of, take_in, take, begin, started, forget, is_idle, has_sense, most_jobs}
+use Rattle.txn_core.specs.Agents.{Agent, Event, Take, Forget, next_in, next_of, take_in, take, begin, started, forget, is_idle, has_sense, max_jobs}
 use Rattle.txn_core.specs.Laws.{Exchange, exchange_of, exchanges, listed_in, listed, SweepEndsInTime}
 use Rattle.txn_core.proofs.Asks.{asks_same}
 
@@ -190,7 +190,7 @@ Begun doing = IsNoCourse doing × (may doing ≤ 1)
 
 begin_few : (fixed : Fixed) (agent : Agent) (server : ℕ) → is_idle agent.doing ≡ true → Begun (begin fixed agent (Sweep server)).doing
 begin_few fixed agent server idle =
-    elim (is_idle agent.doing && has_sense fixed (Sweep server) && nat_lt agent.count most_jobs) as (λ b. Begun (cond b (record (started fixed agent (Sweep server)) { count = agent.count + 1 }) agent).doing) [
+    elim (is_idle agent.doing && has_sense fixed (Sweep server) && nat_lt agent.count max_jobs) as (λ b. Begun (cond b (record (started fixed agent (Sweep server)) { count = agent.count + 1 }) agent).doing) [
       | true ↦ (tt, omega arith)
       | false ↦ at agent.doing idle
     ]

@@ -6,9 +6,9 @@ use Rattle.txn_core.specs.declared.ending.Ending.{Ending}
 use Rattle.txn_core.specs.declared.word.Word.{Word}
 use Rattle.txn_core.specs.Agents.{Agent, Taken, left, end_of, take_in, take, next_in}
 use Rattle.txn_core.specs.Doing.{Fixed, Course, Round, Doing, Running, Rounding, After, GoesOn, Ends}
-use Rattle.txn_core.specs.RoundFields.{Comes}
+use Rattle.txn_core.specs.code.RoundFields.{Comes}
 use Rattle.txn_core.specs.Standing.{left_by}
-use Rattle.txn_core.specs.Steps.{Steps, Becomes, taken}
+use Rattle.txn_core.specs.code.Steps.{Steps, Becomes, taken}
 use Rattle.txn_core.specs.Sweeps as sweep
 use Rattle.txn_core.specs.Transactions.{Step, request_of}
 use Rattle.txn_core.specs.Transactions as course

@@ -20,7 +20,7 @@ use Rattle.file_exec.specs.Known.{Known, held_suite, opened_suite, opened}
 use Rattle.file_exec.specs.Prefixes.{row_of_prefix}
 use Rattle.file_ops.specs.Rows.{Row, with_content}
 use Rattle.txn_core.specs.Suites.{First, Suite, Suites, row_with, known_if, known_of}
-use Rattle.txn_core.specs.KnowingSuites.{told}
+use Rattle.txn_core.specs.code.KnowingSuites.{told}
 
 -- ---- what stands behind all others
 

@@ -21,7 +21,7 @@ use Rattle.weak_cache.specs.Cache.{Limits, hint, searched, put}
 use Rattle.weak_cache.proofs.Origins.{entries_come_from_puts}
 use Rattle.txn_core.specs.Doing.{Fixed, Task}
 use Rattle.txn_core.specs.Transactions.{start_from}
-use Rattle.txn_core.specs.Unused.{HasUnused, SawUnused, shows_unused}
+use Rattle.txn_core.specs.code.Unused.{HasUnused, SawUnused, shows_unused}
 
 -- ---- replies
 

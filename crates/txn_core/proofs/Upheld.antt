@@ -18,7 +18,7 @@ use Rattle.txn_core.specs.declared.job.Job.TheVariants.{Transaction, Sweep}
 use Rattle.txn_core.specs.Doing.{Fixed, Task, Phase, Gathering, Fetching, Widening, Preparing, Deciding, Finishing, Course, Round, Doing, Running, Rounding, After, GoesOn, Ends}
 use Rattle.txn_core.specs.Transactions.{start_from, execute, after_word, request_in, request_of}
 use Rattle.txn_core.specs.Sweeps as sweep
-use Rattle.txn_core.specs.Agents.{Agent, Event, Take, Forget, next_in, next_of, left, take_in, take, begin, started, forget, is_idle, has_sense, most_jobs, after_event, after_all}
+use Rattle.txn_core.specs.Agents.{Agent, Event, Take, Forget, next_in, next_of, left, take_in, take, begin, started, forget, is_idle, has_sense, max_jobs, after_event, after_all}
 use Rattle.txn_core.specs.Laws.{Exchange, exchange_of, exchanges, of_job, told_of, locks, task_of, asks_for, IsStart}
 use Rattle.txn_core.proofs.Locks.{are_nil, asks_lock}
 use Rattle.txn_core.proofs.Gathers.{self, Kept}
@@ -276,7 +276,7 @@ module _ (fixed : Fixed) (agent : Agent) (job : Job) where
       subst (λ events. DoingStands events (After_all events).doing) (append_assoc events (event ∷ []) more) (all_stand (events ++ event ∷ []) more (stands_more events event stands))
 
   begin_stands : is_idle agent.doing ≡ true → DoingStands [] (begin fixed agent job).doing
-  begin_stands idle = of (is_idle agent.doing && has_sense fixed job && nat_lt agent.count most_jobs) refl job refl
+  begin_stands idle = of (is_idle agent.doing && has_sense fixed job && nat_lt agent.count max_jobs) refl job refl
     where
       none : (doing : Option Doing) → is_idle doing ≡ true → DoingStands [] doing
       none None idle = tt
@@ -290,7 +290,7 @@ module _ (fixed : Fixed) (agent : Agent) (job : Job) where
           convert caller site ops same task refl [] step.cache [] refl (ap (λ (agent : Agent). agent.cache) is) (λ _ _. ⊥) (λ _ _. ⊥) step.after (ap (λ (agent : Agent). agent.doing) is) (λ n start no. absurd no) (λ n start no. absurd no)
           (caused_execute fixed task (λ _ _. ⊥) (λ _ _. ⊥) [] (record { suites = []; cache = agent.cache }) are_nil (λ n suite there. cc))
 
-      of : (b : Bool) → (is_idle agent.doing && has_sense fixed job && nat_lt agent.count most_jobs) ≡ b → (j : Job) → job ≡ j → DoingStands [] (begin fixed agent job).doing
+      of : (b : Bool) → (is_idle agent.doing && has_sense fixed job && nat_lt agent.count max_jobs) ≡ b → (j : Job) → job ≡ j → DoingStands [] (begin fixed agent job).doing
       of true is j same =
           let has_begun : begin fixed agent job ≡ record (started fixed agent j) { count = agent.count + 1 } =
           ap (λ b. cond b (record (started fixed agent job) { count = agent.count + 1 }) agent) is ∙ ap (λ job. record (started fixed agent job) { count = agent.count + 1 }) same in

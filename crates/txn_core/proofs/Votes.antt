@@ -17,9 +17,9 @@ use Rattle.weak_cache.specs.Entries.{Cache}
 use Rattle.txn_core.specs.declared.coming.Coming.{Coming}
 use Rattle.txn_core.specs.declared.coming.Coming.TheVariants as coming
 use Rattle.txn_core.specs.declared.coming.Asked.{Asked}
-use Rattle.txn_core.specs.Coming.{Comes}
+use Rattle.txn_core.specs.code.Coming.{Comes}
 use Rattle.txn_core.specs.Doing.{Changes, Granted, Task, Widening, Course}
-use Rattle.txn_core.specs.Steps.{Steps, WidensTo, Widens}
+use Rattle.txn_core.specs.code.Steps.{Steps, WidensTo, Widens}
 use Rattle.txn_core.specs.declared.ending.Ending.{Ending}
 use Rattle.txn_core.specs.Suites.{Suite, Suites, suite_of, with_suite}
 use Rattle.txn_core.specs.Transactions.{Step, on_with, give_up, short_cause, to_widen, votes_then, widened, widen_by, widen_one, widen_all, prepare, locked_at}

@@ -14,7 +14,7 @@ use Rattle.txn_core.specs.declared.word.Word.{Word}
 use Rattle.txn_core.specs.declared.word.Word.TheVariants.{Replied}
 use Rattle.txn_core.specs.Agents.{Agent, next_in, next_of}
 use Rattle.txn_core.specs.Doing.{Fixed, Outcome, Gathering, Fetching, Widening, Deciding, Granted, Course, Doing}
-use Rattle.txn_core.specs.Hearing.{heard_one, heard}
+use Rattle.txn_core.specs.code.Hearing.{heard_one, heard}
 use Rattle.txn_core.specs.Suites.{First, Suite, suite_of}
 use Rattle.txn_core.specs.Transactions.{given_in, verdict_in, asked_by, asked_for, fetched_at, fetched_for, request_in, request_of}
 use Rattle.txn_core.specs.Wanting.{by_reply, by_taking}

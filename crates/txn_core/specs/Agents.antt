@@ -70,15 +70,15 @@ take fixed agent word = take_in fixed agent word agent.doing (next_of fixed agen
 
 -- ---- begin and forget
 
-abbrev pub most_sites : ℕ
-most_sites = 16
+abbrev pub max_sites : ℕ
+max_sites = 16
 
 -- after this many jobs none is begun
-abbrev pub most_jobs : ℕ
-most_jobs = 2 ^ 32 - 1
+abbrev pub max_jobs : ℕ
+max_jobs = 2 ^ 32 - 1
 
 abbrev pub has_sense : Fixed → Job → Bool
-has_sense fixed (Transaction caller site ops) = nat_lt site most_sites
+has_sense fixed (Transaction caller site ops) = nat_lt site max_sites
 has_sense fixed (Sweep server) = nat_lt server fixed.service.servers
 
 abbrev pub is_idle : Option Doing → Bool
@@ -93,7 +93,7 @@ started fixed agent (Sweep server) = record agent { doing = Some (Rounding (reco
 
 -- a job begins, or nothing changes
 abbrev pub begins : Fixed → Agent → Job → Bool
-begins fixed agent job = is_idle agent.doing && has_sense fixed job && nat_lt agent.count most_jobs
+begins fixed agent job = is_idle agent.doing && has_sense fixed job && nat_lt agent.count max_jobs
 
 abbrev pub begin : Fixed → Agent → Job → Agent
 begin fixed agent job =

@@ -2,7 +2,7 @@
 
 ghost use Rattle.std.specs.Prelude.{◌≡◌, ◌<◌, ◌≤◌, [], IfOk, IfErr, OnOk, OnErr, IsTrue, Some, option_map};
 ghost use Rattle.weak_cache.specs.Cache.{Limits};
-ghost use Rattle.txn_core.specs.AgentFields.{doing_of};
+ghost use Rattle.txn_core.specs.code.AgentFields.{doing_of};
 ghost use Rattle.txn_core.specs.Agents as agents;
 ghost use Rattle.txn_core.specs.Standing.{FitsAsked, left_by};
 ghost use Rattle.txn_core.specs.Transactions as course;
@@ -23,7 +23,7 @@ use vote_core::MAX_SERVERS;
 use weak_cache::{MAX_SITES, WeakCache};
 
 /// After this many jobs none is begun.
-const MOST_JOBS: u64 = u32::MAX as u64;
+const MAX_JOBS: u64 = u32::MAX as u64;
 
 /// What an agent is doing.
 #[derive(Drop)]
@@ -51,7 +51,7 @@ impl Model for Agent {
 
     ghost Value = { Standing };
 
-    ghost use Rattle.txn_core.specs.AgentFields.{standing_of, IsStanding};
+    ghost use Rattle.txn_core.specs.code.AgentFields.{standing_of, IsStanding};
 
     ghost view = { standing_of };
 
@@ -87,7 +87,7 @@ impl Agent {
         ensures err { OnErr result (self.new ≡ self.old) }
         ensures memory { IfErr result (λ _. IsTrue (wanting.by_job self.old.fixed self.old.state job.now)) }
     {
-        if !self.is_idle() || self.count >= MOST_JOBS || !self.has_sense(job) {
+        if !self.is_idle() || self.count >= MAX_JOBS || !self.has_sense(job) {
             return Ok(());
         }
         match job {

@@ -1,8 +1,8 @@
 //! How a plan is carried out, which takes no memory.
 
 ghost use Rattle.std.specs.Prelude.{◌≡◌, ◌<◌, IsSome, OnOk};
-ghost use Rattle.txn_core.specs.Plans as spec;
-ghost use Rattle.txn_core.specs.Sequels.{sequel_of};
+ghost use Rattle.txn_core.specs.code.Plans as spec;
+ghost use Rattle.txn_core.specs.code.Sequels.{sequel_of};
 ghost use Rattle.txn_core.specs.Suites.{suite_of};
 ghost use Rattle.txn_core.specs.Transactions.{after_search};
 

@@ -3,7 +3,7 @@
 ghost use Rattle.std.specs.Prelude.{◌≡◌, ℕ};
 ghost use Rattle.suite_collect.specs.Collecting as spec;
 ghost use Rattle.suite_collect.specs.Collecting.{request_for};
-ghost use Rattle.txn_core.specs.Coming.{asked_in};
+ghost use Rattle.txn_core.specs.code.Coming.{asked_in};
 
 use rep_core::Request;
 use suite_prefix::LockMode;

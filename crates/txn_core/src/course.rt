@@ -6,15 +6,15 @@ ghost use Rattle.suite_collect.specs.Collecting as collecting;
 ghost use Rattle.weak_cache.specs.Entries.{Cache};
 ghost use Rattle.txn_core.specs.Agents.{left};
 ghost use Rattle.txn_core.specs.Doing as doing;
-ghost use Rattle.txn_core.specs.Hearing.{heard, on_hearing};
-ghost use Rattle.txn_core.specs.HearingOn.{GoesOnBy, SettlesBy};
-ghost use Rattle.txn_core.specs.Hears.{Hears};
-ghost use Rattle.txn_core.specs.Sequels.{follow, gather_again};
+ghost use Rattle.txn_core.specs.code.Hearing.{heard, on_hearing};
+ghost use Rattle.txn_core.specs.code.HearingOn.{GoesOnBy, SettlesBy};
+ghost use Rattle.txn_core.specs.code.Hears.{Hears};
+ghost use Rattle.txn_core.specs.code.Sequels.{follow, gather_again};
 ghost use Rattle.txn_core.specs.Standing.{FitsAsked};
-ghost use Rattle.txn_core.specs.Steps.{Steps, taken};
+ghost use Rattle.txn_core.specs.code.Steps.{Steps, taken};
 ghost use Rattle.txn_core.specs.Suites as gathering;
 ghost use Rattle.txn_core.specs.Transactions as course;
-ghost use Rattle.txn_core.specs.Unused.{HasUnused, shows_unused};
+ghost use Rattle.txn_core.specs.code.Unused.{HasUnused, shows_unused};
 ghost use Rattle.txn_core.specs.Wanting as wanting;
 ghost use Rattle.txn_core.specs.declared.word.Word.TheVariants.{Replied};
 
@@ -50,7 +50,7 @@ impl Model for Course {
 
     ghost Value = { doing.Course };
 
-    ghost use Rattle.txn_core.specs.CourseFields.{course_of};
+    ghost use Rattle.txn_core.specs.code.CourseFields.{course_of};
 
     ghost view = { course_of };
 }

@@ -1,13 +1,15 @@
 //! A transaction on what it gathered: all that it comes to is set, or nothing.
 
 ghost use Rattle.std.specs.Prelude.{◌≡◌, ◌<◌, ℕ, IfOk, IfSome, OnOk, OnErr, IsSome, Some, false, zero};
+ghost use Rattle.std.specs.Ordering.{nat_cmp};
+ghost use Rattle.sorted_map.specs.SortedMap.{IsOrdered};
 ghost use Rattle.rep_core.specs.Store.{is_used_up};
-ghost use Rattle.weak_cache.specs.Entries.{most_sites};
-ghost use Rattle.txn_core.specs.Plans as planning;
-ghost use Rattle.txn_core.specs.Sequels.{follow, follow_or};
+ghost use Rattle.weak_cache.specs.Entries.{max_sites};
+ghost use Rattle.txn_core.specs.code.Plans as planning;
+ghost use Rattle.txn_core.specs.code.Sequels.{follow, follow_or};
 ghost use Rattle.txn_core.specs.Suites.{suite_of, with_suite};
 ghost use Rattle.txn_core.specs.Transactions as course;
-ghost use Rattle.txn_core.specs.Unused.{HasUnused};
+ghost use Rattle.txn_core.specs.code.Unused.{HasUnused};
 
 use crate::plan::Plan;
 use crate::sequel::Sequel;
@@ -59,7 +61,14 @@ impl<'a> Execution<'a> {
         ensures unused { HasUnused cache.new.entries }
         ensures err { OnErr result ((suites.new.pairs ≡ suites.old.pairs) × (cache.new ≡ cache.old)) }
     {
-        self.execute_in_place(suites, cache, number, suite, None)
+        let before = suites.insert_in_room(number, suite);
+        match self.execute_after(suites, cache, None) {
+            Ok(sequel) => Ok(sequel),
+            Err(refused) => {
+                put_back(suites, number, before);
+                Err(refused)
+            }
+        }
     }
 
     /// The same after the content of a suite was fetched; nothing, where the suite had no quorum.
@@ -76,24 +85,30 @@ impl<'a> Execution<'a> {
         ensures unused { HasUnused cache.new.entries }
         ensures err { OnErr result ((suites.new.pairs ≡ suites.old.pairs) × (cache.new ≡ cache.old)) }
     {
-        let Some((suite, fetched)) = self.fetched(suites, number, content)? else {
+        let Some(fetched) = self.fetched(suites, number, content)? else {
             return Ok(None);
         };
-        let sequel = self.execute_in_place(suites, cache, number, suite, Some(fetched))?;
-        Ok(Some(sequel))
+        let given = content.clone()?;
+        let before = exchange(suites, number, Some(given));
+        match self.execute_after(suites, cache, Some(fetched)) {
+            Ok(sequel) => Ok(Some(sequel)),
+            Err(refused) => {
+                exchange(suites, number, before);
+                Err(refused)
+            }
+        }
     }
 
-    /// A suite with its content that was fetched, and the content as it is kept; nothing, where the
-    /// suite had no quorum.
+    /// A content that was fetched, as it is kept; nothing, where its suite had no quorum.
     fn fetched(
         self,
         suites: &RoomyMap<u64, Suite>,
         number: u64,
         content: &Content,
-    ) -> Result<Option<(Suite, Fetched)>, AllocError>
-        ensures value { IfOk result (λ pair. pair ≡ planning.fetched_of self.entry.task.now number content.now (suite_of suites.now.pairs number)) }
-        ensures site { IfOk result (λ pair. IfSome pair (λ one. one.1.site < most_sites)) }
-        ensures unused { IfOk result (λ pair. IfSome pair (λ one. is_used_up one.1.prefix.pver ≡ false)) }
+    ) -> Result<Option<Fetched>, AllocError>
+        ensures value { IfOk result (λ found. found ≡ planning.fetched_of self.entry.task.now number content.now (suite_of suites.now.pairs number)) }
+        ensures site { IfOk result (λ found. IfSome found (λ one. one.site < max_sites)) }
+        ensures unused { IfOk result (λ found. IfSome found (λ one. is_used_up one.prefix.pver ≡ false)) }
     {
         let Some(suite) = suites.get(&number) else {
             return Ok(None);
@@ -104,44 +119,13 @@ impl<'a> Execution<'a> {
         let task = self.task;
         task.facts();
         let prefix = first.prefix.clone()?;
-        let fetched = Fetched {
+        Ok(Some(Fetched {
             site: task.site,
             suite: number,
             prefix,
             dver: first.dver,
             content: content.clone()?,
-        };
-        let mut opened = suite.clone()?;
-        opened.open(content.clone()?);
-        Ok(Some((opened, fetched)))
-    }
-
-    /// Executes the transaction with a suite in place of the one of its number, and once a content was
-    /// put into the cache.
-    fn execute_in_place(
-        self,
-        suites: &mut RoomyMap<u64, Suite>,
-        cache: &mut WeakCache,
-        number: u64,
-        suite: Suite,
-        fetched: Option<Fetched>,
-    ) -> Result<Sequel, AllocError>
-        requires there { IsSome (suite_of suites.old.pairs number) }
-        requires site { IfSome fetched (λ one. one.site < most_sites) }
-        requires hints { HasUnused (planning.shelved cache.old fetched) }
-        ensures ok { IfOk result (λ sequel. follow self.entry.task.now cache.new.entries suites.new.pairs sequel ≡ course.execute (planning.fixed_in self.entry cache.old) self.entry.task.now (record { suites = with_suite number suite suites.old.pairs; cache = planning.shelved cache.old fetched })) }
-        ensures limits { cache.new.limits ≡ cache.old.limits }
-        ensures unused { OnOk result (HasUnused cache.new.entries) }
-        ensures err { OnErr result ((suites.new.pairs ≡ suites.old.pairs) × (cache.new ≡ cache.old)) }
-    {
-        let before = suites.insert_in_room(number, suite);
-        match self.execute_after(suites, cache, fetched) {
-            Ok(sequel) => Ok(sequel),
-            Err(refused) => {
-                put_back(suites, number, before);
-                Err(refused)
-            }
-        }
+        }))
     }
 
     /// Executes the transaction on what it gathered, once a content was put into the cache.
@@ -151,7 +135,7 @@ impl<'a> Execution<'a> {
         cache: &mut WeakCache,
         fetched: Option<Fetched>,
     ) -> Result<Sequel, AllocError>
-        requires site { IfSome fetched (λ one. one.site < most_sites) }
+        requires site { IfSome fetched (λ one. one.site < max_sites) }
         requires hints { HasUnused (planning.shelved cache.old fetched) }
         ensures ok { IfOk result (λ sequel. follow self.entry.task.now cache.new.entries suites.new.pairs sequel ≡ course.execute (planning.fixed_in self.entry cache.old) self.entry.task.now (record { suites = suites.old.pairs; cache = planning.shelved cache.old fetched })) }
         ensures limits { cache.new.limits ≡ cache.old.limits }
@@ -167,6 +151,22 @@ impl<'a> Execution<'a> {
         put(cache, fetched)?;
         Ok(plan.carry_out(self.task, suites, cache))
     }
+}
+
+/// Gives a suite this content, or none, in place of what it had.
+fn exchange(
+    suites: &mut RoomyMap<u64, Suite>,
+    number: u64,
+    content: Option<Content>,
+) -> Option<Content>
+    ensures before { result ≡ planning.content_in (suite_of suites.old.pairs number) }
+    ensures after { suites.new.pairs ≡ planning.with_content number content (suite_of suites.old.pairs number) suites.old.pairs }
+    ensures was_ordered { IsOrdered nat_cmp suites.old.pairs }
+{
+    let Some(suite) = suites.get_mut(&number) else {
+        return None;
+    };
+    suite.exchange(content)
 }
 
 /// Puts a suite back in place of the one of its number.

@@ -4,9 +4,9 @@ ghost use Rattle.std.specs.Prelude.{◌≡◌, ℕ, List, IfOk, IfErr, OnErr, Is
 ghost use Rattle.rep_core.specs.Service.{is_answered};
 ghost use Rattle.rep_core.specs.declared.reply.Verdict.{Verdict as Ended};
 ghost use Rattle.weak_cache.specs.Entries.{Cache};
-ghost use Rattle.txn_core.specs.CourseFields.{phase_of};
+ghost use Rattle.txn_core.specs.code.CourseFields.{phase_of};
 ghost use Rattle.txn_core.specs.Doing as doing;
-ghost use Rattle.txn_core.specs.Steps.{Steps};
+ghost use Rattle.txn_core.specs.code.Steps.{Steps};
 ghost use Rattle.txn_core.specs.Transactions as course;
 ghost use Rattle.txn_core.specs.declared.ending.Ending.{Ending as Ends};
 

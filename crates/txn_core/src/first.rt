@@ -15,7 +15,7 @@ pub(crate) struct First {
 
 impl Model for First {
     ghost use Rattle.txn_core.specs.Suites as gathering;
-    ghost use Rattle.txn_core.specs.FirstFields.{first_of, IsUnused};
+    ghost use Rattle.txn_core.specs.code.FirstFields.{first_of, IsUnused};
 
     ghost Value = { gathering.First };
 

@@ -16,7 +16,7 @@ impl Model for Granted {
 
     ghost Value = { doing.Granted };
 
-    ghost use Rattle.txn_core.specs.GrantedFields.{granted_of};
+    ghost use Rattle.txn_core.specs.code.GrantedFields.{granted_of};
 
     ghost view = { granted_of };
 }

@@ -2,8 +2,8 @@
 
 ghost use Rattle.std.specs.Prelude.{◌≡◌, IfOk, IfErr, IsTrue, is_some, true};
 ghost use Rattle.suite_collect.specs.Collecting.{next, told_by};
-ghost use Rattle.txn_core.specs.Hearing.{heard};
-ghost use Rattle.txn_core.specs.Unused.{shows_unused};
+ghost use Rattle.txn_core.specs.code.Hearing.{heard};
+ghost use Rattle.txn_core.specs.code.Unused.{shows_unused};
 
 use crate::coming::Coming;
 use crate::suites::Suite;

@@ -2,7 +2,7 @@
 
 ghost use Rattle.std.specs.Prelude.{◌≡◌, IfOk, OnOk};
 ghost use Rattle.txn_core.specs.Suites as gathering;
-ghost use Rattle.txn_core.specs.KnowingSuites.{told};
+ghost use Rattle.txn_core.specs.code.KnowingSuites.{told};
 
 use crate::suites::Suite;
 use file_exec::Known;

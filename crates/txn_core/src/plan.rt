@@ -6,11 +6,11 @@ ghost use Rattle.sorted_map.specs.SortedMap.{IsOrdered};
 ghost use Rattle.suite_collect.specs.Collecting.{raise};
 ghost use Rattle.suite_prefix.specs.Absent.{absent_prefix};
 ghost use Rattle.weak_cache.specs.Cache.{hint};
-ghost use Rattle.txn_core.specs.Plans as spec;
-ghost use Rattle.txn_core.specs.Sequels as sequel;
+ghost use Rattle.txn_core.specs.code.Plans as spec;
+ghost use Rattle.txn_core.specs.code.Sequels as sequel;
 ghost use Rattle.txn_core.specs.Suites.{suite_of};
 ghost use Rattle.txn_core.specs.Transactions.{free_content};
-ghost use Rattle.txn_core.specs.Unused.{HasUnused};
+ghost use Rattle.txn_core.specs.code.Unused.{HasUnused};
 
 use crate::execution::Execution;
 use crate::first::First;
@@ -156,7 +156,8 @@ impl<'a> Execution<'a> {
         }
         let task = self.task;
         let start = self.start_of(shelf, *number)?;
-        Ok(Some(Suite::new(task.t, *number, *mode, start)))
+        let suite = Suite::new(self.alloc, task.t, *number, *mode, start)?;
+        Ok(Some(suite))
     }
 
     /// From which prefix a suite is gathered: the site's hint, or that of what was never made.

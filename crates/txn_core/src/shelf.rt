@@ -3,8 +3,8 @@
 ghost use Rattle.std.specs.Prelude.{◌≡◌, ◌<◌, IfSome, OnOk, OnErr};
 ghost use Rattle.std.specs.Option.{option_copied};
 ghost use Rattle.weak_cache.specs.Cache.{content_at, hint};
-ghost use Rattle.weak_cache.specs.Entries.{most_sites};
-ghost use Rattle.txn_core.specs.Plans.{entries_on, shelved};
+ghost use Rattle.weak_cache.specs.Entries.{max_sites};
+ghost use Rattle.txn_core.specs.code.Plans.{entries_on, shelved};
 
 use std::alloc::AllocError;
 use suite_content::Content;
@@ -73,7 +73,7 @@ impl<'a> Shelf<'a> {
 
 /// Puts what was fetched into a cache. An error leaves the cache as it was.
 pub(crate) fn put(cache: &mut WeakCache, fetched: Option<Fetched>) -> Result<(), AllocError>
-    requires { IfSome fetched (λ one. one.site < most_sites) }
+    requires { IfSome fetched (λ one. one.site < max_sites) }
     ensures ok { OnOk result (cache.new ≡ record cache.old { entries = shelved cache.old fetched }) }
     ensures err { OnErr result (cache.new ≡ cache.old) }
 {

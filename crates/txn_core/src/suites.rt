@@ -6,25 +6,32 @@ ghost use Rattle.rep_core.specs.Fits.{is_held};
 ghost use Rattle.rep_core.specs.Store.{is_used_up};
 ghost use Rattle.suite_collect.specs.Collecting as spec;
 ghost use Rattle.suite_collect.specs.Telling.{shown};
-ghost use Rattle.txn_core.specs.Coming.{Comes, told_one, settled_by};
-ghost use Rattle.txn_core.specs.HearingOn.{HearsOn};
+ghost use Rattle.txn_core.specs.code.Coming.{Comes, told_one, settled_by};
+ghost use Rattle.txn_core.specs.code.HearingOn.{HearsOn};
 ghost use Rattle.txn_core.specs.Suites as gathering;
-ghost use Rattle.txn_core.specs.Unused.{shows_unused};
+ghost use Rattle.txn_core.specs.code.Unused.{shows_unused};
 
 use crate::coming::{Coming, asked_by};
 use crate::first::First;
 use rep_core::Reply;
-use std::alloc::AllocError;
+use std::alloc::{AllocError, Global};
 use std::marker::Model;
+use std::mem;
 use suite_collect::{Collect, Members, Next};
 use suite_content::Content;
 use suite_prefix::{LockMode, Prefix};
 use vote_core::Votes;
 
-/// A suite that was asked for: what was collected of it, what its first quorum gave, in which mode it
-/// had a quorum last, and its content, once it is there.
+/// A suite that was asked for. What was gathered of it stands on the heap, so that it is cheap to move.
 #[derive(Drop)]
 pub(crate) struct Suite {
+    gathered: Box<Gathered>,
+}
+
+/// What was collected of a suite, what its first quorum gave, in which mode it had a quorum last, and its
+/// content, once it is there.
+#[derive(Drop)]
+struct Gathered {
     collect: Collect,
     first: Option<First>,
     mode: LockMode,
@@ -33,7 +40,7 @@ pub(crate) struct Suite {
 
 impl Model for Suite {
     ghost use Rattle.txn_core.specs.Suites as gathering;
-    ghost use Rattle.txn_core.specs.SuiteFields.{suite_of, IsUnused};
+    ghost use Rattle.txn_core.specs.code.SuiteFields.{suite_of, IsUnused};
 
     ghost Value = { gathering.Suite };
 
@@ -46,10 +53,19 @@ impl Clone for Suite {
     ghost is_clone = { λ suite copy. copy ≡ suite };
 
     fn clone(&self) -> Result<Suite, AllocError> {
+        let gathered = self.gathered.clone()?;
+        Ok(Suite { gathered })
+    }
+}
+
+impl Clone for Gathered {
+    ghost is_clone = { λ gathered copy. copy ≡ gathered };
+
+    fn clone(&self) -> Result<Gathered, AllocError> {
         let collect = self.collect.clone()?;
         let first = self.first.clone()?;
         let content = self.content.clone()?;
-        Ok(Suite {
+        Ok(Gathered {
             collect,
             first,
             mode: self.mode,
@@ -61,65 +77,81 @@ impl Clone for Suite {
 impl Suite {
     /// A suite of which nothing was told. `start` is a prefix that it once had, or that of what was never
     /// made.
-    pub(crate) fn new(t: u64, number: u64, mode: LockMode, start: Prefix) -> Suite
+    pub(crate) fn new(
+        alloc: Global,
+        t: u64,
+        number: u64,
+        mode: LockMode,
+        start: Prefix,
+    ) -> Result<Suite, AllocError>
         requires { is_used_up start.pver ≡ false }
-        ensures { result ≡ record { collector = spec.collect mode start; first = None; mode = LockMode.Shared; content = None } }
+        ensures { IfOk result (λ suite. suite ≡ record { collector = spec.collect mode start; first = None; mode = LockMode.Shared; content = None }) }
     {
-        Suite {
+        let gathered = Gathered {
             collect: Collect::new(t, number, mode, start),
             first: None,
             mode: LockMode::Shared,
             content: None,
-        }
+        };
+        let gathered = Box::new(alloc, gathered)?;
+        Ok(Suite { gathered })
     }
 
     /// What its first quorum gave.
     pub(crate) fn first(&self) -> Option<&First>
         ensures { option_copied result ≡ self.now.first }
     {
-        self.first.as_ref()
+        self.gathered.first.as_ref()
     }
 
     /// Its content, once it is there.
     pub(crate) fn content(&self) -> Option<&Content>
         ensures { option_copied result ≡ self.now.content }
     {
-        self.content.as_ref()
+        self.gathered.content.as_ref()
     }
 
     /// In which mode it had a quorum last.
     pub(crate) fn mode(&self) -> LockMode
         ensures { result ≡ self.now.mode }
     {
-        self.mode
+        self.gathered.mode
     }
 
     /// Its content is there from now on.
     pub(crate) fn open(&mut self, content: Content)
         ensures { self.new ≡ record self.old { content = Some content } }
     {
-        self.content = Some(content);
+        self.gathered.content = Some(content);
+    }
+
+    /// It has this content from now on, or none. What it had comes back.
+    pub(crate) fn exchange(&mut self, content: Option<Content>) -> Option<Content>
+        ensures before { result ≡ self.old.content }
+        ensures after { self.new ≡ record self.old { content = content } }
+    {
+        mem::replace(&mut self.gathered.content, content)
     }
 
     /// From now on an exclusive lock is wanted.
     pub(crate) fn raise(&mut self)
         ensures { self.new ≡ record self.old { collector = spec.raise self.old.collector } }
     {
-        self.collect.raise();
+        self.gathered.collect.raise();
     }
 
     /// From now on a write quorum of these votes is wanted.
     pub(crate) fn widen(&mut self, votes: &Votes)
         ensures { self.new ≡ record self.old { collector = spec.widen votes.now self.old.collector } }
     {
-        self.collect.widen(votes);
+        self.gathered.collect.widen(votes);
     }
 
     /// What comes next. It takes no memory.
     pub(crate) fn next(&self) -> Coming
         ensures { Comes result (spec.next self.now.collector) }
     {
-        match self.collect.next() {
+        match self.gathered.collect.next() {
             Next::Current { .. } => Coming::Current,
             Next::Ask { server, request } => Coming::Ask {
                 server,
@@ -134,7 +166,7 @@ impl Suite {
     pub(crate) fn accepts(&self, reply: &Reply) -> bool
         ensures { result ≡ is_some (spec.told_by (spec.next self.now.collector) reply.now) }
     {
-        self.collect.accepts(reply)
+        self.gathered.collect.accepts(reply)
     }
 
     /// Takes the reply to what was asked next.
@@ -143,7 +175,7 @@ impl Suite {
         requires unused { shows_unused reply ≡ true }
         ensures { self.new ≡ told_one (spec.told_by (spec.next self.old.collector) reply) self.old }
     {
-        self.collect.take(reply);
+        self.gathered.collect.take(reply);
     }
 
     /// Takes a reply that gives no quorum, and tells what comes next. It leaves a reply that does not answer what
@@ -155,7 +187,7 @@ impl Suite {
         ensures err { OnErr result (self.new ≡ self.old) }
         ensures memory { IfErr result (λ _. IsTrue (is_held reply.now)) }
     {
-        if !self.collect.take_on(reply)? {
+        if !self.gathered.collect.take_on(reply)? {
             return Ok(None);
         }
         Ok(Some(self.next()))
@@ -171,21 +203,21 @@ impl Suite {
             prefix,
             dver,
             members,
-        } = self.collect.next()
+        } = self.gathered.collect.next()
         else {
             return Ok(());
         };
-        if self.first.is_none() {
-            let source = source_of(&self.collect, dver, &members);
+        if self.gathered.first.is_none() {
+            let source = source_of(&self.gathered.collect, dver, &members);
             let prefix = prefix.clone()?;
             let first = First {
                 prefix,
                 dver,
                 source,
             };
-            self.first = Some(first);
+            self.gathered.first = Some(first);
         }
-        self.mode = self.collect.mode();
+        self.gathered.mode = self.gathered.collect.mode();
         Ok(())
     }
 
@@ -193,14 +225,14 @@ impl Suite {
     pub(crate) fn holds_lock(&self, server: u8) -> bool
         ensures { result ≡ gathering.holds_lock self.now server }
     {
-        self.collect.holds(LockMode::Shared, server)
+        self.gathered.collect.holds(LockMode::Shared, server)
     }
 
     /// Whether a server answered that it holds an exclusive lock.
     pub(crate) fn holds_exclusively(&self, server: u8) -> bool
         ensures { result ≡ gathering.holds_exclusively self.now server }
     {
-        self.collect.holds(LockMode::Exclusive, server)
+        self.gathered.collect.holds(LockMode::Exclusive, server)
     }
 
     /// The mode in which a server holds a lock.

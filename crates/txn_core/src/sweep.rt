@@ -5,11 +5,11 @@ ghost use Rattle.std.specs.Prelude.{◌≡◌, ◌==◌, ◌<◌, ◌≤◌, ◌
 ghost use Rattle.std.specs.List.{list_any};
 ghost use Rattle.rep_core.specs.Wanting.{by_request};
 ghost use Rattle.txn_core.specs.Doing as doing;
-ghost use Rattle.txn_core.specs.Sorting.{in_order};
+ghost use Rattle.txn_core.specs.code.Sorting.{in_order};
 ghost use Rattle.txn_core.specs.Sweeps as sweeping;
 ghost use Rattle.txn_core.specs.Transactions as course;
 ghost use Rattle.txn_core.specs.Wanting as wanting;
-ghost use Rattle.txn_core.specs.RoundFields.{sweeping_of, with_counts, total, left_in, first_of, Comes};
+ghost use Rattle.txn_core.specs.code.RoundFields.{sweeping_of, with_counts, total, left_in, first_of, Comes};
 
 use crate::ending::{Cause, Ending};
 use crate::home::home_of;
@@ -55,7 +55,7 @@ pub(crate) struct Round {
 
 impl Model for Round {
     ghost use Rattle.txn_core.specs.Doing as doing;
-    ghost use Rattle.txn_core.specs.RoundFields.{round_of, IsKept};
+    ghost use Rattle.txn_core.specs.code.RoundFields.{round_of, IsKept};
 
     ghost Value = { doing.Round };
 

@@ -1,7 +1,7 @@
 //! A transaction.
 
 ghost use Rattle.std.specs.Prelude.{◌<◌, ◌^◌};
-ghost use Rattle.weak_cache.specs.Entries.{most_sites};
+ghost use Rattle.weak_cache.specs.Entries.{max_sites};
 
 use crate::job::Ops;
 use acl_core::Caller;
@@ -21,7 +21,7 @@ impl Model for Task {
 
     ghost Value = { doing.Task };
 
-    ghost use Rattle.txn_core.specs.TaskFields.{task_of, IsTask};
+    ghost use Rattle.txn_core.specs.code.TaskFields.{task_of, IsTask};
 
     ghost view = { task_of };
 
@@ -32,7 +32,7 @@ impl Task {
     /// A law: its number is below 2^60, and its site one of an agent's. It does nothing.
     pub(crate) fn facts(&self)
         ensures number { self.now.t < 2 ^ 60 }
-        ensures site { self.now.site < most_sites }
+        ensures site { self.now.site < max_sites }
     {
         let _ = &self.ops;
     }

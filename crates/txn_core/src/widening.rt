@@ -5,7 +5,7 @@ ghost use Rattle.std.specs.Option.{option_map};
 ghost use Rattle.file_exec.specs.declared.changes.Change.{Change as Changed};
 ghost use Rattle.weak_cache.specs.Entries.{Cache};
 ghost use Rattle.txn_core.specs.Doing as doing;
-ghost use Rattle.txn_core.specs.Steps.{Steps, Widens};
+ghost use Rattle.txn_core.specs.code.Steps.{Steps, Widens};
 ghost use Rattle.txn_core.specs.Suites.{suite_of, with_suite};
 ghost use Rattle.txn_core.specs.Transactions as course;
 

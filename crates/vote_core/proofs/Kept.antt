@@ -4,8 +4,8 @@ use Rattle.std.proofs.Math.Seq.{take-append_seam}
 use Rattle.vote_core.specs.declared.TheConstants.{MAX_SERVERS}
 use Rattle.vote_core.specs.Quorums.{Representative, Configuration}
 use Rattle.vote_core.specs.Validity.{IsValid}
-use Rattle.vote_core.specs.VotesFields.{no_votes}
-use Rattle.vote_core.specs.Padding.{IsPadded, padded_front}
+use Rattle.vote_core.specs.code.VotesFields.{no_votes}
+use Rattle.vote_core.specs.code.Padding.{IsPadded, padded_front}
 use Rattle.vote_core.proofs.Faults.{few_if_valid}
 
 -- a configuration is kept whole, and is valid

@@ -6,8 +6,8 @@ use Rattle.std.specs.Int.{bit_at}
 use Rattle.std.specs.Ordering.{nat_cmp}
 use Rattle.std.specs.Cmp.{nat_cmp_total, unsigned_tied}
 use Rattle.std.specs.FinSet as set
-use Rattle.vote_core.specs.ServerBits.{set_below}
-use Rattle.vote_core.specs.ServerBitLaws.{contains-set_below}
+use Rattle.vote_core.specs.code.ServerBits.{set_below}
+use Rattle.vote_core.specs.code.ServerBitLaws.{contains-set_below}
 
 -- a server is in a set to which one is added if it is that one or was in it
 pub contains_inserted : (members : set.FinSet nat_cmp) (k q : ℕ) → set.contains (set.insert members k) q ≡ (eqb q k || set.contains members q)

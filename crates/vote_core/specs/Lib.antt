@@ -1,7 +1,3 @@
 pub mod Quorums
 pub mod Validity
-pub mod SameVotes
-pub mod Padding
-pub mod VotesFields
-pub mod ServerBits
-pub mod ServerBitLaws
+pub mod code

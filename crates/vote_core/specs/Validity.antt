@@ -6,14 +6,14 @@ use Rattle.vote_core.specs.declared.fault.VotesFault.TheVariants.{Empty, Unknown
 use Rattle.vote_core.specs.Quorums.{Representative, Configuration, total_votes}
 
 -- the servers that votes may name are those below this number; a limit of this project
-abbrev pub most_servers : ℕ
-most_servers = 16
+abbrev pub max_servers : ℕ
+max_servers = 16
 
 -- Valid votes. Gifford asks that "r+w is greater than the total number of votes assigned to the file". That 2w is
 -- greater too is a rule of this project, as are the limits on servers and on the votes of one of them.
 pub record IsValid (votes : Configuration) : Type 0 where
   pub some_listed : 0 < length votes.reps
-  pub numbered : All (λ rep. rep.0 < most_servers) votes.reps
+  pub numbered : All (λ rep. rep.0 < max_servers) votes.reps
   pub few_votes : All (λ rep. rep.1 < 256) votes.reps
   pub listed_once : IsDistinct nat_eq (map (λ rep. rep.0) votes.reps)
   pub some_votes : 0 < total_votes votes.reps
@@ -39,7 +39,7 @@ is_out_of_range threshold total = (threshold == 0) || nat_lt total threshold
 -- whether votes have a fault, where there are this many servers
 abbrev pub has_fault : VotesFault → ℕ → Configuration → Bool
 has_fault Empty servers votes = length votes.reps == 0
-has_fault UnknownServer servers votes = list_any (λ rep. nat_le servers rep.0 || nat_le most_servers rep.0) votes.reps
+has_fault UnknownServer servers votes = list_any (λ rep. nat_le servers rep.0 || nat_le max_servers rep.0) votes.reps
 has_fault ListedTwice servers votes = lists_twice votes.reps
 has_fault NoVotes servers votes = total_votes votes.reps == 0
 has_fault ThresholdOutOfRange servers votes = is_out_of_range votes.r (total_votes votes.reps) || is_out_of_range votes.w (total_votes votes.reps)

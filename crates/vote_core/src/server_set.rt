@@ -18,13 +18,13 @@ impl Model for ServerSet {
     ghost use Rattle.std.specs.Coded.{coded_ℕ};
     ghost use Rattle.std.specs.FinSet.{FinSet, code};
     ghost use Rattle.vote_core.specs.declared.TheConstants.{MAX_SERVERS};
-    ghost use Rattle.vote_core.specs.ServerBits.{set_below, word_below};
+    ghost use Rattle.vote_core.specs.code.ServerBits.{set_below, word_below};
 
     ghost Value = { FinSet nat_cmp };
 
     ghost coded = { code coded_ℕ };
 
-    ghost use Rattle.vote_core.specs.ServerBitLaws.{fields_back};
+    ghost use Rattle.vote_core.specs.code.ServerBitLaws.{fields_back};
 
     ghost view = { λ set. set_below MAX_SERVERS set.bits };
 

@@ -26,11 +26,11 @@ impl Model for Votes {
     ghost use Rattle.vote_core.specs.declared.TheConstants.{MAX_SERVERS};
     ghost use Rattle.vote_core.specs.Quorums.{Configuration};
     ghost use Rattle.vote_core.specs.Validity.{IsValid};
-    ghost use Rattle.vote_core.specs.Padding.{IsPadded};
+    ghost use Rattle.vote_core.specs.code.Padding.{IsPadded};
 
     ghost Value = { Configuration };
 
-    ghost use Rattle.vote_core.specs.VotesFields.{configuration_of, fields_of, fields_back, no_votes};
+    ghost use Rattle.vote_core.specs.code.VotesFields.{configuration_of, fields_of, fields_back, no_votes};
 
     ghost view = { configuration_of };
 
@@ -49,7 +49,7 @@ impl fmt::Debug for Votes {
 }
 
 impl PartialEq for Votes {
-    ghost use Rattle.vote_core.specs.SameVotes.{same_votes, same_votes_partial_laws};
+    ghost use Rattle.vote_core.specs.code.SameVotes.{same_votes, same_votes_partial_laws};
 
     ghost eq = { same_votes };
 
@@ -61,7 +61,7 @@ impl PartialEq for Votes {
 }
 
 impl Eq for Votes {
-    ghost use Rattle.vote_core.specs.SameVotes.{same_votes_laws};
+    ghost use Rattle.vote_core.specs.code.SameVotes.{same_votes_laws};
 
     ghost laws = { same_votes_laws };
 }

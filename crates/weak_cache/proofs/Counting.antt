@@ -6,8 +6,8 @@ use Rattle.std.proofs.lemmas.Bool.{eqb-true, false≢true}
 use Rattle.std.proofs.lemmas.List.{get_or-set_same, get_or-set_other, length-set}
 use Rattle.weak_cache.specs.Entries.{Entry, Cache, size_of, sum_of, is_at, list_of, forgotten}
 use Rattle.weak_cache.specs.declared.tally.Tally.{Tally}
-use Rattle.weak_cache.specs.Buckets.{bucket_of, with_one_less, with_one_more}
-use Rattle.weak_cache.specs.Counts.{Counts, IsEntry, IsTally}
+use Rattle.weak_cache.specs.code.Buckets.{bucket_of, with_one_less, with_one_more}
+use Rattle.weak_cache.specs.code.Counts.{Counts, IsEntry, IsTally}
 use Rattle.weak_cache.proofs.Falling.{bucket_counted, bucket_within, counts_added, counts_dropped, counts_moved}
 use Rattle.weak_cache.proofs.Keeping.{sum_of-append}
 

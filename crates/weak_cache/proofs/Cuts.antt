@@ -9,7 +9,7 @@ use Rattle.std.proofs.lemmas.List.Elements.{filter-append}
 use Rattle.std.proofs.Math.Seq.{drop-append_seam, take-append_seam, drop-append-add, take-append-add}
 use Rattle.weak_cache.specs.Entries.{Entry, Cache, is_of, without}
 use Rattle.weak_cache.specs.Cache.{content_at, searched}
-use Rattle.weak_cache.specs.Places.{CutAt, IsPlaceOf}
+use Rattle.weak_cache.specs.code.Places.{CutAt, IsPlaceOf}
 
 get_or-seam : (newer : Cache) (e : Entry) (older : Cache) (d : Entry) → get_or (newer ++ e ∷ older) (length newer) d ≡ e
 get_or-seam [] e older d = refl

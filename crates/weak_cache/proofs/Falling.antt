@@ -5,7 +5,7 @@ use Rattle.std.specs.List.{position_from}
 use Rattle.std.proofs.lemmas.Bool.{eqb-true, false≢true}
 use Rattle.std.proofs.lemmas.List.{get_or-set_same, get_or-set_other, get_or-replicate, length-set}
 use Rattle.std.proofs.lemmas.Nat.{mod_below}
-use Rattle.weak_cache.specs.Buckets.{AreCounts, bucket_of, falls, hash_of, with_one_less, with_one_more}
+use Rattle.weak_cache.specs.code.Buckets.{AreCounts, bucket_of, falls, hash_of, with_one_less, with_one_more}
 use Rattle.weak_cache.specs.Entries.{Entry, Cache, is_of, entry_of}
 use Rattle.weak_cache.proofs.Keeping.{both}
 

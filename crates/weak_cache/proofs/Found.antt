@@ -5,7 +5,7 @@ use Rattle.std.specs.List.{list_all}
 use Rattle.std.proofs.lemmas.Bool.{eqb-true, false≢true}
 use Rattle.weak_cache.specs.Entries.{Entry, Cache, size_of, is_at, is_of, forgotten, entry_of, without}
 use Rattle.weak_cache.specs.Cache.{Limits, content_at, at_version, in_front, used, searched, has_room, put, within_quota, within_budget}
-use Rattle.weak_cache.specs.Beside.{stays}
+use Rattle.weak_cache.specs.code.Beside.{stays}
 use Rattle.weak_cache.specs.Calls.{Call, ContentAt, Put, Forget, after, run, spares, WasPut}
 use Rattle.weak_cache.specs.Laws.{HintWasPut, ContentWasPut, FoundWasPut}
 use Rattle.weak_cache.proofs.Keeping.{both}

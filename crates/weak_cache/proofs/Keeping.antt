@@ -5,7 +5,7 @@ use Rattle.std.proofs.lemmas.List.Elements.{filter-append}
 use Rattle.std.proofs.lemmas.Bool.{le-leb, leb-true, lt-ltb, ltb-true}
 use Rattle.weak_cache.specs.Entries.{Entry, Cache, size_of, sum_of, is_at, list_of, forgotten}
 use Rattle.weak_cache.specs.Cache.{within_quota, within_budget}
-use Rattle.weak_cache.specs.Places.{EndsAt}
+use Rattle.weak_cache.specs.code.Places.{EndsAt}
 use Rattle.weak_cache.proofs.Fewer.{Fewer, fewer_same, fewer_none, fewer_more, fewer_without, fewer_filter}
 
 abbrev with' : Entry → Cache → Cache

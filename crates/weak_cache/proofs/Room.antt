@@ -4,7 +4,7 @@ use Rattle.std.specs.Prelude.{Result, Ok, Err, is_some, OnOk, OnErr}
 use Rattle.std.specs.List.{position_from}
 use Rattle.weak_cache.specs.Entries.{Cache, is_of, entry_of, without}
 use Rattle.weak_cache.specs.Cache.{within_quota, within_budget}
-use Rattle.weak_cache.specs.Beside.{stays}
+use Rattle.weak_cache.specs.code.Beside.{stays}
 use Rattle.weak_cache.proofs.Fewer.{fewer_filter, fewer_then, length_fewer}
 use Rattle.weak_cache.proofs.Keeping.{quota_fewer, budget_fewer, budget_sum}
 

@@ -18,8 +18,8 @@ abbrev pub Cache : Type 0
 Cache = List Entry
 
 -- how many sites an agent has at most
-abbrev pub most_sites : ℕ
-most_sites = 16
+abbrev pub max_sites : ℕ
+max_sites = 16
 
 -- ---- sizes
 

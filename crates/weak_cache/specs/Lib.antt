@@ -1,14 +1,9 @@
 pub mod Entries
 pub mod Cache
-pub mod EntryView
-pub mod CacheView
 pub mod NewEntry
 pub mod Loans
-pub mod Places
 pub mod Calls
 pub mod Laws
 pub mod LettingGo
 pub mod SiteLists
-pub mod Beside
-pub mod Buckets
-pub mod Counts
+pub mod code

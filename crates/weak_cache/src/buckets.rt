@@ -1,7 +1,7 @@
 //! How many entries have keys of each hash, so that most keys that are not there are told without a search.
 
 ghost use Rattle.std.specs.Prelude.{◌≡◌, ◌≤◌, ◌<◌, ◌+◌, ◌^◌, IfOk, replicate, length, slice_index};
-ghost use Rattle.weak_cache.specs.Buckets.{bucket_of, hash_of, with_one_less, with_one_more};
+ghost use Rattle.weak_cache.specs.code.Buckets.{bucket_of, hash_of, with_one_less, with_one_more};
 
 use std::alloc::{AllocError, Global};
 use std::marker::Model;
@@ -10,7 +10,7 @@ use std::marker::Model;
 const BUCKETS_A_SLOT: usize = 8;
 
 /// The most buckets.
-const MOST_BUCKETS: usize = 65_536;
+const MAX_BUCKETS: usize = 65_536;
 
 /// How many entries fall into each bucket of keys.
 #[derive(Drop)]
@@ -34,10 +34,7 @@ impl Buckets {
         ensures none { IfOk result (λ buckets. buckets ≡ replicate (length buckets) 0) }
         ensures some { IfOk result (λ buckets. 0 < length buckets) }
     {
-        let many = slots
-            .saturating_mul(BUCKETS_A_SLOT)
-            .min(MOST_BUCKETS)
-            .max(1);
+        let many = slots.saturating_mul(BUCKETS_A_SLOT).min(MAX_BUCKETS).max(1);
         let counts = vec![in alloc; 0; many]?;
         Ok(Buckets { counts })
     }

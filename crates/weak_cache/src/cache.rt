@@ -38,7 +38,7 @@ pub struct NewEntry<'a> {
 
 impl Model for WeakCache {
     ghost use Rattle.weak_cache.specs.Cache.{Limited, IsWithin};
-    ghost use Rattle.weak_cache.specs.CacheView.{limited_in};
+    ghost use Rattle.weak_cache.specs.code.CacheView.{limited_in};
 
     ghost Value = { Limited };
 
@@ -49,7 +49,7 @@ impl Model for WeakCache {
 
 impl WeakCache {
     ghost use Rattle.weak_cache.specs.Cache.{IsWithin, hint, has_room, put, searched, content_at};
-    ghost use Rattle.weak_cache.specs.Entries.{size_of, keys_of, forgotten, entry_of, most_sites};
+    ghost use Rattle.weak_cache.specs.Entries.{size_of, keys_of, forgotten, entry_of, max_sites};
     ghost use Rattle.weak_cache.specs.Loans.{EndsWith};
 
     /// A cache without entries. All sites together may keep as many bytes as the budget says, each site
@@ -164,7 +164,7 @@ impl WeakCache {
         dver: u64,
         content: Content,
     ) -> Result<(), AllocError>
-        requires { site < most_sites }
+        requires { site < max_sites }
         ensures ok { OnOk result (self.new ≡ record self.old { entries = put self.old.limits (record { site = site; suite = suite; prefix = prefix; dver = dver; content = content }) self.old.entries }) }
         ensures err { OnErr result (self.new ≡ self.old) }
         ensures too_large { has_room self.old.limits content ≡ false → IsOk result }

@@ -31,7 +31,7 @@ pub(crate) struct SizedEntry {
 impl Model for SizedEntry {
     ghost use Rattle.std.specs.Prelude.{◌≡◌};
     ghost use Rattle.weak_cache.specs.Entries.{Entry, size_of};
-    ghost use Rattle.weak_cache.specs.EntryView.{entry_in};
+    ghost use Rattle.weak_cache.specs.code.EntryView.{entry_in};
 
     ghost Value = { Entry };
 

@@ -6,9 +6,9 @@ ghost use Rattle.std.specs.Option.{option_copied};
 ghost use Rattle.std.specs.VecDeque.{deque_len, deque_capacity};
 ghost use Rattle.weak_cache.specs.Entries.{Entry, Cache, is_of, size_of, sum_of, list_of, forgotten, entry_of, without, keys_of};
 ghost use Rattle.weak_cache.specs.Cache.{content_at, within_quota, within_budget};
-ghost use Rattle.weak_cache.specs.Beside.{room_after, stays};
-ghost use Rattle.weak_cache.specs.Counts.{IsTally};
-ghost use Rattle.weak_cache.specs.Places.{IsPlaceOf, IsLastOf};
+ghost use Rattle.weak_cache.specs.code.Beside.{room_after, stays};
+ghost use Rattle.weak_cache.specs.code.Counts.{IsTally};
+ghost use Rattle.weak_cache.specs.code.Places.{IsPlaceOf, IsLastOf};
 
 use crate::entry::SizedEntry;
 use crate::tally::Tally;
@@ -74,7 +74,7 @@ pub(crate) struct EntryList {
 }
 
 impl Model for EntryList {
-    ghost use Rattle.weak_cache.specs.Counts.{IsTally};
+    ghost use Rattle.weak_cache.specs.code.Counts.{IsTally};
     ghost use Rattle.weak_cache.specs.Entries.{Cache};
 
     ghost Value = { Cache };

@@ -3,7 +3,7 @@
 ghost use Rattle.std.specs.Prelude.{◌≡◌, ◌+◌, ◌<◌, ◌^◌, ◌++◌, ◌∷◌, [], None, IfOk, IsTrue, length};
 ghost use Rattle.std.specs.List.{position_from};
 ghost use Rattle.weak_cache.specs.Entries.{Cache, Entry, entry_of, is_of, list_of, sum_of};
-ghost use Rattle.weak_cache.specs.Counts.{Counts, IsEntry, IsTally};
+ghost use Rattle.weak_cache.specs.code.Counts.{Counts, IsEntry, IsTally};
 
 use crate::buckets::Buckets;
 use std::alloc::{AllocError, Global};

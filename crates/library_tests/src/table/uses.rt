@@ -1,7 +1,7 @@
 //! Callers that are proved against the contracts: what `==` tells.
 
 ghost use Rattle.std.specs.Prelude.{◌≡◌, ◌↔◌, IsTrue};
-ghost use Rattle.file_ops.specs.RefusalEquality.{same_refusal, same_item};
+ghost use Rattle.file_ops.specs.code.RefusalEquality.{same_refusal, same_item};
 
 use file_ops::{Answer, Answers, AuditItem, Refusal};
 

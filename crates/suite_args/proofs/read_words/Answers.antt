@@ -4,7 +4,7 @@ use Rattle.clap.specs.Lexer.{usize_max}
 use Rattle.clap.specs.Words.{App, HasKind, Row, Text, fault_of, is_simple, is_simple_and_free, kind_of, subcommand_of, subcommand_rows_of}
 use Rattle.suite_args.specs.Answering.{Answers, asked_in}
 use Rattle.suite_args.specs.CommandLine.{asked_by}
-use Rattle.suite_args.specs.Commands.{suites}
+use Rattle.suite_args.specs.code.Commands.{suites}
 use Rattle.suite_args.proofs.Verdicts.{failed, parsed}
 use Rattle.suite_args.proofs.WholeLines.{lines_meet}
 use Rattle.suite_args.proofs.read_words.Goals as goal

@@ -1,5 +1,5 @@
 use Rattle.std.proofs.Common.{take}
-use Rattle.acl_text.specs.Grammar.{IsReadOf}
+use Rattle.acl_text.specs.code.Reading.{IsReadOf}
 use Rattle.acl_text.proofs.item.permissions.Given as goal
 
 -- the letters of the bytes so far

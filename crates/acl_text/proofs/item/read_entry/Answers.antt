@@ -6,7 +6,8 @@ use Rattle.acl_core.specs.Permissions.{digit_of}
 use Rattle.acl_core.specs.declared.entry.Entry.{Entry}
 use Rattle.acl_core.specs.declared.entry.Tag.{Tag}
 use Rattle.acl_text.specs.declared.item.ItemFault.{ItemFault}
-use Rattle.acl_text.specs.Grammar.{IsReadOf, are_permissions, entry_reading}
+use Rattle.acl_text.specs.Grammar.{are_permissions, entry_reading}
+use Rattle.acl_text.specs.code.Reading.{IsReadOf}
 use Rattle.acl_text.proofs.Granting.{entry_by}
 use Rattle.acl_text.proofs.item.read_entry.Goals as goal
 

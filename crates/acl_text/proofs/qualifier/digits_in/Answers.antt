@@ -3,7 +3,7 @@ use Rattle.std.specs.Char.{is_ascii_digit}
 use Rattle.std.proofs.lemmas.Bool.{and_from}
 use Rattle.std.proofs.lemmas.Grind.{common_steps}
 use Rattle.std.proofs.lemmas.List.Folds.{list_all_more}
-use Rattle.acl_text.specs.Qualifiers.{most_id}
+use Rattle.acl_text.specs.Qualifiers.{max_id}
 use Rattle.acl_text.proofs.Numbers.{number_more, too_big}
 use Rattle.acl_text.proofs.qualifier.digits_in.Goals as goal
 
@@ -14,7 +14,7 @@ unfit-requires c =
     let inside : i < length bytes = omega arith in
     let digit : is_ascii_digit (get_or bytes i 0) ≡ true = first_of (search rules, grind (arith, common_steps)) in
     let more = number_more bytes i digit inside in
-    let big : most_id < c.loop-byte.number * 10 + (get_or bytes i 0 - 48) = omega (arith, c.in_default.ensures) in
+    let big : max_id < c.loop-byte.number * 10 + (get_or bytes i 0 - 48) = omega (arith, c.in_default.ensures) in
     too_big bytes (i + 1) (c.loop-byte.number * 10 + (get_or bytes i 0 - 48)) (ap (λ n. n * 10 + (get_or bytes i 0 - 48)) c.loop-byte.invariant.number ∙ sym more) big
 
 pub loop-byte-preserved : goal.loop-byte-preserved

@@ -3,7 +3,7 @@ use Rattle.std.specs.List.{filter_map}
 use Rattle.acl_core.specs.declared.entry.Entry.{Entry}
 use Rattle.acl_core.specs.Tallies.{IsTallyOf}
 use Rattle.acl_text.specs.Grammar.{reading}
-use Rattle.acl_text.specs.Remaining.{items_left}
+use Rattle.acl_text.specs.code.Remaining.{items_left}
 use Rattle.acl_text.specs.Texts.{readings, first_item_fault, entry_said}
 use Rattle.acl_text.proofs.read.read_acl.Given as goal
 

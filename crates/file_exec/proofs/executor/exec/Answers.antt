@@ -1,4 +1,4 @@
-use Rattle.std.proofs.Common.{◌≡◌, ℕ, ◌+◌, ◌<◌, true, List, [], ◌∷◌, length, get_or, drop, arith, sym, ap, subst, ◌∙◌}
+use Rattle.std.proofs.Common.{◌≡◌, ℕ, ◌+◌, ◌<◌, List, ◌∷◌, length, get_or, drop, arith, sym, ap, subst, ◌∙◌}
 use Rattle.std.specs.Prelude.{Result, Ok, Err, IfOk, OnErr}
 use Rattle.std.proofs.lemmas.List.{drop_more, at_drop_all}
 use Rattle.acl_core.specs.Identity.{Identity}
@@ -29,7 +29,7 @@ returns-in-Err-clause-first c =
 pub returns-in-Err-clause-answer : goal.returns-in-Err-clause-answer
 returns-in-Err-clause-answer c =
     let known = c.args.known.now in
-    let all = exec_plays known.suites known.service c.args.t c.args.caller.now c.args.ops.now (well_counted c.args.ops.now c.if-is_empty.ensures c.if-ops-gt-MOST_OPERATIONS.false) in
+    let all = exec_plays known.suites known.service c.args.t c.args.caller.now c.args.ops.now (well_counted c.args.ops.now c.if-is_empty.ensures c.if-ops-gt-MAX_OPERATIONS.false) in
     let now = left known.suites known.service c.args.t c.args.caller.now c.loop-op.log c.loop-op.answers.items c.loop-op.at c.args.ops.now c.loop-op.op-index c.op-item.result c.loop-op-test.true c.op-item.is in
     subst (λ heard. IfOk c.end.result (λ outcome. outcome ≡ answered known.suites heard)) (sym now ∙ c.loop-op.invariant.done ∙ sym all)
     (one_ends known.suites known.service c.args.t c.args.caller.now c.loop-op.log c.operate.new.log c.loop-op.answers.items c.loop-op.at c.op-item.result (drop (c.loop-op.op-index + 1) c.args.ops.now) c.in-Err.stop c.end.result c.in-Err.ensures c.end.ensures)
@@ -59,7 +59,7 @@ loop-op-preserved c =
 pub returns-clause-answer : goal.returns-clause-answer
 returns-clause-answer c =
     let known = c.args.known.now in
-    let all = exec_plays known.suites known.service c.args.t c.args.caller.now c.args.ops.now (well_counted c.args.ops.now c.if-is_empty.ensures c.if-ops-gt-MOST_OPERATIONS.false) in
+    let all = exec_plays known.suites known.service c.args.t c.args.caller.now c.args.ops.now (well_counted c.args.ops.now c.if-is_empty.ensures c.if-ops-gt-MAX_OPERATIONS.false) in
     let gone = all ∙ sym c.loop-op.invariant.done
     ∙ at_drop_all (λ left. run known.suites c.loop-op.log (play known.service c.loop-op.answers.items c.args.t c.loop-op.at c.args.caller.now left)) c.args.ops.now c.loop-op.op-index c.loop-op-test.false in
     ap (λ answers. outcome.Done answers c.in_ok-changes.changes) c.in_ok-answers.ensures

@@ -10,23 +10,24 @@ use Rattle.file_ops.specs.Paths.{is_slash, is_name}
 use Rattle.file_ops.proofs.PathFacts.{too_many, all_names, not_all, no_name, test_name, one_more, some_part, set_further}
 use Rattle.file_ops.proofs.path.collect.Goals as goal
 
-pub returns-then-count-eq-MOST_PATH_NAMES : goal.returns-then-count-eq-MOST_PATH_NAMES
-returns-then-count-eq-MOST_PATH_NAMES c =
+pub returns-then-count-eq-MAX_PATH_NAMES : goal.returns-then-count-eq-MAX_PATH_NAMES
+returns-then-count-eq-MAX_PATH_NAMES c =
     let turn = YieldsList-turn (YieldsList-from_slice_split _ is_slash c.args.text.now (cc) (cc) (cc) (λ x b q k. search (rules, tests))) c.loop-part.yielded _ c.loop-part.yielded_by _ _ c.in-Some.part c.in-Some.is c.next.ensures.steps in
-    sym (too_many (slice_split is_slash c.args.text.now) (omega (arith, turn.0)))
+    record { names = sym (too_many (slice_split is_slash c.args.text.now) (omega (arith, turn.0))); count = tt }
 
 pub returns-in_err-array : goal.returns-in_err-array
 returns-in_err-array c =
     let parts = slice_split is_slash c.args.text.now in
     let turn = YieldsList-turn (YieldsList-from_slice_split _ is_slash c.args.text.now (cc) (cc) (cc) (λ x b q k. search (rules, tests))) c.loop-part.yielded _ c.loop-part.yielded_by _ _ c.in-Some.part c.in-Some.is c.next.ensures.steps in
-    c.from_residual.ensures ∙ sym (not_all parts (list_all_at is_name parts (length c.loop-part.yielded) c.in-Some.part.now turn.0 (ap is_name (sym turn.1) ∙ no_name c.in-Some.part.now (λ name. false≢true (c.in_err-array.ensures.is_name.1 name)))))
+    let bad = not_all parts (list_all_at is_name parts (length c.loop-part.yielded) c.in-Some.part.now turn.0 (ap is_name (sym turn.1) ∙ no_name c.in-Some.part.now (λ name. false≢true (c.in_err-array.ensures.is_name.1 name)))) in
+    rw c.from_residual.ensures (record { names = sym bad; count = tt })
 
 pub returns : goal.returns
 returns c =
     let parts = slice_split is_slash c.args.text.now in
     let end = YieldsList-end (YieldsList-from_slice_split _ is_slash c.args.text.now (cc) (cc) (cc) (λ x b q k. search (rules, tests))) c.loop-part.yielded _ c.loop-part.yielded_by _ _ c.in-None.is c.next.ensures.steps in
     let names : list_all is_name parts ≡ true = ap (list_all is_name) (sym end.0) ∙ c.loop-part.invariant.5 in
-    ap Some (c.loop-part.invariant.4 ∙ end.0) ∙ sym (all_names parts (some_part c.args.text.now) (omega (arith, end.1)) names)
+    record { names = ap Some (c.loop-part.invariant.4 ∙ end.0) ∙ sym (all_names parts (some_part c.args.text.now) (omega (arith, end.1)) names); count = c.loop-part.invariant.3 }
 
 pub loop-part-preserved : goal.loop-part-preserved
 loop-part-preserved c =

@@ -1,5 +1,5 @@
 use Rattle.std.proofs.Common.{◌≡◌, drop}
-use Rattle.file_ops.specs.Stored.{plain}
+use Rattle.file_ops.specs.code.Stored.{plain}
 use Rattle.file_ops.specs.Rows.{root}
 use Rattle.file_ops.specs.Walks.{walk}
 use Rattle.file_ops.proofs.walk.walk.Given as goal

@@ -1,4 +1,5 @@
 use Rattle.std.proofs.Common.{ap, Err}
+use Rattle.std.proofs.lemmas.Result.{IfOk-weaker}
 use Rattle.run_core.proofs.Exchanging.{reply_fits_seat, served_exchange, full_exchange}
 use Rattle.run_core.proofs.Wanting.{held, request_wants}
 use Rattle.run_core.proofs.exchange.exchange.Goals as goal
@@ -15,9 +16,10 @@ pub returns-in-Err-clause-ok : goal.returns-in-Err-clause-ok
 returns-in-Err-clause-ok c =
     let same = c.in_ok-clone.ensures in
     let told = c.in-Err.ensures in
-    let left = c.in_ok-done-in-Err.ensures in
-    full_exchange _ _ _ c.serve_then-told.new.taker _ _ _ c.stamp-stamp.result _ c.in_ok-clone.field-0 c.in-Err.lack _
-    same.ok c.stamp-stamp.ensures (λ is. told.full.0 (ap Err is)) told.err told.taker left.ok
+    IfOk-weaker c.unserved.result _ _
+    (λ done left. full_exchange _ _ _ c.serve_then-told.new.taker _ _ _ c.stamp-stamp.result _ c.in_ok-clone.field-0 c.in-Err.lack done
+    same.ok c.stamp-stamp.ensures (λ is. told.full.0 (ap Err is)) told.err told.taker left)
+    c.unserved.ensures.ok
 
 pub returns-clause-ok : goal.returns-clause-ok
 returns-clause-ok c =

@@ -1,6 +1,7 @@
 use Rattle.std.proofs.Common.{refl, sym, ◌∙◌, vec_len}
 use Rattle.std.proofs.lemmas.Option.{slice_get_read}
-use Rattle.run_core.specs.Seats.{world_of}
+use Rattle.std.proofs.lemmas.Result.{IfOk-weaker, IfErr-weaker}
+use Rattle.run_core.specs.code.Seats.{world_of}
 use Rattle.run_core.proofs.Moving.{ask_nothing, ask_nowhere, ask_there}
 use Rattle.run_core.proofs.Operating.{none_there}
 use Rattle.run_core.proofs.Wanting.{held, steps_there, asking_wants, exchange_wants}
@@ -36,10 +37,11 @@ returns-clause-ok c =
     let host_item = c.in-Some-get_mut.ensures.item in
     let host_found = slice_get_read _ _ _ _ refl host_item.3.0 host_item.1 in
     let host_there = rw c.from-2.ensures at host_found in
-    let left = c.in_ok-done.ensures in
-    λ fixed all. rw (c.from.ensures, c.from-2.ensures)
-    (ask_there fixed c.args.servers.now.items c.args.seats.now.items c.args.number c.in-Some-2.asked.0 c.in-Some.seat.now c.exchange.new.seat c.in-Some-get_mut.host.now c.exchange.new.host c.in-Some-2.asked.1 c.in_ok-done.done
-    all there (sym next ∙ c.in-Some-2.is) host_there left.ok)
+    IfOk-weaker c.exchange.result _ _
+    (λ done left fixed all. rw (c.from.ensures, c.from-2.ensures)
+    (ask_there fixed c.args.servers.now.items c.args.seats.now.items c.args.number c.in-Some-2.asked.0 c.in-Some.seat.now c.exchange.new.seat c.in-Some-get_mut.host.now c.exchange.new.host c.in-Some-2.asked.1 done
+    all there (sym next ∙ c.in-Some-2.is) host_there left))
+    c.exchange.ensures.ok
 
 pub returns-in_err-asked-clause-memory : goal.returns-in_err-asked-clause-memory
 returns-in_err-asked-clause-memory c =
@@ -49,8 +51,8 @@ returns-in_err-asked-clause-memory c =
     held c.from_residual.result
     (λ fixed all. (steps_there fixed c.args.servers.now.items c.args.seats.now.items c.args.number c.in-Some.seat.now _ all there refl (asking_wants (world_of c.args.servers.now.items c.args.seats.now.items) c.in-Some.seat.now.actor _ c.in_err-asked.ensures.memory)))
 
-pub returns-in_err-done-clause-memory : goal.returns-in_err-done-clause-memory
-returns-in_err-done-clause-memory c =
+pub returns-clause-memory : goal.returns-clause-memory
+returns-clause-memory c =
     let item = c.in-Some.ensures.item in
     let found = slice_get_read _ _ _ _ refl item.3.0 item.1 in
     let there = rw c.from.ensures at found in
@@ -58,5 +60,6 @@ returns-in_err-done-clause-memory c =
     let host_item = c.in-Some-get_mut.ensures.item in
     let host_found = slice_get_read _ _ _ _ refl host_item.3.0 host_item.1 in
     let host_there = rw c.from-2.ensures at host_found in
-    held c.from_residual-in_err-done.result
-    (λ fixed all. (steps_there fixed c.args.servers.now.items c.args.seats.now.items c.args.number c.in-Some.seat.now _ all there (sym next ∙ c.in-Some-2.is) (exchange_wants c.args.servers.now.items c.args.seats.now.items c.in-Some.seat.now.actor c.in-Some-2.asked.0 c.in-Some-2.asked.1 c.in-Some-get_mut.host.now host_there c.in_err-done.ensures.memory)))
+    IfErr-weaker c.exchange.result _ _
+    (λ _ wants fixed all. steps_there fixed c.args.servers.now.items c.args.seats.now.items c.args.number c.in-Some.seat.now _ all there (sym next ∙ c.in-Some-2.is) (exchange_wants c.args.servers.now.items c.args.seats.now.items c.in-Some.seat.now.actor c.in-Some-2.asked.0 c.in-Some-2.asked.1 c.in-Some-get_mut.host.now host_there wants))
+    c.exchange.ensures.memory

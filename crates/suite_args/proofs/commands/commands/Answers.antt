@@ -1,7 +1,7 @@
 use Rattle.std.proofs.Common.{◌≡◌, ◌∙◌, ap, ap₂, rules}
 use Rattle.std.proofs.lemmas.Result.{IfOk-weaker}
 use Rattle.clap.specs.Words.{App, app_of, with_subcommand}
-use Rattle.suite_args.specs.Commands.{acl_command, no_commands, script_command}
+use Rattle.suite_args.specs.code.Commands.{acl_command, no_commands, script_command}
 use Rattle.suite_args.specs.declared.script.Script.TheVariants.{Table}
 use Rattle.suite_args.proofs.commands.commands.Goals as goal
 

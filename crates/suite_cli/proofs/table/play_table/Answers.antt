@@ -1,7 +1,7 @@
 use Rattle.std.proofs.Common.{◌∙◌, subst}
 use Rattle.suite_cli.proofs.Playing.{same_after}
 use Rattle.suite_cli.specs.Outputs.{table_output}
-use Rattle.suite_cli.specs.Playing.{in_all}
+use Rattle.suite_cli.specs.code.Playing.{in_all}
 use Rattle.suite_script.proofs.Gathering.{failed, stops}
 use Rattle.suite_script.specs.Outputs.{Output, StopsWith}
 use Rattle.suite_script.specs.Readings.{play_error_of}

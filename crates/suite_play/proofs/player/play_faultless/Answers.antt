@@ -1,17 +1,14 @@
 use Rattle.std.proofs.Common.{◌≡◌, ◌∙◌, ◌++◌, ap, refl, sym}
 use Rattle.suite_play.specs.Headers.{header}
-use Rattle.suite_play.specs.Outputs.{language, lines_of, play_output}
+use Rattle.suite_play.specs.Outputs.{lines_of, play_output}
 use Rattle.txn_core.specs.Agents.{fixed_of}
 use Rattle.suite_play.specs.Playing.{all_lines, played}
-use Rattle.suite_play.proofs.Lines.{commands}
-use Rattle.suite_play.proofs.Promised.{begins, ends_promised, of_run, plays_on}
-use Rattle.suite_play.specs.Promised.{PlayIsPromised}
-use Rattle.headline.proofs.Promised.{opens}
-use Rattle.run_core.specs.Opened.{Opened}
-use Rattle.run_core.specs.Worlds.{opening}
+use Rattle.suite_play.proofs.KeptLines.{kept_output}
+use Rattle.suite_play.proofs.Lines.{commands, kept_language}
+use Rattle.suite_play.proofs.Promised.{play_promised}
 use Rattle.suite_script.proofs.Gathering.{broke_off, failed, prints_on, unwritten, wrote_all, wrote_line, wrote_moved, wrote_nothing, wrote_rest}
 use Rattle.suite_script.proofs.Playing.{left_lines, more_lines, more_ok, opened_lines, opened_ok}
-use Rattle.suite_script.specs.Outputs.{text_of}
+use Rattle.suite_script.specs.Outputs.{is_done, text_of}
 use Rattle.suite_script.specs.declared.play_error.PlayError.TheVariants.{Memory}
 use Rattle.suite_script.specs.Scripts.{owns, whole, with_own}
 use Rattle.suite_play.proofs.player.play_faultless.Goals as goal
@@ -21,13 +18,12 @@ loop-command-init g c =
     let given = header (whole c.args.text.now) in
     let read = ap header (sym c.new-script.ensures.whole) ∙ c.in-Ok.ensures in
     let rest = c.read_header.new.script in
-    let opened : Opened = record { given = c.in-Ok.settings; world = opening c.in-Ok.settings } in
-    let so = begins c.args.text.now opened rest read (opens opened c.fits.ensures.accepted c.fits.ensures.root.votes refl) in
-    let lines = opened_lines language lines_of given c.in-Ok.settings rest read c.requires.faultless in
+    let same = kept_output given in
+    let faultless = ap is_done same ∙ c.requires.faultless in
+    let lines = sym (ap text_of same) ∙ opened_lines kept_language lines_of given c.in-Ok.settings rest read faultless in
     record {
-      faultless = rw c.places_of-places.ensures (opened_ok language lines_of given c.in-Ok.settings rest read c.requires.faultless);
+      faultless = rw c.places_of-places.ensures (opened_ok kept_language lines_of given c.in-Ok.settings rest read faultless);
       written = rw (c.new-gathered.ensures.items, c.in_ok-world.ensures, c.places_of-places.ensures, ← lines) (wrote_nothing (g.O.ByteOut.written c.args.writer.now) (text_of (play_output c.args.text.now)));
-      played = rw (c.in_ok-world.ensures, c.places_of-places.ensures) so;
       failures = refl;
     }
 
@@ -50,17 +46,13 @@ loop-command-preserved g c =
           rw c.in_ok-play_command.ensures.world (wrote_moved (g.O.ByteOut.written c.args.writer.now) (g.O.ByteOut.written c.loop-command.writer) (g.O.ByteOut.written c.play_command.new.writer) all
           (c.loop-command.gathered.items ++ printed.text) c.play_command.new.text.items (left_lines (all_lines fixed printed.world) after)
           lined c.in_ok-play_command.ensures.printed.0);
-      played = plays_on c.args.text.now before after c.loop-command.world c.play_command.new.world command c.loop-command.invariant.played given c.command_is_valid.ensures c.in_ok-play_command.ensures.world;
       failures = c.in_ok-play_command.ensures.printed.1 ∙ c.loop-command.invariant.failures;
     }
 
-pub promise-requires : goal.promise-requires
-promise-requires g c = of_run c.args.text.now (owns (commands c.places_of-places.result) c.loop-command.script) c.loop-command.world c.loop-command.invariant.played
-
 pub returns-clause-promised : goal.returns-clause-promised
 returns-clause-promised g c =
-    let none = rw c.in-Ok-None.field-0-is at c.in-Ok-None.ensures.own in
-    ends_promised c.args.text.now (owns (commands c.places_of-places.result) c.loop-command.script) c.loop-command.world c.loop-command.invariant.played none c.promise.ensures
+    let read = ap header (sym c.new-script.ensures.whole) ∙ c.in-Ok.ensures in
+    play_promised c.args.text.now c.in-Ok.settings c.read_header.new.script read c.fits.ensures.accepted c.fits.ensures.root.votes
 
 pub returns-clause-plays : goal.returns-clause-plays
 returns-clause-plays g c =

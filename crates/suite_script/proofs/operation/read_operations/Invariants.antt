@@ -1,13 +1,14 @@
 use Rattle.std.proofs.Common.{◌≡◌, ◌+◌, ◌≤◌, ◌∷◌, length, vec_len}
 use Rattle.file_ops.specs.Steps.{ok_map}
-use Rattle.file_ops.specs.Transactions.{most_operations}
-use Rattle.suite_script.specs.Operations.{kept, operations_in}
+use Rattle.file_ops.specs.Transactions.{max_operations}
+use Rattle.suite_script.specs.Operations.{operations_in}
+use Rattle.suite_script.specs.code.Kept.{kept}
 use Rattle.suite_script.proofs.Steps.{ops_after}
 use Rattle.suite_script.proofs.operation.read_operations.Given as goal
 
 abbrev pub invariant-loop-ops : goal.invariant-loop-ops
 invariant-loop-ops l = record {
-  few : vec_len l.ops ≤ most_operations + 1;
+  few : vec_len l.ops ≤ max_operations + 1;
   same :
       ok_map kept (ops_after l.ops.items (operations_in l.names (l.phrases.here ∷ l.phrases.later)))
       ≡ ok_map kept (operations_in l.names (l.initial.phrases.here ∷ l.initial.phrases.later));

@@ -1,5 +1,5 @@
 use Rattle.std.proofs.Common.{◌≡◌, length}
-use Rattle.weak_cache.specs.Counts.{IsTally}
+use Rattle.weak_cache.specs.code.Counts.{IsTally}
 use Rattle.weak_cache.specs.Entries.{forgotten}
 use Rattle.weak_cache.proofs.list.forget.Given as goal
 

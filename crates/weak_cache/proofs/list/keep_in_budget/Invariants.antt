@@ -1,6 +1,6 @@
 use Rattle.std.proofs.Common.{◌≡◌, length}
 use Rattle.std.specs.VecDeque.{deque_capacity}
-use Rattle.weak_cache.specs.Counts.{IsTally}
+use Rattle.weak_cache.specs.code.Counts.{IsTally}
 use Rattle.weak_cache.specs.Cache.{within_budget}
 use Rattle.weak_cache.proofs.list.keep_in_budget.Given as goal
 

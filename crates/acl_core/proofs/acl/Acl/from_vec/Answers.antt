@@ -4,7 +4,7 @@ use Rattle.acl_core.specs.declared.entry.Entry.{Entry}
 use Rattle.acl_core.specs.declared.fault.AclError.{AclError}
 use Rattle.acl_core.specs.declared.fault.AclError.TheVariants.{Memory}
 use Rattle.acl_core.specs.AccessLists.{first_fault, fault_in}
-use Rattle.acl_core.specs.Sorted.{IsSortedCopy}
+use Rattle.acl_core.specs.code.Sorted.{IsSortedCopy}
 use Rattle.acl_core.proofs.Faults.{accepted_iff, accepted_without_fault, each_apart}
 use Rattle.acl_core.proofs.OneOrder.{in_order-sorted}
 use Rattle.acl_core.proofs.Sorting.{sorted_acl}

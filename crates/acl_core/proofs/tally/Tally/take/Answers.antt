@@ -4,7 +4,7 @@ use Rattle.std.proofs.lemmas.Bool.{lt-ltb, le-ltb}
 use Rattle.std.proofs.lemmas.Bool.Decides.{nat_tests}
 use Rattle.acl_core.specs.declared.entry.Entry.{Entry}
 use Rattle.acl_core.specs.Tallies.{IsTallyOf, IsWhole, Tallied}
-use Rattle.acl_core.specs.TallyFields.{tallied}
+use Rattle.acl_core.specs.code.TallyFields.{tallied}
 use Rattle.acl_core.proofs.Tallying.{counted_as, counted_kept, kept_with, tallied_with, tally_more, whole_more}
 use Rattle.acl_core.proofs.tally.Tally.take.Goals as goal
 use Rattle.acl_core.proofs.tally.Tally.take.Goals.{then-is_kept+in_ok-reserve, else-is_kept, in-UserObj, in-User+in_ok-push-in-User, in-GroupObj, in-Group+in_ok-push-in-Group, in-Mask, in-Other}

@@ -2,7 +2,7 @@ use Rattle.std.proofs.Common.{◌≡◌, refl, sym, ap, ◌∙◌}
 use Rattle.acl_core.specs.Identity.{Identity}
 use Rattle.acl_core.specs.declared.perms.Perms.{Perms}
 use Rattle.file_ops.specs.Walks.{Place, permit, to_change}
-use Rattle.file_exec.specs.Overlay.{seen_place}
+use Rattle.file_exec.specs.code.Overlay.{seen_place}
 use Rattle.file_exec.proofs.Steps.{goes, stops, ruled, overruled}
 use Rattle.file_exec.proofs.view.View.parent_of.Goals as goal
 

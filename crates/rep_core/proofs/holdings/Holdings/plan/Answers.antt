@@ -1,4 +1,4 @@
-use Rattle.rep_core.specs.ServerFields.{state_of}
+use Rattle.rep_core.specs.code.ServerFields.{state_of}
 use Rattle.rep_core.proofs.FittingReplies.{reply_fits}
 use Rattle.rep_core.proofs.holdings.Holdings.plan.Goals as goal
 

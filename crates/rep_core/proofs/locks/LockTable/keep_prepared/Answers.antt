@@ -1,6 +1,6 @@
 use Rattle.std.proofs.Common.{rules, ◌≡◌, ap, ◌∙◌}
 use Rattle.std.proofs.lemmas.Fn.{filter_same}
-use Rattle.rep_core.specs.Holding.{Locking}
+use Rattle.rep_core.specs.code.Holding.{Locking}
 use Rattle.rep_core.specs.Locks.{rise, prepared_locks}
 use Rattle.rep_core.proofs.Rising.{rise_filter}
 use Rattle.rep_core.proofs.locks.LockTable.keep_prepared.Goals as goal

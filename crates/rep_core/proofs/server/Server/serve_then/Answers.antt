@@ -2,9 +2,9 @@ use Rattle.std.proofs.Common.{Ok, Err, refl, ap, subst, ◌∙◌}
 use Rattle.std.specs.Prelude.{Result, OnErr}
 use Rattle.rep_core.specs.declared.reply.Reply.{Reply}
 use Rattle.rep_core.specs.declared.stamped.Stamped.{Stamped}
-use Rattle.rep_core.specs.Changing.{taken_back}
+use Rattle.rep_core.specs.code.Changing.{taken_back}
 use Rattle.rep_core.specs.Given.{Gives}
-use Rattle.rep_core.specs.ServerFields.{state_of}
+use Rattle.rep_core.specs.code.ServerFields.{state_of}
 use Rattle.rep_core.specs.Serving.{answer_of}
 use Rattle.rep_core.specs.State.{State}
 use Rattle.rep_core.proofs.Changes.{taken_back-begun}

@@ -1,6 +1,6 @@
 use Rattle.std.proofs.Common.{◌≡◌, true, false, arith}
 use Rattle.rep_core.specs.Store.{Store, finished}
-use Rattle.rep_core.specs.StoreFields.{store_of}
+use Rattle.rep_core.specs.code.StoreFields.{store_of}
 use Rattle.rep_core.proofs.Soundness.{sound_once_answered, sound_once_dropped}
 use Rattle.rep_core.proofs.store.Store.finish.Goals as goal
 

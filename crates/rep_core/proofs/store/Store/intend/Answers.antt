@@ -1,8 +1,8 @@
 use Rattle.std.proofs.Common.{◌≡◌, true, false, ap, subst, sym, arith}
 use Rattle.std.specs.List.{list_all}
-use Rattle.rep_core.specs.Holding.{Storing}
+use Rattle.rep_core.specs.code.Holding.{Storing}
 use Rattle.rep_core.specs.Store.{Store, intended, is_sound_part, overfills}
-use Rattle.rep_core.specs.StoreFields.{store_of}
+use Rattle.rep_core.specs.code.StoreFields.{store_of}
 use Rattle.rep_core.proofs.Soundness.{sound_once_intended}
 use Rattle.rep_core.proofs.store.Store.intend.Goals as goal
 

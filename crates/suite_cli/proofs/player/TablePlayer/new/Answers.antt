@@ -1,4 +1,5 @@
 use Rattle.std.proofs.Common.{◌≡◌, ◌∙◌, Result, Err, ap, codes, subst, sym}
+use Rattle.suite_cli.proofs.KeptJobs.{kept_language, kept_output}
 use Rattle.suite_cli.specs.Outputs.{lines_of}
 use Rattle.suite_cli.specs.Scripts.{is_known, language}
 use Rattle.suite_script.proofs.Gathering.{failed}
@@ -15,7 +16,7 @@ returns-clause-same c =
     let given = headed is_known (codes "root") root_in (whole c.args.text.now) in
     let read = ap (headed is_known (codes "root") root_in) (sym c.new-script.ensures.whole) ∙ c.in_ok-root.ensures.root in
     rw (c.new.ensures.items, c.in_ok-table.ensures, c.settings_of.ensures)
-    (sym (opened_output language lines_of given c.in_ok-root.root c.read_root.new.script read))
+    (sym (opened_output kept_language lines_of given c.in_ok-root.root c.read_root.new.script read) ∙ kept_output given)
 
 -- the header that was read is the script's
 heads_of : (error : ScriptError) (after : Pending) (before given : Result (Headed Root) ScriptFault) → before ≡ given → Heads {A = Root} (Err error) after before → Heads {A = Root} (Err error) after given

@@ -1,5 +1,5 @@
 use Rattle.std.proofs.Common.{◌≡◌, ◌≤◌, length}
-use Rattle.suite_cli.specs.Playing.{HasNumbers, in_all}
+use Rattle.suite_cli.specs.code.Playing.{HasNumbers, in_all}
 use Rattle.suite_cli.proofs.player.TablePlayer.play_first.Given as goal
 
 abbrev pub invariant-loop : goal.invariant-loop

@@ -1,15 +1,14 @@
-use Rattle.std.proofs.Common.{◌≡◌, ◌∙◌, true, ap, sym, subst, refl}
-use Rattle.byte_streams.specs.Streams.{one_more}
+use Rattle.std.proofs.Common.{◌≡◌, ◌∙◌, true, sym, subst, refl}
 use Rattle.suite_cli.proofs.Playing.{came_to, same_after, stops_within}
 use Rattle.suite_cli.specs.Outputs.{table_lines}
-use Rattle.suite_cli.specs.Playing.{in_all, transactions}
+use Rattle.suite_cli.specs.code.Kept.{kept_jobs}
+use Rattle.suite_cli.specs.code.Playing.{in_all}
 use Rattle.suite_script.proofs.Gathering.{failed, wrote_all, wrote_nothing}
 use Rattle.suite_script.proofs.Playing.{moved_on, still_done}
 use Rattle.suite_script.specs.Gathering.{WroteSoFar}
 use Rattle.suite_script.specs.Outputs.{Output, is_done, text_of}
 use Rattle.suite_script.specs.Readings.{play_error_of}
 use Rattle.suite_script.specs.Scripts.{owns}
-use Rattle.suite_script.specs.declared.play_error.PlayError.TheVariants.{WriteFailed}
 use Rattle.suite_cli.proofs.player.TablePlayer.play_rest.Goals as goal
 
 pub loop-writer-init : goal.loop-writer-init
@@ -24,7 +23,7 @@ pub loop-writer-preserved : goal.loop-writer-preserved
 loop-writer-preserved g c =
     let next = c.play_next.new.self in
     let lines = table_lines next.table next.number in
-    let left = owns transactions next.script in
+    let left = owns kept_jobs next.script in
     let told = g.O.ByteOut.written c.args.writer.now in
     let now = g.O.ByteOut.written c.loop-writer.writer in
     let whole = text_of (in_all c.args.self.now) in

@@ -1,7 +1,7 @@
 use Rattle.std.proofs.Common.{◌≡◌, true, length}
 use Rattle.suite_script.specs.Gathering.{WroteSoFar}
 use Rattle.suite_script.specs.Outputs.{is_done, text_of}
-use Rattle.suite_cli.specs.Playing.{HasNumbers, in_all}
+use Rattle.suite_cli.specs.code.Playing.{HasNumbers, in_all}
 use Rattle.suite_cli.proofs.player.TablePlayer.play_rest.Given as goal
 
 abbrev pub invariant-loop-writer : goal.invariant-loop-writer

@@ -1,7 +1,8 @@
-use Rattle.std.proofs.Common.{◌≡◌, ap, sym, ◌∙◌, rules}
+use Rattle.std.proofs.Common.{◌≡◌, ap, sym, ◌∙◌}
 use Rattle.suite_collect.specs.declared.collect.Due.TheVariants as due
-use Rattle.suite_collect.specs.CollectFields.{due_in}
+use Rattle.suite_collect.specs.code.CollectFields.{due_in}
 use Rattle.suite_collect.specs.Collecting as spec
+use Rattle.suite_collect.specs.Telling as telling
 use Rattle.suite_collect.specs.Collecting.{Collecting, Current}
 use Rattle.suite_collect.proofs.Dues.{current_next}
 use Rattle.suite_collect.proofs.collect.Collect.next.Goals as goal
@@ -10,8 +11,8 @@ pub returns-in-Current : goal.returns-in-Current
 returns-in-Current c =
     let now = c.args.self.now.collector in
     let is : due_in now ≡ due.Current = ap (λ (c : Collecting). due_in c.collector) (sym c.self.view_is) ∙ sym c.self.invariant.due ∙ c.in-Current.is in
-    let members : spec.members_of (spec.counted now) (spec.is_member now) ≡ c.members_of.result = search rules in
+    let version : spec.version now ≡ c.greatest-dver.result = ap (telling.greatest now.told) (sym c.first_members-first.ensures.members) ∙ sym c.greatest-dver.ensures in
     current_next now is
     ∙ ap (λ prefix. Current prefix (spec.version now) (spec.members_of (spec.counted now) (spec.is_member now))) (sym c.newest.ensures)
-    ∙ ap (λ dver. Current c.newest.result.now dver (spec.members_of (spec.counted now) (spec.is_member now))) (sym c.version.ensures)
-    ∙ ap (λ members. Current c.newest.result.now c.version.result members) members
+    ∙ ap (λ dver. Current c.newest.result.now dver (spec.members_of (spec.counted now) (spec.is_member now))) version
+    ∙ ap (λ members. Current c.newest.result.now c.greatest-dver.result members) (sym c.members.ensures)

@@ -1,11 +1,11 @@
-use Rattle.std.proofs.Common.{◌≡◌, ◌∷◌, false, None, sym, ap, subst, ◌∙◌, rules}
+use Rattle.std.proofs.Common.{◌≡◌, ◌∷◌, false, sym, ap, subst, ◌∙◌, rules}
 use Rattle.std.specs.Prelude.{nat_lt, option_map}
 use Rattle.suite_prefix.specs.declared.copies.Prefix.{Prefix}
 use Rattle.rep_core.specs.declared.reply.Reply.TheVariants as reply
 use Rattle.suite_collect.specs.declared.collect.Due.TheVariants as due
 use Rattle.suite_collect.specs.Telling.{newest}
 use Rattle.suite_collect.specs.Collecting.{Collecting}
-use Rattle.suite_collect.specs.CollectFields.{collecting_of, due_by, due_in, widening_of}
+use Rattle.suite_collect.specs.code.CollectFields.{collecting_of, due_by, widening_of}
 use Rattle.suite_collect.specs.Answering.{Takes}
 use Rattle.suite_collect.proofs.Dues.{last, lock_taken}
 use Rattle.suite_collect.proofs.collect.Collect.take_lock.Goals as goal

@@ -4,7 +4,7 @@ use Rattle.std.specs.Prelude.{option_map}
 use Rattle.std.proofs.lemmas.Result.{IfOk-weaker, IfErr-weaker}
 use Rattle.rep_core.specs.declared.request.Request.{Request}
 use Rattle.weak_cache.specs.Cache.{Limits}
-use Rattle.txn_core.specs.AgentFields.{doing_of, standing_of}
+use Rattle.txn_core.specs.code.AgentFields.{doing_of, standing_of}
 use Rattle.txn_core.specs.Agents.{next_of, next_in}
 use Rattle.txn_core.specs.Standing.{Standing}
 use Rattle.txn_core.specs.Wanting.{by_asking}

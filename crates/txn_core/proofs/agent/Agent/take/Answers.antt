@@ -1,6 +1,6 @@
 use Rattle.std.proofs.Common.{◌≡◌, Some, ap, ◌∙◌}
 use Rattle.std.specs.Prelude.{option_map}
-use Rattle.txn_core.specs.AgentFields.{doing_of, standing_of}
+use Rattle.txn_core.specs.code.AgentFields.{doing_of, standing_of}
 use Rattle.txn_core.specs.Agents.{Agent, take}
 use Rattle.txn_core.specs.Doing.{Running}
 use Rattle.txn_core.specs.declared.agent.Doing.{Doing as Coded}

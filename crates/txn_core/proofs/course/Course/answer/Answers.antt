@@ -1,5 +1,5 @@
 use Rattle.std.proofs.Common.{◌≡◌, ◌∷◌, ap, sym, ◌∙◌, drop, refl}
-use Rattle.txn_core.specs.CourseFields.{phase_of}
+use Rattle.txn_core.specs.code.CourseFields.{phase_of}
 use Rattle.txn_core.specs.Doing.{Fixed, Gathering, Fetching, Widening, Preparing, Deciding, Finishing, Course}
 use Rattle.txn_core.specs.Transactions.{to_widen}
 use Rattle.txn_core.proofs.Replies.{gathering_ok, widening_ok, preparing_ok, finishing_ok}

@@ -1,7 +1,7 @@
 use Rattle.std.proofs.Common.{ap, ◌∙◌, sym, subst, Err, None}
 use Rattle.txn_core.specs.Doing.{Course}
-use Rattle.txn_core.specs.Sequels.{follow}
-use Rattle.txn_core.specs.Steps.{Steps}
+use Rattle.txn_core.specs.code.Sequels.{follow}
+use Rattle.txn_core.specs.code.Steps.{Steps}
 use Rattle.txn_core.specs.declared.sequel.Sequel.{Sequel}
 use Rattle.txn_core.proofs.Ended.{prepares}
 use Rattle.txn_core.proofs.course.Course.follow.Goals as goal

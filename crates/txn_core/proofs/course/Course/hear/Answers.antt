@@ -1,10 +1,10 @@
-use Rattle.std.proofs.Common.{◌≡◌, Option, Some, refl, sym, ap, subst, ◌∙◌}
+use Rattle.std.proofs.Common.{◌≡◌, Option, Some, sym, ap, subst, ◌∙◌}
 use Rattle.std.specs.Prelude.{IsSome, IfOk, OnErr}
 use Rattle.txn_core.specs.declared.coming.Coming.{Coming}
 use Rattle.txn_core.specs.Doing.{Course}
-use Rattle.txn_core.specs.Hearing.{heard}
-use Rattle.txn_core.specs.HearingOn.{GoesOnBy}
-use Rattle.txn_core.specs.Hears.{Hears}
+use Rattle.txn_core.specs.code.Hearing.{heard}
+use Rattle.txn_core.specs.code.HearingOn.{GoesOnBy}
+use Rattle.txn_core.specs.code.Hears.{Hears}
 use Rattle.txn_core.specs.Suites.{suite_of}
 use Rattle.txn_core.proofs.InPlace.{left_as, left_same, settles_by, wants_by, asks_on, short_on}
 use Rattle.txn_core.proofs.course.Course.hear.Goals as goal

@@ -2,7 +2,7 @@ use Rattle.std.proofs.Common.{◌≡◌, ap, ◌∙◌, sym}
 use Rattle.std.proofs.lemmas.Option.{same_Some}
 use Rattle.txn_core.specs.declared.hearing.Hearing.TheVariants as hearing
 use Rattle.txn_core.specs.Doing.{Course}
-use Rattle.txn_core.specs.Hearing.{heard}
+use Rattle.txn_core.specs.code.Hearing.{heard}
 use Rattle.txn_core.specs.Suites.{with_suite, suite_of}
 use Rattle.txn_core.proofs.Ended.{hears_short}
 use Rattle.txn_core.proofs.course.Course.hear_apart.Goals as goal

@@ -1,5 +1,5 @@
 use Rattle.std.proofs.Common.{◌≡◌, sym, ap, ◌∙◌}
-use Rattle.txn_core.specs.CourseFields.{phase_of}
+use Rattle.txn_core.specs.code.CourseFields.{phase_of}
 use Rattle.txn_core.specs.Doing.{Course, Finishing}
 use Rattle.txn_core.proofs.Ended.{lacks_at_end}
 use Rattle.txn_core.proofs.course.Course.lacked.Goals as goal

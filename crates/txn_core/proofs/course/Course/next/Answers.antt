@@ -3,7 +3,7 @@ use Rattle.std.specs.declared.alloc.AllocError.{AllocError}
 use Rattle.std.proofs.lemmas.Result.{IfOk-weaker, IfErr-weaker}
 use Rattle.rep_core.specs.declared.request.Request.{Request}
 use Rattle.weak_cache.specs.Cache.{Limits}
-use Rattle.txn_core.specs.CourseFields.{phase_of}
+use Rattle.txn_core.specs.code.CourseFields.{phase_of}
 use Rattle.txn_core.specs.declared.ending.Ending.{Ending}
 use Rattle.txn_core.specs.Doing.{Course, Fixed, Preparing, Finishing}
 use Rattle.txn_core.specs.Transactions.{request_in, request_of}

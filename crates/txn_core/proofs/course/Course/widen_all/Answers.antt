@@ -5,7 +5,7 @@ use Rattle.std.proofs.lemmas.Bool.{ltb-true}
 use Rattle.sorted_map.specs.SortedMap.{IsOrdered}
 use Rattle.file_exec.specs.declared.changes.Change.{Change}
 use Rattle.txn_core.specs.Doing.{Changes, Granted, Widening, Course}
-use Rattle.txn_core.specs.Steps.{Steps}
+use Rattle.txn_core.specs.code.Steps.{Steps}
 use Rattle.txn_core.specs.declared.ending.Cause.{Cause}
 use Rattle.txn_core.specs.Transactions.{to_widen, widen_all, give_up, prepare, locked_at}
 use Rattle.txn_core.proofs.Ended.{prepares}

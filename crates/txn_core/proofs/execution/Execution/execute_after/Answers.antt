@@ -1,4 +1,4 @@
-use Rattle.txn_core.specs.Plans.{fixed_in}
+use Rattle.txn_core.specs.code.Plans.{fixed_in}
 use Rattle.txn_core.proofs.Sequences.{carried_follows, carried_unused}
 use Rattle.txn_core.proofs.execution.Execution.execute_after.Goals as goal
 

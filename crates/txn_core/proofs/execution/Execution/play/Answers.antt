@@ -2,7 +2,7 @@ use Rattle.std.proofs.Common.{◌≡◌, length, ap, sym, ◌∙◌, arith}
 use Rattle.file_exec.specs.Changes.{answered}
 use Rattle.file_exec.specs.Known.{exec_of, opened_suite}
 use Rattle.txn_core.specs.Doing.{Task}
-use Rattle.txn_core.specs.Plans.{fixed_in, seen_on}
+use Rattle.txn_core.specs.code.Plans.{fixed_in, seen_on}
 use Rattle.txn_core.proofs.Rounds.{answer_of, playing_starts, playing_more, playing_stops}
 use Rattle.txn_core.proofs.execution.Execution.play.Goals as goal
 

@@ -1,5 +1,5 @@
 use Rattle.std.proofs.Common.{◌-◌, length}
-use Rattle.txn_core.specs.Plans.{fixed_in, seen_on}
+use Rattle.txn_core.specs.code.Plans.{fixed_in, seen_on}
 use Rattle.txn_core.proofs.Rounds.{IsPlaying}
 use Rattle.txn_core.proofs.execution.Execution.play.Given as goal
 

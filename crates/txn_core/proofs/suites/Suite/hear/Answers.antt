@@ -2,8 +2,8 @@ use Rattle.std.proofs.Common.{◌≡◌, true, sym, ap, ◌∙◌, rules}
 use Rattle.std.specs.Prelude.{is_some}
 use Rattle.suite_collect.specs.Collecting.{next, told_by}
 use Rattle.txn_core.specs.declared.hearing.Hearing.TheVariants.{Settled}
-use Rattle.txn_core.specs.Coming.{settled_by}
-use Rattle.txn_core.specs.Hearing.{heard_next}
+use Rattle.txn_core.specs.code.Coming.{settled_by}
+use Rattle.txn_core.specs.code.Hearing.{heard_next}
 use Rattle.txn_core.proofs.Heard.{heard_by}
 use Rattle.txn_core.proofs.suites.Suite.hear.Goals as goal
 

@@ -1,7 +1,7 @@
 use Rattle.std.proofs.Common.{sym, refl, length, replicate}
 use Rattle.std.proofs.lemmas.List.{length-take-le}
 use Rattle.vote_core.specs.declared.TheConstants.{MAX_SERVERS}
-use Rattle.vote_core.specs.VotesFields.{no_votes}
+use Rattle.vote_core.specs.code.VotesFields.{no_votes}
 use Rattle.vote_core.proofs.Faults.{accepted_without_fault, faulty, few_if_valid}
 use Rattle.vote_core.proofs.Kept.{kept_votes}
 use Rattle.vote_core.proofs.votes.Votes.new.Goals as goal

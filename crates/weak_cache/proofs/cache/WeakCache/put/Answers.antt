@@ -1,7 +1,7 @@
 use Rattle.std.proofs.Common.{◌≡◌, ◌∷◌, true, refl, ◌∙◌, ap}
 use Rattle.weak_cache.specs.Entries.{Entry, Cache}
 use Rattle.weak_cache.specs.Cache.{Limits, Limited, has_room}
-use Rattle.weak_cache.specs.Beside.{stays}
+use Rattle.weak_cache.specs.code.Beside.{stays}
 use Rattle.weak_cache.proofs.Fewer.{fewer_filter, within_fewer}
 use Rattle.weak_cache.proofs.Puts.{beside, within_put}
 use Rattle.weak_cache.proofs.Room.{either}

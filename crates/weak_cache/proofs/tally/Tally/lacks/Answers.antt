@@ -1,7 +1,7 @@
 use Rattle.std.proofs.Common.{◌≡◌, sym, ◌∙◌}
 use Rattle.std.proofs.lemmas.Bool.{eqb-true}
 use Rattle.std.specs.Prelude.{slice_index}
-use Rattle.weak_cache.specs.Buckets.{bucket_of}
+use Rattle.weak_cache.specs.code.Buckets.{bucket_of}
 use Rattle.weak_cache.proofs.Falling.{none_there}
 use Rattle.weak_cache.proofs.tally.Tally.lacks.Goals as goal
 

@@ -1,6 +1,6 @@
 use Rattle.std.proofs.Common.{◌<◌, ap, arith, sym}
 use Rattle.std.specs.Prelude.{slice_index}
-use Rattle.weak_cache.specs.Buckets.{bucket_of}
+use Rattle.weak_cache.specs.code.Buckets.{bucket_of}
 use Rattle.weak_cache.proofs.Counting.{counted_between, tally_less}
 use Rattle.weak_cache.proofs.tally.Tally.sub.Goals as goal
 

@@ -1,0 +1,4 @@
+pub mod Padding
+pub mod TallyFields
+pub mod Sorted
+pub mod EntryLaws

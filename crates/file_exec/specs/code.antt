@@ -1,0 +1,3 @@
+pub mod Overlay
+pub mod Steps
+pub mod Ends

@@ -1,0 +1,9 @@
+pub mod Stored
+pub mod Edits
+pub mod Capacity
+pub mod Restored
+pub mod Undo
+pub mod Found
+pub mod Done
+pub mod AnswerEquality
+pub mod RefusalEquality

@@ -1,0 +1,6 @@
+pub mod Holding
+pub mod Ranges
+pub mod StoreFields
+pub mod ServerFields
+pub mod Equality
+pub mod Changing

@@ -1,0 +1,5 @@
+pub mod Seats
+pub mod SeatFields
+pub mod Exchanges
+pub mod Orders
+pub mod WorldFields

@@ -1,0 +1,2 @@
+pub mod HeardFields
+pub mod CollectFields

@@ -1,0 +1,12 @@
+use Rattle.std.proofs.Common.{◌≡◌, ◌≤◌, length, drop}
+use Rattle.std.specs.Prelude.{min}
+use Rattle.std.specs.Ordering.{nat_cmp}
+use Rattle.std.specs.Cmp.Lexicographic.{slice_cmp}
+use Rattle.suite_content.proofs.name.order.Given as goal
+
+-- what the bytes from a place on answer, all of them answer
+abbrev pub invariant-loop-at : goal.invariant-loop-at
+invariant-loop-at l =
+    (l.both ≡ min (length l.left) (length l.right)) ×
+    (l.at ≤ l.both) ×
+    (slice_cmp nat_cmp (drop l.at l.left) (drop l.at l.right) ≡ slice_cmp nat_cmp l.left l.right)

@@ -1,0 +1,4 @@
+pub mod Padding
+pub mod Shared
+pub mod Equality
+pub mod ContentEquality

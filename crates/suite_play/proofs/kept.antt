@@ -1,0 +1,5 @@
+pub mod Executed
+pub mod Courses
+pub mod Agents
+pub mod Worlds
+pub mod Prints

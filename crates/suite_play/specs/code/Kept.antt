@@ -1,0 +1,21 @@
+-- Lines as the code keeps them.
+use Rattle.txn_core.specs.declared.job.Job.{Job}
+use Rattle.txn_core.specs.declared.job.Job.TheVariants.{Transaction, Sweep}
+use Rattle.run_core.specs.declared.event.Event as happening
+use Rattle.run_core.specs.declared.event.Event.TheVariants.{Begin}
+use Rattle.suite_script.specs.code.Kept.{kept}
+use Rattle.suite_play.specs.declared.command.Command.{Command}
+use Rattle.suite_play.specs.declared.command.Command.TheVariants.{Event}
+
+-- a line as the code keeps it: one operation more than a transaction may have is as good as any more
+abbrev pub kept_job : Job → Job
+kept_job (Transaction caller site ops) = Transaction caller site (kept ops)
+kept_job (Sweep server) = Sweep server
+
+abbrev pub kept_event : happening.Event → happening.Event
+kept_event (Begin agent job) = Begin agent (kept_job job)
+kept_event other = other
+
+abbrev pub kept_command : Command → Command
+kept_command (Event event) = Event (kept_event event)
+kept_command other = other

@@ -1,0 +1,4 @@
+pub mod Judging
+pub mod SettingsView
+pub mod Equality
+pub mod SettingsEquality

@@ -1,0 +1,17 @@
+pub mod FirstFields
+pub mod SuiteFields
+pub mod KnowingSuites
+pub mod RoundFields
+pub mod TaskFields
+pub mod GrantedFields
+pub mod CourseFields
+pub mod Unused
+pub mod Sequels
+pub mod Plans
+pub mod Coming
+pub mod Hearing
+pub mod HearingOn
+pub mod Steps
+pub mod Hears
+pub mod AgentFields
+pub mod Sorting

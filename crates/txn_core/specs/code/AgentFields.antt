@@ -1,0 +1,26 @@
+-- The fields of `Agent` as contracts see them, and what they keep.
+use Rattle.std.specs.Prelude.{◌<◌, ◌≤◌, option_map}
+use Rattle.txn_core.specs.declared.agent.Agent.TheInside.{Inside}
+use Rattle.txn_core.specs.declared.agent.Doing.{Doing as Coded}
+use Rattle.txn_core.specs.declared.agent.Doing.TheVariants as coded
+use Rattle.vote_core.specs.declared.TheConstants.{MAX_SERVERS}
+use Rattle.txn_core.specs.Doing.{Doing, Running, Rounding}
+use Rattle.txn_core.specs.Agents.{max_jobs}
+use Rattle.txn_core.specs.Standing.{Standing}
+use Rattle.txn_core.specs.code.Unused.{HasUnused}
+
+abbrev pub doing_of : Coded → Doing
+doing_of (coded.Running course) = Running course
+doing_of (coded.Rounding round) = Rounding round
+
+abbrev pub standing_of : Inside → Standing
+standing_of fields = record {
+  fixed = record { service = fields.service; limits = fields.cache.limits };
+  state = record { index = fields.index; count = fields.count; cache = fields.cache.entries; doing = option_map doing_of fields.doing };
+}
+
+pub record IsStanding (fields : Inside) : Type 0 where
+  pub index : fields.index < 64
+  pub jobs : fields.count ≤ max_jobs
+  pub servers : (0 < fields.service.servers) × (fields.service.servers ≤ MAX_SERVERS)
+  pub unused : HasUnused fields.cache.entries
