@@ -37,7 +37,7 @@ impl Row {
     }
 
     /// Whether it holds this already.
-    #[tactic(auto, using(suite_content::specs::ContentEquality::same_content_decides))]
+    #[tactic(auto, using(suite_content::specs::code::ContentEquality::same_content_decides))]
     pub fn holds(&self, other: &Content) -> bool
         ensures { IsTrue result ↔ (self.now.content ≡ other.now) }
     {
