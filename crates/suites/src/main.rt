@@ -1,4 +1,4 @@
-//! The program `suites`: a replicated file service's plain table and its access lists, over standard input
+//! The program `suites`: a replicated file service, its plain table and its access lists, over standard input
 //! and standard output. All of it but the reading of its words is in `suite_cli`.
 #![tactic(auto)]
 
