@@ -120,8 +120,7 @@ fn push_event(
     ensures printed { OnOk result (text.new.items ≡ text.old.items ++ (of_event (step (fixed_of world.old.given) world.old.world event.now)).text) }
     ensures world { OnOk result (world.new ≡ record world.old { world = (of_event (step (fixed_of world.old.given) world.old.world event.now)).world }) }
 {
-    let done = world.step(event)?;
-    match &done.outcome {
+    match &world.advance(event)? {
         Some(outcome) => push_outcome(alloc, text, outcome),
         None => Ok(()),
     }
