@@ -243,7 +243,7 @@ impl Collect {
         }
     }
 
-    /// Takes a lock that is held, where it gives no quorum, its prefix is not newer and nothing is widened.
+    /// Takes a lock that is held, where it gives no quorum and nothing is widened.
     fn take_lock(&mut self, prefix: &Prefix, dver: u64) -> Result<bool, AllocError>
         ensures ok { IfOk result (λ taken. TakesOn taken self.old (reply.Held prefix.now dver) self.new) }
         ensures err { OnErr result (self.new ≡ self.old) }
@@ -251,21 +251,28 @@ impl Collect {
         let (Due::Ask(server), None) = (self.due, &self.widening) else {
             return Ok(false);
         };
-        if prefix.pver > self.newest().pver {
-            return Ok(false);
-        }
         let mode = self.mode;
-        let prefix = prefix.clone()?;
-        let said = Said::Held { prefix, dver };
+        let said = Said::Held {
+            prefix: prefix.clone()?,
+            dver,
+        };
         let last = Told { server, mode, said };
         let mut told = self.told.same();
         told.add(&last);
-        let due = due_of(&self.newest().votes, &told, mode);
-        let Due::Ask(_) = due else {
+        let newest = self.newest();
+        let is_newer = prefix.pver > newest.pver;
+        let newest = if is_newer { prefix } else { newest };
+        let due = due_of(&newest.votes, &told, mode);
+        if let Due::Current = due {
             return Ok(false);
-        };
+        }
         self.told = told;
         self.due = due;
+        if let Said::Held { prefix, .. } = last.said {
+            if is_newer {
+                self.newer = Some(prefix);
+            }
+        }
         Ok(true)
     }
 
