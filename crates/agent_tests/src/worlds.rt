@@ -199,7 +199,8 @@ fn a_server_is_lost(rt: HostRuntime) {
 fn only_the_outcomes_of_a_run(rt: HostRuntime) {
     let mut stepped = world(&rt);
     let mut advanced = world(&rt);
-    let jobs = "begin 0 file write,step 0,begin 0 close read,step 0,crash 1,begin 1 read,step 1,return 1,lack 1,forget 0";
+    let jobs =
+        "begin 0 file write,step 0,begin 0 close read,step 0,crash 1,begin 1 read,step 1,return 1,lack 1,forget 0";
     let mut ends = false;
     for line in jobs.split(',') {
         for _ in 0..10 {
