@@ -199,17 +199,18 @@ fn a_server_is_lost(rt: HostRuntime) {
 fn only_the_outcomes_of_a_run(rt: HostRuntime) {
     let mut stepped = world(&rt);
     let mut advanced = world(&rt);
-    let jobs = "begin 0 file write,step 0,begin 0 close read,step 0,crash 1,begin 1 read,step 1,return 1,lack 1,forget 0";
-    let mut endings = 0;
+    let jobs =
+        "begin 0 file write,step 0,begin 0 close read,step 0,crash 1,begin 1 read,step 1,return 1,lack 1,forget 0";
+    let mut ends = false;
     for line in jobs.split(',') {
         for _ in 0..10 {
             let want = ended(&rt, &mut stepped, line);
             let got = told(&rt, &mut advanced, line);
             same(&rt, &got, &want);
-            endings += if got.is_empty() { 0 } else { 1 };
+            ends = ends || !got.is_empty();
         }
     }
-    assert!(&rt; endings >= 2 && stepped.audit(1).len() == advanced.audit(1).len());
+    assert!(&rt; ends && advanced.audit(1).len() == 1);
 }
 
 /// Plays events, and the others where memory is refused to it once; the words of the outcomes that were

@@ -67,7 +67,8 @@ pub(crate) fn exchange(
     })
 }
 
-/// The same, of which only how a job ended is told: the request is not copied, and the reply stays with the agent.
+/// The same, of which only how a job ended is told: the request is not copied, and the reply is not
+/// handed back.
 pub(crate) fn advance(
     host: &mut Server,
     seat: &mut Seat,

@@ -14,10 +14,10 @@
 //! these definitions, exactly: on success the world is the one that they give, and where memory runs out
 //! nothing has changed, or `play` tells how many events were played.
 //!
-//! A step copies no server and no agent, only the request (`advance` not even that) and at most the one suite that is told: the server
-//! gives the reply to the agent before anything is changed for good, and takes the change back, without
-//! memory, where the agent lacks memory for it. Contracts say when an event may want memory, and when none
-//! may (`specs/Wanting.antt`).
+//! A step copies no server and no agent, only the request (`advance` not even that) and at most the one suite
+//! that is told: the server gives the reply to the agent before anything is changed for good, and takes the
+//! change back, without memory, where the agent lacks memory for it. Contracts say when an event may want
+//! memory, and when none may (`specs/Wanting.antt`).
 #![tactic(auto)]
 
 mod done;

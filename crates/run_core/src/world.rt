@@ -87,9 +87,9 @@ impl World {
         }
     }
 
-    /// Plays one event as `step` does, and tells only how a job ended, if one did: what was served is not kept.
-    /// Where memory runs out nothing has changed, and the same event may be played again. It wants memory
-    /// only where `step` may.
+    /// Plays one event as `step` does, and tells only how a job ended, if one did: what was served is not
+    /// kept. Where memory runs out nothing has changed, and the same event may be played again. It wants
+    /// memory only where `step` may.
     pub fn advance(&mut self, event: &Event) -> Result<Option<Outcome>, AllocError>
         ensures given { self.new.given ≡ self.old.given }
         ensures world { OnOk result (self.new.world ≡ (worlds.step (fixed_of self.old.given) self.old.world event.now).world) }
