@@ -1,4 +1,4 @@
-//! A world as its users meet it: a run event by event, the same played at once, a denial in the audit, and
+//! A world as its users meet it: a run event by event, by `step` and by `advance`, the same played at once, a denial in the audit, and
 //! events without sense.
 //!
 //! What memory was refused to is done again, so that each allocation can be refused in turn. What a test
@@ -121,7 +121,19 @@ fn event(rt: &(impl Abort + AllocGlobal), line: &str) -> Event {
 fn ended(rt: &(impl Abort + AllocGlobal), world: &mut World, line: &str) -> String {
     let event = event(rt, line);
     let done = again!(rt, world.step(&event));
-    match &done.outcome {
+    ending(rt, &done.outcome)
+}
+
+/// The same, where only that is told.
+fn told(rt: &(impl Abort + AllocGlobal), world: &mut World, line: &str) -> String {
+    let event = event(rt, line);
+    let outcome = again!(rt, world.advance(&event));
+    ending(rt, &outcome)
+}
+
+/// How a job ended, in words; none, if none did.
+fn ending(rt: &(impl Abort + AllocGlobal), outcome: &Option<Outcome>) -> String {
+    match outcome {
         Some(outcome) => words(rt, outcome),
         None => String::new(rt.alloc()),
     }
@@ -181,6 +193,24 @@ fn a_server_is_lost(rt: HostRuntime) {
         "0.1 9 Lost { server: 0 }",
     );
     same(&rt, &ended(&rt, &mut world, "step 0"), "");
+}
+
+#[test]
+fn only_the_outcomes_of_a_run(rt: HostRuntime) {
+    let mut stepped = world(&rt);
+    let mut advanced = world(&rt);
+    let jobs =
+        "begin 0 file write,step 0,begin 0 close read,step 0,crash 1,begin 1 read,step 1,return 1,lack 1,forget 0";
+    let mut ends = false;
+    for line in jobs.split(',') {
+        for _ in 0..10 {
+            let want = ended(&rt, &mut stepped, line);
+            let got = told(&rt, &mut advanced, line);
+            same(&rt, &got, &want);
+            ends = ends || !got.is_empty();
+        }
+    }
+    assert!(&rt; ends && advanced.audit(1).len() == 1);
 }
 
 /// Plays events, and the others where memory is refused to it once; the words of the outcomes that were

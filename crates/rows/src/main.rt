@@ -22,14 +22,14 @@ use std::process::ExitCode;
 use suite_cli::run;
 
 /// The most bytes of rows.
-const LIMIT: usize = 16_777_216;
+const MAX_INPUT: usize = 16_777_216;
 
 /// The exit status for words that ask for nothing.
 const COMMAND_LINE: u8 = 2;
 
 fn main(rt: HostRuntime) -> ExitCode {
     let mut reader = SystemIn::new(rt.reader());
-    let Ok(bytes) = read_all(rt.alloc(), &mut reader, LIMIT) else {
+    let Ok(bytes) = read_all(rt.alloc(), &mut reader, MAX_INPUT) else {
         return ExitCode::from(6);
     };
     let Ok(text) = std::str::from_utf8(&bytes) else {

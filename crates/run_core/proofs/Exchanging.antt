@@ -1,6 +1,6 @@
 -- What one request of an agent to a server leaves of the two.
-use Rattle.std.proofs.Common.{◌≡◌, ℕ, zero, suc, Bool, true, false, cond, List, [], ◌∷◌, Some, None, Result, Ok, refl, ap, ◌∙◌, sym}
-use Rattle.std.specs.Prelude.{slice_get, slice_set, OnOk}
+use Rattle.std.proofs.Common.{◌≡◌, ℕ, zero, suc, Bool, true, false, cond, List, [], ◌∷◌, Option, Some, None, Result, Ok, Err, refl, ap, ◌∙◌, sym}
+use Rattle.std.specs.Prelude.{slice_get, slice_set, IfOk, OnOk}
 use Rattle.std.specs.declared.alloc.AllocError.{AllocError}
 use Rattle.rep_core.specs.declared.request.Request.{Request}
 use Rattle.rep_core.specs.declared.stamped.Stamped.{Stamped}
@@ -13,12 +13,12 @@ use Rattle.rep_core.specs.Serving.{answer_of, served, is_full}
 use Rattle.rep_core.proofs.FittingReplies.{reply_fits}
 use Rattle.txn_core.specs.declared.word.Word.TheVariants.{Replied, Lacked}
 use Rattle.txn_core.specs.Agents.{next_of, take}
-use Rattle.run_core.specs.declared.done.Done.{Done}
+use Rattle.run_core.specs.declared.done.Outcome.{Outcome}
 use Rattle.run_core.specs.declared.done.Served.{Served}
 use Rattle.run_core.specs.declared.seat.Heard.{Heard}
 use Rattle.run_core.specs.Worlds.{with_actor, answered, outcome_of}
 use Rattle.run_core.specs.code.Seats.{Seated, Fits, after_word}
-use Rattle.run_core.specs.code.Exchanges.{Hears, IsExchange, IsUnserved}
+use Rattle.run_core.specs.code.Exchanges.{Takes, Hears, IsExchange, IsExchangeOf, IsUnserved}
 
 pub not_true : (b : Bool) → (b ≡ true → ⊥) → b ≡ false
 not_true true never = absurd (never refl)
@@ -65,13 +65,13 @@ was_full host seat server number asked full = record {
 abbrev asking : ℕ → Request → Stamped Request
 asking stamp asked = record { stamp = stamp; value = asked }
 
-pub full_exchange : (host host' : State) (seat seat1 seat' : Seated) (server number stamp : ℕ) (asked sent : Request) (lack : Lack) (done : Done)
+pub full_exchange : (host host' : State) (seat seat1 seat' : Seated) (server number stamp : ℕ) (asked sent : Request) (lack : Lack) (outcome : Option Outcome)
     → sent ≡ asked → stamp ≡ seat.actor.stamp → (lack ≡ Full → is_full host (asking stamp sent) ≡ true) → host' ≡ host → seat1 ≡ seat
-    → IsUnserved number lack seat1 seat' done
-    → IsExchange host host' seat seat' server number asked done
-full_exchange host host' seat seat1 seat' server number stamp asked sent lack done sent_is stamp_is full host_is seat_is unserved =
+    → IsUnserved number lack seat1 seat' outcome
+    → IsExchange host host' seat seat' server number asked (record { served = None; outcome = outcome })
+full_exchange host host' seat seat1 seat' server number stamp asked sent lack outcome sent_is stamp_is full host_is seat_is unserved =
     let is_full_there = rw (sent_is, stamp_is) at (full unserved.full) in
-    rw (host_is, unserved.seat_is, unserved.done_is, seat_is) (was_full host seat server number asked is_full_there)
+    rw (host_is, unserved.seat_is, unserved.outcome_is, seat_is) (was_full host seat server number asked is_full_there)
 
 pub served_exchange : (host host' : State) (seat seat' seat0 seat1 : Seated) (server number stamp : ℕ) (asked sent : Request) (heard : Result Heard AllocError) (told : Heard)
     → sent ≡ asked → stamp ≡ seat.actor.stamp → heard ≡ Ok told → seat0 ≡ seat → seat1 ≡ seat'
@@ -82,4 +82,17 @@ served_exchange host host' seat seat' seat0 seat1 server number stamp asked sent
     let host'_is = rw (heard_is, sent_is, stamp_is) at host_is in
     let all = rw (heard_is, sent_is, stamp_is, seat0_is, seat1_is) at hears in
     let full = rw (sent_is, stamp_is) at not_full in
-    rw (stamp_is, host'_is, all.0, all.1, all.2) (was_served host seat server number asked (not_true _ full))
+    rw (stamp_is, host'_is, all.0, all.1.0, all.1.1) (was_served host seat server number asked (not_true _ full))
+
+-- the same, of which only the outcome is told
+pub served_advance : (host host' : State) (seat seat' seat0 seat1 : Seated) (number stamp : ℕ) (asked : Request) (taken : Result (Option Outcome) AllocError)
+    → stamp ≡ seat.actor.stamp → seat0 ≡ seat → seat1 ≡ seat'
+    → (is_full host (asking stamp asked) ≡ true → ⊥) → OnOk taken (host' ≡ served host (asking stamp asked))
+    → Takes number seat0 (answer_of host (asking stamp asked)) taken seat1
+    → IfOk taken (λ outcome. IsExchangeOf host host' seat seat' number asked outcome)
+served_advance host host' seat seat' seat0 seat1 number stamp asked (Ok outcome) stamp_is seat0_is seat1_is not_full host_is takes =
+    let host'_is = rw stamp_is at host_is in
+    let all = rw (stamp_is, seat0_is, seat1_is) at takes in
+    let full = rw stamp_is at not_full in
+    λ server. (Some (of_it host seat server asked), rw (host'_is, all.0, all.1) (was_served host seat server number asked (not_true _ full)))
+served_advance host host' seat seat' seat0 seat1 number stamp asked (Err why) stamp_is seat0_is seat1_is not_full host_is takes = tt

@@ -1,6 +1,7 @@
 -- What the code keeps of agents, against the definitions.
-use Rattle.std.proofs.Common.{◌≡◌, ℕ, List, Option, Some, None, refl, ap, subst, ◌∙◌, sym}
-use Rattle.std.specs.Prelude.{slice_get, slice_set, option_map}
+use Rattle.std.proofs.Common.{◌≡◌, ℕ, List, Option, Some, None, Result, Ok, Err, refl, ap, subst, ◌∙◌, sym}
+use Rattle.std.specs.Prelude.{slice_get, slice_set, option_map, IfOk, OnErr}
+use Rattle.std.specs.declared.alloc.AllocError.{AllocError}
 use Rattle.std.proofs.lemmas.List.{map-set}
 use Rattle.std.proofs.lemmas.List.Elements.{All-set, All-same}
 use Rattle.std.proofs.lemmas.Option.{slice_get-map, slice_get_within, get_or_from_slice_get}
@@ -11,9 +12,9 @@ use Rattle.txn_core.specs.Doing.{Fixed}
 use Rattle.txn_core.specs.Agents.{Agent, next_of, take}
 use Rattle.run_core.specs.declared.done.Done.{Done}
 use Rattle.run_core.specs.declared.done.Outcome.{Outcome}
-use Rattle.run_core.specs.Worlds.{Actor, World, becomes, quiet, steps_once, asks, asks_at, answered, serve, lacks, lacks_for, lacked, outcome_of}
+use Rattle.run_core.specs.Worlds.{Actor, World, Stepped, becomes, quiet, steps_once, asks, asks_at, answered, serve, lacks, lacks_for, lacked, outcome_of}
 use Rattle.run_core.specs.code.Seats.{Seated, changed, actors_in, world_of, AreOf, Becomes, after_word}
-use Rattle.run_core.specs.code.Exchanges.{IsExchange}
+use Rattle.run_core.specs.code.Exchanges.{IsExchange, IsExchangeOf, ComesTo}
 use Rattle.run_core.proofs.Exchanging.{set_there}
 
 -- ---- places
@@ -103,6 +104,30 @@ ask_there fixed servers seats place server seat seat' host host' asked done all 
     ∙ ap (λ (given : Fixed). answered given world place seat.actor host (serve server host (record { stamp = seat.actor.stamp; value = asked }))) (sym (fixed_there fixed seats place seat all is))
     ∙ exchange.step world there
     ∙ ap (λ (actors : List Actor). record { world = record { servers = slice_set servers server host'; agents = actors }; done = done }) (sym (actors_set seats place seat'))
+
+-- ---- Step, of which only the outcome is told
+
+pub comes_to : (stepped : Stepped) (world : World) (done : Done) → stepped ≡ record { world = world; done = done } → ComesTo stepped world done.outcome
+comes_to stepped world done is = record {
+  world_is = sym (ap (λ (one : Stepped). one.world) is);
+  outcome_is = sym (ap (λ (one : Stepped). one.done.outcome) is);
+}
+
+pub advance_there : (fixed : Fixed) (servers : List State) (seats : List Seated) (place server : ℕ) (seat seat' : Seated) (host host' : State) (asked : Request) (outcome : Option Outcome)
+    → AreOf fixed seats → slice_get seats place ≡ Some seat → next_of seat.fixed seat.actor.agent ≡ Some (server, asked) → slice_get servers server ≡ Some host
+    → IsExchangeOf host host' seat seat' place asked outcome
+    → ComesTo (steps_once fixed (world_of servers seats) place (slice_get (actors_in seats) place)) (world_of (slice_set servers server host') (slice_set seats place seat')) outcome
+advance_there fixed servers seats place server seat seat' host host' asked outcome all is next there exchange =
+    let told = exchange server in
+    comes_to _ _ _ (ask_there fixed servers seats place server seat seat' host host' asked (record { served = told.0; outcome = outcome }) all is next there told.1)
+
+-- whether it was served or not, the agent is of the same service
+pub of_advancing : (fixed : Fixed) (seats : List Seated) (place number : ℕ) (seat seat' : Seated) (host host' : State) (asked : Request) (told : Result (Option Outcome) AllocError)
+    → AreOf fixed seats → slice_get seats place ≡ Some seat
+    → IfOk told (λ outcome. IsExchangeOf host host' seat seat' number asked outcome) → OnErr told ((host' ≡ host) × (seat' ≡ seat))
+    → AreOf fixed (slice_set seats place seat')
+of_advancing fixed seats place number seat seat' host host' asked (Ok outcome) all is exchange same = of_set fixed seats place seat seat' all is (exchange 0).1.fixed
+of_advancing fixed seats place number seat seat' host host' asked (Err why) all is exchange same = of_set fixed seats place seat seat' all is (ap (λ (one : Seated). one.fixed) same.1)
 
 -- ---- Lack
 

@@ -13,10 +13,10 @@ use Rattle.txn_core.specs.Doing.{Fixed}
 use Rattle.txn_core.specs.Agents.{fixed_of, next_of}
 use Rattle.txn_core.specs.Wanting as agent
 use Rattle.txn_core.specs.Wanting.{by_job}
-use Rattle.run_core.specs.declared.done.Done.{Done}
+use Rattle.run_core.specs.declared.done.Outcome.{Outcome}
 use Rattle.run_core.specs.declared.event.Event.{Event}
 use Rattle.run_core.specs.Runs.{after, dones}
-use Rattle.run_core.specs.Worlds.{Actor, World, Stepped, step}
+use Rattle.run_core.specs.Worlds.{Actor, World, step}
 use Rattle.run_core.specs.code.Seats.{Seated, actors_in, world_of, AreOf}
 use Rattle.run_core.specs.Wanting.{by_begin, by_exchange, by_asking, by_step, by_event, by_next, by_outcome, by_stop}
 use Rattle.run_core.proofs.Appending.{dones-append}
@@ -71,7 +71,7 @@ asks_some None server is = cc
 
 -- ---- one request of an agent to a server
 
-or_later : (a b : Bool) → b ≡ true → (a || b) ≡ true
+pub or_later : (a b : Bool) → b ≡ true → (a || b) ≡ true
 or_later true b is = refl
 or_later false b is = is
 
@@ -107,15 +107,15 @@ some_true : {X : Type 0} (x : Option X) → IsSome x → is_some x ≡ true
 some_true (Some x) some = refl
 some_true None some = cc
 
-pub stops_behind : (given given' : Opening) (world world' world'' : World) (events : List Event) (i played : ℕ) (event : Event) (done : Done)
+pub stops_behind : (given given' : Opening) (world world' : World) (events : List Event) (i played : ℕ) (event : Event) (outcome : Option Outcome)
     → i < length events → given' ≡ given → played ≡ i → world' ≡ after (fixed_of given) world (take i events) → event ≡ get_or events i event
-    → step (fixed_of given') world' event ≡ record { world = world''; done = done } → IsSome done.outcome
+    → outcome ≡ (step (fixed_of given') world' event).done.outcome → IsSome outcome
     → by_stop (fixed_of given) world events (played + 1) ≡ true
-stops_behind given given' world world' world'' events i played event done within given'_is played_is world'_is event_is stepped some =
-    let there = rw (given'_is, world'_is) at stepped in
-    let last : last_or None (dones (fixed_of given) world (take (i + 1) events)) ≡ Some done =
-    last_done (fixed_of given) world events i event within
-    ∙ sym (ap (λ (one : Event). Some (step (fixed_of given) (after (fixed_of given) world (take i events)) one).done) event_is)
-    ∙ ap (λ (all : Stepped). Some all.done) there in
+stops_behind given given' world world' events i played event outcome within given'_is played_is world'_is event_is ended some =
+    let there = rw (given'_is, world'_is) at ended in
+    let before = after (fixed_of given) world (take i events) in
+    let same : (step (fixed_of given) before (get_or events i event)).done.outcome ≡ outcome =
+    ap (λ (one : Event). (step (fixed_of given) before one).done.outcome) (sym event_is) ∙ sym there in
     ap (λ n. by_stop (fixed_of given) world events (n + 1)) played_is
-    ∙ or_later (by_next (fixed_of given) (after (fixed_of given) world (take (i + 1) events)) (slice_get events (i + 1))) _ (ap by_outcome last ∙ some_true done.outcome some)
+    ∙ or_later (by_next (fixed_of given) (after (fixed_of given) world (take (i + 1) events)) (slice_get events (i + 1))) _
+    (ap by_outcome (last_done (fixed_of given) world events i event within) ∙ ap is_some same ∙ some_true outcome some)

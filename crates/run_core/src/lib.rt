@@ -5,7 +5,7 @@
 //! up; an agent forgets what its cache keeps for a site, or is told that its request was not served. An
 //! event without sense (a number that nobody has, a step of an agent without a job, a begin of one that has
 //! one) does nothing. [`World::step`] plays one event, and answers what was served and how a job ended;
-//! [`World::play`] plays many.
+//! [`World::advance`] plays one and tells the second alone; [`World::play`] plays many.
 //!
 //! What an event makes of a world is one equation each (`specs/Worlds.antt`). A run is events one after the
 //! other, from the opening on (`specs/Runs.antt`). Its decisions are the transactions that a served Decide
@@ -14,10 +14,10 @@
 //! these definitions, exactly: on success the world is the one that they give, and where memory runs out
 //! nothing has changed, or `play` tells how many events were played.
 //!
-//! A step copies no server and no agent, only the request and at most the one suite that is told: the server
-//! gives the reply to the agent before anything is changed for good, and takes the change back, without
-//! memory, where the agent lacks memory for it. Contracts say when an event may want memory, and when none
-//! may (`specs/Wanting.antt`).
+//! A step copies no server and no agent, only the request (`advance` not even that) and at most the one suite
+//! that is told: the server gives the reply to the agent before anything is changed for good, and takes the
+//! change back, without memory, where the agent lacks memory for it. Contracts say when an event may want
+//! memory, and when none may (`specs/Wanting.antt`).
 #![tactic(auto)]
 
 mod done;

@@ -6,11 +6,12 @@ ghost use Rattle.txn_core.specs.Doing.{Fixed};
 ghost use Rattle.txn_core.specs.declared.word.Word.TheVariants.{Lacked};
 ghost use Rattle.run_core.specs.Wanting as wanting;
 ghost use Rattle.run_core.specs.Worlds as worlds;
+ghost use Rattle.run_core.specs.code.Exchanges.{ComesTo};
 ghost use Rattle.run_core.specs.code.Seats.{AreOf, Becomes, actors_in, changed, world_of};
 ghost use Rattle.rep_core.specs.State.{State};
 
-use crate::done::Done;
-use crate::exchange::exchange;
+use crate::done::{Done, Outcome};
+use crate::exchange;
 use crate::seat::Seat;
 use rep_core::{Lack, Server};
 use std::alloc::AllocError;
@@ -58,7 +59,31 @@ pub(crate) fn ask(
     let Some(host) = servers.get_mut(usize::from(server)) else {
         return Ok(Done::nothing());
     };
-    exchange(host, server, seat, number, request)
+    exchange::exchange(host, server, seat, number, request)
+}
+
+/// The same, of which only how a job ended is told.
+pub(crate) fn advance(
+    servers: &mut Vec<Server>,
+    seats: &mut Vec<Seat>,
+    number: u8,
+) -> Result<Option<Outcome>, AllocError>
+    ensures of { (fixed : Fixed) → AreOf fixed seats.old.items → AreOf fixed seats.new.items }
+    ensures ok { IfOk result (λ outcome. (fixed : Fixed) → AreOf fixed seats.old.items → ComesTo (worlds.steps_once fixed (world_of servers.old.items seats.old.items) number (slice_get (actors_in seats.old.items) number)) (world_of servers.new.items seats.new.items) outcome) }
+    ensures err { OnErr result ((servers.new.items ≡ servers.old.items) × (seats.new.items ≡ seats.old.items)) }
+    ensures memory { IfErr result (λ _. (fixed : Fixed) → AreOf fixed seats.old.items → IsTrue (wanting.by_step fixed (world_of servers.old.items seats.old.items) (slice_get (actors_in seats.old.items) number))) }
+{
+    let Some(seat) = seats.get_mut(usize::from(number)) else {
+        return Ok(None);
+    };
+    let Some(asked) = seat.next()? else {
+        return Ok(None);
+    };
+    let (server, request) = asked;
+    let Some(host) = servers.get_mut(usize::from(server)) else {
+        return Ok(None);
+    };
+    exchange::advance(host, seat, number, request)
 }
 
 /// The agent of this number is told that its request is not served, which takes no memory.

@@ -120,6 +120,22 @@ impl Seat {
         }))
     }
 
+    /// Takes a reply.
+    pub(crate) fn take_reply(
+        &mut self,
+        number: u8,
+        reply: Stamped<Reply>,
+    ) -> Result<Option<Outcome>, AllocError>
+        requires { seats.Fits self.old (Replied reply.value) }
+        ensures outcome { IfOk result (λ outcome. outcome ≡ outcome_of number self.old.actor (agents.take self.old.fixed self.old.actor.agent (Replied reply.value)).ending) }
+        ensures state { OnOk result (self.new ≡ seats.after_word self.old reply.stamp (Replied reply.value)) }
+        ensures err { OnErr result (self.new ≡ self.old) }
+        ensures memory { IfErr result (λ _. IsTrue (wanting.by_taking (agents.next_of self.old.fixed self.old.actor.agent) (Replied reply.value))) }
+    {
+        let Stamped { stamp, value } = reply;
+        self.take(number, stamp, &Word::Replied(value))
+    }
+
     /// Takes a reply, and hands it back.
     pub(crate) fn hear(&mut self, number: u8, reply: Stamped<Reply>) -> Result<Heard, AllocError>
         requires { seats.Fits self.old (Replied reply.value) }

@@ -87,6 +87,25 @@ impl World {
         }
     }
 
+    /// Plays one event as `step` does, and tells only how a job ended, if one did: what was served is not
+    /// kept. Where memory runs out nothing has changed, and the same event may be played again. It wants
+    /// memory only where `step` may.
+    pub fn advance(&mut self, event: &Event) -> Result<Option<Outcome>, AllocError>
+        ensures given { self.new.given ≡ self.old.given }
+        ensures world { OnOk result (self.new.world ≡ (worlds.step (fixed_of self.old.given) self.old.world event.now).world) }
+        ensures outcome { IfOk result (λ outcome. outcome ≡ (worlds.step (fixed_of self.old.given) self.old.world event.now).done.outcome) }
+        ensures err { OnErr result (self.new ≡ self.old) }
+        ensures memory { IfErr result (λ _. IsTrue (wanting.by_event (fixed_of self.old.given) self.old.world event.now)) }
+    {
+        match event {
+            Event::Step { agent } => { moves::advance(&mut self.servers, &mut self.seats, *agent) }
+            _ => {
+                let done = self.step(event)?;
+                Ok(done.outcome)
+            }
+        }
+    }
+
     /// Plays events, one after the other, and answers how jobs ended. Where memory runs out the world is
     /// as after the events that are told, and the others may be played next: the first of them wants memory,
     /// or the last that was played ended a job, whose outcome is kept. The outcomes of that call are not
@@ -102,11 +121,11 @@ impl World {
         let mut outcomes = Vec::new(self.alloc);
         let mut played = 0;
         for event in events {
-            let Ok(done) = self.step(event) else {
+            let Ok(outcome) = self.advance(event) else {
                 return Err(Stopped { done: played });
             };
             played += 1;
-            let Ok(()) = keep(&mut outcomes, done) else {
+            let Ok(()) = keep(&mut outcomes, outcome) else {
                 return Err(Stopped { done: played });
             };
         }
@@ -134,12 +153,11 @@ impl World {
     }
 }
 
-/// The outcome of what was done is kept, if there is one.
-fn keep(outcomes: &mut Vec<Outcome>, done: Done) -> Result<(), AllocError>
-    ensures ok { OnOk result (outcomes.new.items ≡ outcomes.old.items ++ cons_option done.outcome []) }
-    ensures memory { IfErr result (λ _. IsSome done.outcome) }
+/// How a job ended is kept, if one did.
+fn keep(outcomes: &mut Vec<Outcome>, outcome: Option<Outcome>) -> Result<(), AllocError>
+    ensures ok { OnOk result (outcomes.new.items ≡ outcomes.old.items ++ cons_option outcome []) }
+    ensures memory { IfErr result (λ _. IsSome outcome) }
 {
-    let Done { outcome, .. } = done;
     if let Some(outcome) = outcome {
         outcomes.push(outcome)?;
     }

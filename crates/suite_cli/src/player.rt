@@ -146,11 +146,12 @@ fn push_outcome(
         (transaction table.old.service table.old.rows number job.now.caller job.now.ops)) }
 {
     push_number(text, number)?;
-    text.extend_from_slice(b" ")?;
+    text.push(b' ')?;
     match table.apply(number, job.caller(), job.ops()) {
         Ok(answers) => push_answered(alloc, text, answers.as_slice())?,
         Err(ApplyError::Refused(refusal)) => push_refused(text, refusal)?,
         Err(ApplyError::Memory) => return Err(AllocError),
     }
-    text.extend_from_slice(b"\n")
+    text.push(b'\n')?;
+    Ok(())
 }

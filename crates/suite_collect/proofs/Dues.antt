@@ -1,6 +1,6 @@
 -- What is due of a collector is what comes next, and what a reply leaves due.
 use Rattle.std.proofs.Common.{◌≡◌, ℕ, Bool, true, false, cond, List, ◌∷◌, ◌++◌, Option, Some, None, refl, sym, ap, subst, ◌∙◌}
-use Rattle.std.specs.Prelude.{nat_le, nat_lt, ◌&&◌, ◌||◌, ◌==◌, find, option_map, is_some, IsSome, IfSome}
+use Rattle.std.specs.Prelude.{nat_le, ◌&&◌, ◌||◌, ◌==◌, find, option_map, is_some, IsSome, IfSome}
 use Rattle.std.proofs.lemmas.Option.{same_Some}
 use Rattle.vote_core.specs.Quorums.{Representative, votes_in}
 use Rattle.suite_prefix.specs.declared.copies.Prefix.{Prefix}
@@ -69,9 +69,6 @@ module _ (c : Collector) where
 
   -- ---- what a reply leaves
 
-  asks_no_quorum : (server : ℕ) → due_in c ≡ due.Ask server → HasNoQuorum (next c)
-  asks_no_quorum server is = subst HasNoQuorum (sym (ask_next server is)) refl
-
   -- it is told something only where it has too few votes
   too_few : (answer : Reply) (last : Told) → told_by (next c) answer ≡ Some last → nat_le (needed c) (got c) ≡ false
   too_few answer last is = at (nat_le (needed c) (got c)) is
@@ -88,6 +85,13 @@ module _ (c : Collector) where
       of : (found : Option Representative) → HasNoQuorum (ask_or_short c found)
       of (Some rep) = refl
       of None = refl
+
+  not_current_no_quorum : (due_in c ≡ due.Current → ⊥) → HasNoQuorum (next c)
+  not_current_no_quorum short = few_no_quorum (at (nat_le (needed c) (got c)) short)
+    where
+      at : (b : Bool) → (now b (find (is_left c) (counted c).reps) ≡ due.Current → ⊥) → b ≡ false
+      at true short = absurd (short refl)
+      at false short = refl
 
 -- what a reply says where it answers what was asked
 abbrev pub said_by : Reply → Said
@@ -174,26 +178,40 @@ took was after answer accepted none is = of (told_by (next was.collector) answer
         record { last = last; told = told; new = new; short = few_no_quorum (tell last was.collector) (votes_same last unheld was.collector ∙ too_few was.collector answer last told) }
     of None told some new = cc
 
--- a lock that is held was taken, whose prefix is not newer, before a widening
+-- a lock that is held was taken, before a widening, where it gives no quorum
 module _ (server : ℕ) (prefix : Prefix) (dver : ℕ) where
   abbrev pub last : LockMode → Told
   last mode = record { server = server; mode = mode; said = Held prefix dver }
 
-  pub record IsTaken (c : Collector) : Type 0 where
-    pub told : told_by (next c) (reply.Held prefix dver) ≡ Some (last c.mode)
-    pub new : tell (last c.mode) c ≡ record c { told = last c.mode ∷ c.told }
-    pub short : HasNoQuorum (next (tell (last c.mode) c))
+  abbrev pub told_last : Collecting → List Told
+  told_last was = last was.collector.mode ∷ was.collector.told
 
-  pub lock_taken : (c : Collector) (other : ℕ) → c.widening ≡ None → due_in c ≡ due.Ask server → nat_lt (newest c.start c.told).pver prefix.pver ≡ false
-      → due_by (newest c.start c.told).votes c.mode (last c.mode ∷ c.told) ≡ due.Ask other → IsTaken c
-  lock_taken c other narrow is older then' = subst IsTaken (sym same) (record {
-    told = told_asked was server (reply.Held prefix dver) (ap due_in (sym same) ∙ is);
+  abbrev pub newest_last : Collecting → Prefix
+  newest_last was = newer (newest was.collector.start was.collector.told) (Held prefix dver)
+
+  abbrev with_last : Collecting → Collecting
+  with_last was = record was { collector = record was.collector { told = told_last was } }
+
+  took_last : (was : Collecting) → was.collector.widening ≡ None → due_in was.collector ≡ due.Ask server
+      → (due_by (newest_last was).votes was.collector.mode (told_last was) ≡ due.Current → ⊥) → Takes was (reply.Held prefix dver) (with_last was)
+  took_last was narrow is few = subst (λ (was : Collecting). Takes was (reply.Held prefix dver) (with_last was)) (sym same) (record {
+    last = last was.collector.mode;
+    told = told_asked c server (reply.Held prefix dver) (ap due_in (ap (λ (was : Collecting). was.collector) (sym same)) ∙ is);
     new = refl;
-    short = asks_no_quorum (tell (last c.mode) was) other (ap (λ b. due_by (cond b prefix (newest c.start c.told)).votes c.mode (last c.mode ∷ c.told)) older ∙ then');
+    short = not_current_no_quorum (tell (last was.collector.mode) c) few;
   })
     where
-      was : Collector
-      was = record c { widening = None }
+      c : Collector
+      c = record was.collector { widening = None }
 
-      same : c ≡ was
-      same = ap (λ widening. record c { widening = widening }) narrow
+      same : was ≡ record was { collector = c }
+      same = ap (λ widening. record was { collector = record was.collector { widening = widening } }) narrow
+
+  pub took_lock : (was : Collecting) (seen : Prefix) (told : List Told) (left : Due)
+      → was.collector.widening ≡ None → due_in was.collector ≡ due.Ask server → seen ≡ newest_last was → told ≡ told_last was
+      → left ≡ due_by seen.votes was.collector.mode told → (left ≡ due.Current → ⊥)
+      → Takes was (reply.Held prefix dver) (record was { collector = record was.collector { told = told } })
+  took_lock was seen told left narrow is newest' told' left' few =
+      subst (λ told. Takes was (reply.Held prefix dver) (record was { collector = record was.collector { told = told } })) (sym told')
+      (took_last was narrow is (λ current.
+      few (left' ∙ ap (λ (seen : Prefix). due_by seen.votes was.collector.mode told) newest' ∙ ap (due_by (newest_last was).votes was.collector.mode) told' ∙ current)))

@@ -8,12 +8,13 @@ ghost use Rattle.suite_collect.specs.Collecting as spec;
 ghost use Rattle.suite_collect.specs.Laws.{HasSource};
 ghost use Rattle.suite_collect.specs.Telling as telling;
 
+use crate::coming::{Asked, Coming};
 use crate::heard::Heard;
 use crate::log::Log;
 use crate::members::{first_left, members_of};
 use crate::next::{Members, Next};
 use crate::told::{Said, Told};
-use rep_core::{Reply, Request};
+use rep_core::Reply;
 use std::alloc::AllocError;
 use std::marker::Model;
 use suite_prefix::{LockMode, Prefix};
@@ -107,7 +108,7 @@ impl Clone for Collect {
 impl Collect {
     ghost use Rattle.suite_collect.specs.Telling.{newest};
     ghost use Rattle.rep_core.specs.declared.reply.Reply.TheVariants as reply;
-    ghost use Rattle.suite_collect.specs.Answering.{Tells, TakesOn, shows_lock};
+    ghost use Rattle.suite_collect.specs.Answering.{Comes, Tells, TakesOn, asked_in, shows_lock};
 
     /// A collector that was told nothing yet. `start` is any prefix that the suite once had, or that of
     /// what was never made.
@@ -174,9 +175,27 @@ impl Collect {
             }
             Due::Ask(server) => Next::Ask {
                 server,
-                request: self.request(server),
+                request: self.asked(server).request(self.t, self.suite),
             },
             Due::Short { got, needed } => Next::Short {
+                got,
+                needed,
+                busy: self.heard().first_busy(),
+            },
+        }
+    }
+
+    /// The same, without what a quorum gives.
+    pub fn coming(&self) -> Coming
+        ensures { Comes result (spec.next self.now.collector) }
+    {
+        match self.due {
+            Due::Current => Coming::Current,
+            Due::Ask(server) => Coming::Ask {
+                server,
+                asked: self.asked(server),
+            },
+            Due::Short { got, needed } => Coming::Short {
                 got,
                 needed,
                 busy: self.heard().first_busy(),
@@ -243,7 +262,7 @@ impl Collect {
         }
     }
 
-    /// Takes a lock that is held, where it gives no quorum, its prefix is not newer and nothing is widened.
+    /// Takes a lock that is held, where it gives no quorum and nothing is widened.
     fn take_lock(&mut self, prefix: &Prefix, dver: u64) -> Result<bool, AllocError>
         ensures ok { IfOk result (λ taken. TakesOn taken self.old (reply.Held prefix.now dver) self.new) }
         ensures err { OnErr result (self.new ≡ self.old) }
@@ -251,21 +270,28 @@ impl Collect {
         let (Due::Ask(server), None) = (self.due, &self.widening) else {
             return Ok(false);
         };
-        if prefix.pver > self.newest().pver {
-            return Ok(false);
-        }
         let mode = self.mode;
-        let prefix = prefix.clone()?;
-        let said = Said::Held { prefix, dver };
+        let said = Said::Held {
+            prefix: prefix.clone()?,
+            dver,
+        };
         let last = Told { server, mode, said };
         let mut told = self.told.same();
         told.add(&last);
-        let due = due_of(&self.newest().votes, &told, mode);
-        let Due::Ask(_) = due else {
+        let newest = self.newest();
+        let is_newer = prefix.pver > newest.pver;
+        let newest = if is_newer { prefix } else { newest };
+        let due = due_of(&newest.votes, &told, mode);
+        if let Due::Current = due {
             return Ok(false);
-        };
+        }
         self.told = told;
         self.due = due;
+        if let Said::Held { prefix, .. } = last.said {
+            if is_newer {
+                self.newer = Some(prefix);
+            }
+        }
         Ok(true)
     }
 
@@ -364,15 +390,13 @@ impl Collect {
     }
 
     /// What a server is asked.
-    fn request(&self, server: u8) -> Request
-        ensures { let c = self.now.collector in result ≡ spec.request_for self.now.t self.now.suite (spec.asked_of c server) }
+    fn asked(&self, server: u8) -> Asked
+        ensures { asked_in result ≡ spec.asked_of self.now.collector server }
     {
-        let (t, suite) = (self.t, self.suite);
         if self.holds(LockMode::Shared, server) {
-            Request::Upgrade { t, suite }
+            Asked::Upgrade
         } else {
-            let mode = self.wanted();
-            Request::Poll { t, suite, mode }
+            Asked::Poll(self.wanted())
         }
     }
 

@@ -1,16 +1,18 @@
 //! The collector of one suite, after Gifford's weighted voting: it gathers locks for a transaction until
 //! their servers are a quorum under the newest prefix that they show.
 //!
-//! A [`Collect`] says what comes next ([`Collect::next`]): a server is asked for a lock, or there is a
-//! quorum, or nobody is left to ask. Its caller asks that server, and hands the reply back
-//! ([`Collect::take`]). To contracts it is the list of what servers said; `next` is a function of that
-//! list (`specs/Collecting.antt`), and the laws of this crate speak of it. Only [`Collect::take_on`] may want memory.
+//! A [`Collect`] says what comes next ([`Collect::next`], and [`Collect::coming`] without what a quorum
+//! gives): a server is asked for a lock, or there is a quorum, or nobody is left to ask. Its caller asks
+//! that server, and hands the reply back ([`Collect::take`]). To contracts it is the list of what servers
+//! said; `next` is a function of that list (`specs/Collecting.antt`), and the laws of this crate speak of
+//! it. Only [`Collect::take_on`] may want memory.
 //!
 //! What a caller owes: `start` is a prefix that the suite once had, or that of what was never made; and
 //! what is taken answers what was asked ([`Collect::accepts`]). After any other reply a transaction ends.
 #![tactic(auto)]
 
 mod collect;
+mod coming;
 mod heard;
 mod laws;
 mod log;
@@ -19,6 +21,7 @@ mod next;
 mod told;
 
 pub use collect::Collect;
+pub use coming::{Asked, Coming};
 pub use laws::{
     asks_are_few, current_is_a_quorum, nobody_is_asked_twice, prefix_and_version_stay,
     short_has_none_left, widened_is_a_write_quorum,

@@ -1,5 +1,6 @@
 pub mod Idle
 pub mod Lines
+pub mod Playing
 pub mod KeptLines
 pub mod ValidLines
 pub mod Promised

@@ -106,7 +106,7 @@ fn push_names(text: &mut Vec<u8>, names: &NameList) -> Result<(), AllocError>
     };
     text.extend_from_slice(first.as_bytes())?;
     for name in names {
-        text.extend_from_slice(b",")?;
+        text.push(b',')?;
         text.extend_from_slice(name.as_bytes())?;
     }
     Ok(())

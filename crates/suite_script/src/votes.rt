@@ -113,9 +113,9 @@ pub(crate) fn push_votes(text: &mut Vec<u8>, votes: &Votes) -> Result<(), AllocE
     ensures { OnOk result (text.new.items ≡ text.old.items ++ votes_text votes.now) }
 {
     push_fields(text, votes.reps())?;
-    text.extend_from_slice(b"/")?;
+    text.push(b'/')?;
     push_number(text, u64::from(votes.r()))?;
-    text.extend_from_slice(b"/")?;
+    text.push(b'/')?;
     push_number(text, u64::from(votes.w()))
 }
 
@@ -126,7 +126,7 @@ fn push_fields(text: &mut Vec<u8>, reps: &[(u8, u8)]) -> Result<(), AllocError>
     push_field(text, reps, 0)?;
     let end = last_server(reps) + 1;
     for server in 1..end {
-        text.extend_from_slice(b",")?;
+        text.push(b',')?;
         push_field(text, reps, server)?;
     }
     Ok(())

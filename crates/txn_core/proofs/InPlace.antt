@@ -13,17 +13,16 @@ use Rattle.sorted_map.specs.SortedMap.{IsOrdered, replace}
 use Rattle.sorted_map.specs.Edits.{insert_present, replace_same}
 use Rattle.suite_collect.specs.declared.told.Told.{Told}
 use Rattle.suite_collect.specs.Collecting.{tell, told_by, next}
-use Rattle.suite_collect.specs.Answering.{HasNoQuorum, shows_lock}
+use Rattle.suite_collect.specs.Answering.{HasNoQuorum, Comes, shows_lock}
 use Rattle.weak_cache.specs.Entries.{Cache}
-use Rattle.txn_core.specs.declared.coming.Asked.{Asked}
-use Rattle.txn_core.specs.declared.coming.Coming.{Coming}
-use Rattle.txn_core.specs.declared.coming.Coming.TheVariants.{Current, Ask, Short}
+use Rattle.suite_collect.specs.declared.coming.Asked.{Asked}
+use Rattle.suite_collect.specs.declared.coming.Coming.{Coming}
+use Rattle.suite_collect.specs.declared.coming.Coming.TheVariants.{Current, Ask, Short}
 use Rattle.txn_core.specs.declared.course.Heard.{Heard}
 use Rattle.txn_core.specs.declared.course.Heard.TheVariants.{Settled, Through}
 use Rattle.txn_core.specs.declared.ending.Cause.{Cause}
 use Rattle.txn_core.specs.declared.ending.Ending.{Ending}
 use Rattle.txn_core.specs.declared.hearing.Hearing.{Hearing}
-use Rattle.txn_core.specs.code.Coming.{Comes}
 use Rattle.txn_core.specs.Doing.{Course}
 use Rattle.txn_core.specs.code.Hearing.{heard_next, heard_one, heard, on_hearing}
 use Rattle.txn_core.specs.code.HearingOn.{IsLeft, HearsOn, GoesOnBy, SettlesBy}

@@ -14,10 +14,10 @@ use Rattle.vote_core.specs.Quorums.{Configuration}
 use Rattle.file_exec.specs.declared.changes.Change.{Change}
 use Rattle.suite_collect.specs.Collecting.{Next, widen, next}
 use Rattle.weak_cache.specs.Entries.{Cache}
-use Rattle.txn_core.specs.declared.coming.Coming.{Coming}
-use Rattle.txn_core.specs.declared.coming.Coming.TheVariants as coming
-use Rattle.txn_core.specs.declared.coming.Asked.{Asked}
-use Rattle.txn_core.specs.code.Coming.{Comes}
+use Rattle.suite_collect.specs.declared.coming.Coming.{Coming}
+use Rattle.suite_collect.specs.declared.coming.Coming.TheVariants as coming
+use Rattle.suite_collect.specs.declared.coming.Asked.{Asked}
+use Rattle.suite_collect.specs.Answering.{Comes}
 use Rattle.txn_core.specs.Doing.{Changes, Granted, Task, Widening, Course}
 use Rattle.txn_core.specs.code.Steps.{Steps, WidensTo, Widens}
 use Rattle.txn_core.specs.declared.ending.Ending.{Ending}

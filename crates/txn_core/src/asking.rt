@@ -9,7 +9,6 @@ ghost use Rattle.txn_core.specs.Transactions as course;
 ghost use Rattle.txn_core.specs.Wanting as wanting;
 ghost use Rattle.txn_core.specs.declared.ending.Ending.{Ending};
 
-use crate::coming::Coming;
 use crate::course::Course;
 use crate::granted::Outcome;
 use crate::home::home_of;
@@ -20,6 +19,7 @@ use crate::writing::parts_at;
 use file_ops::Service;
 use rep_core::{Decision, Request, Verdict};
 use std::alloc::{AllocError, Global};
+use suite_collect::Coming;
 use vote_core::MAX_SERVERS;
 
 impl Course {

@@ -18,7 +18,6 @@ ghost use Rattle.txn_core.specs.code.Unused.{HasUnused, shows_unused};
 ghost use Rattle.txn_core.specs.Wanting as wanting;
 ghost use Rattle.txn_core.specs.declared.word.Word.TheVariants.{Replied};
 
-use crate::coming::Coming;
 use crate::ending::{Cause, Ending};
 use crate::execution::Execution;
 use crate::hearing::Hearing;
@@ -33,6 +32,7 @@ use rep_core::Reply;
 use sorted_map::RoomyMap;
 use std::alloc::{AllocError, Global};
 use std::marker::Model;
+use suite_collect::Coming;
 use vote_core::MAX_SERVERS;
 use weak_cache::WeakCache;
 

@@ -5,10 +5,10 @@ ghost use Rattle.suite_collect.specs.Collecting.{next, told_by};
 ghost use Rattle.txn_core.specs.code.Hearing.{heard};
 ghost use Rattle.txn_core.specs.code.Unused.{shows_unused};
 
-use crate::coming::Coming;
 use crate::suites::Suite;
 use rep_core::Reply;
 use std::alloc::AllocError;
+use suite_collect::Coming;
 
 /// What comes of a reply to what a suite asks, with the suite that was told it.
 #[derive(Drop)]

@@ -4,7 +4,6 @@
 mod agent;
 mod asking;
 mod carrying;
-mod coming;
 mod course;
 mod ending;
 mod execution;

@@ -4,20 +4,20 @@ ghost use Rattle.std.specs.Prelude.{◌≡◌, ◌==◌, find, None, Some, is_so
 ghost use Rattle.std.specs.Option.{option_copied};
 ghost use Rattle.rep_core.specs.Fits.{is_held};
 ghost use Rattle.rep_core.specs.Store.{is_used_up};
+ghost use Rattle.suite_collect.specs.Answering.{Comes};
 ghost use Rattle.suite_collect.specs.Collecting as spec;
 ghost use Rattle.suite_collect.specs.Telling.{shown};
-ghost use Rattle.txn_core.specs.code.Coming.{Comes, told_one, settled_by};
+ghost use Rattle.txn_core.specs.code.Coming.{told_one, settled_by};
 ghost use Rattle.txn_core.specs.code.HearingOn.{HearsOn};
 ghost use Rattle.txn_core.specs.Suites as gathering;
 ghost use Rattle.txn_core.specs.code.Unused.{shows_unused};
 
-use crate::coming::{Coming, asked_by};
 use crate::first::First;
 use rep_core::Reply;
 use std::alloc::{AllocError, Global};
 use std::marker::Model;
 use std::mem;
-use suite_collect::{Collect, Members, Next};
+use suite_collect::{Collect, Coming, Members, Next};
 use suite_content::Content;
 use suite_prefix::{LockMode, Prefix};
 use vote_core::Votes;
@@ -151,14 +151,7 @@ impl Suite {
     pub(crate) fn next(&self) -> Coming
         ensures { Comes result (spec.next self.now.collector) }
     {
-        match self.gathered.collect.next() {
-            Next::Current { .. } => Coming::Current,
-            Next::Ask { server, request } => Coming::Ask {
-                server,
-                asked: asked_by(&request),
-            },
-            Next::Short { got, needed, busy } => Coming::Short { got, needed, busy },
-        }
+        self.gathered.collect.coming()
     }
 
     /// Whether a reply answers what was asked next, and the suite goes on with it. After any other the

@@ -9,12 +9,12 @@ ghost use Rattle.txn_core.specs.code.Steps.{Steps, Widens};
 ghost use Rattle.txn_core.specs.Suites.{suite_of, with_suite};
 ghost use Rattle.txn_core.specs.Transactions as course;
 
-use crate::coming::Coming;
 use crate::course::Course;
 use crate::ending::{Cause, Ending};
 use crate::granted::Granted;
 use crate::phase::Phase;
 use crate::servers::locked_at;
+use suite_collect::Coming;
 use vote_core::Votes;
 
 impl Course {

@@ -3,8 +3,8 @@ use Rattle.std.specs.Prelude.{◌≡◌, ℕ, true, is_some, Option, Some, None}
 use Rattle.rep_core.specs.declared.reply.Reply.{Reply}
 use Rattle.rep_core.specs.Fits.{is_held}
 use Rattle.suite_collect.specs.Collecting.{next, told_by}
-use Rattle.txn_core.specs.declared.coming.Coming.{Coming}
-use Rattle.txn_core.specs.declared.coming.Coming.TheVariants.{Current, Ask, Short}
+use Rattle.suite_collect.specs.declared.coming.Coming.{Coming}
+use Rattle.suite_collect.specs.declared.coming.Coming.TheVariants.{Current, Ask, Short}
 use Rattle.txn_core.specs.declared.course.Heard.{Heard}
 use Rattle.txn_core.specs.declared.course.Heard.TheVariants.{Settled, Through}
 use Rattle.txn_core.specs.declared.hearing.Hearing.TheVariants as hearing

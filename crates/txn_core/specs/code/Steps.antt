@@ -4,11 +4,11 @@ use Rattle.vote_core.specs.Quorums.{Configuration}
 use Rattle.rep_core.specs.declared.request.Request.{Request}
 use Rattle.suite_collect.specs.Collecting.{widen, next}
 use Rattle.weak_cache.specs.Entries.{Cache}
-use Rattle.txn_core.specs.declared.coming.Coming.{Coming}
-use Rattle.txn_core.specs.declared.coming.Coming.TheVariants as coming
+use Rattle.suite_collect.specs.declared.coming.Coming.{Coming}
+use Rattle.suite_collect.specs.declared.coming.Coming.TheVariants as coming
 use Rattle.txn_core.specs.declared.ending.Ending.{Ending}
 use Rattle.txn_core.specs.declared.word.Word.{Word}
-use Rattle.txn_core.specs.code.Coming.{Comes}
+use Rattle.suite_collect.specs.Answering.{Comes}
 use Rattle.txn_core.specs.Doing.{Fixed, Course, After, GoesOn, Ends}
 use Rattle.txn_core.specs.Suites.{Suite, suite_of, with_suite}
 use Rattle.txn_core.specs.Transactions.{Step, after_word}

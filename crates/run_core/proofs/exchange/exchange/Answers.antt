@@ -1,5 +1,4 @@
 use Rattle.std.proofs.Common.{ap, Err}
-use Rattle.std.proofs.lemmas.Result.{IfOk-weaker}
 use Rattle.run_core.proofs.Exchanging.{reply_fits_seat, served_exchange, full_exchange}
 use Rattle.run_core.proofs.Wanting.{held, request_wants}
 use Rattle.run_core.proofs.exchange.exchange.Goals as goal
@@ -16,10 +15,8 @@ pub returns-in-Err-clause-ok : goal.returns-in-Err-clause-ok
 returns-in-Err-clause-ok c =
     let same = c.in_ok-clone.ensures in
     let told = c.in-Err.ensures in
-    IfOk-weaker c.unserved.result _ _
-    (λ done left. full_exchange _ _ _ c.serve_then-told.new.taker _ _ _ c.stamp-stamp.result _ c.in_ok-clone.field-0 c.in-Err.lack done
-    same.ok c.stamp-stamp.ensures (λ is. told.full.0 (ap Err is)) told.err told.taker left)
-    c.unserved.ensures.ok
+    full_exchange _ _ _ c.serve_then-told.new.taker _ _ _ c.stamp-stamp.result _ c.in_ok-clone.field-0 c.in-Err.lack c.in_ok-unserved-in-Err.field-0
+    same.ok c.stamp-stamp.ensures (λ is. told.full.0 (ap Err is)) told.err told.taker c.in_ok-unserved-in-Err.ensures.ok
 
 pub returns-clause-ok : goal.returns-clause-ok
 returns-clause-ok c =

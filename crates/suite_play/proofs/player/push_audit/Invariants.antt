@@ -1,11 +1,9 @@
 use Rattle.std.proofs.Common.{◌≡◌, ◌++◌, drop}
 use Rattle.std.specs.List.{flat_map}
-use Rattle.suite_script.specs.Gathering.{WroteSoFar}
 use Rattle.suite_play.specs.Texts.{audit_lines, item_line}
 use Rattle.suite_play.proofs.player.push_audit.Given as goal
 
 abbrev pub invariant-loop-item : goal.invariant-loop-item
-invariant-loop-item g l = record {
-  written : WroteSoFar (g.O.ByteOut.written l.fn.writer) (l.fn.text.items ++ audit_lines l.server l.items) (l.text.items ++ flat_map item_line (drop l.item-index l.items)) (g.O.ByteOut.written l.writer);
-  failures : g.O.ByteOut.failed_writes l.writer ≡ g.O.ByteOut.failed_writes l.fn.writer;
+invariant-loop-item l = record {
+  printed : l.text.items ++ flat_map item_line (drop l.item-index l.items) ≡ l.fn.text.items ++ audit_lines l.server l.items;
 }

@@ -9,6 +9,6 @@ loop-server-preserved c =
     let server = c.loop-server.server in
     let end = c.last_server-end.result + 1 in
     ap (λ text. text ++ fields_from reps (server + 1) end) c.in_ok-push_field-2.ensures
-    ∙ ap (λ text. (text ++ field_text reps server) ++ fields_from reps (server + 1) end) c.in_ok-extend_from_slice.ensures.items
+    ∙ ap (λ text. (text ++ field_text reps server) ++ fields_from reps (server + 1) end) c.in_ok-push.ensures.items
     ∙ more_fields reps c.loop-server.text.items server end c.loop-server-test.true
     ∙ c.loop-server.invariant

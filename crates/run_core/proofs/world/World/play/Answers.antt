@@ -12,10 +12,10 @@ loop-event-preserved c =
     record {
       given = stepped.given ∙ so_far.given;
       played = omega arith;
-      world = world_played c.args.self.now.given c.loop-event.self.given c.args.self.now.world c.loop-event.self.world c.step.new.self.world c.args.events.now c.loop-event.event-index c.loop-event.event-index c.event-item.result c.in-Ok.done
-          within so_far.given refl so_far.world c.event-item.is stepped.ok;
-      outcomes = outcomes_played c.args.self.now.given c.loop-event.self.given c.args.self.now.world c.loop-event.self.world c.step.new.self.world c.args.events.now c.loop-event.event-index c.event-item.result c.in-Ok.done c.loop-event.outcomes.items c.keep.new.outcomes.items
-          within so_far.given so_far.world c.event-item.is stepped.ok so_far.outcomes kept;
+      world = world_played c.args.self.now.given c.loop-event.self.given c.args.self.now.world c.loop-event.self.world c.advance.new.self.world c.args.events.now c.loop-event.event-index c.loop-event.event-index c.event-item.result
+          within so_far.given refl so_far.world c.event-item.is stepped.world;
+      outcomes = outcomes_played c.args.self.now.given c.loop-event.self.given c.args.self.now.world c.loop-event.self.world c.args.events.now c.loop-event.event-index c.event-item.result c.in-Ok.outcome c.loop-event.outcomes.items c.keep.new.outcomes.items
+          within so_far.given so_far.world c.event-item.is stepped.outcome so_far.outcomes kept;
     }
 
 pub returns-in_default-keep-clause-stopped : goal.returns-in_default-keep-clause-stopped
@@ -23,8 +23,8 @@ returns-in_default-keep-clause-stopped c =
     let so_far = c.loop-event.invariant in
     let stepped = c.in-Ok.ensures in
     let within : c.loop-event.event-index < length c.args.events.now = omega arith in
-    world_played c.args.self.now.given c.loop-event.self.given c.args.self.now.world c.loop-event.self.world c.step.new.self.world c.args.events.now c.loop-event.event-index c.loop-event.played c.event-item.result c.in-Ok.done
-    within so_far.given so_far.played so_far.world c.event-item.is stepped.ok
+    world_played c.args.self.now.given c.loop-event.self.given c.args.self.now.world c.loop-event.self.world c.advance.new.self.world c.args.events.now c.loop-event.event-index c.loop-event.played c.event-item.result
+    within so_far.given so_far.played so_far.world c.event-item.is stepped.world
 
 pub returns-in_default-clause-memory : goal.returns-in_default-clause-memory
 returns-in_default-clause-memory c =
@@ -37,5 +37,5 @@ pub returns-in_default-keep-clause-memory : goal.returns-in_default-keep-clause-
 returns-in_default-keep-clause-memory c =
     let so_far = c.loop-event.invariant in
     let within : c.loop-event.event-index < length c.args.events.now = omega arith in
-    stops_behind c.args.self.now.given c.loop-event.self.given c.args.self.now.world c.loop-event.self.world c.step.new.self.world c.args.events.now c.loop-event.event-index c.loop-event.played c.event-item.result c.in-Ok.done
-    within so_far.given so_far.played so_far.world c.event-item.is c.in-Ok.ensures.ok c.in_default-keep.ensures.memory
+    stops_behind c.args.self.now.given c.loop-event.self.given c.args.self.now.world c.loop-event.self.world c.args.events.now c.loop-event.event-index c.loop-event.played c.event-item.result c.in-Ok.outcome
+    within so_far.given so_far.played so_far.world c.event-item.is c.in-Ok.ensures.outcome c.in_default-keep.ensures.memory

@@ -1,10 +1,10 @@
-use Rattle.std.proofs.Common.{◌≡◌, ap, sym, ◌∙◌}
+use Rattle.std.proofs.Common.{◌≡◌, ap, sym, ◌∙◌, rules}
 use Rattle.suite_collect.specs.declared.collect.Due.TheVariants as due
 use Rattle.suite_collect.specs.code.CollectFields.{due_in}
 use Rattle.suite_collect.specs.Collecting as spec
 use Rattle.suite_collect.specs.Telling as telling
-use Rattle.suite_collect.specs.Collecting.{Collecting, Current}
-use Rattle.suite_collect.proofs.Dues.{current_next}
+use Rattle.suite_collect.specs.Collecting.{Collecting, Current, asked_of, request_for}
+use Rattle.suite_collect.proofs.Dues.{current_next, ask_next}
 use Rattle.suite_collect.proofs.collect.Collect.next.Goals as goal
 
 pub returns-in-Current : goal.returns-in-Current
@@ -16,3 +16,11 @@ returns-in-Current c =
     ∙ ap (λ prefix. Current prefix (spec.version now) (spec.members_of (spec.counted now) (spec.is_member now))) (sym c.newest.ensures)
     ∙ ap (λ dver. Current c.newest.result.now dver (spec.members_of (spec.counted now) (spec.is_member now))) version
     ∙ ap (λ members. Current c.newest.result.now c.greatest-dver.result members) (sym c.members.ensures)
+
+pub returns-in-Ask : goal.returns-in-Ask
+returns-in-Ask c =
+    let now = c.args.self.now.collector in
+    let server = c.in-Ask.server in
+    let is : due_in now ≡ due.Ask server = ap (λ (c : Collecting). due_in c.collector) (sym c.self.view_is) ∙ sym c.self.invariant.due ∙ c.in-Ask.is in
+    let request : c.request.result ≡ request_for c.args.self.now.t c.args.self.now.suite (asked_of now server) = search rules in
+    (asked_of now server, ask_next now server is, request)

@@ -1,6 +1,6 @@
 use Rattle.std.proofs.Common.{◌≡◌, Option, Some, sym, ap, subst, ◌∙◌}
 use Rattle.std.specs.Prelude.{IsSome, IfOk, OnErr}
-use Rattle.txn_core.specs.declared.coming.Coming.{Coming}
+use Rattle.suite_collect.specs.declared.coming.Coming.{Coming}
 use Rattle.txn_core.specs.Doing.{Course}
 use Rattle.txn_core.specs.code.Hearing.{heard}
 use Rattle.txn_core.specs.code.HearingOn.{GoesOnBy}

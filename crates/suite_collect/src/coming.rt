@@ -1,16 +1,15 @@
-//! What comes next of a suite.
+//! What comes next of a collector, without what a quorum gives.
 
-ghost use Rattle.std.specs.Prelude.{◌≡◌, ℕ};
-ghost use Rattle.suite_collect.specs.Collecting as spec;
+ghost use Rattle.std.specs.Prelude.{◌≡◌};
+ghost use Rattle.suite_collect.specs.Answering.{asked_in};
 ghost use Rattle.suite_collect.specs.Collecting.{request_for};
-ghost use Rattle.txn_core.specs.code.Coming.{asked_in};
 
 use rep_core::Request;
 use suite_prefix::LockMode;
 
 /// What a server is asked of a suite.
 #[derive(Clone, Copy, Debug)]
-pub(crate) enum Asked {
+pub enum Asked {
     /// A lock.
     Poll(LockMode),
     /// That the lock that it has becomes exclusive.
@@ -19,7 +18,7 @@ pub(crate) enum Asked {
 
 /// What comes next of a suite.
 #[derive(Clone, Copy, Debug)]
-pub(crate) enum Coming {
+pub enum Coming {
     /// It has a quorum.
     Current,
     /// A server is to be asked.
@@ -38,22 +37,12 @@ pub(crate) enum Coming {
 
 impl Asked {
     /// The request that a transaction makes of it.
-    pub(crate) fn request(self, t: u64, suite: u64) -> Request
+    pub fn request(self, t: u64, suite: u64) -> Request
         ensures { result ≡ request_for t suite (asked_in self) }
     {
         match self {
             Asked::Poll(mode) => Request::Poll { t, suite, mode },
             Asked::Upgrade => Request::Upgrade { t, suite },
         }
-    }
-}
-
-/// What a collector's request asks.
-pub(crate) fn asked_by(request: &Request) -> Asked
-    ensures { (t suite : ℕ) (asked : spec.Asked) → request.now ≡ request_for t suite asked → asked_in result ≡ asked }
-{
-    match request {
-        Request::Poll { mode, .. } => Asked::Poll(*mode),
-        _ => Asked::Upgrade,
     }
 }
