@@ -17,7 +17,7 @@ use Rattle.suite_collect.specs.declared.collect.Due.TheVariants as due
 use Rattle.suite_collect.specs.Telling.{is_held, newer, newest, holds, first_busy}
 use Rattle.suite_collect.specs.Collecting.{Widening, Collector, Collecting, Asked, Poll, Upgrade, mode_asked, all_told, counted, wanted, needed, needed_of, got, is_member, is_left, members_of, version, asked_of, ask_or_short, said_to, tell, told_by, Next, Current, Ask, Short, next}
 use Rattle.suite_collect.specs.code.CollectFields.{due_left, due_by, due_in}
-use Rattle.suite_collect.specs.Answering.{HasNoQuorum, Takes, shows_lock}
+use Rattle.suite_collect.specs.Answering.{has_quorum, HasNoQuorum, Takes, Leaves, shows_lock}
 use Rattle.suite_collect.proofs.Collected.{asked_as_wanted}
 
 module _ (c : Collector) where
@@ -215,3 +215,30 @@ module _ (server : ℕ) (prefix : Prefix) (dver : ℕ) where
       subst (λ told. Takes was (reply.Held prefix dver) (record was { collector = record was.collector { told = told } })) (sym told')
       (took_last was narrow is (λ current.
       few (left' ∙ ap (λ (seen : Prefix). due_by seen.votes was.collector.mode told) newest' ∙ ap (due_by (newest_last was).votes was.collector.mode) told' ∙ current)))
+
+  -- where it gives a quorum it was left
+  left_last : (was : Collecting) → was.collector.widening ≡ None → due_in was.collector ≡ due.Ask server
+      → due_by (newest_last was).votes was.collector.mode (told_last was) ≡ due.Current → Leaves was (reply.Held prefix dver) was
+  left_last was narrow is current = subst (λ (was : Collecting). Leaves was (reply.Held prefix dver) was) (sym same) (record {
+    same = refl;
+    told = λ shown. refl;
+    late = λ one told.
+        subst (λ (one : Told). has_quorum (next (tell one c)) ≡ true) (same_Some (last was.collector.mode) one (sym (told_asked c server (reply.Held prefix dver) asked) ∙ told))
+        (ap has_quorum (current_next (tell (last was.collector.mode) c) current));
+  })
+    where
+      c : Collector
+      c = record was.collector { widening = None }
+
+      same : was ≡ record was { collector = c }
+      same = ap (λ widening. record was { collector = record was.collector { widening = widening } }) narrow
+
+      asked : due_in c ≡ due.Ask server
+      asked = ap due_in (ap (λ (was : Collecting). was.collector) (sym same)) ∙ is
+
+  pub left_lock : (was : Collecting) (seen : Prefix) (told : List Told) (left : Due)
+      → was.collector.widening ≡ None → due_in was.collector ≡ due.Ask server → seen ≡ newest_last was → told ≡ told_last was
+      → left ≡ due_by seen.votes was.collector.mode told → left ≡ due.Current → Leaves was (reply.Held prefix dver) was
+  left_lock was seen told left narrow is newest' told' left' now =
+      left_last was narrow is
+      (sym (ap (due_by (newest_last was).votes was.collector.mode) told') ∙ sym (ap (λ (seen : Prefix). due_by seen.votes was.collector.mode told) newest') ∙ sym left' ∙ now)

@@ -1,5 +1,5 @@
 -- What a `Next` tells of a collector, and what a reply leaves of one that has no quorum after it.
-use Rattle.std.specs.Prelude.{◌≡◌, ℕ, List, Bool, true, false, is_some, Some}
+use Rattle.std.specs.Prelude.{◌≡◌, ℕ, List, Bool, true, false, ◌||◌, is_some, Some}
 use Rattle.suite_prefix.specs.declared.copies.Prefix.{Prefix}
 use Rattle.rep_core.specs.declared.reply.Reply.{Reply}
 use Rattle.rep_core.specs.declared.reply.Reply.TheVariants as reply
@@ -40,6 +40,11 @@ HasNoQuorum (spec.Current prefix dver members) = true ≡ false
 HasNoQuorum (spec.Ask server asked) = true ≡ true
 HasNoQuorum (spec.Short got needed busy) = true ≡ true
 
+-- whether there is a quorum
+abbrev pub has_quorum : spec.Next → Bool
+has_quorum (spec.Current prefix dver members) = true
+has_quorum other = false
+
 -- it was told the reply, and has no quorum after it
 pub record Takes (before : Collecting) (reply : Reply) (after : Collecting) : Type 0 where
   pub last : Told
@@ -47,10 +52,11 @@ pub record Takes (before : Collecting) (reply : Reply) (after : Collecting) : Ty
   pub new : after ≡ record before { collector = tell last before.collector }
   pub short : HasNoQuorum (next (tell last before.collector))
 
--- or the reply was left: it shows a lock, or does not answer what was asked
+-- or the reply was left: it does not answer what was asked, or it shows a lock after which there is a quorum, or something is widened
 pub record Leaves (before : Collecting) (reply : Reply) (after : Collecting) : Type 0 where
   pub same : after ≡ before
   pub told : is_some (told_by (next before.collector) reply) ≡ true → shows_lock reply ≡ true
+  pub late : (last : Told) → told_by (next before.collector) reply ≡ Some last → (is_some before.collector.widening || has_quorum (next (tell last before.collector))) ≡ true
 
 abbrev pub TakesOn : Bool → Collecting → Reply → Collecting → Type 0
 TakesOn true before reply after = Takes before reply after

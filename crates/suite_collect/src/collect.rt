@@ -237,8 +237,8 @@ impl Collect {
     }
 
     /// Takes a reply after which there is no quorum, and says that it did. It leaves a reply that does not
-    /// answer what was asked, and may leave one that holds a lock: then nothing changes. Only a lock that is
-    /// held may want memory.
+    /// answer what was asked, a lock that gives a quorum, and any lock after a widening: then nothing changes.
+    /// Only a lock that is held may want memory.
     pub fn take_on(&mut self, reply: &Reply) -> Result<bool, AllocError>
         ensures ok { IfOk result (λ taken. TakesOn taken self.old reply.now self.new) }
         ensures err { OnErr result (self.new ≡ self.old) }
