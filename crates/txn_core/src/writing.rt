@@ -24,7 +24,7 @@ pub(crate) fn parts_at(
 ) -> Result<Parts, AllocError>
     ensures { IfOk result (λ parts. parts ≡ spec.parts_at suites.now (unwrap_or (option_copied changes.entry) []) server) }
 {
-    let mut parts = Vec::new(alloc);
+    let mut parts = Vec::with_capacity(alloc, suites.len())?;
     for (number, suite) in suites {
         if suite.holds_lock(server) {
             let part = part_of(*number, suite, changes, server)?;
