@@ -10,13 +10,14 @@ ghost use Rattle.rep_core.specs.Service as service;
 ghost use Rattle.rep_core.specs.State.{opening};
 
 use crate::locks::LockTable;
-use crate::plan::Change;
+use crate::plan::{Way, audit_of, is_answered, verdict_of};
 use crate::reply::Verdict;
+use crate::request::{Decision, Request};
 use crate::store::Store;
 use file_ops::AuditItem;
 use std::alloc::{AllocError, Global};
 use std::collections::BTreeMap;
-use suite_prefix::Settings;
+use suite_prefix::{LockMode, Settings};
 
 /// Copies and intentions, locks, verdicts, the denials that were recorded, the stamp, and whether the
 /// server is up.
@@ -71,59 +72,75 @@ impl Holdings {
         })
     }
 
-    /// Makes sure of the memory that a change takes: room, or the record itself.
-    pub(crate) fn begin(&mut self, change: &Change) -> Result<(), AllocError>
-        ensures ok { OnOk result (state_of self.new ≡ changing.begun change.now (state_of self.old)) }
-        ensures room { OnOk result (changing.HasRoom change.now self.new) }
+    /// Makes sure of the memory that a request takes: room, or the record itself.
+    pub(crate) fn begin(&mut self, way: Way, request: &Request) -> Result<(), AllocError>
+        ensures ok { OnOk result (state_of self.new ≡ changing.begun way request.now (state_of self.old)) }
+        ensures room { OnOk result (changing.HasRoom way request.now self.new) }
         ensures err { OnErr result (state_of self.new ≡ state_of self.old) }
-        ensures spare { changing.takes_room change.now ≡ false → OnErr result ⊥ }
+        ensures spare { changing.takes_room way request.now ≡ false → OnErr result ⊥ }
     {
-        match change {
-            Change::Lock { .. } => self.locks.make_room(),
-            Change::Prepare { parts, .. } => self.store.make_room(parts.as_slice()),
-            Change::Record { t, verdict, item } => self.record(*t, verdict, item.is_some()),
+        let Way::Through = way else {
+            return Ok(());
+        };
+        match request {
+            Request::Poll { .. } | Request::Upgrade { .. } => self.locks.make_room(),
+            Request::Prepare { parts, .. } => self.store.make_room(parts.as_slice()),
+            Request::Decide { t, decision } => self.record_decision(*t, decision),
+            Request::Resolve { t } => self.record(*t, Verdict::Aborted),
             _ => Ok(()),
         }
     }
 
-    /// Records a verdict, and makes room for an item of the audit where one is to follow.
-    fn record(&mut self, t: u64, verdict: &Verdict, noted: bool) -> Result<(), AllocError>
-        ensures ok { OnOk result (state_of self.new ≡ record (state_of self.old) { verdicts = insert nat_cmp (state_of self.old).verdicts t verdict.now }) }
-        ensures room { OnOk result (noted ≡ true → vec_len self.new.audit < vec_capacity self.new.audit) }
+    /// Records a decision, and makes room for an item of the audit where one is to follow.
+    fn record_decision(&mut self, t: u64, decision: &Decision) -> Result<(), AllocError>
+        ensures ok { OnOk result (state_of self.new ≡ record (state_of self.old) { verdicts = insert nat_cmp (state_of self.old).verdicts t (service.verdict_of decision.now) }) }
+        ensures room { OnOk result (is_some (service.audit_of t decision.now) ≡ true → vec_len self.new.audit < vec_capacity self.new.audit) }
         ensures err { OnErr result (state_of self.new ≡ state_of self.old) }
     {
-        let verdict = verdict.clone()?;
-        if noted {
+        let verdict = verdict_of(decision)?;
+        if audit_of(t, decision).is_some() {
             self.audit.reserve(1)?;
         }
+        self.record(t, verdict)
+    }
+
+    fn record(&mut self, t: u64, verdict: Verdict) -> Result<(), AllocError>
+        ensures ok { OnOk result (state_of self.new ≡ record (state_of self.old) { verdicts = insert nat_cmp (state_of self.old).verdicts t verdict }) }
+        ensures audit { self.new.audit ≡ self.old.audit }
+        ensures err { OnErr result (state_of self.new ≡ state_of self.old) }
+    {
         self.verdicts.insert(t, verdict)?;
         Ok(())
     }
 
-    /// Makes a change that was begun. It takes no memory.
-    pub(crate) fn complete(&mut self, change: Change)
-        requires sound { changing.IsSoundChange change (state_of self.old) }
-        requires room { changing.HasRoom change self.old }
-        ensures { state_of self.new ≡ changing.completed change (state_of self.old) }
+    /// Completes a request that was begun. It takes no memory.
+    pub(crate) fn complete(&mut self, way: Way, request: Request)
+        requires sound { changing.IsSoundChange way request (state_of self.old) }
+        requires room { changing.HasRoom way request self.old }
+        ensures { state_of self.new ≡ changing.completed way request (state_of self.old) }
     {
-        match change {
-            Change::Nothing => {}
-            Change::Lock { t, suite, mode } => self.locks.set(t, suite, mode),
-            Change::Prepare { t, parts } => {
+        let Way::Through = way else {
+            return;
+        };
+        match request {
+            Request::Poll { t, suite, mode } => self.locks.set(t, suite, mode),
+            Request::Upgrade { t, suite } => self.locks.set(t, suite, LockMode::Exclusive),
+            Request::Prepare { t, parts } => {
                 self.locks.prepare(t, parts.as_slice());
                 self.store.intend(t, parts.into_vec());
             }
-            Change::Record { item, .. } => self.note(item),
-            Change::Finish { t, answered } => {
-                self.store.finish(t, answered);
+            Request::Decide { t, decision } => self.note(audit_of(t, &decision)),
+            Request::Finish { t, verdict } => {
+                self.store.finish(t, is_answered(&verdict));
                 self.locks.release(t);
             }
-            Change::Break { t, suite } => self.locks.break_lock(t, suite),
-            Change::Crash => {
+            Request::Break { t, suite } => self.locks.break_lock(t, suite),
+            Request::Crash => {
                 self.locks.keep_prepared();
                 self.up = false;
             }
-            Change::Return => self.up = true,
+            Request::Return => self.up = true,
+            Request::Fetch { .. } | Request::Resolve { .. } | Request::Locks => {}
         }
     }
 
@@ -137,11 +154,14 @@ impl Holdings {
         }
     }
 
-    /// Leaves what was before a change was begun.
-    pub(crate) fn take_back(&mut self, change: &Change)
-        ensures { state_of self.new ≡ changing.taken_back change.now (state_of self.old) }
+    /// Leaves what was before a request was begun.
+    pub(crate) fn take_back(&mut self, way: Way, request: &Request)
+        ensures { state_of self.new ≡ changing.taken_back way request.now (state_of self.old) }
     {
-        if let Change::Record { t, .. } = change {
+        let Way::Through = way else {
+            return;
+        };
+        if let Request::Decide { t, .. } | Request::Resolve { t } = request {
             self.verdicts.remove(t);
         }
     }

@@ -1,7 +1,8 @@
-//! What a request is answered and what it changes, found before anything is changed.
+//! How a request is taken, found before anything is changed.
 
-ghost use Rattle.std.specs.Prelude.{◌≡◌, ◌≢◌, ◌<◌, ◌==◌, ◌↔◌, ◌&&◌, IfOk, IsOk, OnOk, OnErr, IsTrue, Err, false, true};
+ghost use Rattle.std.specs.Prelude.{◌≡◌, ◌≢◌, ◌↔◌, ◌&&◌, ◌==◌, if◌then◌else◌, is_some, IfOk, IsOk, IsTrue, Err};
 ghost use Rattle.std.specs.List.{list_all, list_any};
+ghost use Rattle.suite_prefix.specs.declared.lock_mode.LockMode.TheVariants.{Exclusive};
 ghost use Rattle.rep_core.specs.declared.stamped.Lack.TheVariants.{Full, Memory};
 ghost use Rattle.rep_core.specs.code.Changing as changing;
 ghost use Rattle.rep_core.specs.Fits.{fits};
@@ -16,181 +17,157 @@ use crate::holdings::Holdings;
 use crate::lock::Lock;
 use crate::locks;
 use crate::reply::{LockList, Reply, Verdict};
-use crate::request::{Decision, Part, Parts, Request};
+use crate::request::{Decision, Part, Request};
 use crate::stamped::{Lack, Stamped};
 use crate::store::is_used_up;
 use file_ops::{AuditItem, Why};
 use std::alloc::AllocError;
 use suite_prefix::LockMode;
 
-/// What a request changes of a server, but for its stamp.
-#[derive(Drop)]
-pub(crate) enum Change {
-    Nothing,
-    /// A lock of a transaction is set, or made stronger.
-    Lock {
-        t: u64,
-        suite: u64,
-        mode: LockMode,
-    },
-    /// Intentions are kept, and locks prepared.
-    Prepare {
-        t: u64,
-        parts: Parts,
-    },
-    /// A verdict is recorded, and a denial.
-    Record {
-        t: u64,
-        verdict: Verdict,
-        item: Option<AuditItem>,
-    },
-    /// A transaction is let go.
-    Finish {
-        t: u64,
-        answered: bool,
-    },
-    /// A lock is let go.
-    Break {
-        t: u64,
-        suite: u64,
-    },
-    Crash,
-    Return,
+/// How a request is taken.
+#[derive(Clone, Copy)]
+pub(crate) enum Way {
+    /// It goes through.
+    Through,
+    /// What it asks for stands already.
+    Stands,
+    /// Another transaction's lock stands in the way.
+    Busy { holder: u64, prepared: bool },
+    /// There is no such lock.
+    Lost,
+    /// The server is down.
+    Down,
 }
 
-/// The reply to a request, and what the request changes.
-#[derive(Drop)]
+/// How a request is taken, and with which stamp.
+#[derive(Clone, Copy)]
 pub(crate) struct Plan {
-    pub(crate) reply: Stamped<Reply>,
-    pub(crate) change: Change,
+    pub(crate) stamp: u64,
+    pub(crate) way: Way,
 }
 
 impl Holdings {
-    /// What a request is answered and what it changes.
-    pub(crate) fn plan(&self, request: Stamped<Request>) -> Result<Plan, Lack>
-        ensures reply { IfOk result (λ plan. plan.reply ≡ serving.answer_of (state_of self.now) request) }
-        ensures change { IfOk result (λ plan. changing.completed plan.change (changing.begun plan.change (state_of self.now)) ≡ service.after (state_of self.now) request.value) }
-        ensures sound { IfOk result (λ plan. changing.IsSoundChange plan.change (state_of self.now)) }
-        ensures first { IfOk result (λ plan. changing.IsFirstRecord plan.change (state_of self.now)) }
-        ensures spare { IfOk result (λ plan. IsTrue (serving.takes_no_memory request.value) → changing.takes_room plan.change ≡ false) }
-        ensures full { (result ≡ Err Full) ↔ IsTrue (serving.is_full (state_of self.now) request) }
-        ensures memory { IsTrue (serving.takes_no_memory request.value) → result ≢ Err Memory }
-        ensures bare { IsTrue (serving.is_bare (service.reply_of (state_of self.now) request.value)) → result ≢ Err Memory }
-        ensures bare_spare { IfOk result (λ plan. IsTrue (serving.is_bare (service.reply_of (state_of self.now) request.value)) → changing.takes_room plan.change ≡ false) }
-        ensures fits { IsTrue (fits request.value (service.reply_of (state_of self.now) request.value)) }
+    /// How a request is taken. This takes no memory.
+    pub(crate) fn plan(&self, request: &Stamped<Request>) -> Result<Plan, Lack>
+        ensures stamp { IfOk result (λ plan. plan.stamp ≡ serving.next_stamp (state_of self.now) request.now) }
+        ensures reply { IfOk result (λ plan. changing.answered plan.way (state_of self.now) request.now.value ≡ service.reply_of (state_of self.now) request.now.value) }
+        ensures change { IfOk result (λ plan. changing.completed plan.way request.now.value (changing.begun plan.way request.now.value (state_of self.now)) ≡ service.after (state_of self.now) request.now.value) }
+        ensures sound { IfOk result (λ plan. changing.IsSoundChange plan.way request.now.value (state_of self.now)) }
+        ensures first { IfOk result (λ plan. changing.IsFirstRecord plan.way request.now.value (state_of self.now)) }
+        ensures full { (result ≡ Err Full) ↔ IsTrue (serving.is_full (state_of self.now) request.now) }
+        ensures memory { result ≢ Err Memory }
+        ensures fits { IsTrue (fits request.now.value (service.reply_of (state_of self.now) request.now.value)) }
     {
         self.store.sound();
         if is_used_up(self.stamp) || is_used_up(request.stamp) {
             return Err(Lack::Full);
         }
         let stamp = self.stamp.max(request.stamp) + 1;
-        let (value, change) = if self.up {
-            self.plan_up(request.value)?
+        let way = self.way(&request.value)?;
+        Ok(Plan { stamp, way })
+    }
+
+    fn way(&self, request: &Request) -> Result<Way, Lack>
+        ensures reply { IfOk result (λ way. changing.answered way (state_of self.now) request.now ≡ service.reply_of (state_of self.now) request.now) }
+        ensures change { IfOk result (λ way. changing.completed way request.now (changing.begun way request.now (state_of self.now)) ≡ service.after (state_of self.now) request.now) }
+        ensures sound { IfOk result (λ way. changing.IsSoundChange way request.now (state_of self.now)) }
+        ensures first { IfOk result (λ way. changing.IsFirstRecord way request.now (state_of self.now)) }
+        ensures full { (result ≡ Err Full) ↔ IsTrue ((state_of self.now).up && serving.asks_too_much (state_of self.now) request.now) }
+        ensures memory { result ≢ Err Memory }
+    {
+        if self.up {
+            self.way_up(request)
         } else {
-            plan_down(request.value)
-        };
-        let reply = Stamped { stamp, value };
-        Ok(Plan { reply, change })
+            Ok(way_down(request))
+        }
     }
 
     /// Of a server that is up.
-    fn plan_up(&self, request: Request) -> Result<(Reply, Change), Lack>
-        ensures reply { IfOk result (λ plan. plan.0 ≡ service.reply_up (state_of self.now) request) }
-        ensures change { IfOk result (λ plan. changing.completed plan.1 (changing.begun plan.1 (state_of self.now)) ≡ service.after_up (state_of self.now) request) }
-        ensures sound { IfOk result (λ plan. changing.IsSoundChange plan.1 (state_of self.now)) }
-        ensures first { IfOk result (λ plan. changing.IsFirstRecord plan.1 (state_of self.now)) }
-        ensures spare { IfOk result (λ plan. IsTrue (serving.takes_no_memory request) → changing.takes_room plan.1 ≡ false) }
-        ensures full { (result ≡ Err Full) ↔ IsTrue (serving.asks_too_much (state_of self.now) request) }
-        ensures memory { IsTrue (serving.takes_no_memory request) → result ≢ Err Memory }
-        ensures bare { IsTrue (serving.is_bare (service.reply_up (state_of self.now) request)) → result ≢ Err Memory }
-        ensures bare_spare { IfOk result (λ plan. IsTrue (serving.is_bare (service.reply_up (state_of self.now) request)) → changing.takes_room plan.1 ≡ false) }
+    fn way_up(&self, request: &Request) -> Result<Way, Lack>
+        ensures reply { IfOk result (λ way. changing.answered way (state_of self.now) request.now ≡ service.reply_up (state_of self.now) request.now) }
+        ensures change { IfOk result (λ way. changing.completed way request.now (changing.begun way request.now (state_of self.now)) ≡ service.after_up (state_of self.now) request.now) }
+        ensures sound { IfOk result (λ way. changing.IsSoundChange way request.now (state_of self.now)) }
+        ensures first { IfOk result (λ way. changing.IsFirstRecord way request.now (state_of self.now)) }
+        ensures full { (result ≡ Err Full) ↔ IsTrue (serving.asks_too_much (state_of self.now) request.now) }
+        ensures memory { result ≢ Err Memory }
     {
         match request {
-            Request::Poll { t, suite, mode } => Ok(self.plan_lock(t, suite, mode)?),
-            Request::Upgrade { t, suite } => Ok(self.plan_upgrade(t, suite)?),
-            Request::Fetch { t, suite } => Ok((self.fetched(t, suite)?, Change::Nothing)),
-            Request::Prepare { t, parts } => self.plan_prepare(t, parts),
-            Request::Decide { t, decision } => {
-                let item = audit_of(t, &decision);
-                Ok(self.plan_record(t, into_verdict(decision), item)?)
+            Request::Poll { t, suite, mode } => Ok(self.way_of_lock(*t, *suite, *mode)),
+            Request::Upgrade { t, suite } => Ok(self.way_of_upgrade(*t, *suite)),
+            Request::Fetch { t, suite } => Ok(self.way_of_fetch(*t, *suite)),
+            Request::Prepare { t, parts } => self.way_of_parts(*t, parts.as_slice()),
+            Request::Decide { t, .. } => Ok(self.way_of_record(*t)),
+            Request::Resolve { t } => Ok(self.way_of_record(*t)),
+            Request::Finish { .. } | Request::Break { .. } | Request::Locks | Request::Crash => {
+                Ok(Way::Through)
             }
-            Request::Resolve { t } => Ok(self.plan_record(t, Verdict::Aborted, None)?),
-            Request::Finish { t, verdict } => {
-                let answered = is_answered(&verdict);
-                Ok((Reply::Done, Change::Finish { t, answered }))
-            }
-            Request::Break { t, suite } => Ok((Reply::Done, Change::Break { t, suite })),
-            Request::Locks => Ok((self.listed()?, Change::Nothing)),
-            Request::Crash => Ok((Reply::Done, Change::Crash)),
-            Request::Return => Ok((Reply::Done, Change::Nothing)),
+            Request::Return => Ok(Way::Stands),
         }
     }
 
-    fn plan_lock(&self, t: u64, suite: u64, mode: LockMode) -> Result<(Reply, Change), AllocError>
-        ensures reply { IfOk result (λ plan. plan.0 ≡ service.poll_reply (state_of self.now) t suite mode) }
-        ensures change { IfOk result (λ plan. changing.completed plan.1 (changing.begun plan.1 (state_of self.now)) ≡ service.after_poll (state_of self.now) t suite mode) }
-        ensures sound { IfOk result (λ plan. changing.IsSoundChange plan.1 (state_of self.now)) }
-        ensures first { IfOk result (λ plan. changing.IsFirstRecord plan.1 (state_of self.now)) }
-        ensures bare { IsTrue (serving.is_bare (service.poll_reply (state_of self.now) t suite mode)) → IsOk result }
-        ensures bare_spare { IfOk result (λ plan. IsTrue (serving.is_bare (service.poll_reply (state_of self.now) t suite mode)) → changing.takes_room plan.1 ≡ false) }
+    /// To set a lock.
+    fn way_of_lock(&self, t: u64, suite: u64, mode: LockMode) -> Way
+        ensures { result ≡ changing.unless (locking.in_the_way t suite mode (state_of self.now).locks) }
     {
         match locks::in_the_way(self.locks.as_slice(), t, suite, mode) {
-            Some(other) => {
-                let (holder, prepared) = (other.t, other.prepared);
-                Ok((Reply::Busy { holder, prepared }, Change::Nothing))
-            }
-            None => {
-                let held = self.store.held(suite)?;
-                Ok((held, Change::Lock { t, suite, mode }))
-            }
+            Some(other) => Way::Busy {
+                holder: other.t,
+                prepared: other.prepared,
+            },
+            None => Way::Through,
         }
     }
 
-    fn plan_upgrade(&self, t: u64, suite: u64) -> Result<(Reply, Change), AllocError>
-        ensures reply { IfOk result (λ plan. plan.0 ≡ service.upgrade_reply (state_of self.now) t suite) }
-        ensures change { IfOk result (λ plan. changing.completed plan.1 (changing.begun plan.1 (state_of self.now)) ≡ service.after_upgrade (state_of self.now) t suite) }
-        ensures sound { IfOk result (λ plan. changing.IsSoundChange plan.1 (state_of self.now)) }
-        ensures first { IfOk result (λ plan. changing.IsFirstRecord plan.1 (state_of self.now)) }
-        ensures bare { IsTrue (serving.is_bare (service.upgrade_reply (state_of self.now) t suite)) → IsOk result }
-        ensures bare_spare { IfOk result (λ plan. IsTrue (serving.is_bare (service.upgrade_reply (state_of self.now) t suite)) → changing.takes_room plan.1 ≡ false) }
+    /// To make a lock exclusive.
+    fn way_of_upgrade(&self, t: u64, suite: u64) -> Way
+        ensures { result ≡ (if locking.has_lock t suite (state_of self.now).locks then changing.unless (locking.in_the_way t suite Exclusive (state_of self.now).locks) else Way.Lost) }
     {
         if locks::has_lock(self.locks.as_slice(), t, suite) {
-            self.plan_lock(t, suite, LockMode::Exclusive)
+            self.way_of_lock(t, suite, LockMode::Exclusive)
         } else {
-            Ok((Reply::Lost, Change::Nothing))
+            Way::Lost
         }
     }
 
-    fn fetched(&self, t: u64, suite: u64) -> Result<Reply, AllocError>
-        ensures reply { IfOk result (λ reply. reply ≡ service.fetch_reply (state_of self.now) t suite) }
-        ensures bare { IsTrue (serving.is_bare (service.fetch_reply (state_of self.now) t suite)) → IsOk result }
+    /// To tell a content.
+    fn way_of_fetch(&self, t: u64, suite: u64) -> Way
+        ensures { result ≡ (if locking.has_lock t suite (state_of self.now).locks then Way.Through else Way.Lost) }
     {
         if locks::has_lock(self.locks.as_slice(), t, suite) {
-            self.store.given(suite)
+            Way::Through
         } else {
-            Ok(Reply::Lost)
+            Way::Lost
         }
     }
 
-    fn plan_prepare(&self, t: u64, parts: Parts) -> Result<(Reply, Change), Lack>
-        ensures reply { IfOk result (λ plan. plan.0 ≡ service.prepare_reply (state_of self.now) t parts) }
-        ensures change { IfOk result (λ plan. changing.completed plan.1 (changing.begun plan.1 (state_of self.now)) ≡ service.after_prepare (state_of self.now) t parts) }
-        ensures sound { IfOk result (λ plan. changing.IsSoundChange plan.1 (state_of self.now)) }
-        ensures first { IfOk result (λ plan. changing.IsFirstRecord plan.1 (state_of self.now)) }
-        ensures full { (result ≡ Err Full) ↔ IsTrue (service.prepares (state_of self.now) t parts && store.overfills t (state_of self.now).store parts) }
+    /// To keep parts.
+    fn way_of_parts(&self, t: u64, parts: &[Part]) -> Result<Way, Lack>
+        ensures reply { IfOk result (λ way. changing.answered way (state_of self.now) (Request.Prepare t parts.now) ≡ service.prepare_reply (state_of self.now) t parts.now) }
+        ensures change { IfOk result (λ way. changing.completed way (Request.Prepare t parts.now) (changing.begun way (Request.Prepare t parts.now) (state_of self.now)) ≡ service.after_prepare (state_of self.now) t parts.now) }
+        ensures sound { IfOk result (λ way. changing.IsSoundChange way (Request.Prepare t parts.now) (state_of self.now)) }
+        ensures full { (result ≡ Err Full) ↔ IsTrue (service.prepares (state_of self.now) t parts.now && store.overfills t (state_of self.now).store parts.now) }
         ensures memory { result ≢ Err Memory }
-        ensures bare_spare { IfOk result (λ plan. IsTrue (serving.is_bare (service.prepare_reply (state_of self.now) t parts)) → changing.takes_room plan.1 ≡ false) }
     {
-        if self.stands_prepared(t, parts.as_slice()) {
-            return Ok((Reply::Prepared, Change::Nothing));
+        if self.stands_prepared(t, parts) {
+            return Ok(Way::Stands);
         }
-        if !self.can_prepare(t, parts.as_slice()) {
-            return Ok((Reply::Lost, Change::Nothing));
+        if !self.can_prepare(t, parts) {
+            return Ok(Way::Lost);
         }
-        if self.store.overfills(parts.as_slice()) {
+        if self.store.overfills(parts) {
             return Err(Lack::Full);
         }
-        Ok((Reply::Prepared, Change::Prepare { t, parts }))
+        Ok(Way::Through)
+    }
+
+    /// To record a verdict.
+    fn way_of_record(&self, t: u64) -> Way
+        ensures { result ≡ (if is_some (record_of (state_of self.now) t) then Way.Stands else Way.Through) }
+    {
+        match self.verdicts.get(&t) {
+            Some(_) => Way::Stands,
+            None => Way::Through,
+        }
     }
 
     /// Whether nothing is left to be prepared.
@@ -214,24 +191,51 @@ impl Holdings {
         parts.iter().all(|part| self.store.is_sound_part(part))
     }
 
-    /// That a verdict stands, or that this one is recorded.
-    fn plan_record(
-        &self,
-        t: u64,
-        verdict: Verdict,
-        item: Option<AuditItem>,
-    ) -> Result<(Reply, Change), AllocError>
-        ensures reply { IfOk result (λ plan. plan.0 ≡ Reply.Verdict (service.recorded (record_of (state_of self.now) t) verdict)) }
-        ensures change { IfOk result (λ plan. changing.completed plan.1 (changing.begun plan.1 (state_of self.now)) ≡ service.after_record (record_of (state_of self.now) t) t verdict item (state_of self.now)) }
-        ensures sound { IfOk result (λ plan. changing.IsSoundChange plan.1 (state_of self.now)) }
-        ensures first { IfOk result (λ plan. changing.IsFirstRecord plan.1 (state_of self.now)) }
+    /// The reply to a request that is taken so. Nothing but what is held takes memory.
+    pub(crate) fn reply(&self, way: Way, request: &Request) -> Result<Reply, AllocError>
+        ensures reply { IfOk result (λ reply. reply ≡ changing.answered way (state_of self.now) request.now) }
+        ensures bare { IsTrue (serving.is_bare (changing.answered way (state_of self.now) request.now)) → IsOk result }
+    {
+        match way {
+            Way::Through | Way::Stands => self.granted(request),
+            Way::Busy { holder, prepared } => Ok(Reply::Busy { holder, prepared }),
+            Way::Lost => Ok(Reply::Lost),
+            Way::Down => Ok(Reply::Down),
+        }
+    }
+
+    fn granted(&self, request: &Request) -> Result<Reply, AllocError>
+        ensures reply { IfOk result (λ reply. reply ≡ changing.granted (state_of self.now) request.now) }
+        ensures bare { IsTrue (serving.is_bare (changing.granted (state_of self.now) request.now)) → IsOk result }
+    {
+        match request {
+            Request::Poll { suite, .. } => self.store.held(*suite),
+            Request::Upgrade { suite, .. } => self.store.held(*suite),
+            Request::Fetch { suite, .. } => self.store.given(*suite),
+            Request::Prepare { .. } => Ok(Reply::Prepared),
+            Request::Decide { t, decision } => self.decided(*t, decision),
+            Request::Resolve { t } => self.recorded(*t, Verdict::Aborted),
+            Request::Locks => self.listed(),
+            Request::Finish { .. } | Request::Break { .. } | Request::Crash | Request::Return => {
+                Ok(Reply::Done)
+            }
+        }
+    }
+
+    fn decided(&self, t: u64, decision: &Decision) -> Result<Reply, AllocError>
+        ensures { IfOk result (λ reply. reply ≡ Reply.Verdict (service.recorded (record_of (state_of self.now) t) (service.verdict_of decision.now))) }
+    {
+        let verdict = verdict_of(decision)?;
+        self.recorded(t, verdict)
+    }
+
+    /// The verdict that stands, or else this one.
+    fn recorded(&self, t: u64, verdict: Verdict) -> Result<Reply, AllocError>
+        ensures { IfOk result (λ reply. reply ≡ Reply.Verdict (service.recorded (record_of (state_of self.now) t) verdict)) }
     {
         match self.verdicts.get(&t) {
-            Some(standing) => Ok((Reply::Verdict(standing.clone()?), Change::Nothing)),
-            None => {
-                let told = verdict.clone()?;
-                Ok((Reply::Verdict(told), Change::Record { t, verdict, item }))
-            }
+            Some(standing) => Ok(Reply::Verdict(standing.clone()?)),
+            None => Ok(Reply::Verdict(verdict)),
         }
     }
 
@@ -244,16 +248,15 @@ impl Holdings {
 }
 
 /// Of a server that is down.
-fn plan_down(request: Request) -> (Reply, Change)
-    ensures reply { result.0 ≡ service.reply_down request }
-    ensures change { (st : State) → changing.completed result.1 (changing.begun result.1 st) ≡ service.after_down st request }
-    ensures sound { (st : State) → changing.IsSoundChange result.1 st }
-    ensures first { (st : State) → changing.IsFirstRecord result.1 st }
-    ensures spare { changing.takes_room result.1 ≡ false }
+fn way_down(request: &Request) -> Way
+    ensures reply { (st : State) → changing.answered result st request.now ≡ service.reply_down request.now }
+    ensures change { (st : State) → changing.completed result request.now (changing.begun result request.now st) ≡ service.after_down st request.now }
+    ensures sound { (st : State) → changing.IsSoundChange result request.now st }
+    ensures first { (st : State) → changing.IsFirstRecord result request.now st }
 {
     match request {
-        Request::Return => (Reply::Done, Change::Return),
-        _ => (Reply::Down, Change::Nothing),
+        Request::Return => Way::Through,
+        _ => Way::Down,
     }
 }
 
@@ -284,17 +287,17 @@ fn names_suite(parts: &[Part], suite: u64) -> bool
 }
 
 /// What a decision records.
-fn into_verdict(decision: Decision) -> Verdict
-    ensures { result ≡ service.verdict_of decision }
+pub(crate) fn verdict_of(decision: &Decision) -> Result<Verdict, AllocError>
+    ensures { IfOk result (λ verdict. verdict ≡ service.verdict_of decision.now) }
 {
     match decision {
-        Decision::Answered(replies) => Verdict::Answered(replies),
-        Decision::Refused { refusal, .. } => Verdict::Refused(refusal),
+        Decision::Answered(replies) => Ok(Verdict::Answered(replies.clone()?)),
+        Decision::Refused { refusal, .. } => Ok(Verdict::Refused(*refusal)),
     }
 }
 
 /// The item of the audit of a denial.
-fn audit_of(t: u64, decision: &Decision) -> Option<AuditItem>
+pub(crate) fn audit_of(t: u64, decision: &Decision) -> Option<AuditItem>
     ensures { result ≡ service.audit_of t decision.now }
 {
     let Decision::Refused { uid, refusal } = decision else {
@@ -311,7 +314,7 @@ fn audit_of(t: u64, decision: &Decision) -> Option<AuditItem>
     })
 }
 
-fn is_answered(verdict: &Verdict) -> bool
+pub(crate) fn is_answered(verdict: &Verdict) -> bool
     ensures { result ≡ service.is_answered verdict.now }
 {
     match verdict {

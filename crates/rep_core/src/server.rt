@@ -81,16 +81,16 @@ impl Server {
         ensures bare { IsTrue (serving.is_bare (serving.answer_of self.old request).value) → result ≢ Err Memory }
         ensures fits { IsTrue (fits request.value (serving.answer_of self.old request).value) }
     {
-        let plan = self.held.plan(request)?;
-        let change = plan.change;
-        self.held.begin(&change)?;
-        let stamp = plan.reply.stamp;
-        let told = take(taker, plan.reply);
+        let plan = self.held.plan(&request)?;
+        let value = self.held.reply(plan.way, &request.value)?;
+        self.held.begin(plan.way, &request.value)?;
+        let stamp = plan.stamp;
+        let told = take(taker, Stamped { stamp, value });
         if told.is_err() {
-            self.held.take_back(&change);
+            self.held.take_back(plan.way, &request.value);
             return Ok(told);
         }
-        self.held.complete(change);
+        self.held.complete(plan.way, request.value);
         self.held.stamp = stamp;
         Ok(told)
     }
@@ -103,7 +103,12 @@ impl Server {
         ensures bare { IsTrue (serving.is_bare (serving.answer_of self.now request).value) → result ≢ Err Memory }
         ensures fits { IfOk result (λ reply. IsTrue (fits request.value reply.value)) }
     {
-        Ok(self.held.plan(request)?.reply)
+        let plan = self.held.plan(&request)?;
+        let value = self.held.reply(plan.way, &request.value)?;
+        Ok(Stamped {
+            stamp: plan.stamp,
+            value,
+        })
     }
 
     /// An equal server.

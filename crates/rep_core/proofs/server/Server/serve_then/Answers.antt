@@ -1,4 +1,4 @@
-use Rattle.std.proofs.Common.{Ok, Err, refl, ap, subst, ◌∙◌}
+use Rattle.std.proofs.Common.{◌≡◌, ℕ, Ok, Err, refl, ap, subst, ◌∙◌}
 use Rattle.std.specs.Prelude.{Result, OnErr}
 use Rattle.rep_core.specs.declared.reply.Reply.{Reply}
 use Rattle.rep_core.specs.declared.stamped.Stamped.{Stamped}
@@ -10,23 +10,30 @@ use Rattle.rep_core.specs.State.{State}
 use Rattle.rep_core.proofs.Changes.{taken_back-begun}
 use Rattle.rep_core.proofs.server.Server.serve_then.Goals as goal
 
+abbrev with_stamp : ℕ → Reply → Stamped Reply
+with_stamp stamp reply = record { stamp = stamp; value = reply }
+
 on_err : {T E : Type 0} (result : Result T E) (P : Type 0) → P → OnErr result P
 on_err (Ok value) P holds = tt
 on_err (Err why) P holds = holds
 
-pub returns-then-is_err-clause-given : goal.returns-then-is_err-clause-given
-returns-then-is_err-clause-given g c =
-    subst (λ (reply : Stamped Reply). Gives g.F.FnOnce c.args.take c.args.taker.now reply c.take-told.result c.take-told.new.arg2)
-    (c.in_ok-plan.ensures.reply ∙ ap (λ (st : State). answer_of st c.args.request) c.self.view_is)
-    (record { lent = _; shows = refl; back = _; met = c.take-told.ensures; leaves = refl })
+told : {stamp next : ℕ} {value reply : Reply} → stamp ≡ next → value ≡ reply → with_stamp stamp value ≡ with_stamp next reply
+told at says i = record { stamp = at i; value = says i }
 
 pub returns-then-is_err-clause-refused : goal.returns-then-is_err-clause-refused
 returns-then-is_err-clause-refused g c =
-    let change = c.in_ok-plan.plan.change in
-    on_err c.take-told.result _ (c.take_back.ensures ∙ ap (taken_back change) c.in_ok-begin.ensures.ok ∙ taken_back-begun change (state_of c.self.inside.held) c.in_ok-plan.ensures.first ∙ c.self.view_is)
+    let way = c.in_ok-plan.plan.way in
+    let asked = c.args.request.value in
+    on_err c.take-told.result _ (c.take_back.ensures ∙ ap (taken_back way asked) c.in_ok-begin.ensures.ok ∙ taken_back-begun way asked (state_of c.self.inside.held) c.in_ok-plan.ensures.first ∙ c.self.view_is)
+
+pub returns-then-is_err-clause-given : goal.returns-then-is_err-clause-given
+returns-then-is_err-clause-given g c =
+    subst (λ (reply : Stamped Reply). Gives g.F.FnOnce c.args.take c.args.taker.now reply c.take-told.result c.take-told.new.arg2)
+    (told c.in_ok-plan.ensures.stamp (c.in_ok-value.ensures.reply ∙ c.in_ok-plan.ensures.reply) ∙ ap (λ (st : State). answer_of st c.args.request) c.self.view_is)
+    (record { lent = _; shows = refl; back = _; met = c.take-told.ensures; leaves = refl })
 
 pub returns-clause-given : goal.returns-clause-given
 returns-clause-given g c =
     subst (λ (reply : Stamped Reply). Gives g.F.FnOnce c.args.take c.args.taker.now reply c.take-told.result c.take-told.new.arg2)
-    (c.in_ok-plan.ensures.reply ∙ ap (λ (st : State). answer_of st c.args.request) c.self.view_is)
+    (told c.in_ok-plan.ensures.stamp (c.in_ok-value.ensures.reply ∙ c.in_ok-plan.ensures.reply) ∙ ap (λ (st : State). answer_of st c.args.request) c.self.view_is)
     (record { lent = _; shows = refl; back = _; met = c.take-told.ensures; leaves = refl })
