@@ -1,22 +1,25 @@
 -- What is due of a collector is what comes next, and what a reply leaves due.
-use Rattle.std.proofs.Common.{◌≡◌, ℕ, Bool, true, false, cond, List, ◌∷◌, ◌++◌, Option, Some, None, refl, sym, ap, subst, ◌∙◌}
-use Rattle.std.specs.Prelude.{nat_le, ◌&&◌, ◌||◌, ◌==◌, find, option_map, is_some, IsSome, IfSome}
+use Rattle.std.proofs.Common.{◌≡◌, ℕ, Bool, true, false, cond, List, ◌∷◌, ◌++◌, Option, Some, None, refl, sym, ap, subst, ◌∙◌, arith}
+use Rattle.std.specs.Prelude.{nat_le, ◌&&◌, ◌||◌, ◌==◌, find, option_map, is_some, unwrap_or, IsSome, IfSome}
+use Rattle.std.proofs.lemmas.Bool.Decides.{nat_tests}
 use Rattle.std.proofs.lemmas.Option.{same_Some}
-use Rattle.vote_core.specs.Quorums.{Representative, votes_in}
+use Rattle.vote_core.specs.Quorums.{Representative, Configuration, votes_in}
 use Rattle.suite_prefix.specs.declared.copies.Prefix.{Prefix}
 use Rattle.suite_prefix.specs.declared.lock_mode.LockMode.{LockMode}
-use Rattle.suite_prefix.specs.declared.lock_mode.LockMode.TheVariants.{Exclusive}
+use Rattle.suite_prefix.specs.declared.lock_mode.LockMode.TheVariants.{Shared, Exclusive}
 use Rattle.suite_prefix.specs.LockModes.{serves}
 use Rattle.rep_core.specs.declared.reply.Reply.{Reply}
 use Rattle.rep_core.specs.declared.reply.Reply.TheVariants as reply
 use Rattle.suite_collect.specs.declared.told.Said.{Said}
 use Rattle.suite_collect.specs.declared.told.Said.TheVariants.{Held, Busy, Down}
 use Rattle.suite_collect.specs.declared.told.Told.{Told}
+use Rattle.suite_collect.specs.declared.collect.Collect.TheInside.{Inside}
+use Rattle.suite_collect.specs.declared.collect.Widening.{Widening as Wide}
 use Rattle.suite_collect.specs.declared.collect.Due.{Due}
 use Rattle.suite_collect.specs.declared.collect.Due.TheVariants as due
-use Rattle.suite_collect.specs.Telling.{is_held, newer, newest, holds, first_busy}
+use Rattle.suite_collect.specs.Telling.{is_held, newer, newest, holds, has_refused, first_busy}
 use Rattle.suite_collect.specs.Collecting.{Widening, Collector, Collecting, Asked, Poll, Upgrade, mode_asked, all_told, counted, wanted, needed, needed_of, got, is_member, is_left, members_of, version, asked_of, ask_or_short, said_to, tell, told_by, Next, Current, Ask, Short, next}
-use Rattle.suite_collect.specs.code.CollectFields.{due_left, due_by, due_in}
+use Rattle.suite_collect.specs.code.CollectFields.{widening_of, collecting_of, due_left, due_among, due_by, due_in, IsKnown, IsSummed}
 use Rattle.suite_collect.specs.Answering.{has_quorum, HasNoQuorum, Takes, Leaves, shows_lock}
 use Rattle.suite_collect.proofs.Collected.{asked_as_wanted}
 
@@ -206,6 +209,56 @@ module _ (server : ℕ) (prefix : Prefix) (dver : ℕ) where
 
       same : was ≡ record was { collector = c }
       same = ap (λ widening. record was { collector = record was.collector { widening = widening } }) narrow
+
+  -- the sets of servers, once the lock is among what was told
+  with_holder : (mode : LockMode) (told : List Told) (held : ℕ → Bool) → ((other : ℕ) → held other ≡ ((other == server) || holds mode told other)) → held ≡ holds mode (last mode ∷ told)
+  with_holder mode told held are = λ i other. (are other ∙ here mode (holds mode told other) other) i
+    where
+      turned : (other : ℕ) → (other == server) ≡ (server == other)
+      turned other = grind (arith, nat_tests)
+
+      serving : (mode : LockMode) → serves mode mode ≡ true
+      serving Shared = refl
+      serving Exclusive = refl
+
+      kept : (b : Bool) → b ≡ (b && (true && true))
+      kept true = refl
+      kept false = refl
+
+      here : (mode : LockMode) (b : Bool) (other : ℕ) → ((other == server) || b) ≡ (((server == other) && (true && serves mode mode)) || b)
+      here mode b other =
+          ap (λ a. a || b) (turned other ∙ kept (server == other))
+          ∙ ap (λ s. ((server == other) && (true && s)) || b) (sym (serving mode))
+
+  with_refused : (mode : LockMode) (told : List Told) (refused : ℕ → Bool) → ((other : ℕ) → refused other ≡ has_refused told other) → refused ≡ has_refused (last mode ∷ told)
+  with_refused mode told refused are = λ i other. (are other ∙ here (server == other) (has_refused told other)) i
+    where
+      here : (a b : Bool) → b ≡ ((a && false) || b)
+      here true b = refl
+      here false b = refl
+
+  pub due_with : (mode : LockMode) (told : List Told) (votes : Configuration) (held refused : ℕ → Bool) (left : Due)
+      → ((other : ℕ) → held other ≡ ((other == server) || holds mode told other)) → ((other : ℕ) → refused other ≡ has_refused told other)
+      → left ≡ due_among votes mode held refused → left ≡ due_by votes mode (last mode ∷ told)
+  due_with mode told votes held refused left holding refusing is =
+      is
+      ∙ ap (λ held. due_among votes mode held refused) (with_holder mode told held holding)
+      ∙ ap (due_among votes mode (holds mode (last mode ∷ told))) (with_refused mode told refused refusing)
+
+  -- and what the fields keep after it
+  pub keeps_summed : (was : Inside) (kept : Option Prefix) (seen : Prefix) (told : List Told) (left : Due)
+      → was.widening ≡ None → unwrap_or kept was.start ≡ newest_last (collecting_of was) → seen ≡ newest_last (collecting_of was) → told ≡ told_last (collecting_of was)
+      → left ≡ due_by seen.votes was.mode (told_last (collecting_of was)) → IsKnown left → IsSummed (record was { newer = kept; told = told; due = left })
+  keeps_summed was kept seen told left narrow newer' seen' told' left' known = record {
+    newest = newer' ∙ sym (ap (newest was.start) told');
+    all = subst (λ (w : Option Wide). IfSome w (λ widening. widening.all ≡ widening.since.items ++ told)) (sym narrow) tt;
+    due =
+        left'
+        ∙ ap (λ (seen : Prefix). due_by seen.votes was.mode (told_last (collecting_of was))) seen'
+        ∙ ap (λ told. due_by (newest was.start told).votes was.mode told) (sym told')
+        ∙ ap (λ w. due_in (record { start = was.start; mode = was.mode; told = told; widening = option_map widening_of w })) (sym narrow);
+    known = known;
+  }
 
   pub took_lock : (was : Collecting) (seen : Prefix) (told : List Told) (left : Due)
       → was.collector.widening ≡ None → due_in was.collector ≡ due.Ask server → seen ≡ newest_last was → told ≡ told_last was

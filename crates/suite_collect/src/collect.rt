@@ -1,9 +1,9 @@
 //! The collector.
 
-ghost use Rattle.std.specs.Prelude.{◌≡◌, ◌<◌, ℕ, find, option_map, is_some, unwrap_or, IsSome, IsTrue, IfSome, IfOk, IfErr, OnErr};
+ghost use Rattle.std.specs.Prelude.{◌≡◌, ◌<◌, ℕ, Some, false, find, option_map, is_some, unwrap_or, IsSome, IsTrue, IfSome, IfOk, IfErr, OnOk, OnErr};
 ghost use Rattle.std.specs.FinSet.{contains};
 ghost use Rattle.vote_core.specs.Validity.{IsValid};
-ghost use Rattle.suite_collect.specs.code.CollectFields.{IsKnown, due_by};
+ghost use Rattle.suite_collect.specs.code.CollectFields.{IsKnown, due_among, due_by};
 ghost use Rattle.suite_collect.specs.Collecting as spec;
 ghost use Rattle.suite_collect.specs.Laws.{HasSource};
 ghost use Rattle.suite_collect.specs.Telling as telling;
@@ -18,7 +18,7 @@ use rep_core::Reply;
 use std::alloc::AllocError;
 use std::marker::Model;
 use suite_prefix::{LockMode, Prefix};
-use vote_core::{MAX_SERVERS, Votes};
+use vote_core::{MAX_SERVERS, ServerSet, Votes};
 
 /// Other votes that are gathered too.
 #[derive(Drop)]
@@ -244,22 +244,28 @@ impl Collect {
         ensures err { OnErr result (self.new ≡ self.old) }
         ensures memory { IfErr result (λ _. IsTrue (shows_lock reply.now)) }
     {
-        if !self.accepts(reply) {
-            return Ok(false);
-        }
         match reply {
             Reply::Held { prefix, dver } => self.take_lock(prefix, *dver),
+            other => Ok(self.take_refusal(other)),
+        }
+    }
+
+    /// Takes a reply that holds no lock, where it answers what was asked.
+    fn take_refusal(&mut self, reply: &Reply) -> bool
+        requires { shows_lock reply.now ≡ false }
+        ensures { TakesOn result self.old reply.now self.new }
+    {
+        if !self.accepts(reply) {
+            return false;
+        }
+        match reply {
             Reply::Busy { holder, prepared } => {
                 let (holder, prepared) = (*holder, *prepared);
                 self.take(Reply::Busy { holder, prepared });
-                Ok(true)
             }
-            Reply::Down => {
-                self.take(Reply::Down);
-                Ok(true)
-            }
-            _ => Ok(false),
+            _ => self.take(Reply::Down),
         }
+        true
     }
 
     /// Takes a lock that is held, where it gives no quorum and nothing is widened.
@@ -270,28 +276,19 @@ impl Collect {
         let (Due::Ask(server), None) = (self.due, &self.widening) else {
             return Ok(false);
         };
-        let mode = self.mode;
-        let said = Said::Held {
-            prefix: prefix.clone()?,
-            dver,
-        };
-        let last = Told { server, mode, said };
-        let mut told = self.told.same();
-        told.add(&last);
         let newest = self.newest();
         let is_newer = prefix.pver > newest.pver;
         let newest = if is_newer { prefix } else { newest };
-        let due = due_of(&newest.votes, &told, mode);
+        let holders = self.told.holders_with(server, self.mode);
+        let due = due_among(&newest.votes, &holders, &self.told.refused(), self.mode);
         if let Due::Current = due {
             return Ok(false);
         }
-        self.told = told;
-        self.due = due;
-        if let Said::Held { prefix, .. } = last.said {
-            if is_newer {
-                self.newer = Some(prefix);
-            }
+        if is_newer {
+            keep(&mut self.newer, prefix)?;
         }
+        self.told.add_lock(server, self.mode, prefix, dver);
+        self.due = due;
         Ok(true)
     }
 
@@ -448,15 +445,32 @@ fn due_of(votes: &Votes, heard: &Heard, wanted: LockMode) -> Due
     ensures value { result ≡ due_by votes.now wanted heard.now }
     ensures known { IsKnown result }
 {
-    let got = votes.votes_of(&heard.holders(wanted));
+    due_among(votes, &heard.holders(wanted), &heard.refused(), wanted)
+}
+
+/// What is due where some votes count, a mode is wanted, these servers hold it and those refused.
+fn due_among(votes: &Votes, holders: &ServerSet, refused: &ServerSet, wanted: LockMode) -> Due
+    ensures value { result ≡ due_among votes.now wanted (contains holders.now) (contains refused.now) }
+    ensures known { IsKnown result }
+{
+    let got = votes.votes_of(holders);
     let needed = needed_of(votes, wanted);
     if got >= needed {
         return Due::Current;
     }
-    match first_left(votes, heard, wanted) {
+    match first_left(votes, holders, refused) {
         Some(server) => Due::Ask(server),
         None => Due::Short { got, needed },
     }
+}
+
+/// Keeps a prefix as the newer one.
+fn keep(newer: &mut Option<Prefix>, prefix: &Prefix) -> Result<(), AllocError>
+    ensures ok { OnOk result (newer.new ≡ Some prefix.now) }
+    ensures err { OnErr result (newer.new ≡ newer.old) }
+{
+    *newer = Some(prefix.clone()?);
+    Ok(())
 }
 
 /// The votes that are needed.

@@ -1,13 +1,13 @@
 //! What was told, as far as a collector looks at it.
 
-ghost use Rattle.std.specs.Prelude.{◌≡◌, ℕ, ◌<◌, [], ◌∷◌};
+ghost use Rattle.std.specs.Prelude.{◌≡◌, ℕ, ◌<◌, ◌==◌, ◌||◌, false, None, [], ◌∷◌};
 ghost use Rattle.std.specs.FinSet.{contains};
 ghost use Rattle.suite_collect.specs.Telling as telling;
 
 use crate::log::Log;
 use crate::told::{Said, Told};
 use std::marker::Model;
-use suite_prefix::LockMode;
+use suite_prefix::{LockMode, Prefix};
 use vote_core::{MAX_SERVERS, ServerSet};
 
 /// A list of what was told, the newest first. It keeps what the list comes to: which servers hold a
@@ -70,21 +70,38 @@ impl Heard {
         requires { last.now.server < MAX_SERVERS }
         ensures { self.new ≡ last.now ∷ self.old }
     {
-        match last.said {
-            Said::Held { dver, .. } => {
-                self.held.insert(last.server);
-                if last.mode.is_exclusive() {
-                    self.exclusive.insert(last.server);
-                }
-                self.shown[usize::from(last.server)] = dver;
+        match &last.said {
+            Said::Held { prefix, dver } => {
+                self.add_lock(last.server, last.mode, prefix, *dver);
             }
-            Said::Busy { holder } => {
-                self.refused.insert(last.server);
-                self.busy = self.busy.or(Some((last.server, holder)));
-            }
-            Said::Down => self.refused.insert(last.server),
+            Said::Busy { holder } => self.add_refusal(last, Some((last.server, *holder))),
+            Said::Down => self.add_refusal(last, None),
         }
+    }
+
+    /// Adds that a server was down, or busy with another transaction.
+    fn add_refusal(&mut self, last: &Told, busy: Option<(u8, u64)>)
+        requires server { last.now.server < MAX_SERVERS }
+        requires refused { telling.is_held last.now.said ≡ false }
+        requires busy { busy ≡ telling.busy_in last.now.server last.now.said None }
+        ensures { self.new ≡ last.now ∷ self.old }
+    {
+        self.refused.insert(last.server);
+        self.busy = self.busy.or(busy);
         self.told = self.told.and(last);
+    }
+
+    /// Adds a lock that a server holds.
+    pub(crate) fn add_lock(&mut self, server: u8, mode: LockMode, prefix: &Prefix, dver: u64)
+        requires { server < MAX_SERVERS }
+        ensures { self.new ≡ record { server = server; mode = mode; said = Said.Held prefix.now dver } ∷ self.old }
+    {
+        self.held.insert(server);
+        if mode.is_exclusive() {
+            self.exclusive.insert(server);
+        }
+        self.shown[usize::from(server)] = dver;
+        self.told = self.told.and_lock(&server, &mode, prefix, &dver);
     }
 
     /// The servers that hold a lock in a mode or a stronger one.
@@ -97,6 +114,16 @@ impl Heard {
         }
     }
 
+    /// The servers that hold a lock in a mode or a stronger one, once this one does too.
+    pub(crate) fn holders_with(&self, server: u8, mode: LockMode) -> ServerSet
+        requires { server < MAX_SERVERS }
+        ensures { (other : ℕ) → contains result other ≡ ((other == server) || telling.holds mode self.now other) }
+    {
+        let mut holders = self.holders(mode);
+        holders.insert(server);
+        holders
+    }
+
     /// Whether a server holds a lock in a mode or a stronger one.
     pub(crate) fn holds(&self, mode: LockMode, server: u8) -> bool
         ensures { result ≡ telling.holds mode self.now server }
@@ -104,11 +131,11 @@ impl Heard {
         self.holders(mode).contains(server)
     }
 
-    /// Whether a server was found down or busy.
-    pub(crate) fn has_refused(&self, server: u8) -> bool
-        ensures { result ≡ telling.has_refused self.now server }
+    /// The servers that were found down or busy.
+    pub(crate) fn refused(&self) -> ServerSet
+        ensures { (server : ℕ) → contains result server ≡ telling.has_refused self.now server }
     {
-        self.refused.contains(server)
+        self.refused
     }
 
     /// The version of the content that a server showed last.

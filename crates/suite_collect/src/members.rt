@@ -4,11 +4,8 @@ ghost use Rattle.std.specs.Prelude.{◌≡◌, ◌<◌, ◌&&◌, nat_lt, not, A
 ghost use Rattle.std.specs.FinSet.{contains};
 ghost use Rattle.vote_core.specs.Validity.{IsValid};
 ghost use Rattle.suite_collect.specs.Collecting as spec;
-ghost use Rattle.suite_collect.specs.Telling.{holds, has_refused};
 
-use crate::heard::Heard;
 use crate::next::Members;
-use suite_prefix::LockMode;
 use vote_core::{MAX_SERVERS, ServerSet, Votes};
 
 /// The servers of a set that have a vote, in listed order.
@@ -26,16 +23,16 @@ pub(crate) fn members_of(votes: &Votes, held: &ServerSet) -> Members
     members
 }
 
-/// The first server in listed order that has a vote, does not hold what is wanted, and has not refused.
-pub(crate) fn first_left(votes: &Votes, heard: &Heard, wanted: LockMode) -> Option<u8>
-    ensures value { result ≡ option_map (λ rep. rep.0) (find (λ rep. nat_lt 0 rep.1 && not (holds wanted heard.now rep.0) && not (has_refused heard.now rep.0)) votes.now.reps) }
+/// The first server in listed order that has a vote and is in neither set.
+pub(crate) fn first_left(votes: &Votes, holders: &ServerSet, refused: &ServerSet) -> Option<u8>
+    ensures value { result ≡ option_map (λ rep. rep.0) (find (λ rep. nat_lt 0 rep.1 && not (contains holders.now rep.0) && not (contains refused.now rep.0)) votes.now.reps) }
     ensures known { IfSome result (λ server. server < MAX_SERVERS) }
 {
     votes
         .reps()
         .iter()
         .find(|(server, own)| {
-            *own > 0 && !heard.holds(wanted, *server) && !heard.has_refused(*server)
+            *own > 0 && !holders.contains(*server) && !refused.contains(*server)
         })
         .map(|(server, _)| *server)
 }

@@ -36,16 +36,3 @@ pub lacks_at_end : (task : Task) (cache : Cache) (suites : Suites) (phase : Phas
 lacks_at_end task cache suites phase server lacked servers verdict ending result after is steps =
     let Stepped : Step → Type 0 = λ step. Steps step result after cache in
     subst Stepped (lack_at_end task cache suites server lacked servers verdict ending ∙ ap (λ phase. after_lack task cache suites phase server lacked) (sym is)) steps
-
--- too few votes were heard
-pub hears_short : (before : Course) (cache : Cache) (number server : ℕ) (what : Hearing) (go_on : Suite → Step) (suite : Suite) (got needed : ℕ) (busy : Option (ℕ × ℕ)) (task : Task) (held : Suites) (cause : Cause) (result : Option Ending) (after : Course)
-    → what ≡ hearing.Short suite got needed busy → task ≡ before.task → held ≡ with_suite number suite before.suites → cause ≡ short_cause number got needed busy
-    → Steps (give_up task cache held cause) result after cache → Steps (on_hearing before.task cache before.suites before.phase number server what go_on) result after cache
-hears_short before cache number server what go_on suite got needed busy task held cause result after is own put why steps =
-    let Stepped : Step → Type 0 = λ step. Steps step result after cache in
-    subst Stepped
-    (ap (λ task. give_up task cache held cause) own
-    ∙ ap (λ held. give_up before.task cache held cause) put
-    ∙ ap (λ cause. give_up before.task cache (with_suite number suite before.suites) cause) why
-    ∙ sym (ap (λ what. on_hearing before.task cache before.suites before.phase number server what go_on) is))
-    steps

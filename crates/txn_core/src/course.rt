@@ -8,7 +8,7 @@ ghost use Rattle.txn_core.specs.Agents.{left};
 ghost use Rattle.txn_core.specs.Doing as doing;
 ghost use Rattle.txn_core.specs.code.Hearing.{heard, on_hearing};
 ghost use Rattle.txn_core.specs.code.HearingOn.{GoesOnBy, SettlesBy};
-ghost use Rattle.txn_core.specs.code.Hears.{Hears};
+ghost use Rattle.txn_core.specs.code.Hears.{Hears, on_heard};
 ghost use Rattle.txn_core.specs.code.Sequels.{follow, gather_again};
 ghost use Rattle.txn_core.specs.Standing.{FitsAsked};
 ghost use Rattle.txn_core.specs.code.Steps.{Steps, taken};
@@ -20,7 +20,7 @@ ghost use Rattle.txn_core.specs.declared.word.Word.TheVariants.{Replied};
 
 use crate::ending::{Cause, Ending};
 use crate::execution::Execution;
-use crate::hearing::Hearing;
+use crate::hearing::{Hearing, Onward};
 use crate::phase::Phase;
 use crate::sequel::Sequel;
 use crate::servers::locked_at;
@@ -55,11 +55,17 @@ impl Model for Course {
     ghost view = { course_of };
 }
 
-/// A suite that was told something: it is settled, or this comes of it.
+/// What comes of a suite that was told something.
 #[derive(Drop)]
 enum Heard {
+    /// A lock is lost, or its server is down.
+    Lost,
+    /// It asks on.
+    Asks,
+    /// Nobody is left to ask.
+    Short,
+    /// It has a quorum, and is to be put in its place.
     Settled(Suite),
-    Through(Option<Ending>),
 }
 
 impl Course {
@@ -179,10 +185,28 @@ impl Course {
         ensures unused { HasUnused cache.new.entries }
         ensures memory { (suite : gathering.Suite) → gathering.suite_of self.old.suites number ≡ Some suite → IfErr result (λ _. IsTrue (is_held said.now)) }
     {
-        let suite = match self.hear(number, server, said)? {
-            Heard::Settled(suite) => suite,
-            Heard::Through(ending) => return Ok(ending),
-        };
+        match self.hear(number, said)? {
+            Heard::Settled(suite) => self.execute_with(alloc, service, cache, number, suite),
+            heard => Ok(self.go_on(number, server, &heard)),
+        }
+    }
+
+    /// Executes the transaction, once a suite that is gathered is settled.
+    fn execute_with(
+        &mut self,
+        alloc: Global,
+        service: &Service,
+        cache: &mut WeakCache,
+        number: u64,
+        suite: Suite,
+    ) -> Result<Option<Ending>, AllocError>
+        requires unused { HasUnused cache.old.entries }
+        requires there { IsSome (gathering.suite_of self.old.suites number) }
+        ensures ok { IfOk result (λ ending. Steps (course.execute (record { service = service.now; limits = cache.old.limits }) self.old.task (record { suites = gathering.with_suite number suite self.old.suites; cache = cache.old.entries })) ending self.new cache.new.entries) }
+        ensures err { OnErr result ((self.new ≡ self.old) × (cache.new ≡ cache.old)) }
+        ensures limits { cache.new.limits ≡ cache.old.limits }
+        ensures unused { HasUnused cache.new.entries }
+    {
         let execution = Execution {
             alloc,
             service,
@@ -205,85 +229,88 @@ impl Course {
         ensures err { OnErr result (self.new ≡ self.old) }
         ensures memory { (suite : gathering.Suite) → gathering.suite_of self.old.suites number ≡ Some suite → IfErr result (λ _. IsTrue (is_held said.now)) }
     {
-        let suite = match self.hear(number, server, said)? {
-            Heard::Settled(suite) => suite,
-            Heard::Through(ending) => return Ok(ending),
-        };
+        match self.hear(number, said)? {
+            Heard::Settled(suite) => Ok(self.widen_on(number, suite)),
+            heard => Ok(self.go_on(number, server, &heard)),
+        }
+    }
+
+    /// Widens the suites that are left, once one is settled.
+    fn widen_on(&mut self, number: u64, suite: Suite) -> Option<Ending>
+        requires { IsSome (gathering.suite_of self.old.suites number) }
+        ensures { (left : List ℕ) (granted : doing.Granted) (cache : Cache) → self.old.phase ≡ doing.Widening (number ∷ left) granted → Steps (course.widen_all self.old.task cache (gathering.with_suite number suite self.old.suites) granted left) result self.new cache }
+    {
         self.suites.insert_in_room(number, suite);
         match self.leave() {
-            Phase::Widening { after, granted, .. } => Ok(self.widen_all(after, granted)),
+            Phase::Widening { after, granted, .. } => self.widen_all(after, granted),
             other => {
                 self.phase = other;
-                Ok(None)
+                None
             }
+        }
+    }
+
+    /// Goes on after a suite was told something by which it is not settled.
+    fn go_on(&mut self, number: u64, server: u8, heard: &Heard) -> Option<Ending>
+        ensures { (cache : Cache) → Steps (on_heard self.old.task cache self.old.suites self.old.phase number server heard.now) result self.new cache }
+    {
+        match heard {
+            Heard::Lost => self.give_up(Cause::Lost { server }),
+            Heard::Short => self.gather(number),
+            Heard::Asks | Heard::Settled(_) => None,
         }
     }
 
     /// A suite is told what a server said. Once it is settled it is handed back, for its place.
-    fn hear(&mut self, number: u64, server: u8, said: &Reply) -> Result<Heard, AllocError>
+    fn hear(&mut self, number: u64, said: &Reply) -> Result<Heard, AllocError>
         requires shown { shows_unused said.now ≡ true }
         requires there { IsSome (gathering.suite_of self.old.suites number) }
-        ensures ok { (suite : gathering.Suite) → gathering.suite_of self.old.suites number ≡ Some suite → IfOk result (λ what. Hears self.old number server (heard suite said.now) what self.new) }
+        ensures ok { (suite : gathering.Suite) → gathering.suite_of self.old.suites number ≡ Some suite → IfOk result (λ what. Hears self.old number (heard suite said.now) what self.new) }
         ensures err { OnErr result (self.new ≡ self.old) }
         ensures held { (suite : gathering.Suite) → gathering.suite_of self.old.suites number ≡ Some suite → IfOk result (λ what. SettlesBy what said.now) }
         ensures memory { (suite : gathering.Suite) → gathering.suite_of self.old.suites number ≡ Some suite → IfErr result (λ _. IsTrue (is_held said.now)) }
     {
-        let Some(coming) = self.hear_on(number, said)? else {
-            return self.hear_apart(number, server, said);
-        };
-        match coming {
-            Coming::Short { got, needed, busy } => {
-                let ending = self.give_up(Cause::of_short(number, got, needed, busy));
-                Ok(Heard::Through(ending))
-            }
-            Coming::Ask { .. } => Ok(Heard::Through(None)),
-            Coming::Current => Ok(Heard::Through(None)),
+        match self.hear_on(number, said)? {
+            Onward::Left => self.hear_apart(number, said),
+            Onward::Asks => Ok(Heard::Asks),
+            Onward::Short => Ok(Heard::Short),
         }
     }
 
     /// A suite takes a reply that gives no quorum, in its place. Of any other nothing changes.
-    fn hear_on(&mut self, number: u64, said: &Reply) -> Result<Option<Coming>, AllocError>
+    fn hear_on(&mut self, number: u64, said: &Reply) -> Result<Onward, AllocError>
         requires shown { shows_unused said.now ≡ true }
-        ensures ok { (suite : gathering.Suite) → gathering.suite_of self.old.suites number ≡ Some suite → IfOk result (λ coming. GoesOnBy coming self.old number suite said.now self.new) }
+        ensures ok { (suite : gathering.Suite) → gathering.suite_of self.old.suites number ≡ Some suite → IfOk result (λ onward. GoesOnBy onward self.old number suite said.now self.new) }
         ensures err { OnErr result (self.new ≡ self.old) }
         ensures memory { IfErr result (λ _. IsTrue (is_held said.now)) }
     {
         let Some(suite) = self.suites.get_mut(&number) else {
-            return Ok(None);
+            return Ok(Onward::Left);
         };
         suite.hear_on(said)
     }
 
     /// The same, of a copy of the suite, which is put in its place once it was told.
-    fn hear_apart(&mut self, number: u64, server: u8, said: &Reply) -> Result<Heard, AllocError>
+    fn hear_apart(&mut self, number: u64, said: &Reply) -> Result<Heard, AllocError>
         requires shown { shows_unused said.now ≡ true }
         requires there { IsSome (gathering.suite_of self.old.suites number) }
-        ensures ok { (suite : gathering.Suite) → gathering.suite_of self.old.suites number ≡ Some suite → IfOk result (λ what. Hears self.old number server (heard suite said.now) what self.new) }
+        ensures ok { (suite : gathering.Suite) → gathering.suite_of self.old.suites number ≡ Some suite → IfOk result (λ what. Hears self.old number (heard suite said.now) what self.new) }
         ensures err { OnErr result (self.new ≡ self.old) }
         ensures memory { (suite : gathering.Suite) → gathering.suite_of self.old.suites number ≡ Some suite → IfErr result (λ _. IsTrue (is_some (collecting.told_by (collecting.next suite.collector) said.now))) }
     {
         let Some(suite) = self.suites.get(&number) else {
-            return Ok(Heard::Through(None));
+            return Ok(Heard::Lost);
         };
         match suite.hear(said)? {
             Hearing::Settled(suite) => Ok(Heard::Settled(suite)),
-            Hearing::Lost => {
-                let ending = self.give_up(Cause::Lost { server });
-                Ok(Heard::Through(ending))
-            }
+            Hearing::Lost => Ok(Heard::Lost),
             Hearing::Asks(suite) => {
                 self.suites.insert_in_room(number, suite);
-                Ok(Heard::Through(None))
+                Ok(Heard::Asks)
             }
-            Hearing::Short {
-                suite,
-                got,
-                needed,
-                busy,
-            } => {
+            Hearing::Short { suite, .. } => {
                 self.suites.insert_in_room(number, suite);
-                let ending = self.give_up(Cause::of_short(number, got, needed, busy));
-                Ok(Heard::Through(ending))
+                Ok(Heard::Short)
             }
         }
     }

@@ -28,6 +28,17 @@ pub(crate) enum Hearing {
     Settled(Suite),
 }
 
+/// What a reply that gives no quorum leaves of a suite.
+#[derive(Clone, Copy)]
+pub(crate) enum Onward {
+    /// The reply was left.
+    Left,
+    /// It asks on.
+    Asks,
+    /// Nobody is left to ask.
+    Short,
+}
+
 impl Suite {
     /// What comes of the reply to what is asked next. The suite stays as it was.
     pub(crate) fn hear(&self, reply: &Reply) -> Result<Hearing, AllocError>

@@ -13,6 +13,7 @@ ghost use Rattle.txn_core.specs.Suites as gathering;
 ghost use Rattle.txn_core.specs.code.Unused.{shows_unused};
 
 use crate::first::First;
+use crate::hearing::Onward;
 use rep_core::Reply;
 use std::alloc::{AllocError, Global};
 use std::marker::Model;
@@ -171,19 +172,22 @@ impl Suite {
         self.gathered.collect.take(reply);
     }
 
-    /// Takes a reply that gives no quorum, and tells what comes next. It leaves a reply that does not answer what
-    /// was asked, and may leave one that holds a lock: then it stays as it was. Only a lock that is held may
-    /// want memory.
-    pub(crate) fn hear_on(&mut self, reply: &Reply) -> Result<Option<Coming>, AllocError>
+    /// Takes a reply that gives no quorum, and tells how it goes on. It leaves a reply that does not answer
+    /// what was asked, and may leave one that holds a lock: then it stays as it was. Only a lock that is held
+    /// may want memory.
+    pub(crate) fn hear_on(&mut self, reply: &Reply) -> Result<Onward, AllocError>
         requires { shows_unused reply.now ≡ true }
-        ensures ok { IfOk result (λ coming. HearsOn coming self.old reply.now self.new) }
+        ensures ok { IfOk result (λ onward. HearsOn onward self.old reply.now self.new) }
         ensures err { OnErr result (self.new ≡ self.old) }
         ensures memory { IfErr result (λ _. IsTrue (is_held reply.now)) }
     {
         if !self.gathered.collect.take_on(reply)? {
-            return Ok(None);
+            return Ok(Onward::Left);
         }
-        Ok(Some(self.next()))
+        match self.next() {
+            Coming::Short { .. } => Ok(Onward::Short),
+            _ => Ok(Onward::Asks),
+        }
     }
 
     /// Where it has a quorum: it is known in the mode that is wanted, and the first quorum gave what is

@@ -1,5 +1,5 @@
 -- The fields of `Collect` as contracts see them, and what they keep.
-use Rattle.std.specs.Prelude.{◌≡◌, ℕ, ◌<◌, true, ◌&&◌, ◌++◌, nat_lt, nat_le, not, if◌then◌else◌, List, find, option_map, unwrap_or, IfSome, Option, Some, None}
+use Rattle.std.specs.Prelude.{◌≡◌, ℕ, ◌<◌, Bool, true, ◌&&◌, ◌++◌, nat_lt, nat_le, not, if◌then◌else◌, List, find, option_map, unwrap_or, IfSome, Option, Some, None}
 use Rattle.vote_core.specs.declared.TheConstants.{MAX_SERVERS}
 use Rattle.vote_core.specs.Quorums.{Representative, Configuration, votes_in}
 use Rattle.suite_prefix.specs.declared.lock_mode.LockMode.{LockMode}
@@ -32,12 +32,15 @@ abbrev pub due_left : ℕ → ℕ → Option Representative → Due
 due_left got needed (Some rep) = due.Ask rep.0
 due_left got needed None = due.Short got needed
 
-abbrev pub due_by : Configuration → LockMode → List Told → Due
-due_by votes wanted told =
-    let got = votes_in votes.reps (holds wanted told) in
+abbrev pub due_among : Configuration → LockMode → (ℕ → Bool) → (ℕ → Bool) → Due
+due_among votes wanted held refused =
+    let got = votes_in votes.reps held in
     if nat_le (needed_of wanted votes) got
     then due.Current
-    else due_left got (needed_of wanted votes) (find (λ rep. nat_lt 0 rep.1 && not (holds wanted told rep.0) && not (has_refused told rep.0)) votes.reps)
+    else due_left got (needed_of wanted votes) (find (λ rep. nat_lt 0 rep.1 && not (held rep.0) && not (refused rep.0)) votes.reps)
+
+abbrev pub due_by : Configuration → LockMode → List Told → Due
+due_by votes wanted told = due_among votes wanted (holds wanted told) (has_refused told)
 
 abbrev pub due_in : Collector → Due
 due_in c = due_by (counted c) (wanted c) (all_told c)

@@ -4,10 +4,10 @@ use Rattle.rep_core.specs.declared.reply.Reply.{Reply}
 use Rattle.suite_collect.specs.Collecting.{next, tell, told_by}
 use Rattle.suite_collect.specs.Answering.{shows_lock}
 use Rattle.suite_collect.proofs.Dues.{took}
-use Rattle.suite_collect.proofs.collect.Collect.take_on.Goals as goal
+use Rattle.suite_collect.proofs.collect.Collect.take_refusal.Goals as goal
 
-pub returns-in-Busy-clause-ok : goal.returns-in-Busy-clause-ok
-returns-in-Busy-clause-ok c =
+pub returns-in-Busy : goal.returns-in-Busy
+returns-in-Busy c =
     let was = c.args.self.now in
     let accepted : is_some (told_by (next was.collector) c.args.reply.now) ≡ true = search rules in
     let Took : Reply → Type 0 = λ answer. IfSome (told_by (next was.collector) answer) (λ last. c.take.new.self ≡ record was { collector = tell last was.collector }) in
