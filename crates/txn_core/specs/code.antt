@@ -15,3 +15,5 @@ pub mod Steps
 pub mod Hears
 pub mod AgentFields
 pub mod Sorting
+pub mod Telling
+pub mod Passing

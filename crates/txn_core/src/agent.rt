@@ -1,12 +1,14 @@
 //! An agent.
 
-ghost use Rattle.std.specs.Prelude.{◌≡◌, ◌<◌, ◌≤◌, [], IfOk, IfErr, OnOk, OnErr, IsTrue, Some, option_map};
+ghost use Rattle.std.specs.Prelude.{◌≡◌, ◌<◌, ◌≤◌, [], IfOk, IfErr, OnOk, OnErr, IsTrue, Some, None, option_map};
 ghost use Rattle.weak_cache.specs.Cache.{Limits};
 ghost use Rattle.txn_core.specs.code.AgentFields.{doing_of};
 ghost use Rattle.txn_core.specs.Agents as agents;
 ghost use Rattle.txn_core.specs.Standing.{FitsAsked, left_by};
 ghost use Rattle.txn_core.specs.Transactions as course;
 ghost use Rattle.txn_core.specs.Wanting as wanting;
+ghost use Rattle.txn_core.specs.code.Telling.{Tells};
+ghost use Rattle.txn_core.specs.declared.word.Word.TheVariants.{Replied, Lacked};
 
 use crate::course::Course;
 use crate::ending::Ending;
@@ -15,7 +17,7 @@ use crate::sweep::Round;
 use crate::task::Task;
 use crate::word::Word;
 use file_ops::Service;
-use rep_core::Request;
+use rep_core::{Lack, Reply, Request};
 use std::alloc::{AllocError, Global};
 use std::marker::Model;
 use suite_prefix::Settings;
@@ -162,16 +164,58 @@ impl Agent {
         ensures err { OnErr result (self.new ≡ self.old) }
         ensures memory { IfErr result (λ _. IsTrue (wanting.by_taking (agents.next_of self.old.fixed self.old.state) word.now)) }
     {
+        match word {
+            Word::Replied(said) => self.hear(said),
+            Word::Lacked(lack) => Ok(self.lack(*lack)),
+        }
+    }
+
+    /// Takes the reply to what it asks next, as `take` does.
+    pub fn hear(&mut self, said: &Reply) -> Result<Option<Ending>, AllocError>
+        requires { FitsAsked (agents.next_of self.old.fixed self.old.state) (Replied said.now) }
+        ensures ok { IfOk result (λ ending. ending ≡ (agents.take self.old.fixed self.old.state (Replied said.now)).ending) }
+        ensures new { OnOk result (self.new ≡ record self.old { state = (agents.take self.old.fixed self.old.state (Replied said.now)).agent }) }
+        ensures err { OnErr result (self.new ≡ self.old) }
+        ensures memory { IfErr result (λ _. IsTrue (wanting.by_taking (agents.next_of self.old.fixed self.old.state) (Replied said.now))) }
+    {
+        let told = self.answer(said);
+        if let Ok(Some(_)) = &told {
+            self.stop();
+        }
+        told
+    }
+
+    /// Takes the reply, and goes on with its job, also where that is at its end.
+    fn answer(&mut self, said: &Reply) -> Result<Option<Ending>, AllocError>
+        requires { FitsAsked (agents.next_of self.old.fixed self.old.state) (Replied said.now) }
+        ensures ok { IfOk result (λ ending. Tells self.old (Replied said.now) ending self.new) }
+        ensures err { OnErr result (self.new ≡ self.old) }
+        ensures memory { IfErr result (λ _. IsTrue (wanting.by_taking (agents.next_of self.old.fixed self.old.state) (Replied said.now))) }
+    {
         match &mut self.doing {
             Some(Doing::Running(course)) => {
-                let ending = course.take(self.alloc, &self.service, &mut self.cache, word)?;
-                Ok(self.ended(ending))
+                course.hear_reply(self.alloc, &self.service, &mut self.cache, said)
+            }
+            Some(Doing::Rounding(round)) => round.answer(self.alloc, &self.service, said),
+            None => Ok(None),
+        }
+    }
+
+    /// Its request was not served.
+    fn lack(&mut self, lack: Lack) -> Option<Ending>
+        ensures ending { result ≡ (agents.take self.old.fixed self.old.state (Lacked lack)).ending }
+        ensures new { self.new ≡ record self.old { state = (agents.take self.old.fixed self.old.state (Lacked lack)).agent } }
+    {
+        match &mut self.doing {
+            Some(Doing::Running(course)) => {
+                let ending = course.hear_lack(&self.service, lack);
+                self.ended(ending)
             }
             Some(Doing::Rounding(round)) => {
-                let ending = round.take(self.alloc, &self.service, word)?;
-                Ok(self.ended(ending))
+                let ending = round.lacked(&self.service, lack);
+                self.ended(Some(ending))
             }
-            None => Ok(None),
+            None => None,
         }
     }
 
@@ -181,8 +225,15 @@ impl Agent {
         ensures new { self.new ≡ record self.old { state = record self.old.state { doing = left_by ending self.old.state.doing } } }
     {
         let ending = ending?;
-        self.doing = None;
+        self.stop();
         Some(ending)
+    }
+
+    /// It does no job any more.
+    fn stop(&mut self)
+        ensures { self.new ≡ record self.old { state = record self.old.state { doing = None } } }
+    {
+        self.doing = None;
     }
 
     /// Lets go what it keeps for a site.

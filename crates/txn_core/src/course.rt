@@ -3,6 +3,7 @@
 ghost use Rattle.std.specs.Prelude.{◌≡◌, ◌<◌, ◌≤◌, ℕ, List, true, IfOk, IfErr, OnErr, IsSome, IsTrue, Some, [], ◌∷◌, is_some, option_map};
 ghost use Rattle.rep_core.specs.Fits.{is_held};
 ghost use Rattle.suite_collect.specs.Collecting as collecting;
+ghost use Rattle.weak_cache.specs.Cache.{Limits};
 ghost use Rattle.weak_cache.specs.Entries.{Cache};
 ghost use Rattle.txn_core.specs.Agents.{left};
 ghost use Rattle.txn_core.specs.Doing as doing;
@@ -16,7 +17,7 @@ ghost use Rattle.txn_core.specs.Suites as gathering;
 ghost use Rattle.txn_core.specs.Transactions as course;
 ghost use Rattle.txn_core.specs.code.Unused.{HasUnused, shows_unused};
 ghost use Rattle.txn_core.specs.Wanting as wanting;
-ghost use Rattle.txn_core.specs.declared.word.Word.TheVariants.{Replied};
+ghost use Rattle.txn_core.specs.declared.word.Word.TheVariants.{Replied, Lacked};
 
 use crate::ending::{Cause, Ending};
 use crate::execution::Execution;
@@ -26,9 +27,8 @@ use crate::sequel::Sequel;
 use crate::servers::locked_at;
 use crate::suites::Suite;
 use crate::task::Task;
-use crate::word::Word;
 use file_ops::Service;
-use rep_core::Reply;
+use rep_core::{Lack, Reply};
 use sorted_map::RoomyMap;
 use std::alloc::{AllocError, Global};
 use std::marker::Model;
@@ -101,31 +101,37 @@ impl Course {
         }
     }
 
-    /// Takes what came of what is asked next, and gives the ending, where the transaction is at its end. An
+    /// Takes the reply to what is asked next, and gives the ending, where the transaction is at its end. An
     /// error leaves all as it was.
-    pub(crate) fn take(
+    pub(crate) fn hear_reply(
         &mut self,
         alloc: Global,
         service: &Service,
         cache: &mut WeakCache,
-        word: &Word,
+        said: &Reply,
     ) -> Result<Option<Ending>, AllocError>
         requires servers { (0 < service.now.servers) × (service.now.servers ≤ MAX_SERVERS) }
         requires unused { HasUnused cache.old.entries }
-        requires fits { FitsAsked (course.request_of (record { service = service.now; limits = cache.old.limits }) self.old) word.now }
-        ensures ok { IfOk result (λ ending. let fixed : doing.Fixed = record { service = service.now; limits = cache.old.limits } in Steps (taken fixed self.old cache.old.entries (course.request_of fixed self.old) word.now) ending self.new cache.new.entries) }
+        requires fits { FitsAsked (course.request_of (record { service = service.now; limits = cache.old.limits }) self.old) (Replied said.now) }
+        ensures ok { IfOk result (λ ending. let fixed : doing.Fixed = record { service = service.now; limits = cache.old.limits } in Steps (taken fixed self.old cache.old.entries (course.request_of fixed self.old) (Replied said.now)) ending self.new cache.new.entries) }
         ensures err { OnErr result ((self.new ≡ self.old) × (cache.new ≡ cache.old)) }
         ensures limits { cache.new.limits ≡ cache.old.limits }
         ensures unused { HasUnused cache.new.entries }
-        ensures memory { IfErr result (λ _. IsTrue (wanting.by_taking (course.request_of (record { service = service.now; limits = cache.old.limits }) self.old) word.now)) }
+        ensures memory { IfErr result (λ _. IsTrue (wanting.by_taking (course.request_of (record { service = service.now; limits = cache.old.limits }) self.old) (Replied said.now))) }
     {
-        let Some(server) = self.asked(service) else {
-            return Ok(None);
-        };
-        match word {
-            Word::Replied(said) => self.answer(alloc, service, cache, server, said),
-            Word::Lacked(lack) => Ok(self.lacked(server, *lack)),
+        match self.asked(service) {
+            Some(server) => self.answer(alloc, service, cache, server, said),
+            None => Ok(None),
         }
+    }
+
+    /// What is asked next was not served. It gives the ending, where the transaction is at its end.
+    pub(crate) fn hear_lack(&mut self, service: &Service, lack: Lack) -> Option<Ending>
+        requires { (0 < service.now.servers) × (service.now.servers ≤ MAX_SERVERS) }
+        ensures { (limits : Limits) (cache : Cache) → let fixed : doing.Fixed = record { service = service.now; limits = limits } in Steps (taken fixed self.old cache (course.request_of fixed self.old) (Lacked lack)) result self.new cache }
+    {
+        let server = self.asked(service)?;
+        self.lacked(server, lack)
     }
 
     /// Takes a reply of the server that is asked.

@@ -1,11 +1,12 @@
 //! The end of a transaction: servers prepare, its home decides, and the end is told.
 
-ghost use Rattle.std.specs.Prelude.{◌≡◌, ℕ, List, IfOk, IfErr, OnErr, IsTrue, None, ◌∷◌, drop};
+ghost use Rattle.std.specs.Prelude.{◌≡◌, ℕ, List, IfOk, IfErr, OnErr, IsTrue, None, [], ◌∷◌, drop};
 ghost use Rattle.rep_core.specs.Service.{is_answered};
 ghost use Rattle.rep_core.specs.declared.reply.Verdict.{Verdict as Ended};
 ghost use Rattle.weak_cache.specs.Entries.{Cache};
 ghost use Rattle.txn_core.specs.code.CourseFields.{phase_of};
 ghost use Rattle.txn_core.specs.Doing as doing;
+ghost use Rattle.txn_core.specs.code.Passing.{passed, passes_last};
 ghost use Rattle.txn_core.specs.code.Steps.{Steps};
 ghost use Rattle.txn_core.specs.Transactions as course;
 ghost use Rattle.txn_core.specs.declared.ending.Ending.{Ending as Ends};
@@ -37,14 +38,41 @@ impl Course {
         if !matches!(said, Reply::Prepared) {
             return self.give_up(Cause::Lost { server });
         }
-        match self.leave() {
-            Phase::Preparing(mut servers, outcome) => {
-                servers.pass();
-                self.prepare(servers, outcome);
-            }
-            other => self.phase = other,
-        }
+        self.one_prepared();
         None
+    }
+
+    /// One server more has prepared.
+    fn one_prepared(&mut self)
+        ensures { (now : ℕ) (left : List ℕ) (outcome : doing.Outcome) (cache : Cache) → self.old.phase ≡ doing.Preparing (now ∷ left) outcome → Steps (course.prepare self.old.task cache self.old.suites outcome left) None self.new cache }
+    {
+        if !self.pass() {
+            return;
+        }
+        self.decide();
+    }
+
+    /// The first of the servers that are asked one after the other was asked. Tells whether it was the
+    /// last.
+    fn pass(&mut self) -> bool
+        ensures phase { self.new ≡ record self.old { phase = passed self.old.phase } }
+        ensures last { result ≡ passes_last self.old.phase }
+    {
+        match &mut self.phase {
+            Phase::Preparing(servers, _) => servers.passes_last(),
+            Phase::Finishing(servers, ..) => servers.passes_last(),
+            _ => false,
+        }
+    }
+
+    /// All servers have prepared: the home decides.
+    fn decide(&mut self)
+        ensures { (outcome : doing.Outcome) (cache : Cache) → self.old.phase ≡ doing.Preparing [] outcome → Steps (course.prepare self.old.task cache self.old.suites outcome []) None self.new cache }
+    {
+        self.phase = match self.leave() {
+            Phase::Preparing(_, outcome) => Phase::Deciding(outcome),
+            other => other,
+        };
     }
 
     /// What the home said. Only to tell answers again it may want memory.
@@ -88,11 +116,15 @@ impl Course {
     pub(crate) fn told(&mut self) -> Option<Ending>
         ensures { (servers : List ℕ) (verdict : Ended) (ending : Ends) (cache : Cache) → self.old.phase ≡ doing.Finishing servers verdict ending → Steps (course.tell_end self.old.task cache self.old.suites verdict ending (drop 1 servers)) result self.new cache }
     {
+        if self.pass() { self.end() } else { None }
+    }
+
+    /// The end was told to all: the transaction is at its end.
+    fn end(&mut self) -> Option<Ending>
+        ensures { (verdict : Ended) (ending : Ends) (cache : Cache) → self.old.phase ≡ doing.Finishing [] verdict ending → Steps (course.tell_end self.old.task cache self.old.suites verdict ending []) result self.new cache }
+    {
         match self.leave() {
-            Phase::Finishing(mut servers, verdict, ending) => {
-                servers.pass();
-                self.tell_end(servers, verdict, ending)
-            }
+            Phase::Finishing(_, _, ending) => Some(ending),
             other => {
                 self.phase = other;
                 None

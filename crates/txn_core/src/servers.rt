@@ -1,6 +1,7 @@
 //! Servers that are asked one after the other.
 
 ghost use Rattle.std.specs.Prelude.{◌≡◌, drop, slice_get};
+ghost use Rattle.txn_core.specs.code.Passing.{is_none};
 ghost use Rattle.txn_core.specs.Suites as gathering;
 ghost use Rattle.txn_core.specs.Transactions as course;
 
@@ -35,8 +36,16 @@ impl Servers {
         self.servers[self.asked..self.count].first().copied()
     }
 
-    /// That one was asked.
-    pub(crate) fn pass(&mut self)
+    /// That one was asked. Tells whether it was the last.
+    pub(crate) fn passes_last(&mut self) -> bool
+        ensures left { self.new ≡ drop 1 self.old }
+        ensures last { result ≡ is_none (drop 1 self.old) }
+    {
+        self.pass();
+        self.first().is_none()
+    }
+
+    fn pass(&mut self)
         ensures { self.new ≡ drop 1 self.old }
     {
         if self.asked < self.count {

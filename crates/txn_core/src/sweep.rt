@@ -14,7 +14,6 @@ ghost use Rattle.txn_core.specs.code.RoundFields.{sweeping_of, with_counts, tota
 use crate::ending::{Cause, Ending};
 use crate::home::home_of;
 use crate::sorting::rising;
-use crate::word::Word;
 use file_ops::Service;
 use rep_core::{Lack, Lock, Reply, Request, Verdict};
 use std::alloc::{AllocError, Global};
@@ -114,29 +113,17 @@ impl Round {
         }
     }
 
-    /// Takes what was said to what was asked next, and gives the ending, where the round is at its end.
-    /// A list of locks and answers may want memory. Where it is refused, the round is as it was.
-    pub(crate) fn take(
-        &mut self,
-        alloc: Global,
-        service: &Service,
-        word: &Word,
-    ) -> Result<Option<Ending>, AllocError>
+    /// The ending of a round of which what was asked next was not served.
+    pub(crate) fn lacked(&self, service: &Service, lack: Lack) -> Ending
         requires { (0 < service.now.servers) × (service.now.servers ≤ MAX_SERVERS) }
-        ensures ok { IfOk result (λ ending. Comes (sweeping.after_word service.now self.old (sweeping.asked_now service.now self.old self.old.now).0 word.now) ending self.new) }
-        ensures err { OnErr result (self.new ≡ self.old) }
-        ensures memory { IfErr result (λ _. IsTrue (wanting.by_taking (Some (sweeping.asked_now service.now self.old self.old.now)) word.now)) }
+        ensures { result ≡ Ending.Undecided (course.lack_cause (sweeping.asked_now service.now self.now self.now.now).0 lack) }
     {
-        match word {
-            Word::Replied(said) => self.answer(alloc, service, said),
-            Word::Lacked(lack) => {
-                let cause = Cause::of_lack(self.asked(service), *lack);
-                Ok(Some(Ending::Undecided(cause)))
-            }
-        }
+        Ending::Undecided(Cause::of_lack(self.asked(service), lack))
     }
 
-    fn answer(
+    /// Takes what was said to what was asked next, and gives the ending, where the round is at its end.
+    /// A list of locks and answers may want memory. Where it is refused, the round is as it was.
+    pub(crate) fn answer(
         &mut self,
         alloc: Global,
         service: &Service,
