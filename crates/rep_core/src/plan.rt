@@ -1,6 +1,6 @@
 //! How a request is taken, found before anything is changed.
 
-ghost use Rattle.std.specs.Prelude.{◌≡◌, ◌≢◌, ◌↔◌, ◌&&◌, ◌==◌, if◌then◌else◌, is_some, IfOk, IsOk, IsTrue, Err};
+ghost use Rattle.std.specs.Prelude.{◌≡◌, ◌≢◌, ◌↔◌, ◌&&◌, ◌==◌, if◌then◌else◌, is_some, IfOk, IsOk, OnOk, IsTrue, Err};
 ghost use Rattle.std.specs.List.{list_all, list_any};
 ghost use Rattle.suite_prefix.specs.declared.lock_mode.LockMode.TheVariants.{Exclusive};
 ghost use Rattle.rep_core.specs.declared.stamped.Lack.TheVariants.{Full, Memory};
@@ -32,7 +32,7 @@ pub(crate) enum Way {
     /// What it asks for stands already.
     Stands,
     /// Another transaction's lock stands in the way.
-    Busy { holder: u64, prepared: bool },
+    Busy,
     /// There is no such lock.
     Lost,
     /// The server is down.
@@ -110,10 +110,7 @@ impl Holdings {
         ensures { result ≡ changing.unless (locking.in_the_way t suite mode (state_of self.now).locks) }
     {
         match locks::in_the_way(self.locks.as_slice(), t, suite, mode) {
-            Some(other) => Way::Busy {
-                holder: other.t,
-                prepared: other.prepared,
-            },
+            Some(_) => Way::Busy,
             None => Way::Through,
         }
     }
@@ -191,59 +188,104 @@ impl Holdings {
         parts.iter().all(|part| self.store.is_sound_part(part))
     }
 
-    /// The reply to a request that is taken so. Nothing but what is held takes memory.
-    pub(crate) fn reply(&self, way: Way, request: &Request) -> Result<Reply, AllocError>
-        ensures reply { IfOk result (λ reply. reply ≡ changing.answered way (state_of self.now) request.now) }
+    /// Writes the reply to a request that is taken so. Nothing but what is held takes memory.
+    pub(crate) fn answer(
+        &self,
+        way: Way,
+        request: &Request,
+        reply: &mut Reply,
+    ) -> Result<(), AllocError>
+        ensures reply { OnOk result (reply.new ≡ changing.answered way (state_of self.now) request.now) }
         ensures bare { IsTrue (serving.is_bare (changing.answered way (state_of self.now) request.now)) → IsOk result }
     {
         match way {
-            Way::Through | Way::Stands => self.granted(request),
-            Way::Busy { holder, prepared } => Ok(Reply::Busy { holder, prepared }),
-            Way::Lost => Ok(Reply::Lost),
-            Way::Down => Ok(Reply::Down),
+            Way::Through | Way::Stands => return self.grant(request, reply),
+            Way::Busy => self.refuse(request, reply),
+            Way::Lost => *reply = Reply::Lost,
+            Way::Down => *reply = Reply::Down,
+        }
+        Ok(())
+    }
+
+    /// Writes whose lock stands in the way.
+    fn refuse(&self, request: &Request, reply: &mut Reply)
+        ensures { reply.new ≡ changing.refused (state_of self.now) request.now }
+    {
+        match request {
+            Request::Poll { t, suite, mode } => self.tell_busy(*t, *suite, *mode, reply),
+            Request::Upgrade { t, suite } => {
+                self.tell_busy(*t, *suite, LockMode::Exclusive, reply);
+            }
+            _ => *reply = Reply::Lost,
         }
     }
 
-    fn granted(&self, request: &Request) -> Result<Reply, AllocError>
-        ensures reply { IfOk result (λ reply. reply ≡ changing.granted (state_of self.now) request.now) }
+    fn tell_busy(&self, t: u64, suite: u64, mode: LockMode, reply: &mut Reply)
+        ensures { reply.new ≡ changing.busy (locking.in_the_way t suite mode (state_of self.now).locks) }
+    {
+        *reply = match locks::in_the_way(self.locks.as_slice(), t, suite, mode) {
+            Some(other) => Reply::Busy {
+                holder: other.t,
+                prepared: other.prepared,
+            },
+            None => Reply::Lost,
+        };
+    }
+
+    /// Writes the reply where nothing keeps the request from going through.
+    fn grant(&self, request: &Request, reply: &mut Reply) -> Result<(), AllocError>
+        ensures reply { OnOk result (reply.new ≡ changing.granted (state_of self.now) request.now) }
         ensures bare { IsTrue (serving.is_bare (changing.granted (state_of self.now) request.now)) → IsOk result }
     {
         match request {
-            Request::Poll { suite, .. } => self.store.held(*suite),
-            Request::Upgrade { suite, .. } => self.store.held(*suite),
-            Request::Fetch { suite, .. } => self.store.given(*suite),
-            Request::Prepare { .. } => Ok(Reply::Prepared),
-            Request::Decide { t, decision } => self.decided(*t, decision),
-            Request::Resolve { t } => self.recorded(*t, Verdict::Aborted),
-            Request::Locks => self.listed(),
+            Request::Poll { suite, .. } => self.store.hold(*suite, reply),
+            Request::Upgrade { suite, .. } => self.store.hold(*suite, reply),
+            Request::Fetch { suite, .. } => self.store.give(*suite, reply),
+            Request::Prepare { .. } => {
+                *reply = Reply::Prepared;
+                Ok(())
+            }
+            Request::Decide { t, decision } => self.tell_decision(*t, decision, reply),
+            Request::Resolve { t } => self.tell_verdict(*t, Verdict::Aborted, reply),
+            Request::Locks => self.list(reply),
             Request::Finish { .. } | Request::Break { .. } | Request::Crash | Request::Return => {
-                Ok(Reply::Done)
+                *reply = Reply::Done;
+                Ok(())
             }
         }
     }
 
-    fn decided(&self, t: u64, decision: &Decision) -> Result<Reply, AllocError>
-        ensures { IfOk result (λ reply. reply ≡ Reply.Verdict (service.recorded (record_of (state_of self.now) t) (service.verdict_of decision.now))) }
+    fn tell_decision(
+        &self,
+        t: u64,
+        decision: &Decision,
+        reply: &mut Reply,
+    ) -> Result<(), AllocError>
+        ensures { OnOk result (reply.new ≡ Reply.Verdict (service.recorded (record_of (state_of self.now) t) (service.verdict_of decision.now))) }
     {
         let verdict = verdict_of(decision)?;
-        self.recorded(t, verdict)
+        self.tell_verdict(t, verdict, reply)
     }
 
-    /// The verdict that stands, or else this one.
-    fn recorded(&self, t: u64, verdict: Verdict) -> Result<Reply, AllocError>
-        ensures { IfOk result (λ reply. reply ≡ Reply.Verdict (service.recorded (record_of (state_of self.now) t) verdict)) }
+    /// Writes the verdict that stands, or else this one.
+    fn tell_verdict(&self, t: u64, verdict: Verdict, reply: &mut Reply) -> Result<(), AllocError>
+        ensures { OnOk result (reply.new ≡ Reply.Verdict (service.recorded (record_of (state_of self.now) t) verdict)) }
     {
-        match self.verdicts.get(&t) {
-            Some(standing) => Ok(Reply::Verdict(standing.clone()?)),
-            None => Ok(Reply::Verdict(verdict)),
-        }
+        let told = match self.verdicts.get(&t) {
+            Some(standing) => standing.clone()?,
+            None => verdict,
+        };
+        *reply = Reply::Verdict(told);
+        Ok(())
     }
 
-    fn listed(&self) -> Result<Reply, AllocError>
-        ensures { IfOk result (λ reply. reply ≡ Reply.Locked (state_of self.now).locks) }
+    /// Writes the list of the locks.
+    fn list(&self, reply: &mut Reply) -> Result<(), AllocError>
+        ensures { OnOk result (reply.new ≡ Reply.Locked (state_of self.now).locks) }
     {
         let locks = Vec::from_slice(self.alloc, self.locks.as_slice())?;
-        Ok(Reply::Locked(LockList::from_vec(locks)))
+        *reply = Reply::Locked(LockList::from_vec(locks));
+        Ok(())
     }
 }
 

@@ -82,16 +82,20 @@ impl Server {
         ensures fits { IsTrue (fits request.value (serving.answer_of self.old request).value) }
     {
         let plan = self.held.plan(&request)?;
-        let value = self.held.reply(plan.way, &request.value)?;
+        let mut reply = Stamped {
+            stamp: plan.stamp,
+            value: Reply::Down,
+        };
+        self.held
+            .answer(plan.way, &request.value, &mut reply.value)?;
         self.held.begin(plan.way, &request.value)?;
-        let stamp = plan.stamp;
-        let told = take(taker, Stamped { stamp, value });
+        let told = take(taker, reply);
         if told.is_err() {
             self.held.take_back(plan.way, &request.value);
             return Ok(told);
         }
         self.held.complete(plan.way, request.value);
-        self.held.stamp = stamp;
+        self.held.stamp = plan.stamp;
         Ok(told)
     }
 
@@ -104,11 +108,13 @@ impl Server {
         ensures fits { IfOk result (λ reply. IsTrue (fits request.value reply.value)) }
     {
         let plan = self.held.plan(&request)?;
-        let value = self.held.reply(plan.way, &request.value)?;
-        Ok(Stamped {
+        let mut reply = Stamped {
             stamp: plan.stamp,
-            value,
-        })
+            value: Reply::Down,
+        };
+        self.held
+            .answer(plan.way, &request.value, &mut reply.value)?;
+        Ok(reply)
     }
 
     /// An equal server.

@@ -101,42 +101,26 @@ impl Store {
         })
     }
 
-    /// That a suite is held: the prefix of its copy, and the version of the content.
-    pub(crate) fn held(&self, suite: u64) -> Result<Reply, AllocError>
-        ensures { IfOk result (λ reply. reply ≡ held (store.copy_of self.now.store suite)) }
+    /// Writes that a suite is held: the prefix of its copy, and the version of the content.
+    pub(crate) fn hold(&self, suite: u64, reply: &mut Reply) -> Result<(), AllocError>
+        ensures { OnOk result (reply.new ≡ held (store.copy_of self.now.store suite)) }
     {
         match self.copies.get(&suite) {
-            Some(copy) => {
-                let prefix = copy.prefix.clone()?;
-                Ok(Reply::Held {
-                    prefix,
-                    dver: copy.dver,
-                })
-            }
-            None => {
-                let prefix = self.absent.clone()?;
-                Ok(Reply::Held { prefix, dver: 0 })
-            }
+            Some(copy) => tell_held(&copy.prefix, copy.dver, reply),
+            None => tell_held(&self.absent, 0, reply),
         }
     }
 
-    /// The content of a suite's copy, and its version.
-    pub(crate) fn given(&self, suite: u64) -> Result<Reply, AllocError>
-        ensures { IfOk result (λ reply. reply ≡ given (store.copy_of self.now.store suite)) }
+    /// Writes the content of a suite's copy, and its version.
+    pub(crate) fn give(&self, suite: u64, reply: &mut Reply) -> Result<(), AllocError>
+        ensures { OnOk result (reply.new ≡ given (store.copy_of self.now.store suite)) }
     {
-        match self.copies.get(&suite) {
-            Some(copy) => {
-                let content = copy.content.clone()?;
-                Ok(Reply::Given {
-                    dver: copy.dver,
-                    content,
-                })
-            }
-            None => Ok(Reply::Given {
-                dver: 0,
-                content: Content::empty(self.alloc, Kind::File),
-            }),
-        }
+        let (dver, content) = match self.copies.get(&suite) {
+            Some(copy) => (copy.dver, copy.content.clone()?),
+            None => (0, Content::empty(self.alloc, Kind::File)),
+        };
+        *reply = Reply::Given { dver, content };
+        Ok(())
     }
 
     /// Whether a part may be prepared.
@@ -275,6 +259,14 @@ fn root_copy(alloc: Global, settings: &Settings) -> Result<Replica, AllocError>
         dver: 1,
         content: Content::empty(alloc, Kind::Folder),
     })
+}
+
+fn tell_held(prefix: &Prefix, dver: u64, reply: &mut Reply) -> Result<(), AllocError>
+    ensures { OnOk result (reply.new ≡ Reply.Held prefix.now dver) }
+{
+    let prefix = prefix.clone()?;
+    *reply = Reply::Held { prefix, dver };
+    Ok(())
 }
 
 /// Whether nothing is taken.

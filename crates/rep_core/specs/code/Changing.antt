@@ -15,7 +15,7 @@ use Rattle.rep_core.specs.declared.request.Request.TheVariants as request
 use Rattle.rep_core.specs.declared.reply.Verdict.TheVariants as verdict
 use Rattle.rep_core.specs.declared.reply.Reply.{Reply}
 use Rattle.rep_core.specs.declared.reply.Reply.TheVariants as reply
-use Rattle.rep_core.specs.Locks.{locked, with_prepared, released, broken}
+use Rattle.rep_core.specs.Locks.{in_the_way, locked, with_prepared, released, broken}
 use Rattle.rep_core.specs.Store.{copy_of, is_sound_part, overfills, intended, finished}
 use Rattle.rep_core.specs.Service.{held, given, recorded, verdict_of, audit_of, with_item, is_answered, after_crash}
 use Rattle.rep_core.specs.State.{State, record_of}
@@ -31,18 +31,28 @@ granted st (request.Resolve t) = reply.Verdict (recorded (record_of st t) verdic
 granted st request.Locks = reply.Locked st.locks
 granted st _ = reply.Done
 
+-- the reply where a lock stands in the way: whose it is
+abbrev pub busy : Option Lock → Reply
+busy (Some other) = reply.Busy other.t other.prepared
+busy None = reply.Lost
+
+abbrev pub refused : State → Request → Reply
+refused st (request.Poll t suite mode) = busy (in_the_way t suite mode st.locks)
+refused st (request.Upgrade t suite) = busy (in_the_way t suite Exclusive st.locks)
+refused st _ = reply.Lost
+
 -- the reply
 abbrev pub answered : Way → State → Request → Reply
 answered way.Through st request = granted st request
 answered way.Stands st request = granted st request
-answered (way.Busy holder prepared) st request = reply.Busy holder prepared
+answered way.Busy st request = refused st request
 answered way.Lost st request = reply.Lost
 answered way.Down st request = reply.Down
 
 -- a lock is set, unless another stands in the way
 abbrev pub unless : Option Lock → Way
 unless None = way.Through
-unless (Some other) = way.Busy other.t other.prepared
+unless (Some other) = way.Busy
 
 -- the server once the request is begun: a verdict is recorded, and all else is as before
 abbrev pub begun : Way → Request → State → State
