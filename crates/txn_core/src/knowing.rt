@@ -10,15 +10,16 @@ use file_ops::Service;
 use sorted_map::RoomyMap;
 use std::alloc::{AllocError, Global};
 
-/// What is known of the suites that had a quorum. Lists and contents are shared.
-pub(crate) fn known_of(
+/// What is known of the suites that had a quorum. It refers to what they have.
+pub(crate) fn known_of<'a>(
     alloc: Global,
-    service: &Service,
-    suites: &RoomyMap<u64, Suite>,
-) -> Result<Known, AllocError>
+    service: &'a Service,
+    suites: &'a RoomyMap<u64, Suite>,
+) -> Result<Known<'a>, AllocError>
     ensures { IfOk result (λ known. known ≡ record { service = service.now; suites = gathering.known_of suites.now.pairs }) }
 {
-    let mut known = Known::new(alloc, *service);
+    let mut known = Known::new(alloc, service);
+    known.reserve(suites.len())?;
     for (number, suite) in suites.as_slice() {
         tell(&mut known, *number, suite)?;
     }
@@ -26,7 +27,7 @@ pub(crate) fn known_of(
 }
 
 /// Tells what the first quorum of a suite gave, and its content, where it is there.
-fn tell(known: &mut Known, number: u64, suite: &Suite) -> Result<(), AllocError>
+fn tell<'a>(known: &mut Known<'a>, number: u64, suite: &'a Suite) -> Result<(), AllocError>
     ensures service { known.new.service ≡ known.old.service }
     ensures suites { OnOk result (known.new.suites ≡ told number suite.now suite.now.first suite.now.content known.old.suites) }
 {
@@ -35,7 +36,7 @@ fn tell(known: &mut Known, number: u64, suite: &Suite) -> Result<(), AllocError>
     };
     known.hold(number, suite.mode(), &first.prefix)?;
     if let Some(content) = suite.content() {
-        known.open(number, content.clone()?);
+        known.open(number, content);
     }
     Ok(())
 }
