@@ -33,6 +33,18 @@ impl<'a> Model for KnownSuite<'a> {
 impl<'a> KnownSuite<'a> {
     ghost use Rattle.suite_prefix.specs.LockModes.{serves, stronger};
     ghost use Rattle.file_exec.specs.Known.{opened};
+    ghost use Rattle.file_exec.specs.code.KnownFields.{known_so};
+
+    /// What is known of a suite that is held in a mode: its prefix, and its content, where that is known.
+    pub fn new(mode: LockMode, prefix: &'a Prefix, content: Option<&'a Content>) -> KnownSuite<'a>
+        ensures { result ≡ known_so mode prefix.now (option_copied content.entry) }
+    {
+        KnownSuite {
+            mode,
+            prefix,
+            content,
+        }
+    }
 
     /// Its content is known from now on.
     fn open(&mut self, content: &'a Content)
@@ -103,6 +115,8 @@ impl<'a> Model for Known<'a> {
 }
 
 impl<'a> Known<'a> {
+    ghost use Rattle.std.specs.Ordering.{nat_cmp};
+    ghost use Rattle.sorted_map.specs.SortedMap.{IsOrdered};
     ghost use Rattle.file_exec.specs.Known.{known_of, held_suite, opened_suite, is_held, known_rows};
 
     /// Nothing is known yet but the service.
@@ -115,11 +129,15 @@ impl<'a> Known<'a> {
         }
     }
 
-    /// Makes room for this many suites at once.
-    pub fn reserve(&mut self, suites: usize) -> Result<(), AllocError>
-        ensures { self.new ≡ self.old }
+    /// What is known of these suites, which rise.
+    pub fn of(service: &'a Service, suites: Vec<(u64, KnownSuite<'a>)>) -> Known<'a>
+        requires { IsOrdered nat_cmp suites.items }
+        ensures { result ≡ record { service = service.now; suites = suites.entry.items } }
     {
-        self.suites.reserve(suites)
+        Known {
+            service,
+            suites: RoomyMap::from_ordered(suites),
+        }
     }
 
     /// A suite is held in this mode from now on, or in the stronger one of this and its mode before. Of
@@ -134,11 +152,7 @@ impl<'a> Known<'a> {
             held.hold(mode);
             return Ok(());
         }
-        let held = KnownSuite {
-            mode,
-            prefix,
-            content: None,
-        };
+        let held = KnownSuite::new(mode, prefix, None);
         self.suites.insert(suite, held)?;
         Ok(())
     }

@@ -108,6 +108,7 @@ fn content(rt: &(impl Abort + AllocGlobal), suite: u64) -> Content {
 // ---- needs, met one after the other
 
 /// A suite of the small service.
+#[derive(Drop)]
 struct Small {
     number: u64,
     prefix: Prefix,
@@ -115,7 +116,7 @@ struct Small {
 }
 
 /// The suites of the small service, and those that a test can make.
-fn small(rt: &(impl Abort + AllocGlobal)) -> Vec<Small> {
+fn small_service(rt: &(impl Abort + AllocGlobal)) -> Vec<Small> {
     let mut suites = Vec::new(rt.alloc());
     for number in 0u64..25 {
         let prefix = prefix(rt, number);
@@ -170,7 +171,7 @@ fn line(rt: &(impl Abort + AllocGlobal), text: &str) {
     let mut parts = text.split('|');
     let caller = caller(rt, parts.next().unwrap_or_default().trim());
     let ops = ops(rt, parts.next().unwrap_or_default());
-    let suites = small(rt);
+    let suites = small_service(rt);
     let service = service(rt);
     let mut known = Known::new(alloc, &service);
     let mut needs = String::new(alloc);
@@ -270,7 +271,7 @@ fn what_operations_see_of_one_another(rt: HostRuntime) {
 fn met(rt: &(impl Abort + AllocGlobal), text: &str) -> Outcome {
     let caller = caller(rt, "1000 100");
     let ops = ops(rt, text);
-    let suites = small(rt);
+    let suites = small_service(rt);
     let service = service(rt);
     let mut known = Known::new(rt.alloc(), &service);
     let mut outcome = executed(rt, &known, 2, &caller, &ops);

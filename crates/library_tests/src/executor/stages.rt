@@ -13,6 +13,7 @@ use suite_content::{Content, FolderNames, Kind};
 use suite_prefix::{LockMode, Prefix, PrefixKind};
 
 /// A suite that is held, and its content, where it was made.
+#[derive(Drop)]
 struct Held {
     number: u64,
     prefix: Prefix,
