@@ -12,7 +12,7 @@ use Rattle.file_exec.specs.declared.log.Edit.TheVariants.{SetAcl, SetVotes, SetC
 use Rattle.file_exec.specs.Courses.{Course, Give, Refuse, Look, Read, Set}
 use Rattle.file_exec.specs.declared.need.Need.TheVariants.{Hold, Know}
 use Rattle.file_exec.specs.Following.{Edits, changed, seen, sets_content, is_set, emptied, content_in, head, looked, content_read, unless_set, needs, ending}
-use Rattle.file_exec.specs.declared.known.KnownSuite.{KnownSuite}
+use Rattle.file_exec.specs.KnownSuites.{KnownSuite}
 use Rattle.file_exec.specs.Known.{Known, known_of, row_in, known_rows, is_held, is_opened, first_unmet, Heard, heard, IsSoAt, AgreesWith}
 
 -- ---- edits of rows that look the same

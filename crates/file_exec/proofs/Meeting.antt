@@ -14,7 +14,7 @@ use Rattle.suite_prefix.specs.declared.lock_mode.LockMode.{LockMode}
 use Rattle.suite_prefix.specs.declared.lock_mode.LockMode.TheVariants.{Shared, Exclusive}
 use Rattle.suite_prefix.specs.LockModes.{serves, stronger}
 use Rattle.file_ops.specs.Rows.{Row, with_content}
-use Rattle.file_exec.specs.declared.known.KnownSuite.{KnownSuite}
+use Rattle.file_exec.specs.KnownSuites.{KnownSuite}
 use Rattle.file_exec.specs.declared.need.Need.TheVariants.{Hold, Know}
 use Rattle.file_exec.specs.Following.{head}
 use Rattle.file_exec.specs.Known.{Known, known_of, held_by, opened, is_held, is_opened}

@@ -17,7 +17,7 @@ use Rattle.file_ops.specs.declared.service.Service.{Service}
 use Rattle.file_ops.specs.Rows.{Row, Rows, row_of}
 use Rattle.file_ops.specs.Transactions as plain
 use Rattle.file_exec.specs.declared.changes.Change.{Change}
-use Rattle.file_exec.specs.declared.known.KnownSuite.{KnownSuite}
+use Rattle.file_exec.specs.KnownSuites.{KnownSuite}
 use Rattle.file_exec.specs.declared.need.Need.{Need}
 use Rattle.file_exec.specs.declared.need.Need.TheVariants.{Hold, Know}
 use Rattle.file_exec.specs.declared.executor.Outcome.TheVariants as outcome

@@ -1,3 +1,4 @@
+pub mod KnownFields
 pub mod Overlay
 pub mod Steps
 pub mod Ends

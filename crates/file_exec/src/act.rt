@@ -9,7 +9,7 @@ ghost use Rattle.file_ops.specs.Steps.{found_or};
 ghost use Rattle.file_ops.specs.Rows.{new_row};
 ghost use Rattle.file_exec.specs.Courses.{set};
 ghost use Rattle.file_exec.specs.Operations.{bytes_read, names_listed, list_shown, votes_shown, bytes_written, list_set, votes_set, made, refuse_used, dropped, operation};
-ghost use Rattle.file_exec.specs.code.Overlay.{seen_head};
+ghost use Rattle.file_exec.specs.code.Overlay.{seen_head, IsSeenAt};
 ghost use Rattle.file_exec.specs.code.Steps.{Answers, Runs, Sees};
 
 use crate::known::Known;
@@ -31,9 +31,9 @@ use vote_core::Votes;
 /// What the operations of a transaction share: memory, what is known, the transaction's number, and
 /// its caller.
 #[derive(Clone, Copy)]
-pub(crate) struct Transaction<'a> {
+pub(crate) struct Transaction<'a, 'k> {
     pub(crate) alloc: Global,
-    pub(crate) known: &'a Known,
+    pub(crate) known: &'a Known<'k>,
     pub(crate) t: u64,
     pub(crate) caller: &'a Caller,
 }
@@ -97,30 +97,30 @@ fn without_name(names: &FolderNames, name: &Name) -> Result<FolderNames, AllocEr
 }
 
 /// The bytes of a file.
-fn read(view: View<'_>, caller: &Caller, names: &[Name]) -> Result<Answer, Stop>
+fn read(view: View<'_, '_>, caller: &Caller, names: &[Name]) -> Result<Answer, Stop>
     ensures { Answers (λ answer. answer) result view.entry (bytes_read caller.now names.now) }
 {
     let place = view.reach(caller, names, LockMode::Shared)?;
     place.permit(caller, Perms::READ)?;
     place.require_file()?;
-    let bytes = view.bytes_at(place.suite)?;
+    let bytes = view.bytes_of(place.suite, place.row)?;
     Ok(Answer::Read(bytes))
 }
 
 /// The names of a folder.
-fn list(view: View<'_>, caller: &Caller, names: &[Name]) -> Result<Answer, Stop>
+fn list(view: View<'_, '_>, caller: &Caller, names: &[Name]) -> Result<Answer, Stop>
     ensures { Answers (λ answer. answer) result view.entry (names_listed caller.now names.now) }
 {
     let place = view.reach(caller, names, LockMode::Shared)?;
     place.permit(caller, Perms::READ)?;
     place.require_folder()?;
-    let entries = view.names_at(place.suite)?;
+    let entries = view.names_of(place.suite, place.row)?;
     let list = entries.names()?;
     Ok(Answer::List(list))
 }
 
 /// The access list of a file or folder.
-fn get_acl(view: View<'_>, caller: &Caller, names: &[Name]) -> Result<Answer, Stop>
+fn get_acl(view: View<'_, '_>, caller: &Caller, names: &[Name]) -> Result<Answer, Stop>
     ensures { Answers (λ answer. answer) result view.entry (list_shown caller.now names.now) }
 {
     let place = view.shown(caller, names)?;
@@ -129,7 +129,7 @@ fn get_acl(view: View<'_>, caller: &Caller, names: &[Name]) -> Result<Answer, St
 }
 
 /// The votes of a file or folder.
-fn get_votes(view: View<'_>, caller: &Caller, names: &[Name]) -> Result<Answer, Stop>
+fn get_votes(view: View<'_, '_>, caller: &Caller, names: &[Name]) -> Result<Answer, Stop>
     ensures { Answers (λ answer. answer) result view.entry (votes_shown caller.now names.now) }
 {
     let place = view.shown(caller, names)?;
@@ -137,7 +137,7 @@ fn get_votes(view: View<'_>, caller: &Caller, names: &[Name]) -> Result<Answer, 
 }
 
 /// Sets something of a suite, which is to be held exclusively.
-fn set(known: &Known, log: &mut Log, suite: u64, edit: Edit) -> Result<(), Stop>
+fn set(known: &Known<'_>, log: &mut Log, suite: u64, edit: Edit) -> Result<(), Stop>
     ensures { Runs (λ done. done) result known.now.suites log.old log.new (set suite edit) }
 {
     if !known.holds(suite, LockMode::Exclusive) {
@@ -149,7 +149,7 @@ fn set(known: &Known, log: &mut Log, suite: u64, edit: Edit) -> Result<(), Stop>
 
 /// Puts other bytes in a file.
 fn write(
-    known: &Known,
+    known: &Known<'_>,
     log: &mut Log,
     caller: &Caller,
     names: &[Name],
@@ -169,7 +169,7 @@ fn write(
 
 /// Gives a file or folder another access list.
 fn set_acl(
-    known: &Known,
+    known: &Known<'_>,
     log: &mut Log,
     caller: &Caller,
     names: &[Name],
@@ -186,7 +186,7 @@ fn set_acl(
 /// Gives a file or folder other votes. Its content is to be known: whoever gets a vote gets the whole
 /// copy.
 fn set_votes(
-    known: &Known,
+    known: &Known<'_>,
     log: &mut Log,
     caller: &Caller,
     names: &[Name],
@@ -197,15 +197,16 @@ fn set_votes(
     let service = known.service();
     let votes = service.known_votes(given)?;
     let view = View { known, log };
-    let suite = view.owned(caller, names)?.suite;
-    view.read(suite)?;
+    let place = view.owned(caller, names)?;
+    let suite = place.suite;
+    view.content_of(suite, place.row)?;
     set(known, log, suite, Edit::SetVotes(votes))?;
     Ok(Answer::Set)
 }
 
 /// Puts a name in a folder, for a new file or folder of this number.
 fn make(
-    transaction: Transaction<'_>,
+    transaction: Transaction<'_, '_>,
     log: &mut Log,
     number: u64,
     names: &[Name],
@@ -263,24 +264,25 @@ fn new_row(
 }
 
 /// Refuses to drop a folder that has names. Of anything else the content is not read.
-fn refuse_used(view: View<'_>, suite: u64, row: Option<Seen<'_>>) -> Result<(), Stop>
+fn refuse_used(view: View<'_, '_>, suite: u64, row: Option<Seen<'_>>) -> Result<(), Stop>
+    requires { IsSeenAt view suite row }
     ensures { Sees (λ done. done) result view.entry (refuse_used suite (seen_head row.entry)) }
 {
     let Some(row) = row else {
         return Ok(());
     };
-    if let Content::Bytes(_) = row.content {
+    if let Kind::File = row.content.kind() {
         return Ok(());
     }
-    let content = view.read(suite)?;
+    let content = view.content_of(suite, row)?;
     match content {
-        Some(Content::Names(names)) if !names.is_empty() => Err(Stop::Refused(Why::NotEmpty)),
+        Content::Names(names) if !names.is_empty() => Err(Stop::Refused(Why::NotEmpty)),
         _ => Ok(()),
     }
 }
 
 /// Takes a name out of a folder.
-fn drop(known: &Known, log: &mut Log, caller: &Caller, names: &[Name]) -> Result<Answer, Stop>
+fn drop(known: &Known<'_>, log: &mut Log, caller: &Caller, names: &[Name]) -> Result<Answer, Stop>
     ensures { Runs (λ answer. answer) result known.now.suites log.old log.new (dropped caller.now names.now) }
 {
     let (name, folders) = last_name(names)?;
@@ -302,7 +304,7 @@ fn drop(known: &Known, log: &mut Log, caller: &Caller, names: &[Name]) -> Result
 
 /// An operation of a transaction, at a place counted from 0.
 pub(crate) fn operate(
-    transaction: Transaction<'_>,
+    transaction: Transaction<'_, '_>,
     log: &mut Log,
     at: u8,
     op: &Op,

@@ -43,7 +43,7 @@ impl Changes {
     ghost use Rattle.file_exec.specs.Changes.{changes_of};
 
     /// The changes that a log comes to.
-    pub(crate) fn of(alloc: Global, known: &Known, log: &Log) -> Result<Changes, AllocError>
+    pub(crate) fn of(alloc: Global, known: &Known<'_>, log: &Log) -> Result<Changes, AllocError>
         ensures { IfOk result (λ changes. changes ≡ changes_of known.now.suites log.now) }
     {
         let changes = gather(alloc, known, log, log.as_slice())?;
@@ -69,7 +69,7 @@ impl Changes {
 /// The changes of the suites that these edits of the log are of.
 fn gather(
     alloc: Global,
-    known: &Known,
+    known: &Known<'_>,
     log: &Log,
     edits: &[(u64, Edit)],
 ) -> Result<SortedMap<u64, Change>, AllocError>
@@ -79,7 +79,7 @@ fn gather(
         return Ok(SortedMap::new(alloc));
     };
     let mut changes = gather(alloc, known, log, before)?;
-    let change = change_of(known, log, *suite)?;
+    let change = change_of(alloc, known, log, *suite)?;
     if let Some(change) = change {
         changes.insert(*suite, change)?;
     }
@@ -87,14 +87,19 @@ fn gather(
 }
 
 /// What was set of a suite, where it has a row.
-fn change_of(known: &Known, log: &Log, suite: u64) -> Result<Option<Change>, AllocError>
+fn change_of(
+    alloc: Global,
+    known: &Known<'_>,
+    log: &Log,
+    suite: u64,
+) -> Result<Option<Change>, AllocError>
     ensures { IfOk result (λ change. change ≡ change_of known.now.suites log.now suite) }
 {
     let edits = log.as_slice();
     let Some(row) = seen(edits, suite, known.row(suite)) else {
         return Ok(None);
     };
-    let row = row.own()?;
+    let row = row.own(alloc)?;
     Ok(Some(Change {
         made: makes(edits, suite),
         acl: sets_acl(edits, suite),

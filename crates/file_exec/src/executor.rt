@@ -35,7 +35,7 @@ pub enum Outcome {
 /// in which a name is put or dropped: its names are copied once for each such operation, in each run.
 pub fn exec(
     alloc: Global,
-    known: &Known,
+    known: &Known<'_>,
     t: u64,
     caller: &Caller,
     ops: &[Op],

@@ -1,104 +1,166 @@
 //! What is known of the suites that a transaction holds.
 
-ghost use Rattle.std.specs.Prelude.{◌≡◌, [], OnOk, OnErr};
-ghost use Rattle.std.specs.Option.{option_copied, option_map};
-ghost use Rattle.file_exec.specs.code.Overlay.{seen_row};
+ghost use Rattle.std.specs.Prelude.{◌≡◌, [], Ok, OnOk, OnErr, IfSome, option_map};
+ghost use Rattle.std.specs.Option.{option_copied};
+ghost use Rattle.file_exec.specs.code.Overlay.{seen_row, is_whole};
 
-use crate::row::KnownRow;
-use crate::seen::Seen;
+use crate::seen::{Seen, SeenContent};
 use file_ops::Service;
-use sorted_map::SortedMap;
+use sorted_map::RoomyMap;
 use std::alloc::{AllocError, Global};
 use std::marker::Model;
-use suite_content::Content;
-use suite_prefix::{LockMode, Prefix};
+use suite_content::{Content, Kind};
+use suite_prefix::{LockMode, Prefix, PrefixKind};
 
-/// What is known of a suite that is held: in which mode, its row, if it has one, and whether the row's
-/// content is known too.
+/// What is known of a suite that is held: in which mode, its prefix, and its content, once that is known
+/// too. Nothing is copied. What was never made has no row.
 #[derive(Drop)]
-pub struct KnownSuite {
-    pub mode: LockMode,
-    pub row: Option<KnownRow>,
-    pub opened: bool,
+pub struct KnownSuite<'a> {
+    mode: LockMode,
+    prefix: &'a Prefix,
+    content: Option<&'a Content>,
 }
 
-impl KnownSuite {
+impl<'a> Model for KnownSuite<'a> {
+    ghost use Rattle.file_exec.specs.KnownSuites.{KnownSuite};
+    ghost use Rattle.file_exec.specs.code.KnownFields.{known_suite};
+
+    ghost Value = { KnownSuite };
+
+    ghost view = { known_suite };
+}
+
+impl<'a> KnownSuite<'a> {
+    ghost use Rattle.suite_prefix.specs.LockModes.{serves, stronger};
     ghost use Rattle.file_exec.specs.Known.{opened};
+    ghost use Rattle.file_exec.specs.code.KnownFields.{known_so};
+
+    /// What is known of a suite that is held in a mode: its prefix, and its content, where that is known.
+    pub fn new(mode: LockMode, prefix: &'a Prefix, content: Option<&'a Content>) -> KnownSuite<'a>
+        ensures { result ≡ known_so mode prefix.now (option_copied content.entry) }
+    {
+        KnownSuite {
+            mode,
+            prefix,
+            content,
+        }
+    }
 
     /// Its content is known from now on.
-    fn open(&mut self, content: Content)
-        ensures { self.new ≡ opened self.old content }
+    fn open(&mut self, content: &'a Content)
+        ensures { self.new ≡ opened self.old content.now }
     {
-        self.opened = true;
-        if let Some(row) = &mut self.row {
-            row.set_content(content);
-        }
+        self.content = Some(content);
+    }
+
+    /// It is held in the stronger one of this mode and its own.
+    fn hold(&mut self, mode: LockMode)
+        ensures { self.new ≡ record self.old { mode = stronger self.old.mode mode } }
+    {
+        self.mode = self.mode.stronger(mode);
+    }
+
+    /// Whether it is held in this mode or a stronger one.
+    pub fn serves(&self, mode: LockMode) -> bool
+        ensures { result ≡ serves self.now.mode mode }
+    {
+        self.mode.serves(mode)
+    }
+
+    /// Whether its content is known.
+    pub fn is_opened(&self) -> bool
+        ensures { result ≡ self.now.opened }
+    {
+        self.content.is_some()
     }
 
     /// Its row, if it has one.
     pub(crate) fn seen(&self) -> Option<Seen<'_>>
-        ensures { option_map seen_row result ≡ self.now.row }
+        ensures row { option_map seen_row result ≡ self.now.row }
+        ensures whole { IfSome result (λ seen. is_whole seen.content ≡ self.now.opened) }
     {
-        self.row.as_ref().map(Seen::of)
+        let kind = match self.prefix.kind {
+            PrefixKind::Absent => return None,
+            PrefixKind::File => Kind::File,
+            PrefixKind::Folder => Kind::Folder,
+        };
+        let content = match self.content {
+            Some(content) => SeenContent::Whole(content),
+            None => SeenContent::OfKind(kind),
+        };
+        Some(Seen {
+            owner: self.prefix.owner,
+            group: self.prefix.group,
+            acl: &self.prefix.acl,
+            votes: &self.prefix.votes,
+            content,
+        })
     }
 }
 
-/// What is known of a service: how many servers there are, C0, and the suites that are held.
+/// What is known of a service: how many servers there are, C0, and the suites that are held. It refers to
+/// prefixes and contents where they are.
 #[derive(Drop)]
-pub struct Known {
-    alloc: Global,
-    service: Service,
-    suites: SortedMap<u64, KnownSuite>,
+pub struct Known<'a> {
+    service: &'a Service,
+    suites: RoomyMap<u64, KnownSuite<'a>>,
 }
 
-impl Model for Known {
+impl<'a> Model for Known<'a> {
     ghost use Rattle.file_exec.specs.Known.{Knowledge};
 
     ghost Value = { Knowledge };
 
-    ghost view = { λ known. record { service = known.service; suites = known.suites } };
+    ghost view = { λ known. record { service = known.service.now; suites = known.suites.pairs } };
 }
 
-impl Known {
+impl<'a> Known<'a> {
+    ghost use Rattle.std.specs.Ordering.{nat_cmp};
+    ghost use Rattle.sorted_map.specs.SortedMap.{IsOrdered};
     ghost use Rattle.file_exec.specs.Known.{known_of, held_suite, opened_suite, is_held, known_rows};
 
     /// Nothing is known yet but the service.
-    pub fn new(alloc: Global, service: Service) -> Known
-        ensures { result ≡ record { service = service; suites = [] } }
+    pub fn new(alloc: Global, service: &'a Service) -> Known<'a>
+        ensures { result ≡ record { service = service.now; suites = [] } }
     {
         Known {
-            alloc,
             service,
-            suites: SortedMap::new(alloc),
+            suites: RoomyMap::new(alloc),
+        }
+    }
+
+    /// What is known of these suites, which rise.
+    pub fn of(service: &'a Service, suites: Vec<(u64, KnownSuite<'a>)>) -> Known<'a>
+        requires { IsOrdered nat_cmp suites.items }
+        ensures { result ≡ record { service = service.now; suites = suites.entry.items } }
+    {
+        Known {
+            service,
+            suites: RoomyMap::from_ordered(suites),
         }
     }
 
     /// A suite is held in this mode from now on, or in the stronger one of this and its mode before. Of
     /// a suite that was not held the prefix is known from now on; a suite that was keeps what was known
     /// of it first.
-    pub fn hold(&mut self, suite: u64, mode: LockMode, prefix: &Prefix) -> Result<(), AllocError>
+    pub fn hold(&mut self, suite: u64, mode: LockMode, prefix: &'a Prefix) -> Result<(), AllocError>
         ensures service { self.new.service ≡ self.old.service }
         ensures ok { OnOk result (self.new.suites ≡ held_suite self.old.suites suite mode prefix.now) }
         ensures err { OnErr result (self.new ≡ self.old) }
     {
         if let Some(held) = self.suites.get_mut(&suite) {
-            held.mode = held.mode.stronger(mode);
+            held.hold(mode);
             return Ok(());
         }
-        let row = KnownRow::from_prefix(self.alloc, prefix)?;
-        let held = KnownSuite {
-            mode,
-            row,
-            opened: false,
-        };
+        let held = KnownSuite::new(mode, prefix, None);
         self.suites.insert(suite, held)?;
         Ok(())
     }
 
     /// The content of a suite that is held is known from now on.
-    pub fn open(&mut self, suite: u64, content: Content)
+    pub fn open(&mut self, suite: u64, content: &'a Content)
         ensures service { self.new.service ≡ self.old.service }
-        ensures suites { self.new.suites ≡ opened_suite self.old.suites suite content }
+        ensures suites { self.new.suites ≡ opened_suite self.old.suites suite content.now }
     {
         if let Some(held) = self.suites.get_mut(&suite) {
             held.open(content);
@@ -106,7 +168,7 @@ impl Known {
     }
 
     /// What is known of a suite, where it is held.
-    pub fn get(&self, suite: u64) -> Option<&KnownSuite>
+    pub fn get(&self, suite: u64) -> Option<&KnownSuite<'a>>
         ensures { option_copied result ≡ known_of self.now.suites suite }
     {
         self.suites.get(&suite)
@@ -117,7 +179,7 @@ impl Known {
         ensures { result ≡ is_held mode (known_of self.now.suites suite) }
     {
         match self.get(suite) {
-            Some(held) => held.mode.serves(mode),
+            Some(held) => held.serves(mode),
             None => false,
         }
     }
@@ -130,16 +192,16 @@ impl Known {
     }
 
     /// The suites that are held, which rise.
-    pub fn suites(&self) -> &[(u64, KnownSuite)]
+    pub fn suites(&self) -> &[(u64, KnownSuite<'a>)]
         ensures { result.now ≡ self.now.suites }
     {
         self.suites.as_slice()
     }
 
     /// How many servers there are, and C0.
-    pub fn service(&self) -> &Service
+    pub fn service(&self) -> &'a Service
         ensures { result.now ≡ self.now.service }
     {
-        &self.service
+        self.service
     }
 }

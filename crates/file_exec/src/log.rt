@@ -1,13 +1,13 @@
 //! What a transaction has set so far.
 
-ghost use Rattle.std.specs.Prelude.{◌≡◌, ◌∷◌, [], OnOk, OnErr};
+ghost use Rattle.std.specs.Prelude.{◌≡◌, ◌∷◌, ◌||◌, [], Bool, OnOk, OnErr};
 ghost use Rattle.std.specs.Option.{option_map};
 ghost use Rattle.file_exec.specs.Following.{changed, seen, sets_content, is_set};
 ghost use Rattle.file_exec.specs.Changes.{makes, sets_acl, sets_votes, some};
-ghost use Rattle.file_exec.specs.code.Overlay.{seen_row};
+ghost use Rattle.file_exec.specs.code.Overlay.{seen_row, IsWholeIf};
 
 use crate::row::KnownRow;
-use crate::seen::Seen;
+use crate::seen::{Seen, SeenContent};
 use acl_core::Acl;
 use std::alloc::{AllocError, Global};
 use std::marker::Model;
@@ -30,12 +30,16 @@ pub enum Edit {
 impl Edit {
     /// A row after it.
     fn changed<'a>(&'a self, row: Option<Seen<'a>>) -> Option<Seen<'a>>
-        ensures { option_map seen_row result ≡ changed self.now (option_map seen_row row.entry) }
+        ensures row { option_map seen_row result ≡ changed self.now (option_map seen_row row.entry) }
+        ensures whole { (opened : Bool) → IsWholeIf opened row.entry → IsWholeIf (sets_content self.now || opened) result }
     {
         match self {
             Edit::SetAcl(acl) => row.map(|row| Seen { acl, ..row }),
             Edit::SetVotes(votes) => row.map(|row| Seen { votes, ..row }),
-            Edit::SetContent(content) => row.map(|row| Seen { content, ..row }),
+            Edit::SetContent(content) => row.map(|row| Seen {
+                content: SeenContent::Whole(content),
+                ..row
+            }),
             Edit::Make(made) => Some(Seen::of(made)),
         }
     }
@@ -116,7 +120,8 @@ pub(crate) fn seen<'a>(
     suite: u64,
     row: Option<Seen<'a>>,
 ) -> Option<Seen<'a>>
-    ensures { option_map seen_row result ≡ seen edits.now suite (option_map seen_row row.entry) }
+    ensures row { option_map seen_row result ≡ seen edits.now suite (option_map seen_row row.entry) }
+    ensures whole { (opened : Bool) → IsWholeIf opened row.entry → IsWholeIf (is_set edits.now suite || opened) result }
 {
     if edits.is_empty() {
         return row;
@@ -126,7 +131,8 @@ pub(crate) fn seen<'a>(
 
 /// The same, where there may be edits.
 fn seen_after<'a>(edits: &'a [(u64, Edit)], suite: u64, row: Option<Seen<'a>>) -> Option<Seen<'a>>
-    ensures { option_map seen_row result ≡ seen edits.now suite (option_map seen_row row.entry) }
+    ensures row { option_map seen_row result ≡ seen edits.now suite (option_map seen_row row.entry) }
+    ensures whole { (opened : Bool) → IsWholeIf opened row.entry → IsWholeIf (is_set edits.now suite || opened) result }
 {
     let Some(((of, edit), before)) = edits.split_first() else {
         return row;

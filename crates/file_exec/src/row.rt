@@ -1,14 +1,11 @@
 //! The row of a file or folder, as far as it is known.
 
-ghost use Rattle.std.specs.Prelude.{◌≡◌, IfOk};
-ghost use Rattle.file_ops.specs.Rows.{with_content};
-ghost use Rattle.file_exec.specs.Prefixes.{row_of_prefix};
+ghost use Rattle.std.specs.Prelude.{◌≡◌};
 
 use acl_core::Acl;
-use std::alloc::{AllocError, Global};
+use std::alloc::AllocError;
 use std::marker::Model;
-use suite_content::{Content, Kind};
-use suite_prefix::{Prefix, PrefixKind};
+use suite_content::Content;
 use vote_core::Votes;
 
 /// The row of a file or folder. A clone shares its list and its content. A content that is not known
@@ -47,35 +44,6 @@ impl Clone for KnownRow {
 }
 
 impl KnownRow {
-    /// The row of a prefix, whose content is not known. What was never made has none.
-    pub(crate) fn from_prefix(
-        alloc: Global,
-        prefix: &Prefix,
-    ) -> Result<Option<KnownRow>, AllocError>
-        ensures { IfOk result (λ row. row ≡ row_of_prefix prefix.now) }
-    {
-        let kind = match prefix.kind {
-            PrefixKind::Absent => return Ok(None),
-            PrefixKind::File => Kind::File,
-            PrefixKind::Folder => Kind::Folder,
-        };
-        let acl = prefix.acl.clone()?;
-        Ok(Some(KnownRow {
-            owner: prefix.owner,
-            group: prefix.group,
-            acl,
-            votes: prefix.votes,
-            content: Content::empty(alloc, kind),
-        }))
-    }
-
-    /// Gives it this content.
-    pub(crate) fn set_content(&mut self, content: Content)
-        ensures { self.new ≡ with_content self.old content }
-    {
-        self.content = content;
-    }
-
     /// Who owns it.
     pub fn owner(&self) -> u32
         ensures { result ≡ self.now.owner }

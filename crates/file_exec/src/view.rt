@@ -1,22 +1,22 @@
 //! The way to a file or a folder on what is known, and what a caller may do there.
 
-ghost use Rattle.std.specs.Prelude.{◌≡◌, []};
+ghost use Rattle.std.specs.Prelude.{◌≡◌, [], Some, IfOk};
 ghost use Rattle.file_ops.specs.Rows.{root};
 ghost use Rattle.file_ops.specs.Steps.{ok_map};
 ghost use Rattle.file_ops.specs.Walks.{bytes_in, names_in, permit, permit_others, owner_only};
 ghost use Rattle.file_exec.specs.Courses.{look, read};
 ghost use Rattle.file_exec.specs.Operations.{held, bytes_at, names_at, step, walk, reach, shown, owned, parent_of};
-ghost use Rattle.file_exec.specs.code.Overlay.{seen_row, seen_head, seen_place, seen_parent, seen_content};
+ghost use Rattle.file_exec.specs.code.Overlay.{seen_head, seen_place, seen_parent, IsSeenAt};
 ghost use Rattle.file_exec.specs.code.Steps.{Answers, Sees};
 
 use crate::known::Known;
-use crate::log::{Log, seen, sets_content};
+use crate::log::{Log, seen};
 use crate::need::Need;
-use crate::seen::Seen;
+use crate::seen::{Seen, SeenContent};
 use crate::stop::Stop;
 use acl_core::{Caller, Perms};
 use file_ops::{Guarded, Why, to_change};
-use suite_content::{Content, FileBytes, FolderNames, Name};
+use suite_content::{Content, FileBytes, FolderNames, Kind, Name};
 use suite_prefix::LockMode;
 
 /// The number of the root folder.
@@ -24,8 +24,8 @@ const ROOT: u64 = 0;
 
 /// What a transaction sees on its way: what is known, with what it has set.
 #[derive(Clone, Copy)]
-pub(crate) struct View<'a> {
-    pub(crate) known: &'a Known,
+pub(crate) struct View<'a, 'k> {
+    pub(crate) known: &'a Known<'k>,
     pub(crate) log: &'a Log,
 }
 
@@ -84,9 +84,9 @@ impl<'a> Place<'a> {
     pub(crate) fn require_file(self) -> Result<(), Why>
         ensures { ok_map (λ _. []) result ≡ bytes_in (seen_place self.entry).row.content }
     {
-        match self.row.content {
-            Content::Bytes(_) => Ok(()),
-            Content::Names(_) => Err(Why::IsFolder),
+        match self.row.content.kind() {
+            Kind::File => Ok(()),
+            Kind::Folder => Err(Why::IsFolder),
         }
     }
 
@@ -94,44 +94,30 @@ impl<'a> Place<'a> {
     pub(crate) fn require_folder(self) -> Result<(), Why>
         ensures { ok_map (λ _. []) result ≡ names_in (seen_place self.entry).row.content }
     {
-        match self.row.content {
-            Content::Names(_) => Ok(()),
-            Content::Bytes(_) => Err(Why::NotFolder),
+        match self.row.content.kind() {
+            Kind::Folder => Ok(()),
+            Kind::File => Err(Why::NotFolder),
         }
     }
 }
 
-impl<'a> View<'a> {
+impl<'a, 'k> View<'a, 'k> {
     /// The row of a suite, which is to be held in this mode.
     pub(crate) fn look(self, suite: u64, mode: LockMode) -> Result<Option<Seen<'a>>, Stop>
-        ensures { Sees seen_head result self.entry (look suite mode) }
+        ensures row { Sees seen_head result self.entry (look suite mode) }
+        ensures seen { IfOk result (λ row. IsSeenAt self.entry suite row) }
     {
         match self.known.get(suite) {
-            Some(held) if held.mode.serves(mode) => {
-                Ok(seen(self.log.as_slice(), suite, held.seen()))
-            }
+            Some(held) if held.serves(mode) => { Ok(seen(self.log.as_slice(), suite, held.seen())) }
             _ => Err(Stop::Needs(Need::Hold(suite, mode))),
         }
     }
 
-    /// The content of a suite, which is to be known, unless it was set.
-    pub(crate) fn read(self, suite: u64) -> Result<Option<&'a Content>, Stop>
-        ensures { Sees seen_content result self.entry (read suite) }
-    {
-        let edits = self.log.as_slice();
-        let (opened, row) = match self.known.get(suite) {
-            Some(held) => (held.opened, held.seen()),
-            None => (false, None),
-        };
-        if !opened && !sets_content(edits, suite) {
-            return Err(Stop::Needs(Need::Know(suite)));
-        }
-        Ok(seen(edits, suite, row).map(|row| row.content))
-    }
-
     /// A suite with its row, which is to be held in this mode.
     fn held(self, suite: u64, mode: LockMode) -> Result<Place<'a>, Stop>
-        ensures { Sees seen_place result self.entry (held suite mode) }
+        ensures place { Sees seen_place result self.entry (held suite mode) }
+        ensures suite { IfOk result (λ place. place.suite ≡ suite) }
+        ensures seen { IfOk result (λ place. IsSeenAt self.entry suite (Some place.row)) }
     {
         let row = self.look(suite, mode)?;
         match row {
@@ -140,26 +126,38 @@ impl<'a> View<'a> {
         }
     }
 
+    /// The content of a suite that was looked at, which is to be known, unless it was set.
+    pub(crate) fn content_of(self, suite: u64, row: Seen<'a>) -> Result<&'a Content, Stop>
+        requires { IsSeenAt self suite (Some row) }
+        ensures { Sees (λ content. content.now) result self.entry (read suite) }
+    {
+        match row.content {
+            SeenContent::Whole(content) => Ok(content),
+            SeenContent::OfKind(_) => Err(Stop::Needs(Need::Know(suite))),
+        }
+    }
+
     /// The bytes of a file, which shares them.
-    pub(crate) fn bytes_at(self, suite: u64) -> Result<FileBytes, Stop>
+    pub(crate) fn bytes_of(self, suite: u64, row: Seen<'a>) -> Result<FileBytes, Stop>
+        requires { IsSeenAt self suite (Some row) }
         ensures { Answers (λ bytes. bytes) result self.entry (bytes_at suite) }
     {
-        let content = self.read(suite)?;
+        let content = self.content_of(suite, row)?;
         match content {
-            Some(Content::Bytes(bytes)) => Ok(bytes.clone()?),
-            Some(Content::Names(_)) => Err(Stop::Refused(Why::IsFolder)),
-            None => Ok(FileBytes::empty()),
+            Content::Bytes(bytes) => Ok(bytes.clone()?),
+            Content::Names(_) => Err(Stop::Refused(Why::IsFolder)),
         }
     }
 
     /// The names of a folder.
-    pub(crate) fn names_at(self, suite: u64) -> Result<&'a FolderNames, Stop>
+    pub(crate) fn names_of(self, suite: u64, row: Seen<'a>) -> Result<&'a FolderNames, Stop>
+        requires { IsSeenAt self suite (Some row) }
         ensures { Sees (λ names. names.now) result self.entry (names_at suite) }
     {
-        let content = self.read(suite)?;
+        let content = self.content_of(suite, row)?;
         match content {
-            Some(Content::Names(names)) => Ok(names),
-            _ => Err(Stop::Refused(Why::NotFolder)),
+            Content::Names(names) => Ok(names),
+            Content::Bytes(_) => Err(Stop::Refused(Why::NotFolder)),
         }
     }
 
@@ -170,7 +168,7 @@ impl<'a> View<'a> {
         let folder = self.held(suite, LockMode::Shared)?;
         folder.require_folder()?;
         folder.permit(caller, Perms::EXEC)?;
-        let names = self.names_at(suite)?;
+        let names = self.names_of(suite, folder.row)?;
         match names.get(name) {
             Some(next) => Ok(next),
             None => Err(Stop::Refused(Why::NoName)),
@@ -195,7 +193,8 @@ impl<'a> View<'a> {
         names: &[Name],
         mode: LockMode,
     ) -> Result<Place<'a>, Stop>
-        ensures { Sees seen_place result self.entry (reach caller.now names.now mode) }
+        ensures place { Sees seen_place result self.entry (reach caller.now names.now mode) }
+        ensures seen { IfOk result (λ place. IsSeenAt self.entry place.suite (Some place.row)) }
     {
         let suite = self.walk(caller, names)?;
         self.held(suite, mode)
@@ -203,7 +202,8 @@ impl<'a> View<'a> {
 
     /// The file or folder whose list and votes the caller may see.
     pub(crate) fn shown(self, caller: &Caller, names: &[Name]) -> Result<Place<'a>, Stop>
-        ensures { Sees seen_place result self.entry (shown caller.now names.now) }
+        ensures place { Sees seen_place result self.entry (shown caller.now names.now) }
+        ensures seen { IfOk result (λ place. IsSeenAt self.entry place.suite (Some place.row)) }
     {
         let place = self.reach(caller, names, LockMode::Shared)?;
         place.permit_others(caller, Perms::READ)?;
@@ -212,7 +212,8 @@ impl<'a> View<'a> {
 
     /// The file or folder whose list and votes the caller may change.
     pub(crate) fn owned(self, caller: &Caller, names: &[Name]) -> Result<Place<'a>, Stop>
-        ensures { Sees seen_place result self.entry (owned caller.now names.now) }
+        ensures place { Sees seen_place result self.entry (owned caller.now names.now) }
+        ensures seen { IfOk result (λ place. IsSeenAt self.entry place.suite (Some place.row)) }
     {
         let place = self.reach(caller, names, LockMode::Exclusive)?;
         place.owner_only(caller)?;
@@ -226,7 +227,7 @@ impl<'a> View<'a> {
         let place = self.reach(caller, folders, LockMode::Exclusive)?;
         place.require_folder()?;
         place.permit(caller, to_change())?;
-        let names = self.names_at(place.suite)?;
+        let names = self.names_of(place.suite, place.row)?;
         Ok(Parent { place, names })
     }
 }

@@ -18,7 +18,7 @@ use Rattle.file_ops.specs.declared.answer.Answer.{Answer}
 use Rattle.file_ops.specs.declared.refusal.Refusal.{Refusal}
 use Rattle.file_ops.specs.Rows.{Row}
 use Rattle.file_exec.specs.declared.changes.Change as executor
-use Rattle.file_exec.specs.declared.known.KnownSuite.{KnownSuite}
+use Rattle.file_exec.specs.KnownSuites.{KnownSuite}
 use Rattle.file_exec.specs.Changes as changes
 use Rattle.file_exec.specs.Changes.{touches}
 use Rattle.file_exec.specs.Following.{Edits, Ended, seen, head, content_in}

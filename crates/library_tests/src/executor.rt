@@ -107,21 +107,52 @@ fn content(rt: &(impl Abort + AllocGlobal), suite: u64) -> Content {
 
 // ---- needs, met one after the other
 
+/// A suite of the small service.
+#[derive(Drop)]
+struct Small {
+    number: u64,
+    prefix: Prefix,
+    content: Content,
+}
+
+/// The suites of the small service, and those that a test can make.
+fn small_service(rt: &(impl Abort + AllocGlobal)) -> Vec<Small> {
+    let mut suites = Vec::new(rt.alloc());
+    for number in 0u64..25 {
+        let prefix = prefix(rt, number);
+        let content = content(rt, number);
+        suites
+            .push(Small {
+                number,
+                prefix,
+                content,
+            })
+            .ok()
+            .expect(rt, "memory");
+    }
+    suites
+}
+
 /// Meets a need from the small service.
-fn meet(rt: &(impl Abort + AllocGlobal), known: &mut Known, need: Need) {
+fn meet<'a>(
+    rt: &(impl Abort + AllocGlobal),
+    suites: &'a [Small],
+    known: &mut Known<'a>,
+    need: Need,
+) {
+    let (Need::Hold(number, _) | Need::Know(number)) = need;
+    let suite = suites.iter().find(|suite| suite.number == number);
+    let suite = suite.expect(rt, "a suite");
     match need {
-        Need::Hold(suite, mode) => {
-            let prefix = prefix(rt, suite);
-            grown!(rt, known.hold(suite, mode, &prefix));
-        }
-        Need::Know(suite) => known.open(suite, content(rt, suite)),
+        Need::Hold(_, mode) => grown!(rt, known.hold(number, mode, &suite.prefix)),
+        Need::Know(_) => known.open(number, &suite.content),
     }
 }
 
 /// Executes, and once more where memory was refused.
 fn executed(
     rt: &(impl Abort + AllocGlobal),
-    known: &Known,
+    known: &Known<'_>,
     t: u16,
     caller: &Caller,
     ops: &[Op],
@@ -140,14 +171,16 @@ fn line(rt: &(impl Abort + AllocGlobal), text: &str) {
     let mut parts = text.split('|');
     let caller = caller(rt, parts.next().unwrap_or_default().trim());
     let ops = ops(rt, parts.next().unwrap_or_default());
-    let mut known = Known::new(alloc, service(rt));
+    let suites = small_service(rt);
+    let service = service(rt);
+    let mut known = Known::new(alloc, &service);
     let mut needs = String::new(alloc);
     let mut outcome = executed(rt, &known, 2, &caller, &ops);
     for _ in 0..20 {
         if let Outcome::Need(need) = outcome {
             let text = grown!(rt, need_text(alloc, need));
             grown!(rt, needs.push_str(text.as_str()));
-            meet(rt, &mut known, need);
+            meet(rt, &suites, &mut known, need);
             outcome = executed(rt, &known, 2, &caller, &ops);
         }
     }
@@ -238,11 +271,13 @@ fn what_operations_see_of_one_another(rt: HostRuntime) {
 fn met(rt: &(impl Abort + AllocGlobal), text: &str) -> Outcome {
     let caller = caller(rt, "1000 100");
     let ops = ops(rt, text);
-    let mut known = Known::new(rt.alloc(), service(rt));
+    let suites = small_service(rt);
+    let service = service(rt);
+    let mut known = Known::new(rt.alloc(), &service);
     let mut outcome = executed(rt, &known, 2, &caller, &ops);
     for _ in 0..20 {
         if let Outcome::Need(need) = outcome {
-            meet(rt, &mut known, need);
+            meet(rt, &suites, &mut known, need);
             outcome = executed(rt, &known, 2, &caller, &ops);
         }
     }

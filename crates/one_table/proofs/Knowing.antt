@@ -6,7 +6,7 @@ use Rattle.sorted_map.specs.SortedMap.{IsOrdered}
 use Rattle.suite_prefix.specs.declared.copies.Prefix.{Prefix}
 use Rattle.suite_prefix.specs.declared.copies.Replica.{Replica}
 use Rattle.file_ops.specs.Rows.{Row, Rows, row_of}
-use Rattle.file_exec.specs.declared.known.KnownSuite.{KnownSuite}
+use Rattle.file_exec.specs.KnownSuites.{KnownSuite}
 use Rattle.file_exec.specs.Known as known
 use Rattle.file_exec.specs.Known.{IsSo, IsSoAt, AgreesWith}
 use Rattle.txn_core.specs.Suites.{First, Suite, Suites, suite_of, row_with, known_row, known_of}

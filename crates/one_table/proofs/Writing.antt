@@ -8,7 +8,7 @@ use Rattle.file_ops.specs.declared.answer.Answer.{Answer}
 use Rattle.file_ops.specs.declared.refusal.Refusal.{Refusal}
 use Rattle.file_ops.specs.Rows.{Row, Rows, row_of}
 use Rattle.suite_prefix.specs.declared.lock_mode.LockMode.TheVariants.{Exclusive}
-use Rattle.file_exec.specs.declared.known.KnownSuite.{KnownSuite}
+use Rattle.file_exec.specs.KnownSuites.{KnownSuite}
 use Rattle.file_exec.specs.declared.changes.Change as executor
 use Rattle.file_exec.specs.Changes as changes
 use Rattle.file_exec.specs.Following.{Ended, with_edits}

@@ -15,7 +15,7 @@ use Rattle.sorted_map.specs.Numbers.{get_insert_here, get_insert_apart}
 use Rattle.suite_prefix.specs.declared.lock_mode.LockMode.{LockMode}
 use Rattle.suite_prefix.specs.declared.lock_mode.LockMode.TheVariants.{Shared, Exclusive}
 use Rattle.suite_prefix.specs.LockModes.{serves}
-use Rattle.file_exec.specs.declared.known.KnownSuite.{KnownSuite}
+use Rattle.file_exec.specs.KnownSuites.{KnownSuite}
 use Rattle.file_exec.specs.Known as known
 use Rattle.file_exec.specs.Laws.{IsMore, IsMoreAt, MoreKnown}
 use Rattle.txn_core.specs.Suites.{First, Suite, Suites, suite_of, with_suite, known_row, known_if, known_of}

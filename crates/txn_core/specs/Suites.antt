@@ -12,7 +12,7 @@ use Rattle.suite_prefix.specs.Copies.{held_by}
 use Rattle.file_ops.specs.Rows.{Row}
 use Rattle.suite_prefix.specs.declared.lock_mode.LockMode.{LockMode}
 use Rattle.suite_prefix.specs.declared.lock_mode.LockMode.TheVariants.{Shared, Exclusive}
-use Rattle.file_exec.specs.declared.known.KnownSuite.{KnownSuite}
+use Rattle.file_exec.specs.KnownSuites.{KnownSuite}
 use Rattle.file_exec.specs.Known.{Known}
 use Rattle.suite_collect.specs.declared.told.Told.{Told}
 use Rattle.suite_collect.specs.Telling.{holds, shown}

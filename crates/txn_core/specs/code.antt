@@ -1,6 +1,5 @@
 pub mod FirstFields
 pub mod SuiteFields
-pub mod KnowingSuites
 pub mod RoundFields
 pub mod TaskFields
 pub mod GrantedFields

@@ -5,6 +5,7 @@ mod agent;
 mod asking;
 mod carrying;
 mod course;
+mod empty;
 mod ending;
 mod execution;
 mod finishing;

@@ -1,6 +1,6 @@
 //! What an execution sets, found before anything is set.
 
-ghost use Rattle.std.specs.Prelude.{◌≡◌, ◌<◌, ◌≤◌, IfOk, IsSome, unwrap_or};
+ghost use Rattle.std.specs.Prelude.{◌≡◌, ◌<◌, ◌≤◌, IfOk, IsSome, unwrap_or, option_map};
 ghost use Rattle.std.specs.Option.{option_copied};
 ghost use Rattle.sorted_map.specs.SortedMap.{IsOrdered};
 ghost use Rattle.suite_collect.specs.Collecting.{raise};
@@ -12,6 +12,7 @@ ghost use Rattle.txn_core.specs.Suites.{suite_of};
 ghost use Rattle.txn_core.specs.Transactions.{free_content};
 ghost use Rattle.txn_core.specs.code.Unused.{HasUnused};
 
+use crate::empty::Empty;
 use crate::execution::Execution;
 use crate::first::First;
 use crate::knowing::known_of;
@@ -63,6 +64,7 @@ impl<'a> Execution<'a> {
     {
         let task = self.task;
         task.facts();
+        let empty = Empty::new(self.alloc);
         let mut known = known_of(self.alloc, self.service, suites)?;
         let mut opened = Vec::new(self.alloc);
         loop {
@@ -76,66 +78,61 @@ impl<'a> Execution<'a> {
             if opened.len() == suites.len() {
                 return Ok((opened, outcome));
             }
-            let Some((number, content)) = self.to_open(suites, shelf, &outcome)? else {
+            let Some((number, content)) = self.to_open(suites, shelf, &empty, &outcome) else {
                 return Ok((opened, outcome));
             };
-            known.open(number, content.clone()?);
-            opened.push((number, content))?;
+            known.open(number, content);
+            opened.push((number, content.clone()?))?;
         }
     }
 
     /// The content that is needed, where it is to be had without asking.
-    fn to_open(
+    fn to_open<'b>(
         self,
         suites: &RoomyMap<u64, Suite>,
-        shelf: Shelf<'_>,
+        shelf: Shelf<'b>,
+        empty: &'b Empty,
         outcome: &Outcome,
-    ) -> Result<Option<(u64, Content)>, AllocError>
-        ensures { IfOk result (λ one. one ≡ spec.to_open self.entry.task.now (spec.seen_on shelf.entry suites.now.pairs) outcome.now) }
+    ) -> Option<(u64, &'b Content)>
+        ensures { option_map (λ one. (one.0, one.1.now)) result ≡ spec.to_open self.entry.task.now (spec.seen_on shelf.entry suites.now.pairs) outcome.now }
     {
         let Outcome::Need(Need::Know(number)) = outcome else {
-            return Ok(None);
+            return None;
         };
-        let content = self.free_of(suites, shelf, *number)?;
-        Ok(content.map(|content| (*number, content)))
+        let content = self.free_of(suites, shelf, empty, *number)?;
+        Some((*number, content))
     }
 
     /// The content of a suite, where it is to be had without asking.
-    fn free_of(
+    fn free_of<'b>(
         self,
         suites: &RoomyMap<u64, Suite>,
-        shelf: Shelf<'_>,
+        shelf: Shelf<'b>,
+        empty: &'b Empty,
         number: u64,
-    ) -> Result<Option<Content>, AllocError>
-        ensures { IfOk result (λ content. content ≡ spec.free_of self.entry.task.now (spec.entries_on shelf.entry) number (suite_of suites.now.pairs number)) }
+    ) -> Option<&'b Content>
+        ensures { option_copied result ≡ spec.free_of self.entry.task.now (spec.entries_on shelf.entry) number (suite_of suites.now.pairs number) }
     {
-        let Some(suite) = suites.get(&number) else {
-            return Ok(None);
-        };
-        let Some(first) = suite.first() else {
-            return Ok(None);
-        };
-        self.free_content(shelf, number, first)
+        let suite = suites.get(&number)?;
+        let first = suite.first()?;
+        self.free_content(shelf, empty, number, first)
     }
 
     /// An empty content of version 0, or one of the cache.
-    fn free_content(
+    fn free_content<'b>(
         self,
-        shelf: Shelf<'_>,
+        shelf: Shelf<'b>,
+        empty: &'b Empty,
         number: u64,
         first: &First,
-    ) -> Result<Option<Content>, AllocError>
-        ensures { IfOk result (λ content. content ≡ free_content self.entry.task.now (spec.entries_on shelf.entry) number first.now) }
+    ) -> Option<&'b Content>
+        ensures { option_copied result ≡ free_content self.entry.task.now (spec.entries_on shelf.entry) number first.now }
     {
         if first.dver == 0 {
-            let kind = first.prefix.kind.held();
-            return Ok(Some(Content::empty(self.alloc, kind)));
+            return Some(empty.content(first.prefix.kind.held()));
         }
         let task = self.task;
-        match shelf.content(task.site, number, first.dver) {
-            Some(content) => Ok(Some(content.clone()?)),
-            None => Ok(None),
-        }
+        shelf.content(task.site, number, first.dver)
     }
 
     /// The suite that is needed, where it was not asked for yet.

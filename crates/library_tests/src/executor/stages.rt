@@ -6,14 +6,36 @@ use super::show::{answers_text, end_text};
 use super::{c0, executed, same, service};
 use acl_core::Acl;
 use file_exec::{Changes, Known, KnownRow, Outcome};
-use file_ops::made_number;
+use file_ops::{Service, made_number};
 use std::alloc::{AllocError, Global};
 use std::process::Abort;
 use suite_content::{Content, FolderNames, Kind};
 use suite_prefix::{LockMode, Prefix, PrefixKind};
 
+/// A suite that is held, and its content, where it was made.
+#[derive(Drop)]
+struct Held {
+    number: u64,
+    prefix: Prefix,
+    content: Option<Content>,
+}
+
+/// The table: the suites that are there.
+type Table = Vec<Held>;
+
+fn hold(rt: &impl Abort, table: &mut Table, number: u64, prefix: Prefix, content: Option<Content>) {
+    let held = Held {
+        number,
+        prefix,
+        content,
+    };
+    if let Err(refused) = table.push(held) {
+        table.push(refused.value).ok().expect(rt, "memory");
+    }
+}
+
 /// A root folder of user 1000 and group 100 with this mode, and nothing in it.
-fn opening(rt: &(impl Abort + AllocGlobal), digits: &str) -> Known {
+fn opening(rt: &(impl Abort + AllocGlobal), digits: &str) -> Table {
     let alloc = rt.alloc();
     let mode = mode(rt, digits);
     let root = Prefix {
@@ -24,19 +46,37 @@ fn opening(rt: &(impl Abort + AllocGlobal), digits: &str) -> Known {
         acl: grown!(rt, Acl::from_mode(alloc, mode)),
         votes: c0(rt),
     };
-    let mut known = Known::new(alloc, service(rt));
-    grown!(rt, known.hold(0, LockMode::Exclusive, &root));
-    known.open(0, Content::Names(FolderNames::new(alloc)));
-    known
+    let mut table = Vec::new(alloc);
+    let content = Content::Names(FolderNames::new(alloc));
+    hold(rt, &mut table, 0, root, Some(content));
+    table
 }
 
 /// All numbers that a transaction can give are held.
-fn hold_new(rt: &(impl Abort + AllocGlobal), known: &mut Known, t: u16) {
-    let absent = grown!(rt, Prefix::absent(rt.alloc(), c0(rt)));
+fn hold_new(rt: &(impl Abort + AllocGlobal), table: &mut Table, t: u16) {
     for at in 0u8..8 {
-        let suite = made_number(u64::from(t), at);
-        grown!(rt, known.hold(suite, LockMode::Exclusive, &absent));
+        let absent = grown!(rt, Prefix::absent(rt.alloc(), c0(rt)));
+        hold(rt, table, made_number(u64::from(t), at), absent, None);
     }
+}
+
+/// What is known of a table: all of it.
+fn known_of<'a>(
+    rt: &(impl Abort + AllocGlobal),
+    service: &'a Service,
+    table: &'a [Held],
+) -> Known<'a> {
+    let mut known = Known::new(rt.alloc(), service);
+    for held in table {
+        grown!(
+            rt,
+            known.hold(held.number, LockMode::Exclusive, &held.prefix)
+        );
+        if let Some(content) = &held.content {
+            known.open(held.number, content);
+        }
+    }
+    known
 }
 
 fn prefix_of(rt: &impl Abort, row: &KnownRow) -> Prefix {
@@ -54,22 +94,19 @@ fn prefix_of(rt: &impl Abort, row: &KnownRow) -> Prefix {
     }
 }
 
-/// All of a row is known.
-fn know(rt: &impl Abort, known: &mut Known, suite: u64, row: &KnownRow) {
-    let prefix = prefix_of(rt, row);
-    grown!(rt, known.hold(suite, LockMode::Exclusive, &prefix));
-    known.open(suite, grown!(rt, row.content().clone()));
-}
-
-/// What is known after these changes: their rows, and of all other suites the rows before.
-fn after(rt: &(impl Abort + AllocGlobal), known: &Known, changes: &Changes) -> Known {
-    let mut next = Known::new(rt.alloc(), service(rt));
+/// The table after these changes: their rows, and of all other suites the rows before.
+fn after(rt: &(impl Abort + AllocGlobal), table: &[Held], changes: &Changes) -> Table {
+    let mut next = Vec::new(rt.alloc());
     for (suite, change) in changes.as_slice() {
-        know(rt, &mut next, *suite, &change.row);
+        let content = grown!(rt, change.row.content().clone());
+        let prefix = prefix_of(rt, &change.row);
+        hold(rt, &mut next, *suite, prefix, Some(content));
     }
-    for (suite, held) in known.suites() {
-        if let (Some(row), None) = (&held.row, changes.get(*suite)) {
-            know(rt, &mut next, *suite, row);
+    for held in table {
+        if let (Some(content), None) = (&held.content, changes.get(held.number)) {
+            let prefix = grown!(rt, held.prefix.clone());
+            let content = grown!(rt, content.clone());
+            hold(rt, &mut next, held.number, prefix, Some(content));
         }
     }
     next
@@ -83,25 +120,26 @@ fn told(alloc: Global, outcome: &Outcome) -> Result<String, AllocError> {
     }
 }
 
-/// Plays a line. What is known is from then on what the transaction leaves.
-fn stage(rt: &(impl Abort + AllocGlobal), known: &mut Known, t: u16, text: &str) {
-    hold_new(rt, known, t);
+/// Plays a line. The table is from then on what the transaction leaves.
+fn stage(rt: &(impl Abort + AllocGlobal), table: &mut Table, t: u16, text: &str) {
+    hold_new(rt, table, t);
     let mut parts = text.split('|');
     let caller = caller(rt, parts.next().unwrap_or_default().trim());
     let ops = ops(rt, parts.next().unwrap_or_default());
-    let outcome = executed(rt, known, t, &caller, &ops);
+    let service = service(rt);
+    let outcome = executed(rt, &known_of(rt, &service, table), t, &caller, &ops);
     let got = grown!(rt, told(rt.alloc(), &outcome));
     same(rt, got.as_str(), parts.next().unwrap_or_default().trim());
     if let Outcome::Done(_, changes) = &outcome {
-        *known = after(rt, known, changes);
+        *table = after(rt, table, changes);
     }
 }
 
 fn play(rt: &(impl Abort + AllocGlobal), digits: &str, text: &str) {
-    let mut known = opening(rt, digits);
+    let mut table = opening(rt, digits);
     let mut t = 0u16;
     for line in text.lines() {
-        stage(rt, &mut known, t, line);
+        stage(rt, &mut table, t, line);
         t = t.wrapping_add(1);
     }
 }

@@ -13,14 +13,14 @@ voted given same is = ap (λ service. known_votes service given) (sym same) ∙ 
 pub returns-in_err-votes : goal.returns-in_err-votes
 returns-in_err-votes c = overruled _ (voted c.args.given.now c.service-service.ensures c.in_err-votes.ensures) c.from_residual.ensures
 
-pub returns-in_err-suite : goal.returns-in_err-suite
-returns-in_err-suite c = ruled _ (voted c.args.given.now c.service-service.ensures c.in_ok-votes.ensures) (stops _ c.in_err-suite.ensures c.from_residual-in_err-suite.ensures)
+pub returns-in_err-place : goal.returns-in_err-place
+returns-in_err-place c = ruled _ (voted c.args.given.now c.service-service.ensures c.in_ok-votes.ensures) (stops _ c.in_err-place.ensures.place c.from_residual-in_err-place.ensures)
 
-pub returns-in_err-read : goal.returns-in_err-read
-returns-in_err-read c = ruled _ (voted c.args.given.now c.service-service.ensures c.in_ok-votes.ensures) (goes _ c.in_ok-suite.ensures (stops _ c.in_err-read.ensures c.from_residual-in_err-read.ensures))
+pub returns-in_err-content_of : goal.returns-in_err-content_of
+returns-in_err-content_of c = ruled _ (voted c.args.given.now c.service-service.ensures c.in_ok-votes.ensures) (goes _ c.in_ok-place.ensures.place (stops _ c.in_err-content_of.ensures c.from_residual-in_err-content_of.ensures))
 
 pub returns-in_err-set : goal.returns-in_err-set
-returns-in_err-set c = ruled _ (voted c.args.given.now c.service-service.ensures c.in_ok-votes.ensures) (goes _ c.in_ok-suite.ensures (goes _ c.in_ok-read.ensures (stopped_set refl c.in_err-set.ensures c.from_residual-in_err-set.ensures)))
+returns-in_err-set c = ruled _ (voted c.args.given.now c.service-service.ensures c.in_ok-votes.ensures) (goes _ c.in_ok-place.ensures.place (goes _ c.in_ok-content_of.ensures (stopped_set refl c.in_err-set.ensures c.from_residual-in_err-set.ensures)))
 
 pub returns : goal.returns
-returns c = ruled _ (voted c.args.given.now c.service-service.ensures c.in_ok-votes.ensures) (goes _ c.in_ok-suite.ensures (goes _ c.in_ok-read.ensures (after_set c.in_ok-set.ensures (record { told = refl }))))
+returns c = ruled _ (voted c.args.given.now c.service-service.ensures c.in_ok-votes.ensures) (goes _ c.in_ok-place.ensures.place (goes _ c.in_ok-content_of.ensures (after_set c.in_ok-set.ensures (record { told = refl }))))

@@ -9,20 +9,20 @@ pub returns-in_err-require_fit : goal.returns-in_err-require_fit
 returns-in_err-require_fit c = overruled _ (sym c.in_err-require_fit.ensures) c.from_residual.ensures
 
 pub returns-in_err-place : goal.returns-in_err-place
-returns-in_err-place c = ruled _ (sym c.in_ok-require_fit.ensures) (stops _ c.in_err-place.ensures c.from_residual-in_err-place.ensures)
+returns-in_err-place c = ruled _ (sym c.in_ok-require_fit.ensures) (stops _ c.in_err-place.ensures.place c.from_residual-in_err-place.ensures)
 
 pub returns-in_err-permit : goal.returns-in_err-permit
-returns-in_err-permit c = ruled _ (sym c.in_ok-require_fit.ensures) (goes _ c.in_ok-place.ensures (overruled _ (sym c.in_err-permit.ensures) c.from_residual-in_err-permit.ensures))
+returns-in_err-permit c = ruled _ (sym c.in_ok-require_fit.ensures) (goes _ c.in_ok-place.ensures.place (overruled _ (sym c.in_err-permit.ensures) c.from_residual-in_err-permit.ensures))
 
 pub returns-in_err-require_file : goal.returns-in_err-require_file
-returns-in_err-require_file c = ruled _ (sym c.in_ok-require_fit.ensures) (goes _ c.in_ok-place.ensures (ruled _ (sym c.in_ok-permit.ensures) (overruled _ (sym c.in_err-require_file.ensures) c.from_residual-in_err-require_file.ensures)))
+returns-in_err-require_file c = ruled _ (sym c.in_ok-require_fit.ensures) (goes _ c.in_ok-place.ensures.place (ruled _ (sym c.in_ok-permit.ensures) (overruled _ (sym c.in_err-require_file.ensures) c.from_residual-in_err-require_file.ensures)))
 
 pub returns-in_err-set : goal.returns-in_err-set
-returns-in_err-set c = let copied : c.in_ok-bytes.bytes ≡ c.args.bytes.now = c.in_ok-bytes.ensures.cases in ruled _ (sym c.in_ok-require_fit.ensures) (goes _ c.in_ok-place.ensures (ruled _ (sym c.in_ok-permit.ensures) (ruled _ (sym c.in_ok-require_file.ensures) (stopped_set refl (same_set (ap (λ x. SetContent (Bytes x)) copied) c.in_err-set.ensures) c.from_residual-in_err-set.ensures))))
+returns-in_err-set c = let copied : c.in_ok-bytes.bytes ≡ c.args.bytes.now = c.in_ok-bytes.ensures.cases in ruled _ (sym c.in_ok-require_fit.ensures) (goes _ c.in_ok-place.ensures.place (ruled _ (sym c.in_ok-permit.ensures) (ruled _ (sym c.in_ok-require_file.ensures) (stopped_set refl (same_set (ap (λ x. SetContent (Bytes x)) copied) c.in_err-set.ensures) c.from_residual-in_err-set.ensures))))
 
 pub returns : goal.returns
-returns c = let copied : c.in_ok-bytes.bytes ≡ c.args.bytes.now = c.in_ok-bytes.ensures.cases in ruled _ (sym c.in_ok-require_fit.ensures) (goes _ c.in_ok-place.ensures (ruled _ (sym c.in_ok-permit.ensures) (ruled _ (sym c.in_ok-require_file.ensures) (after_set (same_set (ap (λ x. SetContent (Bytes x)) copied) c.in_ok-set.ensures) (record { told = refl })))))
+returns c = let copied : c.in_ok-bytes.bytes ≡ c.args.bytes.now = c.in_ok-bytes.ensures.cases in ruled _ (sym c.in_ok-require_fit.ensures) (goes _ c.in_ok-place.ensures.place (ruled _ (sym c.in_ok-permit.ensures) (ruled _ (sym c.in_ok-require_file.ensures) (after_set (same_set (ap (λ x. SetContent (Bytes x)) copied) c.in_ok-set.ensures) (record { told = refl })))))
 
 pub returns-in_err-bytes : goal.returns-in_err-bytes
 returns-in_err-bytes c =
-    ruled _ (sym c.in_ok-require_fit.ensures) (goes _ c.in_ok-place.ensures (ruled _ (sym c.in_ok-permit.ensures) (ruled _ (sym c.in_ok-require_file.ensures) (unset (reached c.args.caller.now c.args.names.now c.in_ok-place.ensures) refl c.from_residual-in_err-bytes.ensures))))
+    ruled _ (sym c.in_ok-require_fit.ensures) (goes _ c.in_ok-place.ensures.place (ruled _ (sym c.in_ok-permit.ensures) (ruled _ (sym c.in_ok-require_file.ensures) (unset (reached c.args.caller.now c.args.names.now c.in_ok-place.ensures.place) refl c.from_residual-in_err-bytes.ensures))))

@@ -10,16 +10,16 @@ wanted : (caller : Identity) (place : Place) {perms : Perms} → perms ≡ to_ch
 wanted caller place is = ap (λ wanted. permit caller place wanted) (sym is)
 
 pub returns-in_err-place : goal.returns-in_err-place
-returns-in_err-place c = stops _ c.in_err-place.ensures c.from_residual.ensures
+returns-in_err-place c = stops _ c.in_err-place.ensures.place c.from_residual.ensures
 
 pub returns-in_err-require_folder : goal.returns-in_err-require_folder
-returns-in_err-require_folder c = goes _ c.in_ok-place.ensures (overruled _ (sym c.in_err-require_folder.ensures) c.from_residual-in_err-require_folder.ensures)
+returns-in_err-require_folder c = goes _ c.in_ok-place.ensures.place (overruled _ (sym c.in_err-require_folder.ensures) c.from_residual-in_err-require_folder.ensures)
 
 pub returns-in_err-permit : goal.returns-in_err-permit
-returns-in_err-permit c = goes _ c.in_ok-place.ensures (ruled _ (sym c.in_ok-require_folder.ensures) (overruled _ (wanted c.args.caller.now (seen_place c.in_ok-place.place) c.to_change.ensures ∙ sym c.in_err-permit.ensures) c.from_residual-in_err-permit.ensures))
+returns-in_err-permit c = goes _ c.in_ok-place.ensures.place (ruled _ (sym c.in_ok-require_folder.ensures) (overruled _ (wanted c.args.caller.now (seen_place c.in_ok-place.place) c.to_change.ensures ∙ sym c.in_err-permit.ensures) c.from_residual-in_err-permit.ensures))
 
 pub returns-in_err-names : goal.returns-in_err-names
-returns-in_err-names c = goes _ c.in_ok-place.ensures (ruled _ (sym c.in_ok-require_folder.ensures) (ruled _ (wanted c.args.caller.now (seen_place c.in_ok-place.place) c.to_change.ensures ∙ sym c.in_ok-permit.ensures) (stops _ c.in_err-names.ensures c.from_residual-in_err-names.ensures)))
+returns-in_err-names c = goes _ c.in_ok-place.ensures.place (ruled _ (sym c.in_ok-require_folder.ensures) (ruled _ (wanted c.args.caller.now (seen_place c.in_ok-place.place) c.to_change.ensures ∙ sym c.in_ok-permit.ensures) (stops _ c.in_err-names.ensures c.from_residual-in_err-names.ensures)))
 
 pub returns : goal.returns
-returns c = goes _ c.in_ok-place.ensures (ruled _ (sym c.in_ok-require_folder.ensures) (ruled _ (wanted c.args.caller.now (seen_place c.in_ok-place.place) c.to_change.ensures ∙ sym c.in_ok-permit.ensures) (goes _ c.in_ok-names.ensures (record { told = refl }))))
+returns c = goes _ c.in_ok-place.ensures.place (ruled _ (sym c.in_ok-require_folder.ensures) (ruled _ (wanted c.args.caller.now (seen_place c.in_ok-place.place) c.to_change.ensures ∙ sym c.in_ok-permit.ensures) (goes _ c.in_ok-names.ensures (record { told = refl }))))

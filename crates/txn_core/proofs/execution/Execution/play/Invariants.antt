@@ -5,7 +5,7 @@ use Rattle.txn_core.proofs.execution.Execution.play.Given as goal
 
 abbrev pub invariant-loop-opened : goal.invariant-loop-opened
 invariant-loop-opened l =
-    IsPlaying (fixed_in l.self l.shelf.cache.now) l.task (seen_on l.shelf l.suites.pairs) l.opened.items l.known
+    IsPlaying (fixed_in l.self l.shelf.cache.now) l.self.task.now (seen_on l.shelf l.suites.pairs) l.opened.items l.known
 
 abbrev pub decreases-loop-opened : goal.decreases-loop-opened
 decreases-loop-opened l = length l.suites.pairs - length l.opened.items
