@@ -91,7 +91,7 @@ pub(crate) fn advance(
         |seat: &mut Seat, reply: Stamped<Reply>|
             requires { Fits seat.old (Replied reply.value) }
             ensures { Takes number seat.old reply result seat.new }
-        { seat.take_reply(number, reply) },
+        { seat.take_reply(number, &reply) },
     );
     match told {
         Ok(outcome) => outcome,

@@ -4,7 +4,7 @@ ghost use Rattle.std.specs.Prelude.{◌≡◌, ◌<◌, IfOk, IfErr, IsTrue, OnO
 ghost use Rattle.txn_core.specs.Agents as agents;
 ghost use Rattle.txn_core.specs.Wanting as wanting;
 ghost use Rattle.txn_core.specs.declared.word.Word.TheVariants.{Replied};
-ghost use Rattle.run_core.specs.Worlds.{outcome_of};
+ghost use Rattle.run_core.specs.Worlds.{one_more, outcome_of, steps_after};
 ghost use Rattle.run_core.specs.code.Seats as seats;
 
 use crate::done::Outcome;
@@ -12,7 +12,7 @@ use rep_core::{Reply, Request, Stamped};
 use std::alloc::{AllocError, Global};
 use std::marker::Model;
 use suite_prefix::Settings;
-use txn_core::{Agent, Job, Word};
+use txn_core::{Agent, Ending, Job, Word};
 
 /// An agent, with the last stamp that it was told, and how many steps its job has taken.
 #[derive(Drop)]
@@ -105,35 +105,24 @@ impl Seat {
     {
         let count = self.agent.count().saturating_sub(1);
         let ended = self.agent.take(word)?;
-        let steps = self.steps.saturating_add(1);
-        self.stamp = stamp;
-        let Some(ending) = ended else {
-            self.steps = steps;
-            return Ok(None);
-        };
-        self.steps = 0;
-        Ok(Some(Outcome {
-            agent: number,
-            count,
-            steps,
-            ending,
-        }))
+        Ok(self.moved(number, count, stamp, ended))
     }
 
     /// Takes a reply.
     pub(crate) fn take_reply(
         &mut self,
         number: u8,
-        reply: Stamped<Reply>,
+        reply: &Stamped<Reply>,
     ) -> Result<Option<Outcome>, AllocError>
-        requires { seats.Fits self.old (Replied reply.value) }
-        ensures outcome { IfOk result (λ outcome. outcome ≡ outcome_of number self.old.actor (agents.take self.old.fixed self.old.actor.agent (Replied reply.value)).ending) }
-        ensures state { OnOk result (self.new ≡ seats.after_word self.old reply.stamp (Replied reply.value)) }
+        requires { seats.Fits self.old (Replied reply.now.value) }
+        ensures outcome { IfOk result (λ outcome. outcome ≡ outcome_of number self.old.actor (agents.take self.old.fixed self.old.actor.agent (Replied reply.now.value)).ending) }
+        ensures state { OnOk result (self.new ≡ seats.after_word self.old reply.now.stamp (Replied reply.now.value)) }
         ensures err { OnErr result (self.new ≡ self.old) }
-        ensures memory { IfErr result (λ _. IsTrue (wanting.by_taking (agents.next_of self.old.fixed self.old.actor.agent) (Replied reply.value))) }
+        ensures memory { IfErr result (λ _. IsTrue (wanting.by_taking (agents.next_of self.old.fixed self.old.actor.agent) (Replied reply.now.value))) }
     {
-        let Stamped { stamp, value } = reply;
-        self.take(number, stamp, &Word::Replied(value))
+        let count = self.agent.count().saturating_sub(1);
+        let ended = self.agent.hear(&reply.value)?;
+        Ok(self.moved(number, count, reply.stamp, ended))
     }
 
     /// Takes a reply, and hands it back.
@@ -145,16 +134,28 @@ impl Seat {
         ensures err { OnErr result (self.new ≡ self.old) }
         ensures memory { IfErr result (λ _. IsTrue (wanting.by_taking (agents.next_of self.old.fixed self.old.actor.agent) (Replied reply.value))) }
     {
-        let Stamped { stamp, value } = reply;
-        let word = Word::Replied(value);
-        let outcome = self.take(number, stamp, &word)?;
-        match word {
-            Word::Replied(value) => Ok(Heard {
-                reply: Stamped { stamp, value },
-                outcome,
-            }),
-            Word::Lacked(_) => unreachable!(),
-        }
+        let outcome = self.take_reply(number, &reply)?;
+        Ok(Heard { reply, outcome })
+    }
+
+    /// It has this stamp from then on, after one step more; and how its job ended, if it did.
+    fn moved(&mut self, agent: u8, count: u64, stamp: u64, ended: Option<Ending>) -> Option<Outcome>
+        ensures outcome { result ≡ option_map (λ ending. record { agent = agent; count = count; steps = one_more self.old.actor.steps; ending = ending }) ended }
+        ensures state { self.new ≡ record self.old { actor = record self.old.actor { stamp = stamp; steps = steps_after self.old.actor.steps ended } } }
+    {
+        let steps = self.steps.saturating_add(1);
+        self.stamp = stamp;
+        let Some(ending) = ended else {
+            self.steps = steps;
+            return None;
+        };
+        self.steps = 0;
+        Some(Outcome {
+            agent,
+            count,
+            steps,
+            ending,
+        })
     }
 }
 

@@ -99,11 +99,20 @@ impl World {
     {
         match event {
             Event::Step { agent } => { moves::advance(&mut self.servers, &mut self.seats, *agent) }
-            _ => {
-                let done = self.step(event)?;
-                Ok(done.outcome)
-            }
+            _ => self.outcome_of(event),
         }
+    }
+
+    /// Plays one event, and tells only how a job ended, if one did.
+    fn outcome_of(&mut self, event: &Event) -> Result<Option<Outcome>, AllocError>
+        ensures given { self.new.given ≡ self.old.given }
+        ensures world { OnOk result (self.new.world ≡ (worlds.step (fixed_of self.old.given) self.old.world event.now).world) }
+        ensures outcome { IfOk result (λ outcome. outcome ≡ (worlds.step (fixed_of self.old.given) self.old.world event.now).done.outcome) }
+        ensures err { OnErr result (self.new ≡ self.old) }
+        ensures memory { IfErr result (λ _. IsTrue (wanting.by_event (fixed_of self.old.given) self.old.world event.now)) }
+    {
+        let done = self.step(event)?;
+        Ok(done.outcome)
     }
 
     /// Plays events, one after the other, and answers how jobs ended. Where memory runs out the world is
