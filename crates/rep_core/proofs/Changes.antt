@@ -1,5 +1,5 @@
 -- A request that was begun: what takes it back, and what is still known of it; and which requests take no memory.
-use Rattle.std.proofs.Common.{◌≡◌, Bool, true, false, cond, List, Option, Some, None, refl, ap}
+use Rattle.std.proofs.Common.{◌≡◌, true, false, cond, refl}
 use Rattle.std.specs.Prelude.{IsTrue}
 use Rattle.std.proofs.lemmas.Cmp.{nat_cmp_total}
 use Rattle.sorted_map.specs.Edits.{remove-insert}
@@ -7,8 +7,6 @@ use Rattle.rep_core.specs.declared.plan.Way.{Way}
 use Rattle.rep_core.specs.declared.plan.Way.TheVariants as way
 use Rattle.rep_core.specs.declared.request.Request.{Request}
 use Rattle.rep_core.specs.declared.request.Request.TheVariants as request
-use Rattle.rep_core.specs.declared.reply.Reply.{Reply}
-use Rattle.rep_core.specs.declared.reply.Reply.TheVariants as reply
 use Rattle.rep_core.specs.declared.reply.Verdict.TheVariants as verdict
 use Rattle.rep_core.specs.State.{State}
 use Rattle.rep_core.specs.Service.{verdict_of, reply_up, reply_down, reply_of}

@@ -6,12 +6,8 @@ use Rattle.weak_cache.specs.Entries.{Cache}
 use Rattle.txn_core.specs.declared.ending.Ending.{Ending}
 use Rattle.txn_core.specs.Doing.{Task, Outcome, Phase, Finishing, Course}
 use Rattle.txn_core.specs.code.Steps.{Steps}
-use Rattle.txn_core.specs.code.Hearing.{on_hearing}
-use Rattle.txn_core.specs.Suites.{Suite, Suites, with_suite}
-use Rattle.txn_core.specs.declared.ending.Cause.{Cause}
-use Rattle.txn_core.specs.declared.hearing.Hearing.{Hearing}
-use Rattle.txn_core.specs.declared.hearing.Hearing.TheVariants as hearing
-use Rattle.txn_core.specs.Transactions.{Step, locked_at, tell_end, finish, give_up, short_cause, prepare, after_lack}
+use Rattle.txn_core.specs.Suites.{Suites}
+use Rattle.txn_core.specs.Transactions.{Step, locked_at, tell_end, finish, prepare, after_lack}
 
 -- the servers that hold a lock, as the code finds them
 module _ (task : Task) (cache : Cache) (suites given : Suites) (servers : List ℕ) (after : Course) (found : servers ≡ locked_at given) (same : given ≡ suites) where

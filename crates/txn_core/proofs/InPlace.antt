@@ -4,7 +4,6 @@ use Rattle.std.specs.Prelude.{is_some, IsSome, IfOk, IfErr, OnErr}
 use Rattle.std.specs.Ordering.{nat_cmp}
 use Rattle.std.specs.declared.alloc.AllocError.{AllocError}
 use Rattle.std.proofs.lemmas.Cmp.{nat_cmp_total}
-use Rattle.std.proofs.lemmas.Bool.{false≢true}
 use Rattle.std.proofs.lemmas.Option.{same_Some}
 use Rattle.rep_core.specs.declared.reply.Reply.{Reply}
 use Rattle.rep_core.specs.declared.reply.Reply.TheVariants as reply
@@ -15,7 +14,7 @@ use Rattle.sorted_map.specs.Edits.{insert_present, replace_same}
 use Rattle.suite_collect.specs.declared.told.Told.{Told}
 use Rattle.suite_collect.specs.Collecting as collecting
 use Rattle.suite_collect.specs.Collecting.{Next, tell, told_by, next}
-use Rattle.suite_collect.specs.Answering.{HasNoQuorum, Comes, shows_lock}
+use Rattle.suite_collect.specs.Answering.{shows_lock}
 use Rattle.weak_cache.specs.Entries.{Cache}
 use Rattle.txn_core.specs.declared.course.Heard.{Heard}
 use Rattle.txn_core.specs.declared.course.Heard.TheVariants.{Lost, Settled}

@@ -1,4 +1,4 @@
-use Rattle.std.proofs.Common.{◌≡◌, sym, subst, Ok}
+use Rattle.std.proofs.Common.{sym, subst}
 use Rattle.std.specs.Prelude.{IfOk}
 use Rattle.txn_core.specs.declared.course.Heard.{Heard}
 use Rattle.txn_core.specs.declared.hearing.Hearing.{Hearing}

@@ -14,8 +14,7 @@ returns-in-Short-clause-ok c = λ suite there.
     let short = c.in-Short in
     let held : c.self.inside.suites.pairs ≡ now.suites = ap (λ (course : Course). course.suites) c.self.view_is in
     let found : c.in-Some.suite.now ≡ suite = same_Some _ _ (c.in-Some.ensures ∙ ap (λ l. suite_of l c.args.number) held ∙ there) in
-    let what : heard suite c.args.said.now ≡ hearing.Short short.suite short.got short.needed short.busy = ap (λ s. heard s c.args.said.now) (sym found) ∙ sym c.in_ok-suite.ensures.ok ∙ short.is in
-    (
+    let what : heard suite c.args.said.now ≡ hearing.Short short.suite short.got short.needed short.busy = ap (λ s. heard s c.args.said.now) (sym found) ∙ sym c.in_ok-suite.ensures.ok ∙ short.is in (
       short.suite,
       (short.got, short.needed, short.busy, short_next suite c.args.said.now short.suite short.got short.needed short.busy what, what),
       ap (λ suites. record (course_of c.self.inside) { suites = suites }) c.insert_in_room-in-Short.ensures.pairs

@@ -1,4 +1,3 @@
-use Rattle.std.proofs.Common.{◌≡◌}
 use Rattle.txn_core.specs.code.Hearing.{heard}
 use Rattle.txn_core.specs.Suites.{Suite, with_suite}
 use Rattle.txn_core.specs.Transactions.{Step, widen_all}
