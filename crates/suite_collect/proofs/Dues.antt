@@ -15,11 +15,13 @@ use Rattle.suite_collect.specs.declared.told.Said.TheVariants.{Held, Busy, Down}
 use Rattle.suite_collect.specs.declared.told.Told.{Told}
 use Rattle.suite_collect.specs.declared.collect.Collect.TheInside.{Inside}
 use Rattle.suite_collect.specs.declared.collect.Widening.{Widening as Wide}
-use Rattle.suite_collect.specs.declared.collect.Due.{Due}
-use Rattle.suite_collect.specs.declared.collect.Due.TheVariants as due
+use Rattle.suite_collect.specs.declared.due.Due.{Due as Coded}
+use Rattle.suite_collect.specs.declared.due.Due.TheVariants as coded
+use Rattle.suite_collect.specs.code.Dues as due
+use Rattle.suite_collect.specs.code.Dues.{Due, due_left, due_among, due_by, due_in, IsPlaced, IsPlacedBy}
 use Rattle.suite_collect.specs.Telling.{is_held, newer, newest, holds, has_refused, first_busy}
 use Rattle.suite_collect.specs.Collecting.{Widening, Collector, Collecting, Asked, Poll, Upgrade, mode_asked, all_told, counted, wanted, needed, needed_of, got, is_member, is_left, members_of, version, asked_of, ask_or_short, said_to, tell, told_by, Next, Current, Ask, Short, next}
-use Rattle.suite_collect.specs.code.CollectFields.{widening_of, collecting_of, due_left, due_among, due_by, due_in, IsKnown, IsSummed}
+use Rattle.suite_collect.specs.code.CollectFields.{widening_of, collecting_of, due_of, IsSummed}
 use Rattle.suite_collect.specs.Answering.{has_quorum, HasNoQuorum, Takes, Leaves, shows_lock}
 use Rattle.suite_collect.proofs.Collected.{asked_as_wanted}
 
@@ -27,7 +29,7 @@ module _ (c : Collector) where
   abbrev now : Bool → Option Representative → Due
   now b found = cond b due.Current (due_left (got c) (needed c) found)
 
-  pub current_next : due_in c ≡ due.Current → next c ≡ Current (newest c.start c.told) (version c) (members_of (counted c) (is_member c))
+  pub current_next : due_of c ≡ due.Current → next c ≡ Current (newest c.start c.told) (version c) (members_of (counted c) (is_member c))
   current_next is = at (nat_le (needed c) (got c)) (find (is_left c) (counted c).reps) is
     where
       at : (b : Bool) (found : Option Representative) → now b found ≡ due.Current
@@ -36,7 +38,7 @@ module _ (c : Collector) where
       at false (Some rep) is = cc
       at false None is = cc
 
-  pub ask_next : (server : ℕ) → due_in c ≡ due.Ask server → next c ≡ Ask server (asked_of c server)
+  pub ask_next : (server : ℕ) → due_of c ≡ due.Ask server → next c ≡ Ask server (asked_of c server)
   ask_next server is = at (nat_le (needed c) (got c)) (find (is_left c) (counted c).reps) is
     where
       at : (b : Bool) (found : Option Representative) → now b found ≡ due.Ask server
@@ -45,7 +47,7 @@ module _ (c : Collector) where
       at false (Some rep) is = let same : rep.0 ≡ server = cc in ap (λ server. Ask server (asked_of c server)) same
       at false None is = cc
 
-  pub short_next : (had wanting : ℕ) → due_in c ≡ due.Short had wanting → next c ≡ Short had wanting (first_busy (all_told c))
+  pub short_next : (had wanting : ℕ) → due_of c ≡ due.Short had wanting → next c ≡ Short had wanting (first_busy (all_told c))
   short_next had wanting is = at (nat_le (needed c) (got c)) (find (is_left c) (counted c).reps) is
     where
       at : (b : Bool) (found : Option Representative) → now b found ≡ due.Short had wanting
@@ -56,7 +58,7 @@ module _ (c : Collector) where
 
   -- ---- what is told of a reply
 
-  asked_there : (server : ℕ) → due_in c ≡ due.Ask server → option_map (λ rep. rep.0) (find (is_left c) (counted c).reps) ≡ Some server
+  asked_there : (server : ℕ) → due_of c ≡ due.Ask server → option_map (λ rep. rep.0) (find (is_left c) (counted c).reps) ≡ Some server
   asked_there server is = at (nat_le (needed c) (got c)) (find (is_left c) (counted c).reps) is
     where
       at : (b : Bool) (found : Option Representative) → now b found ≡ due.Ask server → option_map (λ rep. rep.0) found ≡ Some server
@@ -64,7 +66,7 @@ module _ (c : Collector) where
       at false (Some rep) is = let same : rep.0 ≡ server = cc in ap (λ server. Some server) same
       at false None is = cc
 
-  pub told_asked : (server : ℕ) (answer : Reply) → due_in c ≡ due.Ask server
+  pub told_asked : (server : ℕ) (answer : Reply) → due_of c ≡ due.Ask server
       → told_by (next c) answer ≡ option_map (λ said. record { server = server; mode = wanted c; said = said }) (said_to (asked_of c server) answer)
   told_asked server answer is =
       ap (λ next. told_by next answer) (ask_next server is)
@@ -89,12 +91,17 @@ module _ (c : Collector) where
       of (Some rep) = refl
       of None = refl
 
-  not_current_no_quorum : (due_in c ≡ due.Current → ⊥) → HasNoQuorum (next c)
+  not_current_no_quorum : (due_of c ≡ due.Current → ⊥) → HasNoQuorum (next c)
   not_current_no_quorum short = few_no_quorum (at (nat_le (needed c) (got c)) short)
     where
       at : (b : Bool) → (now b (find (is_left c) (counted c).reps) ≡ due.Current → ⊥) → b ≡ false
       at true short = absurd (short refl)
       at false short = refl
+
+pub due_current : (left : Coded) → due_in left ≡ due.Current → left ≡ coded.Current
+due_current coded.Current is = refl
+due_current (coded.Ask server place got) is = cc
+due_current (coded.Short got needed) is = cc
 
 -- what a reply says where it answers what was asked
 abbrev pub said_by : Reply → Said
@@ -103,7 +110,7 @@ said_by (reply.Busy holder prepared) = Busy holder
 said_by other = Down
 
 -- a reply that answers was taken
-module _ (was after : Collecting) (server : ℕ) (is : due_in was.collector ≡ due.Ask server) where
+module _ (was after : Collecting) (server : ℕ) (is : due_of was.collector ≡ due.Ask server) where
   abbrev told_of : Said → Told
   told_of said = record { server = server; mode = wanted was.collector; said = said }
 
@@ -126,6 +133,47 @@ module _ (was after : Collecting) (server : ℕ) (is : due_in was.collector ≡ 
       of asked (reply.Verdict v) some new = cc
       of asked reply.Done some new = cc
       of asked (reply.Locked locks) some new = cc
+
+-- ---- what the fields keep
+
+module _ (was : Inside) (left : Coded) (votes : Configuration) where
+  pub summed_narrow : (mode : LockMode) (kept : Option Prefix) (told : List Told) → was.widening ≡ None → unwrap_or kept was.start ≡ newest was.start told → votes ≡ (newest was.start told).votes
+      → due_in left ≡ due_by votes mode told → IsPlacedBy votes mode told left → IsSummed (record was { mode = mode; newer = kept; told = told; due = left })
+  summed_narrow mode kept told narrow newest' votes' is placed = record {
+    newest = newest';
+    all = subst (λ (w : Option Wide). IfSome w (λ widening. widening.all ≡ widening.since.items ++ told)) (sym narrow) tt;
+    due = is ∙ ap (λ votes. due_by votes mode told) votes' ∙ ap (λ w. due_of (of w)) (sym narrow);
+    placed = subst (λ w. Placed (of w)) (sym narrow) (subst (λ votes. IsPlacedBy votes mode told left) votes' placed);
+  }
+    where
+      of : Option Wide → Collector
+      of w = record { start = was.start; mode = mode; told = told; widening = option_map widening_of w }
+
+      Placed : Collector → Type 0
+      Placed c = IsPlacedBy (counted c) (wanted c) (all_told c) left
+
+  pub summed_wide : (w : Wide) (told : List Told) → was.widening ≡ Some w → unwrap_or was.newer was.start ≡ newest was.start was.told → w.all ≡ w.since.items ++ was.told → votes ≡ w.votes → told ≡ w.all
+      → due_in left ≡ due_by votes Exclusive told → IsPlacedBy votes Exclusive told left → IsSummed (record was { due = left })
+  summed_wide w told wide newest' all' votes' told' is placed = record {
+    newest = newest';
+    all = subst (λ (w : Option Wide). IfSome w (λ widening. widening.all ≡ widening.since.items ++ was.told)) (sym wide) all';
+    due = is ∙ ap (λ votes. due_by votes Exclusive told) votes' ∙ ap (due_by w.votes Exclusive) (told' ∙ all') ∙ ap (λ w. due_of (of w)) (sym wide);
+    placed = subst (λ w. Placed (of w)) (sym wide) (subst (λ told. IsPlacedBy w.votes Exclusive told left) (told' ∙ all') (subst (λ votes. IsPlacedBy votes Exclusive told left) votes' placed));
+  }
+    where
+      of : Option Wide → Collector
+      of w = record { start = was.start; mode = was.mode; told = was.told; widening = option_map widening_of w }
+
+      Placed : Collector → Type 0
+      Placed c = IsPlacedBy (counted c) (wanted c) (all_told c) left
+
+pub narrow_of : (w : Option Wide) → is_some w ≡ false → w ≡ None
+narrow_of None is = refl
+narrow_of (Some wide) is = cc
+
+pub narrow_unless : (w : Option Wide) → ((wide : Wide) → w ≡ Some wide → ⊥) → w ≡ None
+narrow_unless None is = refl
+narrow_unless (Some wide) is = absurd (is wide refl)
 
 -- who is down or busy holds nothing, and shows no prefix
 module _ (one : Told) (none : is_held one.said ≡ false) where
@@ -195,11 +243,11 @@ module _ (server : ℕ) (prefix : Prefix) (dver : ℕ) where
   abbrev with_last : Collecting → Collecting
   with_last was = record was { collector = record was.collector { told = told_last was } }
 
-  took_last : (was : Collecting) → was.collector.widening ≡ None → due_in was.collector ≡ due.Ask server
+  took_last : (was : Collecting) → was.collector.widening ≡ None → due_of was.collector ≡ due.Ask server
       → (due_by (newest_last was).votes was.collector.mode (told_last was) ≡ due.Current → ⊥) → Takes was (reply.Held prefix dver) (with_last was)
   took_last was narrow is few = subst (λ (was : Collecting). Takes was (reply.Held prefix dver) (with_last was)) (sym same) (record {
     last = last was.collector.mode;
-    told = told_asked c server (reply.Held prefix dver) (ap due_in (ap (λ (was : Collecting). was.collector) (sym same)) ∙ is);
+    told = told_asked c server (reply.Held prefix dver) (ap due_of (ap (λ (was : Collecting). was.collector) (sym same)) ∙ is);
     new = refl;
     short = not_current_no_quorum (tell (last was.collector.mode) c) few;
   })
@@ -211,7 +259,7 @@ module _ (server : ℕ) (prefix : Prefix) (dver : ℕ) where
       same = ap (λ widening. record was { collector = record was.collector { widening = widening } }) narrow
 
   -- the sets of servers, once the lock is among what was told
-  with_holder : (mode : LockMode) (told : List Told) (held : ℕ → Bool) → ((other : ℕ) → held other ≡ ((other == server) || holds mode told other)) → held ≡ holds mode (last mode ∷ told)
+  pub with_holder : (mode : LockMode) (told : List Told) (held : ℕ → Bool) → ((other : ℕ) → held other ≡ ((other == server) || holds mode told other)) → held ≡ holds mode (last mode ∷ told)
   with_holder mode told held are = λ i other. (are other ∙ here mode (holds mode told other) other) i
     where
       turned : (other : ℕ) → (other == server) ≡ (server == other)
@@ -230,7 +278,7 @@ module _ (server : ℕ) (prefix : Prefix) (dver : ℕ) where
           ap (λ a. a || b) (turned other ∙ kept (server == other))
           ∙ ap (λ s. ((server == other) && (true && s)) || b) (sym (serving mode))
 
-  with_refused : (mode : LockMode) (told : List Told) (refused : ℕ → Bool) → ((other : ℕ) → refused other ≡ has_refused told other) → refused ≡ has_refused (last mode ∷ told)
+  pub with_refused : (mode : LockMode) (told : List Told) (refused : ℕ → Bool) → ((other : ℕ) → refused other ≡ has_refused told other) → refused ≡ has_refused (last mode ∷ told)
   with_refused mode told refused are = λ i other. (are other ∙ here (server == other) (has_refused told other)) i
     where
       here : (a b : Bool) → b ≡ ((a && false) || b)
@@ -245,23 +293,24 @@ module _ (server : ℕ) (prefix : Prefix) (dver : ℕ) where
       ∙ ap (λ held. due_among votes mode held refused) (with_holder mode told held holding)
       ∙ ap (due_among votes mode (holds mode (last mode ∷ told))) (with_refused mode told refused refusing)
 
+  pub placed_with : (mode : LockMode) (told : List Told) (votes : Configuration) (held refused : ℕ → Bool) (left : Coded)
+      → ((other : ℕ) → held other ≡ ((other == server) || holds mode told other)) → ((other : ℕ) → refused other ≡ has_refused told other)
+      → IsPlaced votes.reps held refused left → IsPlacedBy votes mode (last mode ∷ told) left
+  placed_with mode told votes held refused left holding refusing placed =
+      subst (λ refused. IsPlaced votes.reps (holds mode (last mode ∷ told)) refused left) (with_refused mode told refused refusing)
+      (subst (λ held. IsPlaced votes.reps held refused left) (with_holder mode told held holding) placed)
+
   -- and what the fields keep after it
-  pub keeps_summed : (was : Inside) (kept : Option Prefix) (seen : Prefix) (told : List Told) (left : Due)
+  pub keeps_summed : (was : Inside) (kept : Option Prefix) (seen : Prefix) (told : List Told) (left : Coded)
       → was.widening ≡ None → unwrap_or kept was.start ≡ newest_last (collecting_of was) → seen ≡ newest_last (collecting_of was) → told ≡ told_last (collecting_of was)
-      → left ≡ due_by seen.votes was.mode (told_last (collecting_of was)) → IsKnown left → IsSummed (record was { newer = kept; told = told; due = left })
-  keeps_summed was kept seen told left narrow newer' seen' told' left' known = record {
-    newest = newer' ∙ sym (ap (newest was.start) told');
-    all = subst (λ (w : Option Wide). IfSome w (λ widening. widening.all ≡ widening.since.items ++ told)) (sym narrow) tt;
-    due =
-        left'
-        ∙ ap (λ (seen : Prefix). due_by seen.votes was.mode (told_last (collecting_of was))) seen'
-        ∙ ap (λ told. due_by (newest was.start told).votes was.mode told) (sym told')
-        ∙ ap (λ w. due_in (record { start = was.start; mode = was.mode; told = told; widening = option_map widening_of w })) (sym narrow);
-    known = known;
-  }
+      → due_in left ≡ due_by seen.votes was.mode (told_last (collecting_of was)) → IsPlacedBy seen.votes was.mode (told_last (collecting_of was)) left → IsSummed (record was { newer = kept; told = told; due = left })
+  keeps_summed was kept seen told left narrow newer' seen' told' left' placed =
+      let now : newest_last (collecting_of was) ≡ newest was.start told = sym (ap (newest was.start) told') in
+      subst (λ told. IsSummed (record was { newer = kept; told = told; due = left })) (sym told')
+      (summed_narrow was left seen.votes was.mode kept (told_last (collecting_of was)) narrow newer' (ap (λ (prefix : Prefix). prefix.votes) seen') left' placed)
 
   pub took_lock : (was : Collecting) (seen : Prefix) (told : List Told) (left : Due)
-      → was.collector.widening ≡ None → due_in was.collector ≡ due.Ask server → seen ≡ newest_last was → told ≡ told_last was
+      → was.collector.widening ≡ None → due_of was.collector ≡ due.Ask server → seen ≡ newest_last was → told ≡ told_last was
       → left ≡ due_by seen.votes was.collector.mode told → (left ≡ due.Current → ⊥)
       → Takes was (reply.Held prefix dver) (record was { collector = record was.collector { told = told } })
   took_lock was seen told left narrow is newest' told' left' few =
@@ -270,7 +319,7 @@ module _ (server : ℕ) (prefix : Prefix) (dver : ℕ) where
       few (left' ∙ ap (λ (seen : Prefix). due_by seen.votes was.collector.mode told) newest' ∙ ap (due_by (newest_last was).votes was.collector.mode) told' ∙ current)))
 
   -- where it gives a quorum it was left
-  left_last : (was : Collecting) → was.collector.widening ≡ None → due_in was.collector ≡ due.Ask server
+  left_last : (was : Collecting) → was.collector.widening ≡ None → due_of was.collector ≡ due.Ask server
       → due_by (newest_last was).votes was.collector.mode (told_last was) ≡ due.Current → Leaves was (reply.Held prefix dver) was
   left_last was narrow is current = subst (λ (was : Collecting). Leaves was (reply.Held prefix dver) was) (sym same) (record {
     same = refl;
@@ -286,12 +335,27 @@ module _ (server : ℕ) (prefix : Prefix) (dver : ℕ) where
       same : was ≡ record was { collector = c }
       same = ap (λ widening. record was { collector = record was.collector { widening = widening } }) narrow
 
-      asked : due_in c ≡ due.Ask server
-      asked = ap due_in (ap (λ (was : Collecting). was.collector) (sym same)) ∙ is
+      asked : due_of c ≡ due.Ask server
+      asked = ap due_of (ap (λ (was : Collecting). was.collector) (sym same)) ∙ is
 
   pub left_lock : (was : Collecting) (seen : Prefix) (told : List Told) (left : Due)
-      → was.collector.widening ≡ None → due_in was.collector ≡ due.Ask server → seen ≡ newest_last was → told ≡ told_last was
+      → was.collector.widening ≡ None → due_of was.collector ≡ due.Ask server → seen ≡ newest_last was → told ≡ told_last was
       → left ≡ due_by seen.votes was.collector.mode told → left ≡ due.Current → Leaves was (reply.Held prefix dver) was
   left_lock was seen told left narrow is newest' told' left' now =
       left_last was narrow is
       (sym (ap (due_by (newest_last was).votes was.collector.mode) told') ∙ sym (ap (λ (seen : Prefix). due_by seen.votes was.collector.mode told) newest') ∙ sym left' ∙ now)
+
+  -- and where no server is asked, or something is widened
+  pub left_wide : (was : Collecting) → is_some was.collector.widening ≡ true → Leaves was (reply.Held prefix dver) was
+  left_wide was wide = record { same = refl; told = λ shown. refl; late = λ one told. ap (λ b. b || has_quorum (next (tell one was.collector))) wide }
+
+  pub left_unasked : (was : Collecting) → ((who : ℕ) → due_of was.collector ≡ due.Ask who → ⊥) → Leaves was (reply.Held prefix dver) was
+  left_unasked was unasked = record { same = refl; told = λ shown. refl; late = λ one told. absurd (none (due_of was.collector) refl unasked one told) }
+    where
+      c : Collector
+      c = was.collector
+
+      none : (left : Due) → due_of c ≡ left → ((who : ℕ) → due_of c ≡ due.Ask who → ⊥) → (one : Told) → told_by (next c) (reply.Held prefix dver) ≡ Some one → ⊥
+      none due.Current is unasked one told = let e : None ≡ Some one = sym (ap (λ next. told_by next (reply.Held prefix dver)) (current_next c is)) ∙ told in cc
+      none (due.Ask who) is unasked one told = unasked who is
+      none (due.Short had wanting) is unasked one told = let e : None ≡ Some one = sym (ap (λ next. told_by next (reply.Held prefix dver)) (short_next c had wanting is)) ∙ told in cc

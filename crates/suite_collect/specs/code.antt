@@ -1,2 +1,3 @@
 pub mod HeardFields
+pub mod Dues
 pub mod CollectFields

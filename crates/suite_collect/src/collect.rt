@@ -1,17 +1,16 @@
 //! The collector.
 
-ghost use Rattle.std.specs.Prelude.{◌≡◌, ◌<◌, ℕ, Some, false, find, option_map, is_some, unwrap_or, IsSome, IsTrue, IfSome, IfOk, IfErr, OnOk, OnErr};
-ghost use Rattle.std.specs.FinSet.{contains};
+ghost use Rattle.std.specs.Prelude.{◌≡◌, ◌<◌, ◌≤◌, ℕ, Some, false, find, option_map, is_some, unwrap_or, IsSome, IsTrue, IfSome, IfOk, IfErr, OnOk, OnErr};
 ghost use Rattle.vote_core.specs.Validity.{IsValid};
-ghost use Rattle.suite_collect.specs.code.CollectFields.{IsKnown, due_among, due_by};
 ghost use Rattle.suite_collect.specs.Collecting as spec;
 ghost use Rattle.suite_collect.specs.Laws.{HasSource};
 ghost use Rattle.suite_collect.specs.Telling as telling;
 
 use crate::coming::{Asked, Coming};
+use crate::due::{Due, due_after, due_anew, due_of};
 use crate::heard::Heard;
 use crate::log::Log;
-use crate::members::{first_left, members_of};
+use crate::members::members_of;
 use crate::next::{Members, Next};
 use crate::told::{Said, Told};
 use rep_core::Reply;
@@ -43,14 +42,6 @@ impl Widening {
             since: self.since.same(),
         }
     }
-}
-
-/// What is due: a quorum is held, a server is to be asked, or nobody is left to ask.
-#[derive(Clone, Copy)]
-enum Due {
-    Current,
-    Ask(u8),
-    Short { got: u32, needed: u32 },
 }
 
 /// What a transaction collects of one suite: locks, until their servers are a quorum under the newest
@@ -173,7 +164,7 @@ impl Collect {
                     members: self.members(first),
                 }
             }
-            Due::Ask(server) => Next::Ask {
+            Due::Ask { server, .. } => Next::Ask {
                 server,
                 request: self.asked(server).request(self.t, self.suite),
             },
@@ -191,7 +182,7 @@ impl Collect {
     {
         match self.due {
             Due::Current => Coming::Current,
-            Due::Ask(server) => Coming::Ask {
+            Due::Ask { server, .. } => Coming::Ask {
                 server,
                 asked: self.asked(server),
             },
@@ -208,7 +199,7 @@ impl Collect {
     pub fn accepts(&self, reply: &Reply) -> bool
         ensures { result ≡ is_some (spec.told_by (spec.next self.now.collector) reply.now) }
     {
-        let Due::Ask(server) = self.due else {
+        let Due::Ask { server, .. } = self.due else {
             return false;
         };
         match reply {
@@ -224,7 +215,7 @@ impl Collect {
         requires { IsSome (spec.told_by (spec.next self.old.collector) reply) }
         ensures { IfSome (spec.told_by (spec.next self.old.collector) reply) (λ last. self.new ≡ record self.old { collector = spec.tell last self.old.collector }) }
     {
-        let Due::Ask(server) = self.due else {
+        let Due::Ask { server, .. } = self.due else {
             return;
         };
         let mode = self.wanted();
@@ -273,20 +264,51 @@ impl Collect {
         ensures ok { IfOk result (λ taken. TakesOn taken self.old (reply.Held prefix.now dver) self.new) }
         ensures err { OnErr result (self.new ≡ self.old) }
     {
-        let (Due::Ask(server), None) = (self.due, &self.widening) else {
+        if prefix.pver > self.newest().pver {
+            self.take_newer(prefix, dver)
+        } else {
+            Ok(self.take_known(prefix, dver))
+        }
+    }
+
+    /// The same of a lock with a prefix no newer than the newest seen: the votes that count stay.
+    fn take_known(&mut self, prefix: &Prefix, dver: u64) -> bool
+        requires { prefix.now.pver ≤ (newest self.old.collector.start self.old.collector.told).pver }
+        ensures { TakesOn result self.old (reply.Held prefix.now dver) self.new }
+    {
+        let (Due::Ask { server, place, got }, None) = (self.due, &self.widening) else {
+            return false;
+        };
+        let due = due_after(
+            &self.newest().votes,
+            &self.told,
+            self.mode,
+            server,
+            place,
+            got,
+        );
+        if let Due::Current = due {
+            return false;
+        }
+        self.told.add_lock(server, self.mode, prefix, dver);
+        self.due = due;
+        true
+    }
+
+    /// The same of a lock with a prefix newer than those seen, whose votes count from now on.
+    fn take_newer(&mut self, prefix: &Prefix, dver: u64) -> Result<bool, AllocError>
+        requires { (newest self.old.collector.start self.old.collector.told).pver < prefix.now.pver }
+        ensures ok { IfOk result (λ taken. TakesOn taken self.old (reply.Held prefix.now dver) self.new) }
+        ensures err { OnErr result (self.new ≡ self.old) }
+    {
+        let (Due::Ask { server, .. }, None) = (self.due, &self.widening) else {
             return Ok(false);
         };
-        let newest = self.newest();
-        let is_newer = prefix.pver > newest.pver;
-        let newest = if is_newer { prefix } else { newest };
-        let holders = self.told.holders_with(server, self.mode);
-        let due = due_among(&newest.votes, &holders, &self.told.refused(), self.mode);
+        let due = due_anew(&prefix.votes, &self.told, self.mode, server);
         if let Due::Current = due {
             return Ok(false);
         }
-        if is_newer {
-            keep(&mut self.newer, prefix)?;
-        }
+        keep(&mut self.newer, prefix)?;
         self.told.add_lock(server, self.mode, prefix, dver);
         self.due = due;
         Ok(true)
@@ -440,30 +462,6 @@ fn votes_of<'a>(newer: &'a Option<Prefix>, start: &'a Prefix) -> &'a Votes
     }
 }
 
-/// What is due where some votes count, a mode is wanted and this was heard.
-fn due_of(votes: &Votes, heard: &Heard, wanted: LockMode) -> Due
-    ensures value { result ≡ due_by votes.now wanted heard.now }
-    ensures known { IsKnown result }
-{
-    due_among(votes, &heard.holders(wanted), &heard.refused(), wanted)
-}
-
-/// What is due where some votes count, a mode is wanted, these servers hold it and those refused.
-fn due_among(votes: &Votes, holders: &ServerSet, refused: &ServerSet, wanted: LockMode) -> Due
-    ensures value { result ≡ due_among votes.now wanted (contains holders.now) (contains refused.now) }
-    ensures known { IsKnown result }
-{
-    let got = votes.votes_of(holders);
-    let needed = needed_of(votes, wanted);
-    if got >= needed {
-        return Due::Current;
-    }
-    match first_left(votes, holders, refused) {
-        Some(server) => Due::Ask(server),
-        None => Due::Short { got, needed },
-    }
-}
-
 /// Keeps a prefix as the newer one.
 fn keep(newer: &mut Option<Prefix>, prefix: &Prefix) -> Result<(), AllocError>
     ensures ok { OnOk result (newer.new ≡ Some prefix.now) }
@@ -471,14 +469,4 @@ fn keep(newer: &mut Option<Prefix>, prefix: &Prefix) -> Result<(), AllocError>
 {
     *newer = Some(prefix.clone()?);
     Ok(())
-}
-
-/// The votes that are needed.
-fn needed_of(votes: &Votes, wanted: LockMode) -> u32
-    ensures { result ≡ spec.needed_of wanted votes.now }
-{
-    match wanted {
-        LockMode::Shared => u32::from(votes.r()),
-        LockMode::Exclusive => u32::from(votes.w()),
-    }
 }

@@ -13,6 +13,7 @@
 
 mod collect;
 mod coming;
+mod due;
 mod heard;
 mod laws;
 mod log;

@@ -1,6 +1,7 @@
 use Rattle.std.proofs.Common.{◌≡◌, ap, sym, ◌∙◌}
-use Rattle.suite_collect.specs.declared.collect.Due.TheVariants as due
-use Rattle.suite_collect.specs.code.CollectFields.{due_in}
+use Rattle.suite_collect.specs.code.Dues as due
+use Rattle.suite_collect.specs.code.Dues.{due_in}
+use Rattle.suite_collect.specs.code.CollectFields.{due_of}
 use Rattle.suite_collect.specs.Collecting.{Collecting}
 use Rattle.suite_collect.proofs.Dues.{current_next}
 use Rattle.suite_collect.proofs.collect.Collect.coming.Goals as goal
@@ -8,5 +9,5 @@ use Rattle.suite_collect.proofs.collect.Collect.coming.Goals as goal
 pub returns-in-Current : goal.returns-in-Current
 returns-in-Current c =
     let now = c.args.self.now.collector in
-    let is : due_in now ≡ due.Current = ap (λ (c : Collecting). due_in c.collector) (sym c.self.view_is) ∙ sym c.self.invariant.due ∙ c.in-Current.is in
+    let is : due_of now ≡ due.Current = ap (λ (c : Collecting). due_of c.collector) (sym c.self.view_is) ∙ sym c.self.invariant.due ∙ ap due_in c.in-Current.is in
     (_, _, _, current_next now is)

@@ -1,0 +1,14 @@
+use Rattle.std.proofs.Common.{ap, sym, ◌∙◌}
+use Rattle.suite_prefix.specs.declared.copies.Prefix.{Prefix}
+use Rattle.suite_prefix.specs.declared.lock_mode.LockMode.TheVariants.{Exclusive}
+use Rattle.suite_collect.specs.Telling.{newest}
+use Rattle.suite_collect.specs.Collecting.{Collecting}
+use Rattle.suite_collect.proofs.Dues.{summed_narrow, narrow_of}
+use Rattle.suite_collect.proofs.collect.Collect.raise.Goals as goal
+
+pub invariant_of-self : goal.invariant_of-self
+invariant_of-self c =
+    let was = c.self.inside in
+    summed_narrow was c.due_of-due.result c.newest.result.now.votes Exclusive was.newer was.told (narrow_of was.widening c.if-is_none.ensures) c.self.invariant.newest
+    (ap (λ (prefix : Prefix). prefix.votes) (c.newest.ensures ∙ ap (λ (was : Collecting). newest was.collector.start was.collector.told) (sym c.self.view_is)))
+    c.due_of-due.ensures.value c.due_of-due.ensures.placed
