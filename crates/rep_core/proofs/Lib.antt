@@ -25,3 +25,4 @@ mod Example
 pub mod Changes
 mod Searching
 mod Ranges
+mod Places

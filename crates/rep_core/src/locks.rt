@@ -1,18 +1,21 @@
 //! Searches and changes of a server's locks, which stand in the order of their transactions and, in
 //! one transaction, of their suites.
 
-ghost use Rattle.std.specs.Prelude.{◌≡◌, ◌≤◌, ◌<◌, [], length, IsTrue, IfOk, OnOk, find, filter, count_by, not, nat_lt, ◌==◌, ◌&&◌, ◌||◌};
-ghost use Rattle.std.specs.List.{list_any};
+ghost use Rattle.std.specs.Prelude.{◌≡◌, ◌≤◌, ◌<◌, [], length, IsTrue, IfOk, OnOk, find, filter, count_by, not, nat_lt, ◌==◌, ◌&&◌, ◌||◌, is_some, insert};
+ghost use Rattle.std.specs.List.{list_any, list_all};
 ghost use Rattle.std.specs.Vec.{vec_len, vec_capacity};
 ghost use Rattle.suite_prefix.specs.LockModes.{serves};
 ghost use Rattle.rep_core.specs.Locks as locking;
-ghost use Rattle.rep_core.specs.code.Ranges.{IsRangeOf};
+ghost use Rattle.rep_core.specs.code.Ranges.{IsRangeOf, IsRunOf, IsPlaceOf};
 
 use crate::lock::Lock;
 use crate::request::Part;
 use std::alloc::{AllocError, Global};
 use std::marker::Model;
 use suite_prefix::LockMode;
+
+/// So many locks are looked at from the end before those before them are halved.
+const NEAR: usize = 8;
 
 /// The locks of a server. It shows how many new ones it takes without memory.
 #[derive(Drop)]
@@ -116,6 +119,19 @@ pub(crate) fn in_the_way(locks: &[Lock], t: u64, suite: u64, mode: LockMode) -> 
     None
 }
 
+/// Whether a lock stands in the way of a lock in this mode.
+pub(crate) fn is_in_the_way(locks: &[Lock], t: u64, suite: u64, mode: LockMode) -> bool
+    ensures { result ≡ is_some (locking.in_the_way t suite mode locks.now) }
+{
+    any_conflicts(locks, t, suite, mode)
+}
+
+fn any_conflicts(locks: &[Lock], t: u64, suite: u64, mode: LockMode) -> bool
+    ensures { result ≡ list_any (locking.conflicts t suite mode) locks.now }
+{
+    locks.iter().any(|lock| conflicts(t, suite, mode, lock))
+}
+
 fn conflicts(t: u64, suite: u64, mode: LockMode, lock: &Lock) -> bool
     ensures { result ≡ locking.conflicts t suite mode lock.now }
 {
@@ -165,13 +181,59 @@ fn range_of(locks: &[Lock], t: u64) -> (usize, usize)
     requires { IsTrue (locking.rise locks.now) }
     ensures { IsRangeOf t locks.now result.0 result.1 }
 {
-    let start = locks.partition_point(|lock| lock.t < t);
-    let end = locks.partition_point(|lock| lock.t <= t);
+    let start = place_of(locks, t, 0);
+    let end = end_of(locks, start, t);
     (start, end)
 }
 
+/// Where a transaction's locks that start at a place end.
+fn end_of(locks: &[Lock], start: usize, t: u64) -> usize
+    requires { start ≤ length locks.now }
+    ensures { IsRunOf t locks.now start result }
+{
+    let mut end = start;
+    while end < locks.len() && locks[end].t == t {
+        end += 1;
+    }
+    end
+}
+
+/// Whether a transaction has the lock of each part. Its locks and the parts mostly stand in the same order.
+pub(crate) fn has_locks_for(locks: &[Lock], t: u64, parts: &[Part]) -> bool
+    requires { IsTrue (locking.rise locks.now) }
+    ensures { result ≡ list_all (locking.has_lock_for t locks.now) parts.now }
+{
+    let start = place_of(locks, t, 0);
+    for (i, part) in parts.iter().enumerate() {
+        if !has_lock_near(locks, start, i, t, part) {
+            return false;
+        }
+    }
+    true
+}
+
+/// Whether a transaction has the lock of a part: the one at a place behind the start, mostly.
+fn has_lock_near(locks: &[Lock], start: usize, place: usize, t: u64, part: &Part) -> bool
+    requires rising { IsTrue (locking.rise locks.now) }
+    requires within { start ≤ length locks.now }
+    ensures { result ≡ locking.has_lock_for t locks.now part.now }
+{
+    is_lock_at(&locks[start..], place, t, part) || has_lock_for(locks, t, part)
+}
+
+/// Whether the lock at a place is that of a part.
+fn is_lock_at(locks: &[Lock], at: usize, t: u64, part: &Part) -> bool
+    ensures { IsTrue result → IsTrue (locking.has_lock_for t locks.now part.now) }
+{
+    if at < locks.len() {
+        is_lock_for(&locks[at], t, part)
+    } else {
+        false
+    }
+}
+
 /// Whether a transaction has a lock on a part's suite, in the part's mode or a stronger one.
-pub(crate) fn has_lock_for(locks: &[Lock], t: u64, part: &Part) -> bool
+fn has_lock_for(locks: &[Lock], t: u64, part: &Part) -> bool
     requires { IsTrue (locking.rise locks.now) }
     ensures { result ≡ locking.has_lock_for t locks.now part.now }
 {
@@ -207,16 +269,64 @@ fn set_lock(locks: &mut Vec<Lock>, t: u64, suite: u64, mode: LockMode)
         mode,
         prepared: false,
     };
-    locks.insert(at, new).unwrap();
+    insert_at(locks, at, new);
 }
 
-/// How many locks stand before a transaction's lock on a suite: where it is, or would be.
+/// Puts a lock, for which there is room, in this place.
+fn insert_at(locks: &mut Vec<Lock>, at: usize, new: Lock)
+    requires room { vec_len locks.old < vec_capacity locks.old }
+    requires place { at ≤ length locks.old.items }
+    ensures { locks.new.items ≡ insert locks.old.items at new }
+{
+    let end = locks.len();
+    locks.push_reserved(new);
+    if at < end {
+        locks.copy_within(at..end, at + 1);
+        locks[at] = new;
+    }
+}
+
+/// How many locks stand before a transaction's lock on a suite: where it is, or would be. A lock that is
+/// set or let go mostly stands near the end.
 fn place_of(locks: &[Lock], t: u64, suite: u64) -> usize
     requires { IsTrue (locking.rise locks.now) }
+    ensures point { IsPlaceOf t suite locks.now result }
     ensures place { result ≡ count_by (λ lock. nat_lt lock.t t || ((lock.t == t) && nat_lt lock.suite suite)) locks.now }
     ensures within { result ≤ length locks.now }
 {
-    locks.partition_point(|lock| lock.t < t || lock.t == t && lock.suite < suite)
+    let far = locks.len().saturating_sub(NEAR);
+    if far > 0 && !stands_before(&locks[far - 1], t, suite) {
+        return place_far(&locks[..far], t, suite);
+    }
+    place_from_end(locks, t, suite)
+}
+
+/// The same, by halving.
+fn place_far(locks: &[Lock], t: u64, suite: u64) -> usize
+    requires { IsTrue (locking.rise locks.now) }
+    ensures point { IsPlaceOf t suite locks.now result }
+    ensures within { result ≤ length locks.now }
+{
+    locks.partition_point(|lock| stands_before(lock, t, suite))
+}
+
+/// The same, lock by lock from the end.
+fn place_from_end(locks: &[Lock], t: u64, suite: u64) -> usize
+    requires { IsTrue (locking.rise locks.now) }
+    ensures point { IsPlaceOf t suite locks.now result }
+    ensures within { result ≤ length locks.now }
+{
+    let mut at = locks.len();
+    while at > 0 && !stands_before(&locks[at - 1], t, suite) {
+        at -= 1;
+    }
+    at
+}
+
+fn stands_before(lock: &Lock, t: u64, suite: u64) -> bool
+    ensures { result ≡ (nat_lt lock.now.t t || ((lock.now.t == t) && nat_lt lock.now.suite suite)) }
+{
+    lock.t < t || lock.t == t && lock.suite < suite
 }
 
 fn is_own(lock: &Lock, t: u64, suite: u64) -> bool
@@ -250,18 +360,28 @@ fn prepare(locks: &mut [Lock], t: u64, parts: &[Part])
 fn prepare_each(locks: &mut [Lock], t: u64, parts: &[Part])
     ensures { locks.new ≡ locking.with_prepared t parts.now locks.old }
 {
-    for lock in locks.iter_mut() {
-        *lock = prepared_lock(t, parts, *lock);
+    for (i, lock) in locks.iter_mut().enumerate() {
+        prepare_lock(lock, t, parts, i);
     }
 }
 
-fn prepared_lock(t: u64, parts: &[Part], lock: Lock) -> Lock
-    ensures { result ≡ locking.prepared_lock t parts.now lock }
+/// Makes a lock prepared where its suite is among the parts: at this place, mostly.
+fn prepare_lock(lock: &mut Lock, t: u64, parts: &[Part], place: usize)
+    ensures { lock.new ≡ locking.prepared_lock t parts.now lock.old }
 {
-    let named = is_named(parts, lock.suite);
-    Lock {
-        prepared: lock.prepared || lock.t == t && named,
-        ..lock
+    if lock.t == t && (is_named_at(parts, place, lock.suite) || is_named(parts, lock.suite)) {
+        lock.prepared = true;
+    }
+}
+
+/// Whether the part at a place names a suite.
+fn is_named_at(parts: &[Part], place: usize, suite: u64) -> bool
+    ensures { IsTrue result → IsTrue (list_any (λ part. part.suite == suite) parts.now) }
+{
+    if place < parts.len() {
+        parts[place].suite == suite
+    } else {
+        false
     }
 }
 

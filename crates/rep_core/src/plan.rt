@@ -14,7 +14,6 @@ ghost use Rattle.rep_core.specs.State.{State, record_of};
 ghost use Rattle.rep_core.specs.Store as store;
 
 use crate::holdings::Holdings;
-use crate::lock::Lock;
 use crate::locks;
 use crate::reply::{LockList, Reply, Verdict};
 use crate::request::{Decision, Part, Request};
@@ -109,9 +108,10 @@ impl Holdings {
     fn way_of_lock(&self, t: u64, suite: u64, mode: LockMode) -> Way
         ensures { result ≡ changing.unless (locking.in_the_way t suite mode (state_of self.now).locks) }
     {
-        match locks::in_the_way(self.locks.as_slice(), t, suite, mode) {
-            Some(_) => Way::Busy,
-            None => Way::Through,
+        if locks::is_in_the_way(self.locks.as_slice(), t, suite, mode) {
+            Way::Busy
+        } else {
+            Way::Through
         }
     }
 
@@ -177,7 +177,7 @@ impl Holdings {
     fn can_prepare(&self, t: u64, parts: &[Part]) -> bool
         ensures { result ≡ service.can_prepare (state_of self.now) t parts.now }
     {
-        has_locks_for(self.locks.as_slice(), t, parts)
+        locks::has_locks_for(self.locks.as_slice(), t, parts)
             && !lists_twice(parts)
             && self.are_sound(parts)
     }
@@ -300,14 +300,6 @@ fn way_down(request: &Request) -> Way
         Request::Return => Way::Through,
         _ => Way::Down,
     }
-}
-
-/// Whether a transaction has the lock of each part.
-fn has_locks_for(locks: &[Lock], t: u64, parts: &[Part]) -> bool
-    requires { IsTrue (locking.rise locks.now) }
-    ensures { result ≡ list_all (locking.has_lock_for t locks.now) parts.now }
-{
-    parts.iter().all(|part| locks::has_lock_for(locks, t, part))
 }
 
 /// Whether a suite stands twice among parts.

@@ -1,6 +1,5 @@
 use Rattle.std.proofs.Common.{◌≡◌, ◌<◌, true, false, cond, length, set, ap, sym, ◌∙◌, arith}
 use Rattle.std.specs.Prelude.{insert, count_by}
-use Rattle.std.specs.Result.{is_ok}
 use Rattle.rep_core.specs.declared.lock.Lock.{Lock}
 use Rattle.rep_core.specs.Locks.{has_lock, raised, raised_lock, with_lock}
 use Rattle.rep_core.proofs.Rising.{insert_at_place}
@@ -29,9 +28,7 @@ returns c =
     let locks = c.args.locks.now.items in
     let new : Lock = record { t = t; suite = suite; mode = c.args.mode; prepared = false } in
     let none : has_lock t suite locks ≡ false = ap (has_lock t suite) (sym c.deref-2.ensures.value) ∙ sym c.is_own_at.ensures.has ∙ c.if-is_own_at.false in
-    let done : is_ok c.insert.result ≡ true = c.insert.ensures.succeeds c.requires.room in
-    c.insert.ensures.items
-    ∙ ap (λ b. cond b (insert locks c.place_of-at.result new) locks) done
+    c.insert_at.ensures
     ∙ ap (λ n. insert locks n new) (c.place_of-at.ensures.place ∙ ap (λ l. count_by (stands_before t suite) l) c.deref.ensures.value)
     ∙ insert_at_place new locks c.requires.rising
     ∙ sym (ap (λ b. cond b (raised t suite c.args.mode locks) (with_lock new locks)) none)
