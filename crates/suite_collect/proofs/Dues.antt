@@ -14,7 +14,7 @@ use Rattle.suite_collect.specs.declared.told.Said.{Said}
 use Rattle.suite_collect.specs.declared.told.Said.TheVariants.{Held, Busy, Down}
 use Rattle.suite_collect.specs.declared.told.Told.{Told}
 use Rattle.suite_collect.specs.declared.collect.Collect.TheInside.{Inside}
-use Rattle.suite_collect.specs.declared.collect.Widening.{Widening as Wide}
+use Rattle.suite_collect.specs.declared.widening.Widening.{Widening as Wide}
 use Rattle.suite_collect.specs.declared.due.Due.{Due as Coded}
 use Rattle.suite_collect.specs.declared.due.Due.TheVariants as coded
 use Rattle.suite_collect.specs.code.Dues as due
@@ -91,7 +91,7 @@ module _ (c : Collector) where
       of (Some rep) = refl
       of None = refl
 
-  not_current_no_quorum : (due_of c ≡ due.Current → ⊥) → HasNoQuorum (next c)
+  pub not_current_no_quorum : (due_of c ≡ due.Current → ⊥) → HasNoQuorum (next c)
   not_current_no_quorum short = few_no_quorum (at (nat_le (needed c) (got c)) short)
     where
       at : (b : Bool) → (now b (find (is_left c) (counted c).reps) ≡ due.Current → ⊥) → b ≡ false

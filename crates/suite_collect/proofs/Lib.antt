@@ -7,3 +7,4 @@ pub mod Fewness
 pub mod Staying
 pub mod Placed
 pub mod Dues
+pub mod Undoing

@@ -1,3 +1,5 @@
 pub mod HeardFields
+pub mod BeforeFields
 pub mod Dues
+pub mod Undoing
 pub mod CollectFields

@@ -6,6 +6,7 @@ ghost use Rattle.suite_collect.specs.Collecting as spec;
 ghost use Rattle.suite_collect.specs.Laws.{HasSource};
 ghost use Rattle.suite_collect.specs.Telling as telling;
 
+use crate::before::Before;
 use crate::coming::{Asked, Coming};
 use crate::due::{Due, due_after, due_anew, due_of};
 use crate::heard::Heard;
@@ -13,36 +14,12 @@ use crate::log::Log;
 use crate::members::members_of;
 use crate::next::{Members, Next};
 use crate::told::{Said, Told};
+use crate::widening::Widening;
 use rep_core::Reply;
 use std::alloc::AllocError;
 use std::marker::Model;
 use suite_prefix::{LockMode, Prefix};
 use vote_core::{MAX_SERVERS, ServerSet, Votes};
-
-/// Other votes that are gathered too.
-#[derive(Drop)]
-struct Widening {
-    votes: Votes,
-    /// All that was told.
-    all: Heard,
-    /// What was told since.
-    since: Log<Told>,
-}
-
-impl Widening {
-    /// The same votes and history.
-    fn same(&self) -> Widening
-        ensures votes { result.votes ≡ self.now.votes }
-        ensures all { result.all ≡ self.now.all }
-        ensures since { result.since.items ≡ self.now.since.items }
-    {
-        Widening {
-            votes: self.votes,
-            all: self.all.same(),
-            since: self.since.same(),
-        }
-    }
-}
 
 /// What a transaction collects of one suite: locks, until their servers are a quorum under the newest
 /// prefix that they show.
@@ -79,10 +56,7 @@ impl Clone for Collect {
     fn clone(&self) -> Result<Collect, AllocError> {
         let start = self.start.clone()?;
         let newer = self.newer.clone()?;
-        let widening = match &self.widening {
-            Some(widening) => Some(widening.same()),
-            None => None,
-        };
+        let widening = self.widening.as_ref().map(Widening::same);
         Ok(Collect {
             t: self.t,
             suite: self.suite,
@@ -100,6 +74,7 @@ impl Collect {
     ghost use Rattle.suite_collect.specs.Telling.{newest};
     ghost use Rattle.rep_core.specs.declared.reply.Reply.TheVariants as reply;
     ghost use Rattle.suite_collect.specs.Answering.{Comes, Tells, TakesOn, asked_in, shows_lock};
+    ghost use Rattle.suite_collect.specs.Undoing.{TakesLast, Undoes, undone};
 
     /// A collector that was told nothing yet. `start` is any prefix that the suite once had, or that of
     /// what was never made.
@@ -312,6 +287,56 @@ impl Collect {
         self.told.add_lock(server, self.mode, prefix, dver);
         self.due = due;
         Ok(true)
+    }
+
+    /// Takes a lock after which there is a quorum, and gives what takes it back. It leaves any other reply, a
+    /// lock with a prefix newer than those seen, and any lock after a widening: then nothing changes.
+    pub fn take_last(&mut self, reply: &Reply) -> Option<Before>
+        ensures taken { TakesLast result self.old.collector reply.now self.new.collector }
+        ensures rest { self.new ≡ record self.old { collector = self.new.collector } }
+    {
+        match reply {
+            Reply::Held { prefix, dver } if prefix.pver <= self.newest().pver => {
+                self.complete(prefix, *dver)
+            }
+            _ => None,
+        }
+    }
+
+    /// The same of a lock with a prefix no newer than the newest seen.
+    fn complete(&mut self, prefix: &Prefix, dver: u64) -> Option<Before>
+        requires { prefix.now.pver ≤ (newest self.old.collector.start self.old.collector.told).pver }
+        ensures taken { TakesLast result self.old.collector (reply.Held prefix.now dver) self.new.collector }
+        ensures rest { self.new ≡ record self.old { collector = self.new.collector } }
+    {
+        let (Due::Ask { server, place, got }, None) = (self.due, &self.widening) else {
+            return None;
+        };
+        let due = due_after(
+            &self.newest().votes,
+            &self.told,
+            self.mode,
+            server,
+            place,
+            got,
+        );
+        let Due::Current = due else {
+            return None;
+        };
+        let before = self.told.before(server);
+        self.told.add_lock(server, self.mode, prefix, dver);
+        self.due = due;
+        Some(before)
+    }
+
+    /// Takes back a lock that [`Collect::take_last`] took, where nothing was told, raised or widened since.
+    pub fn undo(&mut self, before: Before)
+        requires { Undoes before self.old.collector }
+        ensures { self.new ≡ record self.old { collector = undone before self.old.collector } }
+    {
+        self.told.undo(before);
+        let votes = votes_of(&self.newer, &self.start);
+        self.due = due_of(votes, &self.told, self.mode);
     }
 
     /// The mode in which locks are wanted before a widening.

@@ -3,7 +3,9 @@
 ghost use Rattle.std.specs.Prelude.{◌≡◌, ℕ, ◌<◌, ◌==◌, ◌||◌, false, None, [], ◌∷◌};
 ghost use Rattle.std.specs.FinSet.{contains};
 ghost use Rattle.suite_collect.specs.Telling as telling;
+ghost use Rattle.suite_collect.specs.code.Undoing.{FollowsBy};
 
+use crate::before::Before;
 use crate::log::Log;
 use crate::told::{Said, Told};
 use std::marker::Model;
@@ -102,6 +104,31 @@ impl Heard {
         }
         self.shown[usize::from(server)] = dver;
         self.told = self.told.and_lock(&server, &mode, prefix, &dver);
+    }
+
+    /// What a lock of this server overwrites.
+    pub(crate) fn before(&self, server: u8) -> Before
+        requires { server < MAX_SERVERS }
+        ensures { result ≡ record { server = server; told = self.now } }
+    {
+        Before {
+            server,
+            held: self.held,
+            exclusive: self.exclusive,
+            shown: self.shown[usize::from(server)],
+            told: self.told.same(),
+        }
+    }
+
+    /// Takes back a lock that was added last.
+    pub(crate) fn undo(&mut self, before: Before)
+        requires { FollowsBy before self.old }
+        ensures { self.new ≡ before.told }
+    {
+        self.held = before.held;
+        self.exclusive = before.exclusive;
+        self.shown[usize::from(before.server)] = before.shown;
+        self.told = before.told;
     }
 
     /// The servers that hold a lock in a mode or a stronger one.

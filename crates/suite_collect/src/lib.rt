@@ -5,12 +5,14 @@
 //! gives): a server is asked for a lock, or there is a quorum, or nobody is left to ask. Its caller asks
 //! that server, and hands the reply back ([`Collect::take`]). To contracts it is the list of what servers
 //! said; `next` is a function of that list (`specs/Collecting.antt`), and the laws of this crate speak of
-//! it. Only [`Collect::take_on`] may want memory.
+//! it. Only [`Collect::take_on`] may want memory. A lock that gives a quorum is mostly taken by
+//! [`Collect::take_last`], and can be taken back ([`Collect::undo`]).
 //!
 //! What a caller owes: `start` is a prefix that the suite once had, or that of what was never made; and
 //! what is taken answers what was asked ([`Collect::accepts`]). After any other reply a transaction ends.
 #![tactic(auto)]
 
+mod before;
 mod collect;
 mod coming;
 mod due;
@@ -20,7 +22,9 @@ mod log;
 mod members;
 mod next;
 mod told;
+mod widening;
 
+pub use before::Before;
 pub use collect::Collect;
 pub use coming::{Asked, Coming};
 pub use laws::{

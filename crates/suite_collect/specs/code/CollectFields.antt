@@ -1,7 +1,7 @@
 -- The fields of `Collect` as contracts see them, and what they keep.
 use Rattle.std.specs.Prelude.{◌≡◌, ◌++◌, option_map, unwrap_or, IfSome}
 use Rattle.suite_collect.specs.declared.collect.Collect.TheInside.{Inside}
-use Rattle.suite_collect.specs.declared.collect.Widening.{Widening}
+use Rattle.suite_collect.specs.declared.widening.Widening.{Widening}
 use Rattle.suite_collect.specs.Telling.{newest}
 use Rattle.suite_collect.specs.Collecting as spec
 use Rattle.suite_collect.specs.Collecting.{Collecting, Collector, counted, wanted, all_told}

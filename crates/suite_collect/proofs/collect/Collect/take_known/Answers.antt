@@ -5,7 +5,7 @@ use Rattle.suite_collect.specs.Telling.{newest}
 use Rattle.suite_collect.specs.Collecting.{Collecting}
 use Rattle.suite_collect.specs.declared.due.Due.{Due as Coded}
 use Rattle.suite_collect.specs.declared.due.Due.TheVariants as coded
-use Rattle.suite_collect.specs.declared.collect.Widening.{Widening}
+use Rattle.suite_collect.specs.declared.widening.Widening.{Widening}
 use Rattle.suite_collect.specs.code.Dues as due
 use Rattle.suite_collect.specs.code.Dues.{due_in}
 use Rattle.suite_collect.specs.code.CollectFields.{collecting_of, widening_of}

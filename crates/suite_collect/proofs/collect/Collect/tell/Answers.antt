@@ -2,7 +2,7 @@ use Rattle.std.proofs.Common.{◌≡◌, ◌∷◌, ◌++◌, ap, sym, ◌∙◌
 use Rattle.std.specs.Prelude.{unwrap_or, IfSome, Option}
 use Rattle.suite_prefix.specs.declared.copies.Prefix.{Prefix}
 use Rattle.suite_collect.specs.Telling.{newest}
-use Rattle.suite_collect.specs.declared.collect.Widening.{Widening}
+use Rattle.suite_collect.specs.declared.widening.Widening.{Widening}
 use Rattle.suite_collect.proofs.Dues.{summed_narrow, summed_wide}
 use Rattle.suite_collect.proofs.collect.Collect.tell.Goals.{in-Held+then-prefix-newest+in-Some-1, in-Held+then-prefix-newest+in-None-1, in-Held+else-prefix-newest, in_default-said}
 use Rattle.suite_collect.proofs.collect.Collect.tell.Goals as goal

@@ -1,7 +1,7 @@
 use Rattle.std.proofs.Common.{◌≡◌, ◌++◌, ap, sym, ◌∙◌, subst, refl, Some}
 use Rattle.std.specs.Prelude.{IfSome, Option, option_map}
 use Rattle.suite_collect.specs.declared.collect.Collect.TheInside.{Inside}
-use Rattle.suite_collect.specs.declared.collect.Widening.{Widening}
+use Rattle.suite_collect.specs.declared.widening.Widening.{Widening}
 use Rattle.suite_collect.specs.Collecting.{Collecting, told_since, all_told}
 use Rattle.suite_collect.specs.code.CollectFields.{widening_of, IsSummed}
 use Rattle.suite_collect.proofs.Dues.{summed_wide}
