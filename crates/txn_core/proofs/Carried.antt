@@ -16,7 +16,7 @@ use Rattle.txn_core.specs.code.Plans.{opened_by, raised_at, content_in, with_con
 use Rattle.txn_core.proofs.Rounds.{opens}
 
 -- another value of a suite that is there
-set_there : (suites : Suites) (number : ℕ) (suite new : Suite) → IsOrdered nat_cmp suites → suite_of suites number ≡ Some suite → replace nat_cmp suites number new ≡ with_suite number new suites
+pub set_there : (suites : Suites) (number : ℕ) (suite new : Suite) → IsOrdered nat_cmp suites → suite_of suites number ≡ Some suite → replace nat_cmp suites number new ≡ with_suite number new suites
 set_there suites number suite new ordered is = sym (insert_present nat_cmp_total suites number new ordered (ap is_some is))
 
 pub raised : (suites : Suites) (number : ℕ) (suite new : Suite) → IsOrdered nat_cmp suites → Some suite ≡ suite_of suites number → new ≡ record suite { collector = raise suite.collector }

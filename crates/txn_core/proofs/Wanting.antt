@@ -1,6 +1,6 @@
 -- Where memory may be wanting, phase by phase.
 use Rattle.std.proofs.Common.{◌≡◌, ℕ, true, Option, Some, None, Result, Ok, Err, refl, sym, ap, ◌∙◌}
-use Rattle.std.specs.Prelude.{List, ◌∷◌, is_some, IfErr}
+use Rattle.std.specs.Prelude.{Bool, List, ◌∷◌, is_some, IfErr}
 use Rattle.std.specs.declared.alloc.AllocError.{AllocError}
 use Rattle.rep_core.specs.declared.reply.Reply.{Reply}
 use Rattle.rep_core.specs.Fits.{is_held}
@@ -8,7 +8,6 @@ use Rattle.rep_core.specs.declared.reply.Verdict.TheVariants as verdict
 use Rattle.rep_core.specs.Service.{is_answered}
 use Rattle.suite_collect.specs.declared.told.Told.{Told}
 use Rattle.suite_collect.specs.Collecting.{Asked, Poll, Upgrade, next, request_for, told_by}
-use Rattle.txn_core.specs.declared.ending.Ending.{Ending}
 use Rattle.txn_core.specs.declared.hearing.Hearing.TheVariants as hearing
 use Rattle.txn_core.specs.declared.word.Word.{Word}
 use Rattle.txn_core.specs.declared.word.Word.TheVariants.{Replied}
@@ -44,16 +43,16 @@ module _ (fixed : Fixed) (course : Course) (server : ℕ) (said : Reply) where
       ap (λ what. by_taking what (Replied said)) (same ∙ ap (asked_for course.task number) a.there ∙ ap (asked_by course.task number) a.asks)
       ∙ told_wants course.task.t number a.asked said (told a.suite a.there)
 
-  told_if : (number : ℕ) (result : Result (Option Ending) AllocError) → request_of fixed course ≡ asked_for course.task number (suite_of course.suites number) → server_of (request_of fixed course) ≡ Some server
+  told_if : (number : ℕ) (result : Result Bool AllocError) → request_of fixed course ≡ asked_for course.task number (suite_of course.suites number) → server_of (request_of fixed course) ≡ Some server
       → ((suite : Suite) → suite_of course.suites number ≡ Some suite → IfErr result (λ _. is_held said ≡ true)) → IfErr result (λ _. by_taking (request_of fixed course) (Replied said) ≡ true)
   told_if number (Ok ending) same asked told = tt
   told_if number (Err why) same asked told = asking_wants number same asked told
 
-  pub gathering_wants : (number : ℕ) (result : Result (Option Ending) AllocError) → course.phase ≡ Gathering number → server_of (request_of fixed course) ≡ Some server
+  pub gathering_wants : (number : ℕ) (result : Result Bool AllocError) → course.phase ≡ Gathering number → server_of (request_of fixed course) ≡ Some server
       → ((suite : Suite) → suite_of course.suites number ≡ Some suite → IfErr result (λ _. is_held said ≡ true)) → IfErr result (λ _. by_taking (request_of fixed course) (Replied said) ≡ true)
   gathering_wants number result is asked told = told_if number result (ap (request_in fixed course.task course.suites) is) asked told
 
-  pub widening_wants : (number : ℕ) (left : List ℕ) (granted : Granted) (result : Result (Option Ending) AllocError) → course.phase ≡ Widening (number ∷ left) granted → server_of (request_of fixed course) ≡ Some server
+  pub widening_wants : (number : ℕ) (left : List ℕ) (granted : Granted) (result : Result Bool AllocError) → course.phase ≡ Widening (number ∷ left) granted → server_of (request_of fixed course) ≡ Some server
       → ((suite : Suite) → suite_of course.suites number ≡ Some suite → IfErr result (λ _. is_held said ≡ true)) → IfErr result (λ _. by_taking (request_of fixed course) (Replied said) ≡ true)
   widening_wants number left granted result is asked told = told_if number result (ap (request_in fixed course.task course.suites) is) asked told
 
@@ -66,7 +65,7 @@ module _ (fixed : Fixed) (course : Course) (server : ℕ) (said : Reply) where
       at (Some first) asked = given
       at None asked = cc
 
-  pub fetching_wants : (number : ℕ) (result : Result (Option Ending) AllocError) → course.phase ≡ Fetching number → server_of (request_of fixed course) ≡ Some server → IfErr result (λ _. is_some (given_in said) ≡ true)
+  pub fetching_wants : (number : ℕ) (result : Result Bool AllocError) → course.phase ≡ Fetching number → server_of (request_of fixed course) ≡ Some server → IfErr result (λ _. is_some (given_in said) ≡ true)
       → IfErr result (λ _. by_taking (request_of fixed course) (Replied said) ≡ true)
   fetching_wants number (Ok ending) is asked given = tt
   fetching_wants number (Err why) is asked given =
@@ -74,7 +73,7 @@ module _ (fixed : Fixed) (course : Course) (server : ℕ) (said : Reply) where
       ap (λ what. by_taking what (Replied said)) same ∙ fetched_wants number (suite_of course.suites number) (ap server_of (sym same) ∙ asked) given
 
   -- the home decides
-  pub deciding_wants : (outcome : Outcome) (result : Result (Option Ending) AllocError) → course.phase ≡ Deciding outcome → IfErr result (λ _. is_answered (verdict_in said verdict.Aborted) ≡ true)
+  pub deciding_wants : (outcome : Outcome) (result : Result Bool AllocError) → course.phase ≡ Deciding outcome → IfErr result (λ _. is_answered (verdict_in said verdict.Aborted) ≡ true)
       → IfErr result (λ _. by_taking (request_of fixed course) (Replied said) ≡ true)
   deciding_wants outcome (Ok ending) is answered = tt
   deciding_wants outcome (Err why) is answered = ap (λ phase. by_taking (request_in fixed course.task course.suites phase) (Replied said)) is ∙ answered

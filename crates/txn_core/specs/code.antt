@@ -12,7 +12,9 @@ pub mod Hearing
 pub mod HearingOn
 pub mod Steps
 pub mod Hears
+pub mod Settling
 pub mod AgentFields
 pub mod Sorting
 pub mod Telling
+pub mod Endings
 pub mod Passing

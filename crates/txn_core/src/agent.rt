@@ -1,12 +1,14 @@
 //! An agent.
 
-ghost use Rattle.std.specs.Prelude.{◌≡◌, ◌<◌, ◌≤◌, [], IfOk, IfErr, OnOk, OnErr, IsTrue, Some, None, option_map};
+ghost use Rattle.std.specs.Prelude.{◌≡◌, ◌<◌, ◌≤◌, [], IfOk, IfErr, IfNone, OnOk, OnErr, IsTrue, Some, None, option_map};
+ghost use Rattle.std.specs.Option.{option_or};
 ghost use Rattle.weak_cache.specs.Cache.{Limits};
 ghost use Rattle.txn_core.specs.code.AgentFields.{doing_of};
 ghost use Rattle.txn_core.specs.Agents as agents;
-ghost use Rattle.txn_core.specs.Standing.{FitsAsked, left_by};
+ghost use Rattle.txn_core.specs.Standing.{FitsAsked};
 ghost use Rattle.txn_core.specs.Transactions as course;
 ghost use Rattle.txn_core.specs.Wanting as wanting;
+ghost use Rattle.txn_core.specs.code.Endings.{Puts, put_in};
 ghost use Rattle.txn_core.specs.code.Telling.{Tells};
 ghost use Rattle.txn_core.specs.declared.word.Word.TheVariants.{Replied, Lacked};
 
@@ -131,14 +133,28 @@ impl Agent {
         Ok(())
     }
 
-    /// What it asks next, and of which server: nothing, where it is idle. Only the list of a Prepare may
-    /// want memory, and the answers of a Decide or a Finish.
+    /// Of which server it asks next, and what, which is put into a place of the caller's: nothing is, where
+    /// it is idle. Only the list of a Prepare may want memory, and the answers of a Decide or a Finish.
+    pub fn ask(&self, request: &mut Request) -> Result<Option<u8>, AllocError>
+        ensures ok { IfOk result (λ server. option_map (λ server. (server, request.new)) server ≡ agents.next_of self.now.fixed self.now.state) }
+        ensures none { IfOk result (λ server. IfNone server (request.new ≡ request.old)) }
+        ensures err { OnErr result (request.new ≡ request.old) }
+        ensures memory { IfErr result (λ _. IsTrue (wanting.by_asking (agents.next_of self.now.fixed self.now.state))) }
+    {
+        match &self.doing {
+            Some(doing) => doing.ask(self.alloc, &self.service, request),
+            None => Ok(None),
+        }
+    }
+
+    /// What it asks next, and of which server, as `ask` puts it.
     pub fn next(&self) -> Result<Option<(u8, Request)>, AllocError>
         ensures ok { IfOk result (λ asked. asked ≡ agents.next_of self.now.fixed self.now.state) }
         ensures memory { IfErr result (λ _. IsTrue (wanting.by_asking (agents.next_of self.now.fixed self.now.state))) }
     {
-        match &self.doing {
-            Some(doing) => doing.next(self.alloc, &self.service),
+        let mut request = Request::Locks;
+        match self.ask(&mut request)? {
+            Some(server) => Ok(Some((server, request))),
             None => Ok(None),
         }
     }
@@ -164,69 +180,88 @@ impl Agent {
         ensures err { OnErr result (self.new ≡ self.old) }
         ensures memory { IfErr result (λ _. IsTrue (wanting.by_taking (agents.next_of self.old.fixed self.old.state) word.now)) }
     {
+        let Some(server) = self.asked() else {
+            return Ok(None);
+        };
+        let mut ended = None;
         match word {
-            Word::Replied(said) => self.hear(said),
-            Word::Lacked(lack) => Ok(self.lack(*lack)),
+            Word::Replied(said) => self.hear(server, said, &mut ended)?,
+            Word::Lacked(lack) => self.lack(*lack, &mut ended),
         }
+        Ok(ended)
     }
 
-    /// Takes the reply to what it asks next, as `take` does.
-    pub fn hear(&mut self, said: &Reply) -> Result<Option<Ending>, AllocError>
-        requires { FitsAsked (agents.next_of self.old.fixed self.old.state) (Replied said.now) }
-        ensures ok { IfOk result (λ ending. ending ≡ (agents.take self.old.fixed self.old.state (Replied said.now)).ending) }
+    /// Takes the reply to what it asks next, from the server that it asks, as `take` does. The ending of its
+    /// job, where that is at its end, is put into a place of the caller's, which else keeps what it has.
+    pub fn hear(
+        &mut self,
+        server: u8,
+        said: &Reply,
+        ended: &mut Option<Ending>,
+    ) -> Result<(), AllocError>
+        requires asked { option_map (λ asked. asked.0) (agents.next_of self.old.fixed self.old.state) ≡ Some server }
+        requires fits { FitsAsked (agents.next_of self.old.fixed self.old.state) (Replied said.now) }
+        ensures ok { OnOk result (ended.new ≡ option_or (agents.take self.old.fixed self.old.state (Replied said.now)).ending ended.old) }
         ensures new { OnOk result (self.new ≡ record self.old { state = (agents.take self.old.fixed self.old.state (Replied said.now)).agent }) }
-        ensures err { OnErr result (self.new ≡ self.old) }
+        ensures err { OnErr result ((self.new ≡ self.old) × (ended.new ≡ ended.old)) }
         ensures memory { IfErr result (λ _. IsTrue (wanting.by_taking (agents.next_of self.old.fixed self.old.state) (Replied said.now))) }
     {
-        let told = self.answer(said);
-        if let Ok(Some(_)) = &told {
+        if self.answer(server, said, ended)? {
             self.stop();
         }
-        told
+        Ok(())
     }
 
-    /// Takes the reply, and goes on with its job, also where that is at its end.
-    fn answer(&mut self, said: &Reply) -> Result<Option<Ending>, AllocError>
-        requires { FitsAsked (agents.next_of self.old.fixed self.old.state) (Replied said.now) }
-        ensures ok { IfOk result (λ ending. Tells self.old (Replied said.now) ending self.new) }
-        ensures err { OnErr result (self.new ≡ self.old) }
+    /// Takes the reply, and goes on with its job, also where that is at its end: tells whether it is.
+    fn answer(
+        &mut self,
+        server: u8,
+        said: &Reply,
+        ended: &mut Option<Ending>,
+    ) -> Result<bool, AllocError>
+        requires asked { option_map (λ asked. asked.0) (agents.next_of self.old.fixed self.old.state) ≡ Some server }
+        requires fits { FitsAsked (agents.next_of self.old.fixed self.old.state) (Replied said.now) }
+        ensures ok { IfOk result (λ ends. Tells self.old (Replied said.now) (put_in ends ended.new) self.new) }
+        ensures place { IfOk result (λ ends. Puts ends ended.old ended.new) }
+        ensures err { OnErr result ((self.new ≡ self.old) × (ended.new ≡ ended.old)) }
         ensures memory { IfErr result (λ _. IsTrue (wanting.by_taking (agents.next_of self.old.fixed self.old.state) (Replied said.now))) }
     {
         match &mut self.doing {
             Some(Doing::Running(course)) => {
-                course.hear_reply(self.alloc, &self.service, &mut self.cache, said)
+                course.answer(
+                    self.alloc,
+                    &self.service,
+                    &mut self.cache,
+                    server,
+                    said,
+                    ended,
+                )
             }
-            Some(Doing::Rounding(round)) => round.answer(self.alloc, &self.service, said),
-            None => Ok(None),
+            Some(Doing::Rounding(round)) => round.answer(self.alloc, &self.service, said, ended),
+            None => Ok(false),
         }
     }
 
     /// Its request was not served.
-    fn lack(&mut self, lack: Lack) -> Option<Ending>
-        ensures ending { result ≡ (agents.take self.old.fixed self.old.state (Lacked lack)).ending }
+    fn lack(&mut self, lack: Lack, ended: &mut Option<Ending>)
+        ensures ending { ended.new ≡ option_or (agents.take self.old.fixed self.old.state (Lacked lack)).ending ended.old }
         ensures new { self.new ≡ record self.old { state = (agents.take self.old.fixed self.old.state (Lacked lack)).agent } }
     {
-        match &mut self.doing {
-            Some(Doing::Running(course)) => {
-                let ending = course.hear_lack(&self.service, lack);
-                self.ended(ending)
-            }
-            Some(Doing::Rounding(round)) => {
-                let ending = round.lacked(&self.service, lack);
-                self.ended(Some(ending))
-            }
-            None => None,
+        if self.lacked(lack, ended) {
+            self.stop();
         }
     }
 
-    /// After an ending it does no job any more.
-    fn ended(&mut self, ending: Option<Ending>) -> Option<Ending>
-        ensures ending { result ≡ ending }
-        ensures new { self.new ≡ record self.old { state = record self.old.state { doing = left_by ending self.old.state.doing } } }
+    /// The same, also where its job is at its end: tells whether it is.
+    fn lacked(&mut self, lack: Lack, ended: &mut Option<Ending>) -> bool
+        ensures told { Tells self.old (Lacked lack) (put_in result ended.new) self.new }
+        ensures place { Puts result ended.old ended.new }
     {
-        let ending = ending?;
-        self.stop();
-        Some(ending)
+        match &mut self.doing {
+            Some(Doing::Running(course)) => course.hear_lack(&self.service, lack, ended),
+            Some(Doing::Rounding(round)) => round.lacked(&self.service, lack, ended),
+            None => false,
+        }
     }
 
     /// It does no job any more.
@@ -270,17 +305,24 @@ impl Doing {
         }
     }
 
-    /// What is asked next, and of which server.
-    fn next(&self, alloc: Global, service: &Service) -> Result<Option<(u8, Request)>, AllocError>
+    /// Of which server is asked next, and what, which is put into its place.
+    fn ask(
+        &self,
+        alloc: Global,
+        service: &Service,
+        request: &mut Request,
+    ) -> Result<Option<u8>, AllocError>
         requires { (0 < service.now.servers) × (service.now.servers ≤ MAX_SERVERS) }
-        ensures ok { IfOk result (λ asked. (limits : Limits) → asked ≡ agents.next_in (record { service = service.now; limits = limits }) (Some (doing_of self.now))) }
+        ensures ok { IfOk result (λ server. (limits : Limits) → option_map (λ server. (server, request.new)) server ≡ agents.next_in (record { service = service.now; limits = limits }) (Some (doing_of self.now))) }
+        ensures none { IfOk result (λ server. IfNone server (request.new ≡ request.old)) }
+        ensures err { OnErr result (request.new ≡ request.old) }
         ensures memory { IfErr result (λ _. (limits : Limits) → IsTrue (wanting.by_asking (agents.next_in (record { service = service.now; limits = limits }) (Some (doing_of self.now))))) }
     {
         match self {
-            Doing::Running(course) => course.next(alloc, service),
+            Doing::Running(course) => course.ask(alloc, service, request),
             Doing::Rounding(round) => {
-                let asked = round.next(service)?;
-                Ok(Some(asked))
+                let server = round.ask(service, request)?;
+                Ok(Some(server))
             }
         }
     }

@@ -1,6 +1,6 @@
 //! What a transaction asks next.
 
-ghost use Rattle.std.specs.Prelude.{◌≡◌, ◌<◌, ◌≤◌, IfOk, IfErr, OnErr, IsTrue, option_map};
+ghost use Rattle.std.specs.Prelude.{◌≡◌, ◌<◌, ◌≤◌, IfOk, IfErr, IfNone, OnErr, IsTrue, option_map};
 ghost use Rattle.rep_core.specs.Wanting.{records_answers};
 ghost use Rattle.weak_cache.specs.Cache.{Limits};
 ghost use Rattle.txn_core.specs.Doing as doing;
@@ -23,29 +23,30 @@ use suite_collect::Coming;
 use vote_core::MAX_SERVERS;
 
 impl Course {
-    /// What is asked next, and of which server. A Prepare wants memory for its list, and a Decide or a
-    /// Finish at most to copy answers; nothing else does.
-    pub(crate) fn next(
+    /// Of which server is asked next, and what, which is put into its place. A Prepare wants memory for its
+    /// list, and a Decide or a Finish at most to copy answers; nothing else does.
+    pub(crate) fn ask(
         &self,
         alloc: Global,
         service: &Service,
-    ) -> Result<Option<(u8, Request)>, AllocError>
+        request: &mut Request,
+    ) -> Result<Option<u8>, AllocError>
         requires { (0 < service.now.servers) × (service.now.servers ≤ MAX_SERVERS) }
-        ensures ok { IfOk result (λ asked. (limits : Limits) → asked ≡ course.request_of (record { service = service.now; limits = limits }) self.now) }
+        ensures ok { IfOk result (λ server. (limits : Limits) → option_map (λ server. (server, request.new)) server ≡ course.request_of (record { service = service.now; limits = limits }) self.now) }
+        ensures none { IfOk result (λ server. IfNone server (request.new ≡ request.old)) }
+        ensures err { OnErr result (request.new ≡ request.old) }
         ensures memory { IfErr result (λ _. (limits : Limits) → IsTrue (wanting.by_asking (course.request_of (record { service = service.now; limits = limits }) self.now))) }
     {
         match &self.phase {
             Phase::Gathering(number) | Phase::Widening { number, .. } => {
-                Ok(self.asked_for(*number))
+                Ok(self.ask_for(*number, request))
             }
-            Phase::Fetching(number) => Ok(self.fetched_for(*number)),
-            Phase::Preparing(servers, outcome) => self.prepared_by(alloc, servers, outcome),
-            Phase::Deciding(outcome) => {
-                let decision = decision_of(&self.task, outcome)?;
-                let t = self.task.t;
-                Ok(Some((home_of(service, t), Request::Decide { t, decision })))
+            Phase::Fetching(number) => Ok(self.fetch_for(*number, request)),
+            Phase::Preparing(servers, outcome) => {
+                self.ask_prepare(alloc, servers, outcome, request)
             }
-            Phase::Finishing(servers, verdict, _) => self.told_to(servers, verdict),
+            Phase::Deciding(outcome) => self.ask_decide(service, outcome, request),
+            Phase::Finishing(servers, verdict, _) => self.ask_finish(servers, verdict, request),
         }
     }
 
@@ -55,42 +56,69 @@ impl Course {
         ensures { (limits : Limits) → result ≡ option_map (λ asked. asked.0) (course.request_of (record { service = service.now; limits = limits }) self.now) }
     {
         match &self.phase {
-            Phase::Gathering(number) | Phase::Widening { number, .. } => {
-                self.asked_for(*number).map(|(server, _)| server)
-            }
-            Phase::Fetching(number) => self.fetched_for(*number).map(|(server, _)| server),
+            Phase::Gathering(number) | Phase::Widening { number, .. } => self.asked_for(*number),
+            Phase::Fetching(number) => self.fetched_from(*number),
             Phase::Preparing(servers, _) | Phase::Finishing(servers, ..) => servers.first(),
             Phase::Deciding(_) => Some(home_of(service, self.task.t)),
         }
     }
 
-    /// What a suite asks.
-    fn asked_for(&self, number: u64) -> Option<(u8, Request)>
-        ensures { result ≡ course.asked_for self.now.task number (suite_of self.now.suites number) }
+    /// The server that a suite asks.
+    fn asked_for(&self, number: u64) -> Option<u8>
+        ensures { result ≡ option_map (λ asked. asked.0) (course.asked_for self.now.task number (suite_of self.now.suites number)) }
     {
         match self.suites.get(&number)?.next() {
-            Coming::Ask { server, asked } => Some((server, asked.request(self.task.t, number))),
+            Coming::Ask { server, .. } => Some(server),
+            _ => None,
+        }
+    }
+
+    /// The server at which the first quorum of a suite found its content.
+    fn fetched_from(&self, number: u64) -> Option<u8>
+        ensures { result ≡ option_map (λ asked. asked.0) (course.fetched_for self.now.task number (suite_of self.now.suites number)) }
+    {
+        let first = self.suites.get(&number)?.first()?;
+        Some(first.source)
+    }
+
+    /// What a suite asks.
+    fn ask_for(&self, number: u64, request: &mut Request) -> Option<u8>
+        ensures asked { option_map (λ server. (server, request.new)) result ≡ course.asked_for self.now.task number (suite_of self.now.suites number) }
+        ensures none { IfNone result (request.new ≡ request.old) }
+    {
+        match self.suites.get(&number)?.next() {
+            Coming::Ask { server, asked } => {
+                *request = asked.request(self.task.t, number);
+                Some(server)
+            }
             _ => None,
         }
     }
 
     /// The content of a suite is asked for where its first quorum found it.
-    fn fetched_for(&self, number: u64) -> Option<(u8, Request)>
-        ensures { result ≡ course.fetched_for self.now.task number (suite_of self.now.suites number) }
+    fn fetch_for(&self, number: u64, request: &mut Request) -> Option<u8>
+        ensures asked { option_map (λ server. (server, request.new)) result ≡ course.fetched_for self.now.task number (suite_of self.now.suites number) }
+        ensures none { IfNone result (request.new ≡ request.old) }
     {
-        let first = self.suites.get(&number)?.first()?;
-        let t = self.task.t;
-        Some((first.source, Request::Fetch { t, suite: number }))
+        let server = self.fetched_from(number)?;
+        *request = Request::Fetch {
+            t: self.task.t,
+            suite: number,
+        };
+        Some(server)
     }
 
     /// The first of these servers is asked to prepare.
-    fn prepared_by(
+    fn ask_prepare(
         &self,
         alloc: Global,
         servers: &Servers,
         outcome: &Outcome,
-    ) -> Result<Option<(u8, Request)>, AllocError>
-        ensures ok { IfOk result (λ asked. (fixed : doing.Fixed) → asked ≡ course.request_in fixed self.now.task self.now.suites (doing.Preparing servers.now outcome.now)) }
+        request: &mut Request,
+    ) -> Result<Option<u8>, AllocError>
+        ensures ok { IfOk result (λ server. (fixed : doing.Fixed) → option_map (λ server. (server, request.new)) server ≡ course.request_in fixed self.now.task self.now.suites (doing.Preparing servers.now outcome.now)) }
+        ensures none { IfOk result (λ server. IfNone server (request.new ≡ request.old)) }
+        ensures err { OnErr result (request.new ≡ request.old) }
         ensures memory { IfErr result (λ _. (fixed : doing.Fixed) → IsTrue (wanting.by_asking (course.request_in fixed self.now.task self.now.suites (doing.Preparing servers.now outcome.now)))) }
     {
         let Some(server) = servers.first() else {
@@ -98,35 +126,53 @@ impl Course {
         };
         let changes = outcome.as_ref().ok().map(|granted| &granted.changes);
         let parts = parts_at(alloc, self.suites.as_slice(), changes, server)?;
-        Ok(Some((
-            server,
-            Request::Prepare {
-                t: self.task.t,
-                parts,
-            },
-        )))
+        *request = Request::Prepare {
+            t: self.task.t,
+            parts,
+        };
+        Ok(Some(server))
+    }
+
+    /// The home is asked to record an outcome.
+    fn ask_decide(
+        &self,
+        service: &Service,
+        outcome: &Outcome,
+        request: &mut Request,
+    ) -> Result<Option<u8>, AllocError>
+        requires { (0 < service.now.servers) × (service.now.servers ≤ MAX_SERVERS) }
+        ensures ok { IfOk result (λ server. (limits : Limits) → option_map (λ server. (server, request.new)) server ≡ course.request_in (record { service = service.now; limits = limits }) self.now.task self.now.suites (doing.Deciding outcome.now)) }
+        ensures none { IfOk result (λ server. IfNone server (request.new ≡ request.old)) }
+        ensures err { OnErr result (request.new ≡ request.old) }
+        ensures memory { IfErr result (λ _. (limits : Limits) → IsTrue (wanting.by_asking (course.request_in (record { service = service.now; limits = limits }) self.now.task self.now.suites (doing.Deciding outcome.now)))) }
+    {
+        let decision = decision_of(&self.task, outcome)?;
+        let t = self.task.t;
+        *request = Request::Decide { t, decision };
+        Ok(Some(home_of(service, t)))
     }
 
     /// The first of these servers is told how the transaction ended.
-    fn told_to(
+    fn ask_finish(
         &self,
         servers: &Servers,
         verdict: &Verdict,
-    ) -> Result<Option<(u8, Request)>, AllocError>
-        ensures ok { IfOk result (λ asked. (fixed : doing.Fixed) (ending : Ending) → asked ≡ course.request_in fixed self.now.task self.now.suites (doing.Finishing servers.now verdict.now ending)) }
+        request: &mut Request,
+    ) -> Result<Option<u8>, AllocError>
+        ensures ok { IfOk result (λ server. (fixed : doing.Fixed) (ending : Ending) → option_map (λ server. (server, request.new)) server ≡ course.request_in fixed self.now.task self.now.suites (doing.Finishing servers.now verdict.now ending)) }
+        ensures none { IfOk result (λ server. IfNone server (request.new ≡ request.old)) }
+        ensures err { OnErr result (request.new ≡ request.old) }
         ensures memory { IfErr result (λ _. (fixed : doing.Fixed) (ending : Ending) → IsTrue (wanting.by_asking (course.request_in fixed self.now.task self.now.suites (doing.Finishing servers.now verdict.now ending)))) }
     {
         let Some(server) = servers.first() else {
             return Ok(None);
         };
         let verdict = verdict.clone()?;
-        Ok(Some((
-            server,
-            Request::Finish {
-                t: self.task.t,
-                verdict,
-            },
-        )))
+        *request = Request::Finish {
+            t: self.task.t,
+            verdict,
+        };
+        Ok(Some(server))
     }
 }
 

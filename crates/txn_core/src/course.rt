@@ -7,6 +7,7 @@ ghost use Rattle.weak_cache.specs.Cache.{Limits};
 ghost use Rattle.weak_cache.specs.Entries.{Cache};
 ghost use Rattle.txn_core.specs.Agents.{left};
 ghost use Rattle.txn_core.specs.Doing as doing;
+ghost use Rattle.txn_core.specs.code.Endings.{Puts, put_in};
 ghost use Rattle.txn_core.specs.code.Hearing.{heard, on_hearing};
 ghost use Rattle.txn_core.specs.code.HearingOn.{GoesOnBy, SettlesBy};
 ghost use Rattle.txn_core.specs.code.Hears.{Hears, on_heard};
@@ -95,60 +96,49 @@ impl Course {
             suites,
             phase: Phase::Gathering(0),
         };
-        match course.follow(sequel) {
-            Some(_) => Ok(None),
-            None => Ok(Some(course)),
+        let mut ended = None;
+        if course.follow(sequel, &mut ended) {
+            return Ok(None);
         }
+        Ok(Some(course))
     }
 
-    /// Takes the reply to what is asked next, and gives the ending, where the transaction is at its end. An
-    /// error leaves all as it was.
-    pub(crate) fn hear_reply(
+    /// What is asked next was not served. Where the transaction is at its end, the ending is put into its
+    /// place: tells whether it is.
+    pub(crate) fn hear_lack(
         &mut self,
-        alloc: Global,
         service: &Service,
-        cache: &mut WeakCache,
-        said: &Reply,
-    ) -> Result<Option<Ending>, AllocError>
-        requires servers { (0 < service.now.servers) × (service.now.servers ≤ MAX_SERVERS) }
-        requires unused { HasUnused cache.old.entries }
-        requires fits { FitsAsked (course.request_of (record { service = service.now; limits = cache.old.limits }) self.old) (Replied said.now) }
-        ensures ok { IfOk result (λ ending. let fixed : doing.Fixed = record { service = service.now; limits = cache.old.limits } in Steps (taken fixed self.old cache.old.entries (course.request_of fixed self.old) (Replied said.now)) ending self.new cache.new.entries) }
-        ensures err { OnErr result ((self.new ≡ self.old) × (cache.new ≡ cache.old)) }
-        ensures limits { cache.new.limits ≡ cache.old.limits }
-        ensures unused { HasUnused cache.new.entries }
-        ensures memory { IfErr result (λ _. IsTrue (wanting.by_taking (course.request_of (record { service = service.now; limits = cache.old.limits }) self.old) (Replied said.now))) }
-    {
-        match self.asked(service) {
-            Some(server) => self.answer(alloc, service, cache, server, said),
-            None => Ok(None),
-        }
-    }
-
-    /// What is asked next was not served. It gives the ending, where the transaction is at its end.
-    pub(crate) fn hear_lack(&mut self, service: &Service, lack: Lack) -> Option<Ending>
+        lack: Lack,
+        ended: &mut Option<Ending>,
+    ) -> bool
         requires { (0 < service.now.servers) × (service.now.servers ≤ MAX_SERVERS) }
-        ensures { (limits : Limits) (cache : Cache) → let fixed : doing.Fixed = record { service = service.now; limits = limits } in Steps (taken fixed self.old cache (course.request_of fixed self.old) (Lacked lack)) result self.new cache }
+        ensures steps { (limits : Limits) (cache : Cache) → let fixed : doing.Fixed = record { service = service.now; limits = limits } in Steps (taken fixed self.old cache (course.request_of fixed self.old) (Lacked lack)) (put_in result ended.new) self.new cache }
+        ensures place { Puts result ended.old ended.new }
     {
-        let server = self.asked(service)?;
-        self.lacked(server, lack)
+        let Some(server) = self.asked(service) else {
+            return false;
+        };
+        self.lacked(server, lack, ended)
     }
 
-    /// Takes a reply of the server that is asked.
-    fn answer(
+    /// Takes the reply of the server that is asked next. Where the transaction is at its end, the ending is
+    /// put into its place: tells whether it is. An error leaves all as it was.
+    pub(crate) fn answer(
         &mut self,
         alloc: Global,
         service: &Service,
         cache: &mut WeakCache,
         server: u8,
         said: &Reply,
-    ) -> Result<Option<Ending>, AllocError>
+        ended: &mut Option<Ending>,
+    ) -> Result<bool, AllocError>
         requires servers { (0 < service.now.servers) × (service.now.servers ≤ MAX_SERVERS) }
         requires unused { HasUnused cache.old.entries }
         requires asked { option_map (λ asked. asked.0) (course.request_of (record { service = service.now; limits = cache.old.limits }) self.old) ≡ Some server }
         requires fits { FitsAsked (course.request_of (record { service = service.now; limits = cache.old.limits }) self.old) (Replied said.now) }
-        ensures ok { IfOk result (λ ending. let fixed : doing.Fixed = record { service = service.now; limits = cache.old.limits } in Steps (taken fixed self.old cache.old.entries (course.request_of fixed self.old) (Replied said.now)) ending self.new cache.new.entries) }
-        ensures err { OnErr result ((self.new ≡ self.old) × (cache.new ≡ cache.old)) }
+        ensures ok { IfOk result (λ ends. let fixed : doing.Fixed = record { service = service.now; limits = cache.old.limits } in Steps (taken fixed self.old cache.old.entries (course.request_of fixed self.old) (Replied said.now)) (put_in ends ended.new) self.new cache.new.entries) }
+        ensures place { IfOk result (λ ends. Puts ends ended.old ended.new) }
+        ensures err { OnErr result ((self.new ≡ self.old) × (cache.new ≡ cache.old) × (ended.new ≡ ended.old)) }
         ensures limits { cache.new.limits ≡ cache.old.limits }
         ensures unused { HasUnused cache.new.entries }
         ensures memory { IfErr result (λ _. IsTrue (wanting.by_taking (course.request_of (record { service = service.now; limits = cache.old.limits }) self.old) (Replied said.now))) }
@@ -156,24 +146,24 @@ impl Course {
         match &self.phase {
             Phase::Gathering(number) => {
                 let number = *number;
-                self.gathered(alloc, service, cache, number, server, said)
+                self.gathered(alloc, service, cache, number, server, said, ended)
             }
             Phase::Fetching(number) => {
                 let number = *number;
-                self.fetched(alloc, service, cache, number, server, said)
+                self.fetched(alloc, service, cache, number, server, said, ended)
             }
             Phase::Widening { number, .. } => {
                 let number = *number;
-                self.widened(number, server, said)
+                self.widened(number, server, said, ended)
             }
-            Phase::Preparing(..) => Ok(self.prepared(server, said)),
-            Phase::Deciding(_) => self.decided(said),
-            Phase::Finishing(..) => Ok(self.told()),
+            Phase::Preparing(..) => Ok(self.prepared(server, said, ended)),
+            Phase::Deciding(_) => self.decided(said, ended),
+            Phase::Finishing(..) => Ok(self.told(ended)),
         }
     }
 
-    /// A suite that is gathered is told what a server said.
-    fn gathered(
+    /// The same of a suite that did not get its quorum in its place.
+    pub(crate) fn gathered_on(
         &mut self,
         alloc: Global,
         service: &Service,
@@ -181,19 +171,21 @@ impl Course {
         number: u64,
         server: u8,
         said: &Reply,
-    ) -> Result<Option<Ending>, AllocError>
+        ended: &mut Option<Ending>,
+    ) -> Result<bool, AllocError>
         requires unused { HasUnused cache.old.entries }
         requires shown { shows_unused said.now ≡ true }
         requires there { IsSome (gathering.suite_of self.old.suites number) }
-        ensures ok { (suite : gathering.Suite) → gathering.suite_of self.old.suites number ≡ Some suite → IfOk result (λ ending. Steps (on_hearing self.old.task cache.old.entries self.old.suites self.old.phase number server (heard suite said.now) (λ suite. course.execute (record { service = service.now; limits = cache.old.limits }) self.old.task (record { suites = gathering.with_suite number suite self.old.suites; cache = cache.old.entries }))) ending self.new cache.new.entries) }
-        ensures err { OnErr result ((self.new ≡ self.old) × (cache.new ≡ cache.old)) }
+        ensures ok { (suite : gathering.Suite) → gathering.suite_of self.old.suites number ≡ Some suite → IfOk result (λ ends. Steps (on_hearing self.old.task cache.old.entries self.old.suites self.old.phase number server (heard suite said.now) (λ suite. course.execute (record { service = service.now; limits = cache.old.limits }) self.old.task (record { suites = gathering.with_suite number suite self.old.suites; cache = cache.old.entries }))) (put_in ends ended.new) self.new cache.new.entries) }
+        ensures place { IfOk result (λ ends. Puts ends ended.old ended.new) }
+        ensures err { OnErr result ((self.new ≡ self.old) × (cache.new ≡ cache.old) × (ended.new ≡ ended.old)) }
         ensures limits { cache.new.limits ≡ cache.old.limits }
         ensures unused { HasUnused cache.new.entries }
         ensures memory { (suite : gathering.Suite) → gathering.suite_of self.old.suites number ≡ Some suite → IfErr result (λ _. IsTrue (is_held said.now)) }
     {
         match self.hear(number, said)? {
-            Heard::Settled(suite) => self.execute_with(alloc, service, cache, number, suite),
-            heard => Ok(self.go_on(number, server, &heard)),
+            Heard::Settled(suite) => self.execute_with(alloc, service, cache, number, suite, ended),
+            heard => Ok(self.go_on(number, server, &heard, ended)),
         }
     }
 
@@ -205,11 +197,13 @@ impl Course {
         cache: &mut WeakCache,
         number: u64,
         suite: Suite,
-    ) -> Result<Option<Ending>, AllocError>
+        ended: &mut Option<Ending>,
+    ) -> Result<bool, AllocError>
         requires unused { HasUnused cache.old.entries }
         requires there { IsSome (gathering.suite_of self.old.suites number) }
-        ensures ok { IfOk result (λ ending. Steps (course.execute (record { service = service.now; limits = cache.old.limits }) self.old.task (record { suites = gathering.with_suite number suite self.old.suites; cache = cache.old.entries })) ending self.new cache.new.entries) }
-        ensures err { OnErr result ((self.new ≡ self.old) × (cache.new ≡ cache.old)) }
+        ensures ok { IfOk result (λ ends. Steps (course.execute (record { service = service.now; limits = cache.old.limits }) self.old.task (record { suites = gathering.with_suite number suite self.old.suites; cache = cache.old.entries })) (put_in ends ended.new) self.new cache.new.entries) }
+        ensures place { IfOk result (λ ends. Puts ends ended.old ended.new) }
+        ensures err { OnErr result ((self.new ≡ self.old) × (cache.new ≡ cache.old) × (ended.new ≡ ended.old)) }
         ensures limits { cache.new.limits ≡ cache.old.limits }
         ensures unused { HasUnused cache.new.entries }
     {
@@ -219,7 +213,7 @@ impl Course {
             task: &self.task,
         };
         let sequel = execution.execute_with(&mut self.suites, cache, number, suite)?;
-        Ok(self.follow(sequel))
+        Ok(self.follow(sequel, ended))
     }
 
     /// A suite that is widened is told what a server said.
@@ -228,42 +222,46 @@ impl Course {
         number: u64,
         server: u8,
         said: &Reply,
-    ) -> Result<Option<Ending>, AllocError>
+        ended: &mut Option<Ending>,
+    ) -> Result<bool, AllocError>
         requires shown { shows_unused said.now ≡ true }
         requires there { IsSome (gathering.suite_of self.old.suites number) }
-        ensures ok { (suite : gathering.Suite) (left : List ℕ) (granted : doing.Granted) (cache : Cache) → gathering.suite_of self.old.suites number ≡ Some suite → self.old.phase ≡ doing.Widening (number ∷ left) granted → IfOk result (λ ending. Steps (on_hearing self.old.task cache self.old.suites self.old.phase number server (heard suite said.now) (λ suite. course.widen_all self.old.task cache (gathering.with_suite number suite self.old.suites) granted left)) ending self.new cache) }
-        ensures err { OnErr result (self.new ≡ self.old) }
+        ensures ok { (suite : gathering.Suite) (left : List ℕ) (granted : doing.Granted) (cache : Cache) → gathering.suite_of self.old.suites number ≡ Some suite → self.old.phase ≡ doing.Widening (number ∷ left) granted → IfOk result (λ ends. Steps (on_hearing self.old.task cache self.old.suites self.old.phase number server (heard suite said.now) (λ suite. course.widen_all self.old.task cache (gathering.with_suite number suite self.old.suites) granted left)) (put_in ends ended.new) self.new cache) }
+        ensures place { IfOk result (λ ends. Puts ends ended.old ended.new) }
+        ensures err { OnErr result ((self.new ≡ self.old) × (ended.new ≡ ended.old)) }
         ensures memory { (suite : gathering.Suite) → gathering.suite_of self.old.suites number ≡ Some suite → IfErr result (λ _. IsTrue (is_held said.now)) }
     {
         match self.hear(number, said)? {
-            Heard::Settled(suite) => Ok(self.widen_on(number, suite)),
-            heard => Ok(self.go_on(number, server, &heard)),
+            Heard::Settled(suite) => Ok(self.widen_on(number, suite, ended)),
+            heard => Ok(self.go_on(number, server, &heard, ended)),
         }
     }
 
     /// Widens the suites that are left, once one is settled.
-    fn widen_on(&mut self, number: u64, suite: Suite) -> Option<Ending>
+    fn widen_on(&mut self, number: u64, suite: Suite, ended: &mut Option<Ending>) -> bool
         requires { IsSome (gathering.suite_of self.old.suites number) }
-        ensures { (left : List ℕ) (granted : doing.Granted) (cache : Cache) → self.old.phase ≡ doing.Widening (number ∷ left) granted → Steps (course.widen_all self.old.task cache (gathering.with_suite number suite self.old.suites) granted left) result self.new cache }
+        ensures steps { (left : List ℕ) (granted : doing.Granted) (cache : Cache) → self.old.phase ≡ doing.Widening (number ∷ left) granted → Steps (course.widen_all self.old.task cache (gathering.with_suite number suite self.old.suites) granted left) (put_in result ended.new) self.new cache }
+        ensures place { Puts result ended.old ended.new }
     {
         self.suites.insert_in_room(number, suite);
         match self.leave() {
-            Phase::Widening { after, granted, .. } => self.widen_all(after, granted),
+            Phase::Widening { after, granted, .. } => self.widen_all(after, granted, ended),
             other => {
                 self.phase = other;
-                None
+                false
             }
         }
     }
 
     /// Goes on after a suite was told something by which it is not settled.
-    fn go_on(&mut self, number: u64, server: u8, heard: &Heard) -> Option<Ending>
-        ensures { (cache : Cache) → Steps (on_heard self.old.task cache self.old.suites self.old.phase number server heard.now) result self.new cache }
+    fn go_on(&mut self, number: u64, server: u8, heard: &Heard, ended: &mut Option<Ending>) -> bool
+        ensures steps { (cache : Cache) → Steps (on_heard self.old.task cache self.old.suites self.old.phase number server heard.now) (put_in result ended.new) self.new cache }
+        ensures place { Puts result ended.old ended.new }
     {
         match heard {
-            Heard::Lost => self.give_up(Cause::Lost { server }),
-            Heard::Short => self.gather(number),
-            Heard::Asks | Heard::Settled(_) => None,
+            Heard::Lost => self.give_up(Cause::Lost { server }, ended),
+            Heard::Short => self.gather(number, ended),
+            Heard::Asks | Heard::Settled(_) => false,
         }
     }
 
@@ -284,7 +282,7 @@ impl Course {
     }
 
     /// A suite takes a reply that gives no quorum, in its place. Of any other nothing changes.
-    fn hear_on(&mut self, number: u64, said: &Reply) -> Result<Onward, AllocError>
+    pub(crate) fn hear_on(&mut self, number: u64, said: &Reply) -> Result<Onward, AllocError>
         requires shown { shows_unused said.now ≡ true }
         ensures ok { (suite : gathering.Suite) → gathering.suite_of self.old.suites number ≡ Some suite → IfOk result (λ onward. GoesOnBy onward self.old number suite said.now self.new) }
         ensures err { OnErr result (self.new ≡ self.old) }
@@ -330,16 +328,18 @@ impl Course {
         number: u64,
         server: u8,
         said: &Reply,
-    ) -> Result<Option<Ending>, AllocError>
+        ended: &mut Option<Ending>,
+    ) -> Result<bool, AllocError>
         requires unused { HasUnused cache.old.entries }
-        ensures ok { IfOk result (λ ending. Steps (course.fetched (record { service = service.now; limits = cache.old.limits }) self.old.task cache.old.entries self.old.suites number (gathering.suite_of self.old.suites number) server (course.given_in said.now)) ending self.new cache.new.entries) }
-        ensures err { OnErr result ((self.new ≡ self.old) × (cache.new ≡ cache.old)) }
+        ensures ok { IfOk result (λ ends. Steps (course.fetched (record { service = service.now; limits = cache.old.limits }) self.old.task cache.old.entries self.old.suites number (gathering.suite_of self.old.suites number) server (course.given_in said.now)) (put_in ends ended.new) self.new cache.new.entries) }
+        ensures place { IfOk result (λ ends. Puts ends ended.old ended.new) }
+        ensures err { OnErr result ((self.new ≡ self.old) × (cache.new ≡ cache.old) × (ended.new ≡ ended.old)) }
         ensures limits { cache.new.limits ≡ cache.old.limits }
         ensures unused { HasUnused cache.new.entries }
         ensures memory { IfErr result (λ _. IsTrue (is_some (course.given_in said.now))) }
     {
         let Reply::Given { content, .. } = said else {
-            return Ok(self.give_up(Cause::Lost { server }));
+            return Ok(self.give_up(Cause::Lost { server }, ended));
         };
         let execution = Execution {
             alloc,
@@ -348,39 +348,41 @@ impl Course {
         };
         let sequel = execution.execute_given(&mut self.suites, cache, number, content)?;
         Ok(match sequel {
-            Some(sequel) => self.follow(sequel),
-            None => self.give_up(Cause::Lost { server }),
+            Some(sequel) => self.follow(sequel, ended),
+            None => self.give_up(Cause::Lost { server }, ended),
         })
     }
 
     /// Goes on to what follows an execution.
-    fn follow(&mut self, sequel: Sequel) -> Option<Ending>
-        ensures { (cache : Cache) → Steps (follow self.old.task cache self.old.suites sequel) result self.new cache }
+    pub(crate) fn follow(&mut self, sequel: Sequel, ended: &mut Option<Ending>) -> bool
+        ensures steps { (cache : Cache) → Steps (follow self.old.task cache self.old.suites sequel) (put_in result ended.new) self.new cache }
+        ensures place { Puts result ended.old ended.new }
     {
         match sequel {
-            Sequel::Gather(number) => self.gather(number),
+            Sequel::Gather(number) => self.gather(number, ended),
             Sequel::Fetch(number) => {
                 self.phase = Phase::Fetching(number);
-                None
+                false
             }
-            Sequel::Grant(granted) => self.widen_all(0, granted),
+            Sequel::Grant(granted) => self.widen_all(0, granted, ended),
             Sequel::Refuse(refusal) => {
                 let servers = locked_at(self.suites.as_slice());
                 self.prepare(servers, Err(refusal));
-                None
+                false
             }
         }
     }
 
     /// A suite is gathered, unless too few votes are to be had.
-    fn gather(&mut self, number: u64) -> Option<Ending>
-        ensures { (cache : Cache) → Steps (gather_again self.old.task cache self.old.suites number (gathering.suite_of self.old.suites number)) result self.new cache }
+    pub(crate) fn gather(&mut self, number: u64, ended: &mut Option<Ending>) -> bool
+        ensures steps { (cache : Cache) → Steps (gather_again self.old.task cache self.old.suites number (gathering.suite_of self.old.suites number)) (put_in result ended.new) self.new cache }
+        ensures place { Puts result ended.old ended.new }
     {
         let coming = self.suites.get(&number).map(Suite::next);
         if let Some(Coming::Short { got, needed, busy }) = coming {
-            return self.give_up(Cause::of_short(number, got, needed, busy));
+            return self.give_up(Cause::of_short(number, got, needed, busy), ended);
         }
         self.phase = Phase::Gathering(number);
-        None
+        false
     }
 }

@@ -7,6 +7,7 @@ ghost use Rattle.rep_core.specs.Store.{is_used_up};
 ghost use Rattle.weak_cache.specs.Entries.{max_sites};
 ghost use Rattle.txn_core.specs.code.Plans as planning;
 ghost use Rattle.txn_core.specs.code.Sequels.{follow, follow_or};
+ghost use Rattle.txn_core.specs.code.Settling.{RestoresAt, unsettled_at};
 ghost use Rattle.txn_core.specs.Suites.{suite_of, with_suite};
 ghost use Rattle.txn_core.specs.Transactions as course;
 ghost use Rattle.txn_core.specs.code.Unused.{HasUnused};
@@ -14,7 +15,7 @@ ghost use Rattle.txn_core.specs.code.Unused.{HasUnused};
 use crate::plan::Plan;
 use crate::sequel::Sequel;
 use crate::shelf::{Fetched, Shelf, put};
-use crate::suites::Suite;
+use crate::suites::{Suite, Unsettled};
 use crate::task::Task;
 use file_ops::Service;
 use sorted_map::RoomyMap;
@@ -66,6 +67,30 @@ impl<'a> Execution<'a> {
             Ok(sequel) => Ok(sequel),
             Err(refused) => {
                 put_back(suites, number, before);
+                Err(refused)
+            }
+        }
+    }
+
+    /// The same of suites of which one was settled in its place. A want of memory undoes that.
+    pub(crate) fn execute_settled(
+        self,
+        suites: &mut RoomyMap<u64, Suite>,
+        cache: &mut WeakCache,
+        number: u64,
+        before: Unsettled,
+    ) -> Result<Sequel, AllocError>
+        requires restores { RestoresAt before (suite_of suites.old.pairs number) }
+        requires hints { HasUnused cache.old.entries }
+        ensures ok { IfOk result (λ sequel. follow self.entry.task.now cache.new.entries suites.new.pairs sequel ≡ course.execute (planning.fixed_in self.entry cache.old) self.entry.task.now (record { suites = suites.old.pairs; cache = cache.old.entries })) }
+        ensures limits { cache.new.limits ≡ cache.old.limits }
+        ensures unused { HasUnused cache.new.entries }
+        ensures err { OnErr result ((suites.new.pairs ≡ unsettled_at number before (suite_of suites.old.pairs number) suites.old.pairs) × (cache.new ≡ cache.old)) }
+    {
+        match self.execute_after(suites, cache, None) {
+            Ok(sequel) => Ok(sequel),
+            Err(refused) => {
+                undo(suites, number, before);
                 Err(refused)
             }
         }
@@ -167,6 +192,16 @@ fn exchange(
         return None;
     };
     suite.exchange(content)
+}
+
+/// Undoes that a suite was settled in its place.
+fn undo(suites: &mut RoomyMap<u64, Suite>, number: u64, before: Unsettled)
+    requires { RestoresAt before (suite_of suites.old.pairs number) }
+    ensures { suites.new.pairs ≡ unsettled_at number before (suite_of suites.old.pairs number) suites.old.pairs }
+{
+    if let Some(suite) = suites.get_mut(&number) {
+        suite.undo(before);
+    }
 }
 
 /// Puts a suite back in place of the one of its number.

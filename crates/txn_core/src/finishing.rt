@@ -6,6 +6,7 @@ ghost use Rattle.rep_core.specs.declared.reply.Verdict.{Verdict as Ended};
 ghost use Rattle.weak_cache.specs.Entries.{Cache};
 ghost use Rattle.txn_core.specs.code.CourseFields.{phase_of};
 ghost use Rattle.txn_core.specs.Doing as doing;
+ghost use Rattle.txn_core.specs.code.Endings.{Puts, put_in};
 ghost use Rattle.txn_core.specs.code.Passing.{passed, passes_last};
 ghost use Rattle.txn_core.specs.code.Steps.{Steps};
 ghost use Rattle.txn_core.specs.Transactions as course;
@@ -32,14 +33,15 @@ impl Course {
     }
 
     /// The first server has prepared, or it has not.
-    pub(crate) fn prepared(&mut self, server: u8, said: &Reply) -> Option<Ending>
-        ensures { (now : ℕ) (left : List ℕ) (outcome : doing.Outcome) (cache : Cache) → self.old.phase ≡ doing.Preparing (now ∷ left) outcome → Steps (course.prepared self.old.task cache self.old.suites outcome server left said.now) result self.new cache }
+    pub(crate) fn prepared(&mut self, server: u8, said: &Reply, ended: &mut Option<Ending>) -> bool
+        ensures steps { (now : ℕ) (left : List ℕ) (outcome : doing.Outcome) (cache : Cache) → self.old.phase ≡ doing.Preparing (now ∷ left) outcome → Steps (course.prepared self.old.task cache self.old.suites outcome server left said.now) (put_in result ended.new) self.new cache }
+        ensures place { Puts result ended.old ended.new }
     {
         if !matches!(said, Reply::Prepared) {
-            return self.give_up(Cause::Lost { server });
+            return self.give_up(Cause::Lost { server }, ended);
         }
         self.one_prepared();
-        None
+        false
     }
 
     /// One server more has prepared.
@@ -76,69 +78,93 @@ impl Course {
     }
 
     /// What the home said. Only to tell answers again it may want memory.
-    pub(crate) fn decided(&mut self, said: &Reply) -> Result<Option<Ending>, AllocError>
-        ensures ok { IfOk result (λ ending. (cache : Cache) → Steps (course.decided self.old.task cache self.old.suites said.now) ending self.new cache) }
-        ensures err { OnErr result (self.new ≡ self.old) }
+    pub(crate) fn decided(
+        &mut self,
+        said: &Reply,
+        ended: &mut Option<Ending>,
+    ) -> Result<bool, AllocError>
+        ensures ok { IfOk result (λ ends. (cache : Cache) → Steps (course.decided self.old.task cache self.old.suites said.now) (put_in ends ended.new) self.new cache) }
+        ensures place { IfOk result (λ ends. Puts ends ended.old ended.new) }
+        ensures err { OnErr result ((self.new ≡ self.old) × (ended.new ≡ ended.old)) }
         ensures memory { IfErr result (λ _. IsTrue (is_answered (course.verdict_in said.now Verdict.Aborted))) }
     {
         let verdict = verdict_in(said)?;
         let ending = ending_by(&verdict, cause_of_abort(said))?;
-        Ok(self.finish(verdict, ending))
+        Ok(self.finish(verdict, ending, ended))
     }
 
     /// The end is told to each server that holds a lock.
-    fn finish(&mut self, verdict: Verdict, ending: Ending) -> Option<Ending>
-        ensures { (cache : Cache) → Steps (course.finish self.old.task cache self.old.suites verdict ending) result self.new cache }
+    fn finish(&mut self, verdict: Verdict, ending: Ending, ended: &mut Option<Ending>) -> bool
+        ensures steps { (cache : Cache) → Steps (course.finish self.old.task cache self.old.suites verdict ending) (put_in result ended.new) self.new cache }
+        ensures place { Puts result ended.old ended.new }
     {
         let servers = locked_at(self.suites.as_slice());
-        self.tell_end(servers, verdict, ending)
+        self.tell_end(servers, verdict, ending, ended)
     }
 
     /// A cause was met: nothing is decided any more.
-    pub(crate) fn give_up(&mut self, cause: Cause) -> Option<Ending>
-        ensures { (cache : Cache) → Steps (course.give_up self.old.task cache self.old.suites cause) result self.new cache }
+    pub(crate) fn give_up(&mut self, cause: Cause, ended: &mut Option<Ending>) -> bool
+        ensures steps { (cache : Cache) → Steps (course.give_up self.old.task cache self.old.suites cause) (put_in result ended.new) self.new cache }
+        ensures place { Puts result ended.old ended.new }
     {
-        self.finish(Verdict::Aborted, Ending::Undecided(cause))
+        self.finish(Verdict::Aborted, Ending::Undecided(cause), ended)
     }
 
     /// The end is told to these servers, one after the other.
-    fn tell_end(&mut self, servers: Servers, verdict: Verdict, ending: Ending) -> Option<Ending>
-        ensures { (cache : Cache) → Steps (course.tell_end self.old.task cache self.old.suites verdict ending servers) result self.new cache }
+    fn tell_end(
+        &mut self,
+        servers: Servers,
+        verdict: Verdict,
+        ending: Ending,
+        ended: &mut Option<Ending>,
+    ) -> bool
+        ensures steps { (cache : Cache) → Steps (course.tell_end self.old.task cache self.old.suites verdict ending servers) (put_in result ended.new) self.new cache }
+        ensures place { Puts result ended.old ended.new }
     {
         if servers.first().is_none() {
-            return Some(ending);
+            *ended = Some(ending);
+            return true;
         }
         self.phase = Phase::Finishing(servers, verdict, ending);
-        None
+        false
     }
 
     /// The end was told to the first server. Whatever comes of it changes nothing.
-    pub(crate) fn told(&mut self) -> Option<Ending>
-        ensures { (servers : List ℕ) (verdict : Ended) (ending : Ends) (cache : Cache) → self.old.phase ≡ doing.Finishing servers verdict ending → Steps (course.tell_end self.old.task cache self.old.suites verdict ending (drop 1 servers)) result self.new cache }
+    pub(crate) fn told(&mut self, ended: &mut Option<Ending>) -> bool
+        ensures steps { (servers : List ℕ) (verdict : Ended) (ending : Ends) (cache : Cache) → self.old.phase ≡ doing.Finishing servers verdict ending → Steps (course.tell_end self.old.task cache self.old.suites verdict ending (drop 1 servers)) (put_in result ended.new) self.new cache }
+        ensures place { Puts result ended.old ended.new }
     {
-        if self.pass() { self.end() } else { None }
+        if !self.pass() {
+            return false;
+        }
+        self.end(ended)
     }
 
     /// The end was told to all: the transaction is at its end.
-    fn end(&mut self) -> Option<Ending>
-        ensures { (verdict : Ended) (ending : Ends) (cache : Cache) → self.old.phase ≡ doing.Finishing [] verdict ending → Steps (course.tell_end self.old.task cache self.old.suites verdict ending []) result self.new cache }
+    fn end(&mut self, ended: &mut Option<Ending>) -> bool
+        ensures steps { (verdict : Ended) (ending : Ends) (cache : Cache) → self.old.phase ≡ doing.Finishing [] verdict ending → Steps (course.tell_end self.old.task cache self.old.suites verdict ending []) (put_in result ended.new) self.new cache }
+        ensures place { Puts result ended.old ended.new }
     {
         match self.leave() {
-            Phase::Finishing(_, _, ending) => Some(ending),
+            Phase::Finishing(_, _, ending) => {
+                *ended = Some(ending);
+                true
+            }
             other => {
                 self.phase = other;
-                None
+                false
             }
         }
     }
 
     /// A server did not serve what it was asked.
-    pub(crate) fn lacked(&mut self, server: u8, lack: Lack) -> Option<Ending>
-        ensures { (cache : Cache) → Steps (course.after_lack self.old.task cache self.old.suites self.old.phase server lack) result self.new cache }
+    pub(crate) fn lacked(&mut self, server: u8, lack: Lack, ended: &mut Option<Ending>) -> bool
+        ensures steps { (cache : Cache) → Steps (course.after_lack self.old.task cache self.old.suites self.old.phase server lack) (put_in result ended.new) self.new cache }
+        ensures place { Puts result ended.old ended.new }
     {
         match &self.phase {
-            Phase::Finishing(..) => self.told(),
-            _ => self.give_up(Cause::of_lack(server, lack)),
+            Phase::Finishing(..) => self.told(ended),
+            _ => self.give_up(Cause::of_lack(server, lack), ended),
         }
     }
 

@@ -20,6 +20,7 @@ mod phase;
 mod plan;
 mod sequel;
 mod servers;
+mod settling;
 mod shelf;
 mod sorting;
 mod suites;

@@ -9,6 +9,7 @@ ghost use Rattle.suite_collect.specs.Collecting as spec;
 ghost use Rattle.suite_collect.specs.Telling.{shown};
 ghost use Rattle.txn_core.specs.code.Coming.{told_one, settled_by};
 ghost use Rattle.txn_core.specs.code.HearingOn.{HearsOn};
+ghost use Rattle.txn_core.specs.code.Settling.{Restores, SettledBy, unsettled};
 ghost use Rattle.txn_core.specs.Suites as gathering;
 ghost use Rattle.txn_core.specs.code.Unused.{shows_unused};
 
@@ -18,7 +19,7 @@ use rep_core::Reply;
 use std::alloc::{AllocError, Global};
 use std::marker::Model;
 use std::mem;
-use suite_collect::{Collect, Coming, Members, Next};
+use suite_collect::{Before, Collect, Coming, Members, Next};
 use suite_content::Content;
 use suite_prefix::{LockMode, Prefix};
 use vote_core::Votes;
@@ -37,6 +38,14 @@ struct Gathered {
     first: Option<First>,
     mode: LockMode,
     content: Option<Content>,
+}
+
+/// What a suite was before the lock that completed its quorum, as far as the lock changed it.
+#[derive(Drop)]
+pub(crate) struct Unsettled {
+    collect: Before,
+    had_first: bool,
+    mode: LockMode,
 }
 
 impl Model for Suite {
@@ -216,6 +225,46 @@ impl Suite {
         }
         self.gathered.mode = self.gathered.collect.mode();
         Ok(())
+    }
+
+    /// Takes the lock that completes its quorum and is settled, and gives what undoes both. It leaves a reply
+    /// that does not, and may leave another: then it stays as it was. A want of memory leaves it as it was,
+    /// too.
+    pub(crate) fn settle_by(&mut self, reply: &Reply) -> Result<Option<Unsettled>, AllocError>
+        requires { shows_unused reply.now ≡ true }
+        ensures ok { IfOk result (λ before. SettledBy before self.old reply.now self.new) }
+        ensures err { OnErr result (self.new ≡ self.old) }
+        ensures memory { IfErr result (λ _. IsTrue (is_held reply.now)) }
+    {
+        let had_first = self.gathered.first.is_some();
+        let mode = self.gathered.mode;
+        let Some(collect) = self.gathered.collect.take_last(reply) else {
+            return Ok(None);
+        };
+        let before = Unsettled {
+            collect,
+            had_first,
+            mode,
+        };
+        match self.settle() {
+            Ok(()) => Ok(Some(before)),
+            Err(refused) => {
+                self.undo(before);
+                Err(refused)
+            }
+        }
+    }
+
+    /// Undoes that it was settled in its place.
+    pub(crate) fn undo(&mut self, before: Unsettled)
+        requires { Restores before self.old }
+        ensures { self.new ≡ unsettled before self.old }
+    {
+        self.gathered.collect.undo(before.collect);
+        if !before.had_first {
+            self.gathered.first = None;
+        }
+        self.gathered.mode = before.mode;
     }
 
     /// Whether a server answered that it holds a lock.

@@ -1,10 +1,12 @@
 //! A sweep's round: for each transaction that has a lock at a server, what its home says is told there,
 //! or, where it has prepared nothing, its locks are broken.
 
-ghost use Rattle.std.specs.Prelude.{◌≡◌, ◌==◌, ◌<◌, ◌≤◌, ◌^◌, ◌%◌, ◌+◌, ◌/◌, ◌||◌, length, take, drop, IfOk, IfErr, OnErr, OnSome, IsTrue, option_map, None, Some, IfSome, IfNone, []};
+ghost use Rattle.std.specs.Prelude.{◌≡◌, ◌==◌, ◌<◌, ◌≤◌, ◌^◌, ◌%◌, ◌+◌, ◌/◌, ◌||◌, length, take, drop, IfOk, IfErr, OnErr, OnSome, IsTrue, option_map, None, Some, IfSome, IfNone, [], true};
 ghost use Rattle.std.specs.List.{list_any};
 ghost use Rattle.rep_core.specs.Wanting.{by_request};
 ghost use Rattle.txn_core.specs.Doing as doing;
+ghost use Rattle.txn_core.specs.code.Endings.{Puts, put_in};
+ghost use Rattle.txn_core.specs.declared.ending.Cause.TheVariants.{Lost};
 ghost use Rattle.txn_core.specs.code.Sorting.{in_order};
 ghost use Rattle.txn_core.specs.Sweeps as sweeping;
 ghost use Rattle.txn_core.specs.Transactions as course;
@@ -80,14 +82,15 @@ impl Round {
         }
     }
 
-    /// What is asked next, and of which server. Only to tell answers again it may want memory.
-    pub(crate) fn next(&self, service: &Service) -> Result<(u8, Request), AllocError>
+    /// Of which server is asked next, and what, which is put into its place. Only to tell answers again it
+    /// may want memory.
+    pub(crate) fn ask(&self, service: &Service, request: &mut Request) -> Result<u8, AllocError>
         requires { (0 < service.now.servers) × (service.now.servers ≤ MAX_SERVERS) }
-        ensures ok { IfOk result (λ asked. asked ≡ sweeping.asked_now service.now self.now self.now.now) }
+        ensures ok { IfOk result (λ server. (server, request.new) ≡ sweeping.asked_now service.now self.now self.now.now) }
+        ensures err { OnErr result (request.new ≡ request.old) }
         ensures memory { IfErr result (λ _. IsTrue (by_request (sweeping.asked_now service.now self.now self.now.now).1)) }
     {
-        let server = self.asked(service);
-        let request = match &self.asking {
+        *request = match &self.asking {
             Asking::Locks => Request::Locks,
             Asking::Resolve(t) => Request::Resolve { t: *t },
             Asking::Finish(t, verdict) => {
@@ -99,7 +102,7 @@ impl Round {
                 suite: lock.suite,
             },
         };
-        Ok((server, request))
+        Ok(self.asked(service))
     }
 
     /// The server that is asked next.
@@ -113,80 +116,111 @@ impl Round {
         }
     }
 
-    /// The ending of a round of which what was asked next was not served.
-    pub(crate) fn lacked(&self, service: &Service, lack: Lack) -> Ending
+    /// What was asked next was not served: the round is at its end.
+    pub(crate) fn lacked(&self, service: &Service, lack: Lack, ended: &mut Option<Ending>) -> bool
         requires { (0 < service.now.servers) × (service.now.servers ≤ MAX_SERVERS) }
-        ensures { result ≡ Ending.Undecided (course.lack_cause (sweeping.asked_now service.now self.now self.now.now).0 lack) }
+        ensures ends { result ≡ true }
+        ensures place { ended.new ≡ Some (Ending.Undecided (course.lack_cause (sweeping.asked_now service.now self.now self.now.now).0 lack)) }
     {
-        Ending::Undecided(Cause::of_lack(self.asked(service), lack))
+        let cause = Cause::of_lack(self.asked(service), lack);
+        *ended = Some(Ending::Undecided(cause));
+        true
     }
 
-    /// Takes what was said to what was asked next, and gives the ending, where the round is at its end.
-    /// A list of locks and answers may want memory. Where it is refused, the round is as it was.
+    /// Takes what was said to what was asked next. Where the round is at its end, the ending is put into its
+    /// place: tells whether it is. A list of locks and answers may want memory. Where it is refused, the
+    /// round is as it was.
     pub(crate) fn answer(
         &mut self,
         alloc: Global,
         service: &Service,
         said: &Reply,
-    ) -> Result<Option<Ending>, AllocError>
+        ended: &mut Option<Ending>,
+    ) -> Result<bool, AllocError>
         requires { (0 < service.now.servers) × (service.now.servers ≤ MAX_SERVERS) }
-        ensures ok { IfOk result (λ ending. Comes (sweeping.after_answer service.now self.old self.old.now said.now) ending self.new) }
-        ensures err { OnErr result (self.new ≡ self.old) }
+        ensures ok { IfOk result (λ ends. Comes (sweeping.after_answer service.now self.old self.old.now said.now) (put_in ends ended.new) self.new) }
+        ensures place { IfOk result (λ ends. Puts ends ended.old ended.new) }
+        ensures err { OnErr result ((self.new ≡ self.old) × (ended.new ≡ ended.old)) }
         ensures memory { IfErr result (λ _. IsTrue (wanting.by_reply (sweeping.asked_now service.now self.old self.old.now).1 said.now)) }
     {
         match (&self.asking, said) {
-            (Asking::Locks, Reply::Locked(locks)) => self.list(alloc, locks.as_slice()),
+            (Asking::Locks, Reply::Locked(locks)) => self.list(alloc, locks.as_slice(), ended),
             (Asking::Resolve(t), Reply::Verdict(verdict)) => {
                 let (t, verdict) = (*t, verdict.clone()?);
                 self.asking = Asking::Finish(t, verdict);
-                Ok(None)
+                Ok(false)
             }
             (Asking::Resolve(t), _) if home_of(service, *t) != self.server => {
-                Ok(self.go_on(Counts {
+                let counts = Counts {
                     left: self.counts.left + 1,
                     ..self.counts
-                }))
+                };
+                Ok(self.go_on(counts, ended))
             }
-            (Asking::Finish(..), Reply::Done) => Ok(self.go_on(Counts {
-                finished: self.counts.finished + 1,
-                ..self.counts
-            })),
-            (Asking::Break(_), Reply::Done) => Ok(self.go_on(Counts {
-                broken: self.counts.broken + 1,
-                ..self.counts
-            })),
-            _ => Ok(Some(Ending::Undecided(Cause::Lost {
-                server: self.server,
-            }))),
+            (Asking::Finish(..), Reply::Done) => {
+                let counts = Counts {
+                    finished: self.counts.finished + 1,
+                    ..self.counts
+                };
+                Ok(self.go_on(counts, ended))
+            }
+            (Asking::Break(_), Reply::Done) => {
+                let counts = Counts {
+                    broken: self.counts.broken + 1,
+                    ..self.counts
+                };
+                Ok(self.go_on(counts, ended))
+            }
+            _ => Ok(self.lost(ended)),
         }
     }
 
+    /// The server that is swept is down.
+    fn lost(&self, ended: &mut Option<Ending>) -> bool
+        ensures ends { result ≡ true }
+        ensures place { ended.new ≡ Some (Ending.Undecided (Lost self.now.server)) }
+    {
+        *ended = Some(Ending::Undecided(Cause::Lost {
+            server: self.server,
+        }));
+        true
+    }
+
     /// The locks were told.
-    fn list(&mut self, alloc: Global, told: &[Lock]) -> Result<Option<Ending>, AllocError>
+    fn list(
+        &mut self,
+        alloc: Global,
+        told: &[Lock],
+        ended: &mut Option<Ending>,
+    ) -> Result<bool, AllocError>
         requires { self.old.now ≡ doing.Listing }
-        ensures ok { IfOk result (λ ending. Comes (sweeping.sweep_on self.old (sweeping.rising told.now)) ending self.new) }
-        ensures err { OnErr result (self.new ≡ self.old) }
+        ensures ok { IfOk result (λ ends. Comes (sweeping.sweep_on self.old (sweeping.rising told.now)) (put_in ends ended.new) self.new) }
+        ensures place { IfOk result (λ ends. Puts ends ended.old ended.new) }
+        ensures err { OnErr result ((self.new ≡ self.old) × (ended.new ≡ ended.old)) }
     {
         let mut locks = rising(alloc, told)?;
         let Some(asking) = first_of(&mut locks) else {
-            return Ok(Some(self.counts.swept()));
+            *ended = Some(self.counts.swept());
+            return Ok(true);
         };
         self.asking = asking;
         self.locks = locks;
-        Ok(None)
+        Ok(false)
     }
 
     /// Goes on to the locks that are left.
-    fn go_on(&mut self, counts: Counts) -> Option<Ending>
+    fn go_on(&mut self, counts: Counts, ended: &mut Option<Ending>) -> bool
         requires { total counts + length (left_in self.old.now) < 2 ^ 64 }
-        ensures { Comes (sweeping.sweep_on (with_counts counts self.old) (left_in self.old.now)) result self.new }
+        ensures comes { Comes (sweeping.sweep_on (with_counts counts self.old) (left_in self.old.now)) (put_in result ended.new) self.new }
+        ensures place { Puts result ended.old ended.new }
     {
         let Some(asking) = first_of(&mut self.locks) else {
-            return Some(counts.swept());
+            *ended = Some(counts.swept());
+            return true;
         };
         self.asking = asking;
         self.counts = counts;
-        None
+        false
     }
 }
 

@@ -1,34 +1,65 @@
-use Rattle.std.proofs.Common.{sym, subst}
-use Rattle.std.specs.Prelude.{IfOk}
-use Rattle.txn_core.specs.declared.course.Heard.{Heard}
-use Rattle.txn_core.specs.declared.hearing.Hearing.{Hearing}
+use Rattle.std.proofs.Common.{◌≡◌, ap, refl, sym, subst, ◌∙◌, None}
+use Rattle.std.specs.Prelude.{IsSome, IfOk, OnErr}
 use Rattle.txn_core.specs.Doing.{Course, Fixed}
+use Rattle.txn_core.specs.code.Endings.{put_in}
 use Rattle.txn_core.specs.code.Hearing.{heard, on_hearing}
-use Rattle.txn_core.specs.code.Hears.{Hears}
+use Rattle.txn_core.specs.code.HearingOn.{GoesOnBy}
 use Rattle.txn_core.specs.code.Steps.{Steps}
-use Rattle.txn_core.specs.Suites.{Suite, with_suite}
+use Rattle.txn_core.specs.declared.course.Heard.TheVariants as what
+use Rattle.txn_core.specs.declared.hearing.Onward.{Onward}
+use Rattle.txn_core.specs.Suites.{Suite, suite_of, with_suite}
 use Rattle.txn_core.specs.Transactions.{Step, execute}
-use Rattle.txn_core.proofs.InPlace.{goes_through}
+use Rattle.txn_core.proofs.InPlace.{goes_through, left_as, left_same}
 use Rattle.txn_core.proofs.course.Course.gathered.Goals as goal
 
-pub returns-in-Settled-clause-ok : goal.returns-in-Settled-clause-ok
-returns-in-Settled-clause-ok c = λ suite there.
+pub settle-requires-clause-there : goal.settle-requires-clause-there
+settle-requires-clause-there c =
     let now = c.args.self.now in
-    let cache = c.args.cache.now in
-    let fixed : Fixed = record { service = c.args.service.now; limits = cache.limits } in
-    let settled : Suite → Step = λ suite. execute fixed now.task (record { suites = with_suite c.args.number suite now.suites; cache = cache.entries }) in
-    let Heard' : Heard → Type 0 = λ what. Hears now c.args.number (heard suite c.args.said.now) what c.hear.new.self in
-    let hears = subst Heard' c.in-Settled.is (c.in_ok-heard.ensures.ok suite there) in
-    let After : Step → Type 0 = λ step. IfOk c.execute_with.result (λ ending. Steps step ending c.execute_with.new.self c.execute_with.new.cache.entries) in
-    let Went : Course → Type 0 = λ course. After (execute fixed course.task (record { suites = with_suite c.args.number c.in-Settled.suite course.suites; cache = cache.entries })) in
-    let What : Hearing → Type 0 = λ what. After (on_hearing now.task cache.entries now.suites now.phase c.args.number c.args.server what settled) in
-    subst What (sym hears.0) (subst Went hears.1 c.execute_with.ensures.ok)
+    let same = left_same now c.hear_on.new.self c.args.number c.args.said.now c.in_ok-hear_on.field-0 c.in-Left.is c.in_ok-hear_on.ensures.ok c.requires.there in
+    let There : Course → Type 0 = λ course. IsSome (suite_of course.suites c.args.number) in
+    subst There (sym same) c.requires.there
 
-pub returns-in_default-clause-ok : goal.returns-in_default-clause-ok
-returns-in_default-clause-ok c = λ suite there.
+pub returns-in-Left-clause-ok : goal.returns-in-Left-clause-ok
+returns-in-Left-clause-ok c = λ suite there.
     let now = c.args.self.now in
     let cache = c.args.cache.now in
     let fixed : Fixed = record { service = c.args.service.now; limits = cache.limits } in
+    let same = (left_as now c.hear_on.new.self c.args.number c.args.said.now c.in_ok-hear_on.field-0 c.in-Left.is c.in_ok-hear_on.ensures.ok suite there).0 in
+    let Went : Course → Type 0 = λ course.
+    IfOk c.settle.result (λ ends. Steps (on_hearing course.task cache.entries course.suites course.phase c.args.number c.args.server (heard suite c.args.said.now) (λ suite. execute fixed course.task (record { suites = with_suite c.args.number suite course.suites; cache = cache.entries }))) (put_in ends c.settle.new.ended) c.settle.new.self c.settle.new.cache.entries) in
+    subst Went same (c.settle.ensures.ok suite (ap (λ (course : Course). suite_of course.suites c.args.number) same ∙ there))
+
+pub returns-in-Left-clause-err : goal.returns-in-Left-clause-err
+returns-in-Left-clause-err c =
+    let now = c.args.self.now in
+    let same = left_same now c.hear_on.new.self c.args.number c.args.said.now c.in_ok-hear_on.field-0 c.in-Left.is c.in_ok-hear_on.ensures.ok c.requires.there in
+    let Same' : Course → Type 0 = λ course. OnErr c.settle.result ((c.settle.new.self ≡ course) × (c.settle.new.cache ≡ c.args.cache.now) × (c.settle.new.ended ≡ c.args.ended.now)) in
+    subst Same' same c.settle.ensures.err
+
+pub returns-in-Left-clause-memory : goal.returns-in-Left-clause-memory
+returns-in-Left-clause-memory c = λ suite there.
+    let now = c.args.self.now in
+    let same = (left_as now c.hear_on.new.self c.args.number c.args.said.now c.in_ok-hear_on.field-0 c.in-Left.is c.in_ok-hear_on.ensures.ok suite there).0 in
+    c.settle.ensures.memory suite (ap (λ (course : Course). suite_of course.suites c.args.number) same ∙ there)
+
+pub returns-in-Asks-clause-ok : goal.returns-in-Asks-clause-ok
+returns-in-Asks-clause-ok c = λ suite there.
+    let now = c.args.self.now in
+    let cache = c.args.cache.now in
+    let given = c.hear_on.new.self in
+    let fixed : Fixed = record { service = c.args.service.now; limits = cache.limits } in
     let settled : Suite → Step = λ suite. execute fixed now.task (record { suites = with_suite c.args.number suite now.suites; cache = cache.entries }) in
-    goes_through now c.hear.new.self c.go_on.new.self c.args.number c.args.server (heard suite c.args.said.now) c.in_ok-heard.heard cache.entries settled c.go_on.result c.in_default.not-Settled
-    (c.in_ok-heard.ensures.ok suite there) (c.go_on.ensures cache.entries)
+    let Goes : Onward → Type 0 = λ onward. GoesOnBy onward now c.args.number suite c.args.said.now given in
+    goes_through now given given c.args.number c.args.server (heard suite c.args.said.now) what.Asks cache.entries settled None (λ suite is. cc)
+    (subst Goes c.in-Asks.is (c.in_ok-hear_on.ensures.ok suite there)) (refl, (refl, refl))
+
+pub returns-in-Short-clause-ok : goal.returns-in-Short-clause-ok
+returns-in-Short-clause-ok c = λ suite there.
+    let now = c.args.self.now in
+    let cache = c.args.cache.now in
+    let given = c.hear_on.new.self in
+    let fixed : Fixed = record { service = c.args.service.now; limits = cache.limits } in
+    let settled : Suite → Step = λ suite. execute fixed now.task (record { suites = with_suite c.args.number suite now.suites; cache = cache.entries }) in
+    let Goes : Onward → Type 0 = λ onward. GoesOnBy onward now c.args.number suite c.args.said.now given in
+    goes_through now given c.gather.new.self c.args.number c.args.server (heard suite c.args.said.now) what.Short cache.entries settled (put_in c.gather.result c.gather.new.ended) (λ suite is. cc)
+    (subst Goes c.in-Short.is (c.in_ok-hear_on.ensures.ok suite there)) (c.gather.ensures.steps cache.entries)

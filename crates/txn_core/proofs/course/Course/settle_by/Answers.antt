@@ -1,0 +1,17 @@
+use Rattle.std.proofs.Common.{ap, nat_cmp}
+use Rattle.sorted_map.specs.SortedMap.{replace}
+use Rattle.txn_core.specs.Doing.{Course}
+use Rattle.txn_core.proofs.Settled.{settled_there, unsettled_err}
+use Rattle.txn_core.proofs.course.Course.settle_by.Goals as goal
+
+pub returns-clause-ok : goal.returns-clause-ok
+returns-clause-ok c =
+    let held = c.self.inside.suites.pairs in
+    settled_there c.args.self.now _ held c.args.number c.in-Some.suite.now c.settle_by.new.self c.args.said.now (ap (λ (course : Course). course.suites) c.self.view_is) c.in-Some.ensures.value c.get_mut.ensures.ordered
+    (ap (λ (course : Course). record course { suites = replace nat_cmp held c.args.number c.settle_by.new.self }) c.self.view_is) c.settle_by.result c.settle_by.ensures.ok
+
+pub returns-clause-err : goal.returns-clause-err
+returns-clause-err c =
+    let held = c.self.inside.suites.pairs in
+    unsettled_err c.args.self.now _ held c.args.number c.in-Some.suite.now c.settle_by.new.self c.args.said.now (ap (λ (course : Course). course.suites) c.self.view_is) c.in-Some.ensures.value c.get_mut.ensures.ordered
+    (ap (λ (course : Course). record course { suites = replace nat_cmp held c.args.number c.settle_by.new.self }) c.self.view_is) c.settle_by.result c.settle_by.ensures.err
