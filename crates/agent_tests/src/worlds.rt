@@ -127,8 +127,9 @@ fn ended(rt: &(impl Abort + AllocGlobal), world: &mut World, line: &str) -> Stri
 /// The same, where only that is told.
 fn told(rt: &(impl Abort + AllocGlobal), world: &mut World, line: &str) -> String {
     let event = event(rt, line);
-    let outcome = again!(rt, world.advance(&event));
-    ending(rt, &outcome)
+    let mut ended = None;
+    again!(rt, world.advance(&event, &mut ended));
+    ending(rt, &ended)
 }
 
 /// How a job ended, in words; none, if none did.

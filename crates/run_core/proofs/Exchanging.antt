@@ -1,6 +1,7 @@
 -- What one request of an agent to a server leaves of the two.
 use Rattle.std.proofs.Common.{◌≡◌, ℕ, zero, suc, Bool, true, false, cond, List, [], ◌∷◌, Option, Some, None, Result, Ok, Err, refl, ap, ◌∙◌, sym}
-use Rattle.std.specs.Prelude.{slice_get, slice_set, IfOk, OnOk}
+use Rattle.std.specs.Prelude.{slice_get, slice_set, option_map, OnOk}
+use Rattle.std.specs.Option.{option_or}
 use Rattle.std.specs.declared.alloc.AllocError.{AllocError}
 use Rattle.rep_core.specs.declared.request.Request.{Request}
 use Rattle.rep_core.specs.declared.stamped.Stamped.{Stamped}
@@ -18,7 +19,7 @@ use Rattle.run_core.specs.declared.done.Served.{Served}
 use Rattle.run_core.specs.declared.seat.Heard.{Heard}
 use Rattle.run_core.specs.Worlds.{with_actor, answered, outcome_of}
 use Rattle.run_core.specs.code.Seats.{Seated, Fits, after_word}
-use Rattle.run_core.specs.code.Exchanges.{Takes, Hears, IsExchange, IsExchangeOf, IsUnserved}
+use Rattle.run_core.specs.code.Exchanges.{AsksOf, Takes, Hears, IsExchange, IsExchangeOf, IsUnserved}
 
 pub not_true : (b : Bool) → (b ≡ true → ⊥) → b ≡ false
 not_true true never = absurd (never refl)
@@ -30,12 +31,21 @@ set_there [] i x there = refl
 set_there (y ∷ ys) zero x there = let same : x ≡ y = cc in ap (λ z. z ∷ ys) same
 set_there (y ∷ ys) (suc i) x there = ap (λ zs. y ∷ zs) (set_there ys i x there)
 
+-- what is put into an empty place
+pub or_nothing : {X : Type 0} (x : Option X) → option_or x None ≡ x
+or_nothing (Some x) = refl
+or_nothing None = refl
+
 -- what a server answers fits what was asked, and so does that it did not serve it
 pub reply_fits_seat : (host : State) (seat : Seated) (server : ℕ) (asked : Request) → IsSound host.store → next_of seat.fixed seat.actor.agent ≡ Some (server, asked) → Fits seat (Replied (reply_of host asked))
 reply_fits_seat host seat server asked sound next = rw next (reply_fits host asked sound)
 
 pub lack_fits_seat : (seat : Seated) (server : ℕ) (asked : Request) (lack : Lack) → next_of seat.fixed seat.actor.agent ≡ Some (server, asked) → Fits seat (Lacked lack)
 lack_fits_seat seat server asked lack next = rw next refl
+
+-- of which server it asks
+pub asks_of_seat : (seat : Seated) (server : ℕ) (asked : Request) → next_of seat.fixed seat.actor.agent ≡ Some (server, asked) → AsksOf server seat
+asks_of_seat seat server asked next = ap (option_map (λ (one : ℕ × Request). one.0)) next
 
 abbrev stamped : Seated → Request → Stamped Request
 stamped seat asked = record { stamp = seat.actor.stamp; value = asked }
@@ -67,11 +77,12 @@ asking stamp asked = record { stamp = stamp; value = asked }
 
 pub full_exchange : (host host' : State) (seat seat1 seat' : Seated) (server number stamp : ℕ) (asked sent : Request) (lack : Lack) (outcome : Option Outcome)
     → sent ≡ asked → stamp ≡ seat.actor.stamp → (lack ≡ Full → is_full host (asking stamp sent) ≡ true) → host' ≡ host → seat1 ≡ seat
-    → IsUnserved number lack seat1 seat' outcome
+    → IsUnserved number lack seat1 seat' None outcome
     → IsExchange host host' seat seat' server number asked (record { served = None; outcome = outcome })
 full_exchange host host' seat seat1 seat' server number stamp asked sent lack outcome sent_is stamp_is full host_is seat_is unserved =
     let is_full_there = rw (sent_is, stamp_is) at (full unserved.full) in
-    rw (host_is, unserved.seat_is, unserved.outcome_is, seat_is) (was_full host seat server number asked is_full_there)
+    let outcome_is = rw seat_is at (unserved.ended_is ∙ or_nothing (outcome_of number seat1.actor (take seat1.fixed seat1.actor.agent (Lacked Full)).ending)) in
+    rw (host_is, unserved.seat_is, outcome_is, seat_is) (was_full host seat server number asked is_full_there)
 
 pub served_exchange : (host host' : State) (seat seat' seat0 seat1 : Seated) (server number stamp : ℕ) (asked sent : Request) (heard : Result Heard AllocError) (told : Heard)
     → sent ≡ asked → stamp ≡ seat.actor.stamp → heard ≡ Ok told → seat0 ≡ seat → seat1 ≡ seat'
@@ -82,17 +93,38 @@ served_exchange host host' seat seat' seat0 seat1 server number stamp asked sent
     let host'_is = rw (heard_is, sent_is, stamp_is) at host_is in
     let all = rw (heard_is, sent_is, stamp_is, seat0_is, seat1_is) at hears in
     let full = rw (sent_is, stamp_is) at not_full in
-    rw (stamp_is, host'_is, all.0, all.1.0, all.1.1) (was_served host seat server number asked (not_true _ full))
+    rw (stamp_is, host'_is, all.0, all.1, all.2) (was_served host seat server number asked (not_true _ full))
 
--- the same, of which only the outcome is told
-pub served_advance : (host host' : State) (seat seat' seat0 seat1 : Seated) (number stamp : ℕ) (asked : Request) (taken : Result (Option Outcome) AllocError)
-    → stamp ≡ seat.actor.stamp → seat0 ≡ seat → seat1 ≡ seat'
+-- ---- the same, of which only the outcome is told, in a place that else keeps what it has
+
+pub full_advance : (host host' : State) (seat seat0 seat1 seat' : Seated) (server number stamp : ℕ) (asked : Request) (lack : Lack) (ended ended0 ended1 ended' : Option Outcome)
+    → stamp ≡ seat.actor.stamp → (lack ≡ Full → is_full host (asking stamp asked) ≡ true) → host' ≡ host → seat0 ≡ seat → seat1 ≡ seat' → ended0 ≡ ended → ended1 ≡ ended'
+    → IsUnserved number lack seat0 seat1 ended0 ended1
+    → IsExchangeOf host host' seat seat' server number asked ended ended'
+full_advance host host' seat seat0 seat1 seat' server number stamp asked lack ended ended0 ended1 ended' stamp_is full host_is seat0_is seat1_is ended0_is ended1_is unserved =
+    let is_full_there = rw stamp_is at (full unserved.full) in
+    let seat'_is = rw (seat0_is, seat1_is) at unserved.seat_is in
+    let ended'_is = rw (seat0_is, ended0_is, ended1_is) at unserved.ended_is in
+    record {
+      served = None;
+      outcome = outcome_of number seat.actor (take seat.fixed seat.actor.agent (Lacked Full)).ending;
+      exchange = rw (host_is, seat'_is) (was_full host seat server number asked is_full_there);
+      ended_is = ended'_is;
+    }
+
+pub served_advance : (host host' : State) (seat seat' seat0 seat1 : Seated) (server number stamp : ℕ) (asked : Request) (ended ended0 ended1 ended' : Option Outcome) (taken : Result (Unit {0}) AllocError)
+    → stamp ≡ seat.actor.stamp → seat0 ≡ seat → seat1 ≡ seat' → ended0 ≡ ended → ended1 ≡ ended'
     → (is_full host (asking stamp asked) ≡ true → ⊥) → OnOk taken (host' ≡ served host (asking stamp asked))
-    → Takes number seat0 (answer_of host (asking stamp asked)) taken seat1
-    → IfOk taken (λ outcome. IsExchangeOf host host' seat seat' number asked outcome)
-served_advance host host' seat seat' seat0 seat1 number stamp asked (Ok outcome) stamp_is seat0_is seat1_is not_full host_is takes =
+    → Takes number seat0 ended0 (answer_of host (asking stamp asked)) taken seat1 ended1
+    → OnOk taken (IsExchangeOf host host' seat seat' server number asked ended ended')
+served_advance host host' seat seat' seat0 seat1 server number stamp asked ended ended0 ended1 ended' (Ok done) stamp_is seat0_is seat1_is ended0_is ended1_is not_full host_is takes =
     let host'_is = rw stamp_is at host_is in
-    let all = rw (stamp_is, seat0_is, seat1_is) at takes in
+    let all = rw (stamp_is, seat0_is, seat1_is, ended0_is, ended1_is) at takes in
     let full = rw stamp_is at not_full in
-    λ server. (Some (of_it host seat server asked), rw (host'_is, all.0, all.1) (was_served host seat server number asked (not_true _ full)))
-served_advance host host' seat seat' seat0 seat1 number stamp asked (Err why) stamp_is seat0_is seat1_is not_full host_is takes = tt
+    record {
+      served = Some (of_it host seat server asked);
+      outcome = outcome_of number seat.actor (take seat.fixed seat.actor.agent (Replied (reply_of host asked))).ending;
+      exchange = rw (host'_is, all.1) (was_served host seat server number asked (not_true _ full));
+      ended_is = all.0;
+    }
+served_advance host host' seat seat' seat0 seat1 server number stamp asked ended ended0 ended1 ended' (Err why) stamp_is seat0_is seat1_is ended0_is ended1_is not_full host_is takes = tt

@@ -1,6 +1,7 @@
 -- What the code keeps of agents, against the definitions.
 use Rattle.std.proofs.Common.{◌≡◌, ℕ, List, Option, Some, None, Result, Ok, Err, refl, ap, subst, ◌∙◌, sym}
-use Rattle.std.specs.Prelude.{slice_get, slice_set, option_map, IfOk, OnErr}
+use Rattle.std.specs.Prelude.{slice_get, slice_set, option_map, OnErr, OnOk}
+use Rattle.std.specs.Option.{option_or}
 use Rattle.std.specs.declared.alloc.AllocError.{AllocError}
 use Rattle.std.proofs.lemmas.List.{map-set}
 use Rattle.std.proofs.lemmas.List.Elements.{All-set, All-same}
@@ -15,7 +16,7 @@ use Rattle.run_core.specs.declared.done.Outcome.{Outcome}
 use Rattle.run_core.specs.Worlds.{Actor, World, Stepped, becomes, quiet, steps_once, asks, asks_at, answered, serve, lacks, lacks_for, lacked, outcome_of}
 use Rattle.run_core.specs.code.Seats.{Seated, changed, actors_in, world_of, AreOf, Becomes, after_word}
 use Rattle.run_core.specs.code.Exchanges.{IsExchange, IsExchangeOf, ComesTo}
-use Rattle.run_core.proofs.Exchanging.{set_there}
+use Rattle.run_core.proofs.Exchanging.{or_nothing, set_there}
 
 -- ---- places
 
@@ -107,27 +108,33 @@ ask_there fixed servers seats place server seat seat' host host' asked done all 
 
 -- ---- Step, of which only the outcome is told
 
-pub comes_to : (stepped : Stepped) (world : World) (done : Done) → stepped ≡ record { world = world; done = done } → ComesTo stepped world done.outcome
-comes_to stepped world done is = record {
+-- what is asked, put into a place
+pub asks_nobody : (server : Option ℕ) (asked : Request) (next : Option (ℕ × Request)) → option_map (λ (server : ℕ). (server, asked)) server ≡ next → server ≡ None → next ≡ None
+asks_nobody server asked next same is = sym same ∙ ap (option_map (λ (server : ℕ). (server, asked))) is
+
+pub asks_somebody : (server : Option ℕ) (asked : Request) (next : Option (ℕ × Request)) (one : ℕ) → option_map (λ (server : ℕ). (server, asked)) server ≡ next → server ≡ Some one → next ≡ Some (one, asked)
+asks_somebody server asked next one same is = sym same ∙ ap (option_map (λ (server : ℕ). (server, asked))) is
+
+pub comes_to : (stepped : Stepped) (world : World) (done : Done) (ended ended' : Option Outcome) → stepped ≡ record { world = world; done = done } → ended' ≡ option_or done.outcome ended → ComesTo stepped world ended ended'
+comes_to stepped world done ended ended' is put = record {
   world_is = sym (ap (λ (one : Stepped). one.world) is);
-  outcome_is = sym (ap (λ (one : Stepped). one.done.outcome) is);
+  ended_is = put ∙ ap (λ (one : Stepped). option_or one.done.outcome ended) (sym is);
 }
 
-pub advance_there : (fixed : Fixed) (servers : List State) (seats : List Seated) (place server : ℕ) (seat seat' : Seated) (host host' : State) (asked : Request) (outcome : Option Outcome)
+pub advance_there : (fixed : Fixed) (servers : List State) (seats : List Seated) (place server : ℕ) (seat seat' : Seated) (host host' : State) (asked : Request) (ended ended' : Option Outcome)
     → AreOf fixed seats → slice_get seats place ≡ Some seat → next_of seat.fixed seat.actor.agent ≡ Some (server, asked) → slice_get servers server ≡ Some host
-    → IsExchangeOf host host' seat seat' place asked outcome
-    → ComesTo (steps_once fixed (world_of servers seats) place (slice_get (actors_in seats) place)) (world_of (slice_set servers server host') (slice_set seats place seat')) outcome
-advance_there fixed servers seats place server seat seat' host host' asked outcome all is next there exchange =
-    let told = exchange server in
-    comes_to _ _ _ (ask_there fixed servers seats place server seat seat' host host' asked (record { served = told.0; outcome = outcome }) all is next there told.1)
+    → IsExchangeOf host host' seat seat' server place asked ended ended'
+    → ComesTo (steps_once fixed (world_of servers seats) place (slice_get (actors_in seats) place)) (world_of (slice_set servers server host') (slice_set seats place seat')) ended ended'
+advance_there fixed servers seats place server seat seat' host host' asked ended ended' all is next there told =
+    comes_to _ _ _ ended ended' (ask_there fixed servers seats place server seat seat' host host' asked (record { served = told.served; outcome = told.outcome }) all is next there told.exchange) told.ended_is
 
 -- whether it was served or not, the agent is of the same service
-pub of_advancing : (fixed : Fixed) (seats : List Seated) (place number : ℕ) (seat seat' : Seated) (host host' : State) (asked : Request) (told : Result (Option Outcome) AllocError)
+pub of_advancing : (fixed : Fixed) (seats : List Seated) (place server number : ℕ) (seat seat' : Seated) (host host' : State) (asked : Request) (ended ended' : Option Outcome) (told : Result (Unit {0}) AllocError)
     → AreOf fixed seats → slice_get seats place ≡ Some seat
-    → IfOk told (λ outcome. IsExchangeOf host host' seat seat' number asked outcome) → OnErr told ((host' ≡ host) × (seat' ≡ seat))
+    → OnOk told (IsExchangeOf host host' seat seat' server number asked ended ended') → OnErr told ((host' ≡ host) × (seat' ≡ seat) × (ended' ≡ ended))
     → AreOf fixed (slice_set seats place seat')
-of_advancing fixed seats place number seat seat' host host' asked (Ok outcome) all is exchange same = of_set fixed seats place seat seat' all is (exchange 0).1.fixed
-of_advancing fixed seats place number seat seat' host host' asked (Err why) all is exchange same = of_set fixed seats place seat seat' all is (ap (λ (one : Seated). one.fixed) same.1)
+of_advancing fixed seats place server number seat seat' host host' asked ended ended' (Ok done) all is told same = of_set fixed seats place seat seat' all is told.exchange.fixed
+of_advancing fixed seats place server number seat seat' host host' asked ended ended' (Err why) all is told same = of_set fixed seats place seat seat' all is (ap (λ (one : Seated). one.fixed) same.1)
 
 -- ---- Lack
 
@@ -148,9 +155,10 @@ lack_nothing fixed servers seats place word seat all is next = lack_somebody fix
 
 pub lack_there : (fixed : Fixed) (servers : List State) (seats : List Seated) (place : ℕ) (word : Word) (seat seat' : Seated) (asked : ℕ × Request) (outcome : Option Outcome)
     → AreOf fixed seats → slice_get seats place ≡ Some seat → next_of seat.fixed seat.actor.agent ≡ Some asked
-    → seat' ≡ after_word seat seat.actor.stamp word → outcome ≡ outcome_of place seat.actor (take seat.fixed seat.actor.agent word).ending
+    → seat' ≡ after_word seat seat.actor.stamp word → outcome ≡ option_or (outcome_of place seat.actor (take seat.fixed seat.actor.agent word).ending) None
     → lacks fixed (world_of servers seats) place word (slice_get (actors_in seats) place) ≡ record { world = world_of servers (slice_set seats place seat'); done = record { served = None; outcome = outcome } }
-lack_there fixed servers seats place word seat seat' asked outcome all is next seat'_is outcome_is =
+lack_there fixed servers seats place word seat seat' asked outcome all is next seat'_is put =
+    let outcome_is = put ∙ or_nothing (outcome_of place seat.actor (take seat.fixed seat.actor.agent word).ending) in
     lack_somebody fixed servers seats place word seat (Some asked) all is next
     ∙ ap (λ (given : Fixed). lacked given (world_of servers seats) place seat.actor word) (sym (fixed_there fixed seats place seat all is))
     ∙ rw (outcome_is, seat'_is) (ap (λ (actors : List Actor). record { world = record { servers = servers; agents = actors }; done = record { served = None; outcome = outcome_of place seat.actor (take seat.fixed seat.actor.agent word).ending } }) (sym (actors_set seats place (after_word seat seat.actor.stamp word))))

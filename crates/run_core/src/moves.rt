@@ -13,9 +13,9 @@ ghost use Rattle.rep_core.specs.State.{State};
 use crate::done::{Done, Outcome};
 use crate::exchange;
 use crate::seat::Seat;
-use rep_core::{Lack, Server};
+use rep_core::{Lack, Request, Server, Stamped};
 use std::alloc::AllocError;
-use txn_core::{Job, Word};
+use txn_core::Job;
 
 /// The agent of this number begins a job.
 pub(crate) fn begin(seats: &mut Vec<Seat>, number: u8, job: &Job) -> Result<(), AllocError>
@@ -62,28 +62,33 @@ pub(crate) fn ask(
     exchange::exchange(host, server, seat, number, request)
 }
 
-/// The same, of which only how a job ended is told.
+/// The same, of which only how a job ended is told: it is put into a place of the caller's, which else keeps
+/// what it has.
 pub(crate) fn advance(
     servers: &mut Vec<Server>,
     seats: &mut Vec<Seat>,
     number: u8,
-) -> Result<Option<Outcome>, AllocError>
+    ended: &mut Option<Outcome>,
+) -> Result<(), AllocError>
     ensures of { (fixed : Fixed) → AreOf fixed seats.old.items → AreOf fixed seats.new.items }
-    ensures ok { IfOk result (λ outcome. (fixed : Fixed) → AreOf fixed seats.old.items → ComesTo (worlds.steps_once fixed (world_of servers.old.items seats.old.items) number (slice_get (actors_in seats.old.items) number)) (world_of servers.new.items seats.new.items) outcome) }
-    ensures err { OnErr result ((servers.new.items ≡ servers.old.items) × (seats.new.items ≡ seats.old.items)) }
+    ensures ok { OnOk result ((fixed : Fixed) → AreOf fixed seats.old.items → ComesTo (worlds.steps_once fixed (world_of servers.old.items seats.old.items) number (slice_get (actors_in seats.old.items) number)) (world_of servers.new.items seats.new.items) ended.old ended.new) }
+    ensures err { OnErr result ((servers.new.items ≡ servers.old.items) × (seats.new.items ≡ seats.old.items) × (ended.new ≡ ended.old)) }
     ensures memory { IfErr result (λ _. (fixed : Fixed) → AreOf fixed seats.old.items → IsTrue (wanting.by_step fixed (world_of servers.old.items seats.old.items) (slice_get (actors_in seats.old.items) number))) }
 {
     let Some(seat) = seats.get_mut(usize::from(number)) else {
-        return Ok(None);
+        return Ok(());
     };
-    let Some(asked) = seat.next()? else {
-        return Ok(None);
+    let mut asked = Stamped {
+        stamp: seat.stamp(),
+        value: Request::Locks,
     };
-    let (server, request) = asked;
+    let Some(server) = seat.ask(&mut asked.value)? else {
+        return Ok(());
+    };
     let Some(host) = servers.get_mut(usize::from(server)) else {
-        return Ok(None);
+        return Ok(());
     };
-    exchange::advance(host, seat, number, request)
+    exchange::advance(host, server, seat, number, asked, ended)
 }
 
 /// The agent of this number is told that its request is not served, which takes no memory.
@@ -97,10 +102,8 @@ pub(crate) fn lack(seats: &mut Vec<Seat>, number: u8, lack: Lack) -> Done
     let Some(_server) = seat.asked() else {
         return Done::nothing();
     };
-    let stamp = seat.stamp();
-    let Ok(outcome) = seat.take(number, stamp, &Word::Lacked(lack)) else {
-        unreachable!();
-    };
+    let mut outcome = None;
+    seat.lack(number, lack, &mut outcome);
     Done {
         served: None,
         outcome,

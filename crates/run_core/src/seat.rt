@@ -1,14 +1,15 @@
 //! An agent in a world.
 
-ghost use Rattle.std.specs.Prelude.{◌≡◌, ◌<◌, IfOk, IfErr, IsTrue, OnOk, OnErr, option_map};
+ghost use Rattle.std.specs.Prelude.{◌≡◌, ◌<◌, IfNone, IfOk, IfErr, IsTrue, OnOk, OnErr, Some, option_map};
+ghost use Rattle.std.specs.Option.{option_or};
 ghost use Rattle.txn_core.specs.Agents as agents;
 ghost use Rattle.txn_core.specs.Wanting as wanting;
-ghost use Rattle.txn_core.specs.declared.word.Word.TheVariants.{Replied};
+ghost use Rattle.txn_core.specs.declared.word.Word.TheVariants.{Lacked, Replied};
 ghost use Rattle.run_core.specs.Worlds.{one_more, outcome_of, steps_after};
 ghost use Rattle.run_core.specs.code.Seats as seats;
 
 use crate::done::Outcome;
-use rep_core::{Reply, Request, Stamped};
+use rep_core::{Lack, Reply, Request, Stamped};
 use std::alloc::{AllocError, Global};
 use std::marker::Model;
 use suite_prefix::Settings;
@@ -74,6 +75,16 @@ impl Seat {
         self.agent.next()
     }
 
+    /// The same, where what it asks is put into a place of the caller's.
+    pub(crate) fn ask(&self, request: &mut Request) -> Result<Option<u8>, AllocError>
+        ensures ok { IfOk result (λ server. option_map (λ server. (server, request.new)) server ≡ agents.next_of self.now.fixed self.now.actor.agent) }
+        ensures none { IfOk result (λ server. IfNone server (request.new ≡ request.old)) }
+        ensures err { OnErr result (request.new ≡ request.old) }
+        ensures memory { IfErr result (λ _. IsTrue (wanting.by_asking (agents.next_of self.now.fixed self.now.actor.agent))) }
+    {
+        self.agent.ask(request)
+    }
+
     /// Begins a job.
     pub(crate) fn begin(&mut self, job: &Job) -> Result<(), AllocError>
         ensures ok { OnOk result (self.new ≡ seats.changed self.old (agents.begin self.old.fixed self.old.actor.agent job.now)) }
@@ -90,72 +101,95 @@ impl Seat {
         self.agent.forget(site);
     }
 
-    /// Takes a word, and has this stamp from then on.
-    pub(crate) fn take(
-        &mut self,
-        number: u8,
-        stamp: u64,
-        word: &Word,
-    ) -> Result<Option<Outcome>, AllocError>
-        requires { seats.Fits self.old word.now }
-        ensures outcome { IfOk result (λ outcome. outcome ≡ outcome_of number self.old.actor (agents.take self.old.fixed self.old.actor.agent word.now).ending) }
-        ensures state { OnOk result (self.new ≡ seats.after_word self.old stamp word.now) }
-        ensures err { OnErr result (self.new ≡ self.old) }
-        ensures memory { IfErr result (λ _. IsTrue (wanting.by_taking (agents.next_of self.old.fixed self.old.actor.agent) word.now)) }
-    {
-        let count = self.agent.count().saturating_sub(1);
-        let ended = self.agent.take(word)?;
-        Ok(self.moved(number, count, stamp, ended))
-    }
-
-    /// Takes a reply.
+    /// Takes a reply of the server that it asks, and has the reply's stamp from then on. How its job ended is
+    /// put into a place of the caller's, which else keeps what it has.
     pub(crate) fn take_reply(
         &mut self,
         number: u8,
+        server: u8,
         reply: &Stamped<Reply>,
-    ) -> Result<Option<Outcome>, AllocError>
-        requires { seats.Fits self.old (Replied reply.now.value) }
-        ensures outcome { IfOk result (λ outcome. outcome ≡ outcome_of number self.old.actor (agents.take self.old.fixed self.old.actor.agent (Replied reply.now.value)).ending) }
+        ended: &mut Option<Outcome>,
+    ) -> Result<(), AllocError>
+        requires asked { option_map (λ asked. asked.0) (agents.next_of self.old.fixed self.old.actor.agent) ≡ Some server }
+        requires fits { seats.Fits self.old (Replied reply.now.value) }
+        ensures ended { OnOk result (ended.new ≡ option_or (outcome_of number self.old.actor (agents.take self.old.fixed self.old.actor.agent (Replied reply.now.value)).ending) ended.old) }
         ensures state { OnOk result (self.new ≡ seats.after_word self.old reply.now.stamp (Replied reply.now.value)) }
-        ensures err { OnErr result (self.new ≡ self.old) }
+        ensures err { OnErr result ((self.new ≡ self.old) × (ended.new ≡ ended.old)) }
         ensures memory { IfErr result (λ _. IsTrue (wanting.by_taking (agents.next_of self.old.fixed self.old.actor.agent) (Replied reply.now.value))) }
     {
         let count = self.agent.count().saturating_sub(1);
-        let ended = self.agent.hear(&reply.value)?;
-        Ok(self.moved(number, count, reply.stamp, ended))
+        let mut ending = None;
+        self.agent.hear(server, &reply.value, &mut ending)?;
+        self.stamp = reply.stamp;
+        self.move_on(number, count, ending, ended);
+        Ok(())
     }
 
-    /// Takes a reply, and hands it back.
-    pub(crate) fn hear(&mut self, number: u8, reply: Stamped<Reply>) -> Result<Heard, AllocError>
-        requires { seats.Fits self.old (Replied reply.value) }
+    /// Takes a reply of the server that it asks, and hands it back.
+    pub(crate) fn hear(
+        &mut self,
+        number: u8,
+        server: u8,
+        reply: Stamped<Reply>,
+    ) -> Result<Heard, AllocError>
+        requires asked { option_map (λ asked. asked.0) (agents.next_of self.old.fixed self.old.actor.agent) ≡ Some server }
+        requires fits { seats.Fits self.old (Replied reply.value) }
         ensures reply { IfOk result (λ heard. heard.reply ≡ reply) }
         ensures outcome { IfOk result (λ heard. heard.outcome ≡ outcome_of number self.old.actor (agents.take self.old.fixed self.old.actor.agent (Replied reply.value)).ending) }
         ensures state { OnOk result (self.new ≡ seats.after_word self.old reply.stamp (Replied reply.value)) }
         ensures err { OnErr result (self.new ≡ self.old) }
         ensures memory { IfErr result (λ _. IsTrue (wanting.by_taking (agents.next_of self.old.fixed self.old.actor.agent) (Replied reply.value))) }
     {
-        let outcome = self.take_reply(number, &reply)?;
+        let mut outcome = None;
+        self.take_reply(number, server, &reply, &mut outcome)?;
         Ok(Heard { reply, outcome })
     }
 
-    /// It has this stamp from then on, after one step more; and how its job ended, if it did.
-    fn moved(&mut self, agent: u8, count: u64, stamp: u64, ended: Option<Ending>) -> Option<Outcome>
-        ensures outcome { result ≡ option_map (λ ending. record { agent = agent; count = count; steps = one_more self.old.actor.steps; ending = ending }) ended }
-        ensures state { self.new ≡ record self.old { actor = record self.old.actor { stamp = stamp; steps = steps_after self.old.actor.steps ended } } }
+    /// Its request was not served: it is told so, which takes no memory, and keeps its stamp. How its job
+    /// ended is put into a place of the caller's, which else keeps what it has.
+    pub(crate) fn lack(&mut self, number: u8, lack: Lack, ended: &mut Option<Outcome>)
+        requires { seats.Fits self.old (Lacked lack) }
+        ensures ended { ended.new ≡ option_or (outcome_of number self.old.actor (agents.take self.old.fixed self.old.actor.agent (Lacked lack)).ending) ended.old }
+        ensures state { self.new ≡ seats.after_word self.old self.old.actor.stamp (Lacked lack) }
+    {
+        let count = self.agent.count().saturating_sub(1);
+        let Ok(ending) = self.agent.take(&Word::Lacked(lack)) else {
+            unreachable!();
+        };
+        self.move_on(number, count, ending, ended);
+    }
+
+    /// It took a step more, which its job ended with, where there is an ending.
+    fn move_on(
+        &mut self,
+        agent: u8,
+        count: u64,
+        ending: Option<Ending>,
+        ended: &mut Option<Outcome>,
+    )
+        ensures ended { ended.new ≡ option_or (option_map (λ ending. record { agent = agent; count = count; steps = one_more self.old.actor.steps; ending = ending }) ending) ended.old }
+        ensures state { self.new ≡ record self.old { actor = record self.old.actor { steps = steps_after self.old.actor.steps ending } } }
+    {
+        match ending {
+            None => self.steps = self.steps.saturating_add(1),
+            Some(ending) => self.end(agent, count, ending, ended),
+        }
+    }
+
+    /// Its job ended, with a step more.
+    fn end(&mut self, agent: u8, count: u64, ending: Ending, ended: &mut Option<Outcome>)
+        ensures ended { ended.new ≡ Some (record { agent = agent; count = count; steps = one_more self.old.actor.steps; ending = ending }) }
+        ensures state { self.new ≡ record self.old { actor = record self.old.actor { steps = 0 } } }
     {
         let steps = self.steps.saturating_add(1);
-        self.stamp = stamp;
-        let Some(ending) = ended else {
-            self.steps = steps;
-            return None;
-        };
         self.steps = 0;
-        Some(Outcome {
+        let outcome = Outcome {
             agent,
             count,
             steps,
             ending,
-        })
+        };
+        *ended = Some(outcome);
     }
 }
 

@@ -2,6 +2,7 @@
 
 ghost use Rattle.std.specs.Prelude.{◌≡◌, ◌≤◌, ◌++◌, [], take, length, IfOk, IfErr, IsSome, IsTrue, OnOk, OnErr};
 ghost use Rattle.std.specs.List.{cons_option};
+ghost use Rattle.std.specs.Option.{option_or};
 ghost use Rattle.txn_core.specs.Agents.{fixed_of};
 ghost use Rattle.run_core.specs.Runs as runs;
 ghost use Rattle.run_core.specs.Wanting as wanting;
@@ -87,32 +88,37 @@ impl World {
         }
     }
 
-    /// Plays one event as `step` does, and tells only how a job ended, if one did: what was served is not
-    /// kept. Where memory runs out nothing has changed, and the same event may be played again. It wants
-    /// memory only where `step` may.
-    pub fn advance(&mut self, event: &Event) -> Result<Option<Outcome>, AllocError>
+    /// Plays one event as `step` does, and tells only how a job ended, if one did: that is put into a place of
+    /// the caller's, which else keeps what it has, and what was served is not kept. Where memory runs out nothing
+    /// has changed, and the same event may be played again. It wants memory only where `step` may.
+    pub fn advance(&mut self, event: &Event, ended: &mut Option<Outcome>) -> Result<(), AllocError>
         ensures given { self.new.given ≡ self.old.given }
         ensures world { OnOk result (self.new.world ≡ (worlds.step (fixed_of self.old.given) self.old.world event.now).world) }
-        ensures outcome { IfOk result (λ outcome. outcome ≡ (worlds.step (fixed_of self.old.given) self.old.world event.now).done.outcome) }
-        ensures err { OnErr result (self.new ≡ self.old) }
+        ensures ended { OnOk result (ended.new ≡ option_or (worlds.step (fixed_of self.old.given) self.old.world event.now).done.outcome ended.old) }
+        ensures err { OnErr result ((self.new ≡ self.old) × (ended.new ≡ ended.old)) }
         ensures memory { IfErr result (λ _. IsTrue (wanting.by_event (fixed_of self.old.given) self.old.world event.now)) }
     {
         match event {
-            Event::Step { agent } => { moves::advance(&mut self.servers, &mut self.seats, *agent) }
-            _ => self.outcome_of(event),
+            Event::Step { agent } => {
+                moves::advance(&mut self.servers, &mut self.seats, *agent, ended)
+            }
+            _ => self.happen(event, ended),
         }
     }
 
-    /// Plays one event, and tells only how a job ended, if one did.
-    fn outcome_of(&mut self, event: &Event) -> Result<Option<Outcome>, AllocError>
+    /// Plays one event, and puts down how a job ended, if one did.
+    fn happen(&mut self, event: &Event, ended: &mut Option<Outcome>) -> Result<(), AllocError>
         ensures given { self.new.given ≡ self.old.given }
         ensures world { OnOk result (self.new.world ≡ (worlds.step (fixed_of self.old.given) self.old.world event.now).world) }
-        ensures outcome { IfOk result (λ outcome. outcome ≡ (worlds.step (fixed_of self.old.given) self.old.world event.now).done.outcome) }
-        ensures err { OnErr result (self.new ≡ self.old) }
+        ensures ended { OnOk result (ended.new ≡ option_or (worlds.step (fixed_of self.old.given) self.old.world event.now).done.outcome ended.old) }
+        ensures err { OnErr result ((self.new ≡ self.old) × (ended.new ≡ ended.old)) }
         ensures memory { IfErr result (λ _. IsTrue (wanting.by_event (fixed_of self.old.given) self.old.world event.now)) }
     {
         let done = self.step(event)?;
-        Ok(done.outcome)
+        if done.outcome.is_some() {
+            *ended = done.outcome;
+        }
+        Ok(())
     }
 
     /// Plays events, one after the other, and answers how jobs ended. Where memory runs out the world is
@@ -130,11 +136,12 @@ impl World {
         let mut outcomes = Vec::new(self.alloc);
         let mut played = 0;
         for event in events {
-            let Ok(outcome) = self.advance(event) else {
+            let mut ended = None;
+            let Ok(()) = self.advance(event, &mut ended) else {
                 return Err(Stopped { done: played });
             };
             played += 1;
-            let Ok(()) = keep(&mut outcomes, outcome) else {
+            let Ok(()) = keep(&mut outcomes, ended) else {
                 return Err(Stopped { done: played });
             };
         }

@@ -1,11 +1,9 @@
 -- Steps of an agent that has no job change nothing.
-use Rattle.std.proofs.Common.{◌≡◌, ℕ, zero, suc, ◌-◌, ◌<◌, true, List, [], ◌++◌, Option, Some, None, refl, ◌∙◌, ap, sym, arith}
-use Rattle.std.proofs.lemmas.List.{append-nil}
+use Rattle.std.proofs.Common.{◌≡◌, ℕ, zero, suc, ◌-◌, ◌<◌, true, [], Option, Some, None, refl, ◌∙◌, ap, arith}
 use Rattle.txn_core.specs.Doing.{Doing, Fixed}
 use Rattle.txn_core.specs.Agents.{is_idle, next_in}
 use Rattle.run_core.specs.Worlds.{Actor, World, actor_at, asks, has_no_job, quiet, step, steps_once}
 use Rattle.run_core.specs.declared.event.Event.TheVariants.{Step}
-use Rattle.run_core.specs.Opened.{Opened}
 use Rattle.suite_play.specs.Playing.{Printed, before, of_event, steps}
 
 asks_nothing : (fixed : Fixed) (doing : Option Doing) → is_idle doing ≡ true → next_in fixed doing ≡ None
@@ -34,13 +32,3 @@ more_steps fixed world agent (suc more) some =
 pub no_steps : (fixed : Fixed) (world : World) (agent : ℕ) → steps fixed world agent 0 ≡ record { text = []; world = world }
 unfolding steps
 no_steps fixed world agent = refl
-
--- ---- at the end of steps that are played one by one
-
-pub ended_text : (now whole : Printed) (world : World) (text start : List ℕ) → now ≡ record { text = []; world = world } → text ++ now.text ≡ start ++ whole.text → text ≡ start ++ whole.text
-ended_text now whole world text start none same = sym (append-nil text) ∙ ap (λ all. text ++ all.text) (sym none) ∙ same
-
-pub ended_world : (opened start : Opened) (now whole : Printed) → now ≡ record { text = []; world = opened.world } → opened.given ≡ start.given → now.world ≡ whole.world → opened ≡ record { given = start.given; world = whole.world }
-ended_world opened start now whole none given same =
-    let world : opened.world ≡ whole.world = sym (ap (λ all. all.world) none) ∙ same in
-    λ i. record { given = given i; world = world i }

@@ -1,4 +1,5 @@
 pub mod Idle
+pub mod Ended
 pub mod Lines
 pub mod Playing
 pub mod KeptLines

@@ -4,7 +4,7 @@ ghost use Rattle.std.specs.Prelude.{◌≡◌, ◌<◌, ◌^◌, ◌++◌, true,
 ghost use Rattle.suite_play.specs.Outputs.{places_of, play_output};
 ghost use Rattle.suite_play.specs.Playing.{of_event, played, steps};
 ghost use Rattle.suite_play.specs.Promised.{PlayIsPromised};
-ghost use Rattle.suite_play.specs.Texts.{audit_lines};
+ghost use Rattle.suite_play.specs.Texts.{audit_lines, outcome_text};
 ghost use Rattle.suite_play.specs.code.Playing.{PlaysUpTo, audit_head, in_all, in_all_from};
 ghost use Rattle.run_core.specs.Worlds.{step};
 ghost use Rattle.txn_core.specs.Agents.{fixed_of};
@@ -17,7 +17,7 @@ use crate::outcome::{push_item, push_outcome};
 use crate::places::Places;
 use byte_streams::ByteOut;
 use file_ops::AuditItem;
-use run_core::{Event, World};
+use run_core::{Event, Outcome, World};
 use script_text::push_number;
 use std::alloc::{AllocError, Global};
 use suite_prefix::Settings;
@@ -189,10 +189,9 @@ fn push_event(
     ensures printed { OnOk result (text.new.items ≡ text.old.items ++ (of_event (step (fixed_of world.old.given) world.old.world event.now)).text) }
     ensures world { OnOk result (world.new ≡ record world.old { world = (of_event (step (fixed_of world.old.given) world.old.world event.now)).world }) }
 {
-    match &world.advance(event)? {
-        Some(outcome) => push_outcome(alloc, text, outcome),
-        None => Ok(()),
-    }
+    let mut ended = None;
+    world.advance(event, &mut ended)?;
+    push_ended(alloc, text, &ended)
 }
 
 /// Plays so many steps of an agent, as long as it has a job, and adds the line of the job if it ended.
@@ -206,12 +205,26 @@ fn push_steps(
     ensures printed { OnOk result (text.new.items ≡ text.old.items ++ (steps (fixed_of world.old.given) world.old.world agent count).text) }
     ensures world { OnOk result (world.new ≡ record world.old { world = (steps (fixed_of world.old.given) world.old.world agent count).world }) }
 {
+    if world.idle(agent) {
+        return Ok(());
+    }
+    let mut ended = None;
     let mut left = count;
-    while left > 0 && !world.idle(agent) {
-        push_event(alloc, world, &Event::Step { agent }, text)?;
+    while left > 0 && ended.is_none() {
+        world.advance(&Event::Step { agent }, &mut ended)?;
         left -= 1;
     }
-    Ok(())
+    push_ended(alloc, text, &ended)
+}
+
+/// Adds the line of a job that has ended, if one has.
+fn push_ended(alloc: Global, text: &mut Vec<u8>, ended: &Option<Outcome>) -> Result<(), AllocError>
+    ensures { OnOk result (text.new.items ≡ text.old.items ++ outcome_text ended.now) }
+{
+    match ended {
+        Some(outcome) => push_outcome(alloc, text, outcome),
+        None => Ok(()),
+    }
 }
 
 /// Adds the denials that a server keeps.

@@ -1,5 +1,6 @@
 -- What one request of an agent to a server leaves of the two.
-use Rattle.std.specs.Prelude.{◌≡◌, ℕ, IsTrue, Option, Some, Result, Ok, Err}
+use Rattle.std.specs.Prelude.{◌≡◌, ℕ, IsTrue, Option, Some, option_map, Result, Ok, Err}
+use Rattle.std.specs.Option.{option_or}
 use Rattle.std.specs.declared.alloc.AllocError.{AllocError}
 use Rattle.rep_core.specs.declared.reply.Reply.{Reply}
 use Rattle.rep_core.specs.declared.stamped.Stamped.{Stamped}
@@ -24,34 +25,40 @@ pub record IsExchange (host host' : State) (seat seat' : Seated) (server number 
       → answered seat.fixed world number seat.actor host (serve server host (record { stamp = seat.actor.stamp; value = asked }))
       ≡ record { world = with_actor number seat'.actor (with_server server host' world); done = done }
 
--- the same, wherever this server stands, of which only the outcome is told
-abbrev pub IsExchangeOf : State → State → Seated → Seated → ℕ → Request → Option Outcome → Type 0
-IsExchangeOf host host' seat seat' number asked outcome =
-    (server : ℕ) → (what : Option Served) × IsExchange host host' seat seat' server number asked (record { served = what; outcome = outcome })
+-- the same, of which only the outcome is told, which is put into a place that else keeps what it has
+pub record IsExchangeOf (host host' : State) (seat seat' : Seated) (server number : ℕ) (asked : Request) (ended ended' : Option Outcome) : Type 0 where
+  pub served : Option Served
+  pub outcome : Option Outcome
+  pub exchange : IsExchange host host' seat seat' server number asked (record { served = served; outcome = outcome })
+  pub ended_is : ended' ≡ option_or outcome ended
 
--- the agent asks this of some server
-abbrev pub Asks : Seated → Request → Type 0
-Asks seat asked = (server : ℕ) × (next_of seat.fixed seat.actor.agent ≡ Some (server, asked))
+-- the agent asks this server
+abbrev pub AsksOf : ℕ → Seated → Type 0
+AsksOf server seat = option_map (λ (asked : ℕ × Request). asked.0) (next_of seat.fixed seat.actor.agent) ≡ Some server
 
--- what an agent's taking of a reply leaves of the agent, which lacks memory only where the reply may want it
-abbrev pub Takes : ℕ → Seated → Stamped Reply → Result (Option Outcome) AllocError → Seated → Type 0
-Takes number seat reply (Ok outcome) seat' =
-    (outcome ≡ outcome_of number seat.actor (take seat.fixed seat.actor.agent (Replied reply.value)).ending)
+-- what an agent's taking of a reply leaves of the agent, which lacks memory only where the reply may want it, and of the place where its outcome is put
+abbrev pub Takes : ℕ → Seated → Option Outcome → Stamped Reply → Result (Unit {0}) AllocError → Seated → Option Outcome → Type 0
+Takes number seat ended reply (Ok done) seat' ended' =
+    (ended' ≡ option_or (outcome_of number seat.actor (take seat.fixed seat.actor.agent (Replied reply.value)).ending) ended)
     × (seat' ≡ after_word seat reply.stamp (Replied reply.value))
-Takes number seat reply (Err refused) seat' = (seat' ≡ seat) × IsTrue (by_taking (next_of seat.fixed seat.actor.agent) (Replied reply.value))
+Takes number seat ended reply (Err refused) seat' ended' =
+    (seat' ≡ seat) × (ended' ≡ ended) × IsTrue (by_taking (next_of seat.fixed seat.actor.agent) (Replied reply.value))
 
--- the same, of which the reply is handed back
+-- the same, of which the reply and the outcome are handed back
 abbrev pub Hears : ℕ → Seated → Stamped Reply → Result Heard AllocError → Seated → Type 0
-Hears number seat reply (Ok heard) seat' = (heard.reply ≡ reply) × Takes number seat reply (Ok heard.outcome) seat'
-Hears number seat reply (Err refused) seat' = Takes number seat reply (Err refused) seat'
+Hears number seat reply (Ok heard) seat' =
+    (heard.reply ≡ reply)
+    × (heard.outcome ≡ outcome_of number seat.actor (take seat.fixed seat.actor.agent (Replied reply.value)).ending)
+    × (seat' ≡ after_word seat reply.stamp (Replied reply.value))
+Hears number seat reply (Err refused) seat' = (seat' ≡ seat) × IsTrue (by_taking (next_of seat.fixed seat.actor.agent) (Replied reply.value))
 
--- what a request that a full server did not serve leaves of the agent
-pub record IsUnserved (number : ℕ) (lack : Lack) (seat seat' : Seated) (outcome : Option Outcome) : Type 0 where
+-- what a request that a full server did not serve leaves of the agent, and of the place where its outcome is put
+pub record IsUnserved (number : ℕ) (lack : Lack) (seat seat' : Seated) (ended ended' : Option Outcome) : Type 0 where
   pub full : lack ≡ Full
   pub seat_is : seat' ≡ after_word seat seat.actor.stamp (Lacked Full)
-  pub outcome_is : outcome ≡ outcome_of number seat.actor (take seat.fixed seat.actor.agent (Lacked Full)).ending
+  pub ended_is : ended' ≡ option_or (outcome_of number seat.actor (take seat.fixed seat.actor.agent (Lacked Full)).ending) ended
 
--- an event makes this of a world, and a job ends so by it, if one does
-pub record ComesTo (stepped : Stepped) (world : World) (outcome : Option Outcome) : Type 0 where
+-- an event makes this of a world, and how a job ended by it, if one did, is put into a place that else keeps what it has
+pub record ComesTo (stepped : Stepped) (world : World) (ended ended' : Option Outcome) : Type 0 where
   pub world_is : world ≡ stepped.world
-  pub outcome_is : outcome ≡ stepped.done.outcome
+  pub ended_is : ended' ≡ option_or stepped.done.outcome ended

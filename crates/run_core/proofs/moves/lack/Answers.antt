@@ -19,7 +19,6 @@ returns-clause-told c =
     let found = slice_get_read _ _ _ _ refl item.3.0 item.1 in
     let there = rw c.from.ensures at found in
     let some = asks_some _ c.in-Some-asked._server (sym c.asked.ensures ∙ c.in-Some-asked.is) in
-    let left = c.in-Ok.ensures in
-    let state = rw c.stamp-stamp.ensures at left.state in
+    let left = c.lack.ensures in
     λ fixed servers all. rw c.from.ensures
-    (lack_there fixed servers c.args.seats.now.items c.args.number (Lacked c.args.lack) c.in-Some.seat.now c.take.new.self some.0 c.in-Ok.outcome all there some.1 state left.outcome)
+    (lack_there fixed servers c.args.seats.now.items c.args.number (Lacked c.args.lack) c.in-Some.seat.now c.lack.new.self some.0 c.lack.new.ended all there some.1 left.state left.ended)

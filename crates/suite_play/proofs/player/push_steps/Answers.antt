@@ -1,58 +1,54 @@
-use Rattle.std.proofs.Common.{◌≡◌, ◌∙◌, ◌-◌, ◌++◌, ap, sym, append_assoc, arith}
-use Rattle.run_core.specs.Worlds.{step}
-use Rattle.run_core.specs.declared.event.Event.TheVariants.{Step}
+use Rattle.std.proofs.Common.{◌∙◌, ◌++◌, List, ℕ, ap, arith, sym}
+use Rattle.std.proofs.lemmas.List.{append-nil}
+use Rattle.std.proofs.lemmas.Result.{on_ok_weaker}
 use Rattle.txn_core.specs.Agents.{fixed_of}
-use Rattle.suite_play.specs.Playing.{of_event, steps}
-use Rattle.suite_play.proofs.Idle.{ended_text, ended_world, more_steps, no_steps, steps_idle}
+use Rattle.run_core.specs.Opened.{Opened}
+use Rattle.suite_play.specs.Playing.{Printed}
+use Rattle.suite_play.proofs.Idle.{steps_idle}
+use Rattle.suite_play.proofs.Ended.{NothingLeft, all_text, all_world, from_start, has_ended, none_left, nothing_put, one_more, something_put}
 use Rattle.suite_play.proofs.player.push_steps.Goals as goal
+use Rattle.suite_play.proofs.player.push_steps.Goals.{then-loop-left-test+else-is_none, else-loop-left-test}
+
+pub returns-then-idle-clause-printed : goal.returns-then-idle-clause-printed
+returns-then-idle-clause-printed c =
+    let here = c.args.world.now in
+    sym (append-nil c.args.text.now.items)
+    ∙ ap (λ (all : Printed). c.args.text.now.items ++ all.text) (sym (steps_idle (fixed_of here.given) here.world c.args.agent c.args.count (sym c.idle.ensures ∙ c.if-idle.true)))
+
+pub returns-then-idle-clause-world : goal.returns-then-idle-clause-world
+returns-then-idle-clause-world c =
+    let here = c.args.world.now in
+    ap (λ (all : Printed). record here { world = all.world }) (sym (steps_idle (fixed_of here.given) here.world c.args.agent c.args.count (sym c.idle.ensures ∙ c.if-idle.true)))
+
+pub loop-left-init : goal.loop-left-init
+loop-left-init c = from_start c.args.world.now c.args.agent c.args.count
 
 pub loop-left-preserved : goal.loop-left-preserved
 loop-left-preserved c =
-    let here = c.loop-left.world in
-    let fixed = fixed_of here.given in
-    let agent = c.args.agent in
-    let left = c.loop-left.left in
-    let after = c.in_ok-push_event.ensures.world in
-    let once = of_event (step fixed here.world (Step agent)) in
-    let more = more_steps fixed here.world agent left c.loop-left-test.true in
-    record {
-      given = ap (λ it. it.given) after ∙ c.loop-left.invariant.given;
-      printed =
-          ap (λ it. c.push_event.new.text.items ++ (steps (fixed_of it.given) it.world agent (left - 1)).text) after
-          ∙ ap (λ items. items ++ (steps fixed once.world agent (left - 1)).text) c.in_ok-push_event.ensures.printed
-          ∙ append_assoc c.loop-left.text.items once.text (steps fixed once.world agent (left - 1)).text
-          ∙ ap (λ all. c.loop-left.text.items ++ all.text) (sym more)
-          ∙ c.loop-left.invariant.printed;
-      world =
-          ap (λ it. (steps (fixed_of it.given) it.world agent (left - 1)).world) after
-          ∙ ap (λ all. all.world) (sym more)
-          ∙ c.loop-left.invariant.world;
-    }
+    let left = c.in_ok-advance.ensures in
+    one_more c.args.world.now c.loop-left.world c.advance.new.self c.args.agent c.args.count c.loop-left.left c.loop-left.ended c.advance.new.ended
+    c.loop-left-test.true (nothing_put c.loop-left.ended c.is_none.result c.is_none.ensures c.if-is_none.true) left.given left.world left.ended c.loop-left.invariant
 
-pub returns-else-not-idle-clause-printed : goal.returns-else-not-idle-clause-printed
-returns-else-not-idle-clause-printed c =
+pub returns-clause-printed : goal.returns-clause-printed
+returns-clause-printed c =
+    let start = c.args.world.now in
     let here = c.loop-left.world in
-    let idle = sym c.idle.ensures ∙ c.if-not-idle.false in
-    ended_text (steps (fixed_of here.given) here.world c.args.agent c.loop-left.left) (steps (fixed_of c.args.world.now.given) c.args.world.now.world c.args.agent c.args.count) here.world
-    c.loop-left.text.items c.args.text.now.items (steps_idle (fixed_of here.given) here.world c.args.agent c.loop-left.left idle) c.loop-left.invariant.printed
+    let nothing : NothingLeft here c.args.agent c.loop-left.left = elim c.loop-left-test.branch [
+      | then-loop-left-test+else-is_none w ↦
+          has_ended start here c.args.agent c.args.count c.loop-left.left c.loop-left.ended (something_put c.loop-left.ended w.is_none.result w.is_none.ensures w.if-is_none.false) c.loop-left.invariant
+      | else-loop-left-test w ↦ none_left here c.args.agent c.loop-left.left (omega (arith, w.loop-left-test.false))
+    ] in
+    on_ok_weaker c.push_ended.result
+    (λ printed. printed ∙ ap (λ (text : List ℕ). c.args.text.now.items ++ text) (all_text start here c.args.agent c.args.count c.loop-left.left c.loop-left.ended nothing c.loop-left.invariant))
+    c.push_ended.ensures
 
-pub returns-else-not-idle-clause-world : goal.returns-else-not-idle-clause-world
-returns-else-not-idle-clause-world c =
+pub returns-clause-world : goal.returns-clause-world
+returns-clause-world c =
+    let start = c.args.world.now in
     let here = c.loop-left.world in
-    let idle = sym c.idle.ensures ∙ c.if-not-idle.false in
-    ended_world here c.args.world.now (steps (fixed_of here.given) here.world c.args.agent c.loop-left.left) (steps (fixed_of c.args.world.now.given) c.args.world.now.world c.args.agent c.args.count)
-    (steps_idle (fixed_of here.given) here.world c.args.agent c.loop-left.left idle) c.loop-left.invariant.given c.loop-left.invariant.world
-
-pub returns-after-loop-left-clause-printed : goal.returns-after-loop-left-clause-printed
-returns-after-loop-left-clause-printed c =
-    let here = c.loop-left.world in
-    let none : c.loop-left.left ≡ 0 = omega arith in
-    ended_text (steps (fixed_of here.given) here.world c.args.agent c.loop-left.left) (steps (fixed_of c.args.world.now.given) c.args.world.now.world c.args.agent c.args.count) here.world
-    c.loop-left.text.items c.args.text.now.items (ap (steps (fixed_of here.given) here.world c.args.agent) none ∙ no_steps (fixed_of here.given) here.world c.args.agent) c.loop-left.invariant.printed
-
-pub returns-after-loop-left-clause-world : goal.returns-after-loop-left-clause-world
-returns-after-loop-left-clause-world c =
-    let here = c.loop-left.world in
-    let none : c.loop-left.left ≡ 0 = omega arith in
-    ended_world here c.args.world.now (steps (fixed_of here.given) here.world c.args.agent c.loop-left.left) (steps (fixed_of c.args.world.now.given) c.args.world.now.world c.args.agent c.args.count)
-    (ap (steps (fixed_of here.given) here.world c.args.agent) none ∙ no_steps (fixed_of here.given) here.world c.args.agent) c.loop-left.invariant.given c.loop-left.invariant.world
+    let nothing : NothingLeft here c.args.agent c.loop-left.left = elim c.loop-left-test.branch [
+      | then-loop-left-test+else-is_none w ↦
+          has_ended start here c.args.agent c.args.count c.loop-left.left c.loop-left.ended (something_put c.loop-left.ended w.is_none.result w.is_none.ensures w.if-is_none.false) c.loop-left.invariant
+      | else-loop-left-test w ↦ none_left here c.args.agent c.loop-left.left (omega (arith, w.loop-left-test.false))
+    ] in
+    on_ok_weaker c.push_ended.result (λ _. all_world start here c.args.agent c.args.count c.loop-left.left c.loop-left.ended nothing c.loop-left.invariant) c.push_ended.ensures

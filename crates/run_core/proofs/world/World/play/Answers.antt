@@ -1,4 +1,5 @@
 use Rattle.std.proofs.Common.{◌<◌, length, refl, ◌∙◌, arith}
+use Rattle.run_core.proofs.Exchanging.{or_nothing}
 use Rattle.run_core.proofs.Playing.{world_played, outcomes_played}
 use Rattle.run_core.proofs.Wanting.{stops_before, stops_behind}
 use Rattle.run_core.proofs.world.World.play.Goals as goal
@@ -14,8 +15,8 @@ loop-event-preserved c =
       played = omega arith;
       world = world_played c.args.self.now.given c.loop-event.self.given c.args.self.now.world c.loop-event.self.world c.advance.new.self.world c.args.events.now c.loop-event.event-index c.loop-event.event-index c.event-item.result
           within so_far.given refl so_far.world c.event-item.is stepped.world;
-      outcomes = outcomes_played c.args.self.now.given c.loop-event.self.given c.args.self.now.world c.loop-event.self.world c.args.events.now c.loop-event.event-index c.event-item.result c.in-Ok.outcome c.loop-event.outcomes.items c.keep.new.outcomes.items
-          within so_far.given so_far.world c.event-item.is stepped.outcome so_far.outcomes kept;
+      outcomes = outcomes_played c.args.self.now.given c.loop-event.self.given c.args.self.now.world c.loop-event.self.world c.args.events.now c.loop-event.event-index c.event-item.result c.advance.new.ended c.loop-event.outcomes.items c.keep.new.outcomes.items
+          within so_far.given so_far.world c.event-item.is (stepped.ended ∙ or_nothing _) so_far.outcomes kept;
     }
 
 pub returns-in_default-keep-clause-stopped : goal.returns-in_default-keep-clause-stopped
@@ -37,5 +38,5 @@ pub returns-in_default-keep-clause-memory : goal.returns-in_default-keep-clause-
 returns-in_default-keep-clause-memory c =
     let so_far = c.loop-event.invariant in
     let within : c.loop-event.event-index < length c.args.events.now = omega arith in
-    stops_behind c.args.self.now.given c.loop-event.self.given c.args.self.now.world c.loop-event.self.world c.args.events.now c.loop-event.event-index c.loop-event.played c.event-item.result c.in-Ok.outcome
-    within so_far.given so_far.played so_far.world c.event-item.is c.in-Ok.ensures.outcome c.in_default-keep.ensures.memory
+    stops_behind c.args.self.now.given c.loop-event.self.given c.args.self.now.world c.loop-event.self.world c.args.events.now c.loop-event.event-index c.loop-event.played c.event-item.result c.advance.new.ended
+    within so_far.given so_far.played so_far.world c.event-item.is (c.in-Ok.ensures.ended ∙ or_nothing _) c.in_default-keep.ensures.memory
