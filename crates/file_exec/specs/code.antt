@@ -2,3 +2,4 @@ pub mod KnownFields
 pub mod Overlay
 pub mod Steps
 pub mod Ends
+pub mod Ways

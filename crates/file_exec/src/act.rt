@@ -15,6 +15,7 @@ ghost use Rattle.file_exec.specs.code.Steps.{Answers, Runs, Sees};
 use crate::known::Known;
 use crate::log::{Edit, Log};
 use crate::need::Need;
+use crate::progress::Way;
 use crate::row::KnownRow;
 use crate::seen::Seen;
 use crate::stop::Stop;
@@ -97,10 +98,10 @@ fn without_name(names: &FolderNames, name: &Name) -> Result<FolderNames, AllocEr
 }
 
 /// The bytes of a file.
-fn read(view: View<'_, '_>, caller: &Caller, names: &[Name]) -> Result<Answer, Stop>
+fn read(view: View<'_, '_>, caller: &Caller, names: &[Name], way: &mut Way) -> Result<Answer, Stop>
     ensures { Answers (λ answer. answer) result view.entry (bytes_read caller.now names.now) }
 {
-    let place = view.reach(caller, names, LockMode::Shared)?;
+    let place = view.reach(caller, names, LockMode::Shared, way)?;
     place.permit(caller, Perms::READ)?;
     place.require_file()?;
     let bytes = view.bytes_of(place.suite, place.row)?;
@@ -108,10 +109,10 @@ fn read(view: View<'_, '_>, caller: &Caller, names: &[Name]) -> Result<Answer, S
 }
 
 /// The names of a folder.
-fn list(view: View<'_, '_>, caller: &Caller, names: &[Name]) -> Result<Answer, Stop>
+fn list(view: View<'_, '_>, caller: &Caller, names: &[Name], way: &mut Way) -> Result<Answer, Stop>
     ensures { Answers (λ answer. answer) result view.entry (names_listed caller.now names.now) }
 {
-    let place = view.reach(caller, names, LockMode::Shared)?;
+    let place = view.reach(caller, names, LockMode::Shared, way)?;
     place.permit(caller, Perms::READ)?;
     place.require_folder()?;
     let entries = view.names_of(place.suite, place.row)?;
@@ -120,19 +121,19 @@ fn list(view: View<'_, '_>, caller: &Caller, names: &[Name]) -> Result<Answer, S
 }
 
 /// The access list of a file or folder.
-fn get_acl(view: View<'_, '_>, caller: &Caller, names: &[Name]) -> Result<Answer, Stop>
+fn get_acl(view: View<'_, '_>, caller: &Caller, names: &[Name], way: &mut Way) -> Result<Answer, Stop>
     ensures { Answers (λ answer. answer) result view.entry (list_shown caller.now names.now) }
 {
-    let place = view.shown(caller, names)?;
+    let place = view.shown(caller, names, way)?;
     let acl = place.row.acl.clone()?;
     Ok(Answer::Acl(acl))
 }
 
 /// The votes of a file or folder.
-fn get_votes(view: View<'_, '_>, caller: &Caller, names: &[Name]) -> Result<Answer, Stop>
+fn get_votes(view: View<'_, '_>, caller: &Caller, names: &[Name], way: &mut Way) -> Result<Answer, Stop>
     ensures { Answers (λ answer. answer) result view.entry (votes_shown caller.now names.now) }
 {
-    let place = view.shown(caller, names)?;
+    let place = view.shown(caller, names, way)?;
     Ok(Answer::Votes(*place.row.votes))
 }
 
@@ -154,11 +155,12 @@ fn write(
     caller: &Caller,
     names: &[Name],
     bytes: &FileBytes,
+    way: &mut Way,
 ) -> Result<Answer, Stop>
     ensures { Runs (λ answer. answer) result known.now.suites log.old log.new (bytes_written caller.now names.now bytes.now) }
 {
     require_fit(bytes)?;
-    let place = View { known, log }.reach(caller, names, LockMode::Exclusive)?;
+    let place = View { known, log }.reach(caller, names, LockMode::Exclusive, way)?;
     place.permit(caller, Perms::WRITE)?;
     place.require_file()?;
     let suite = place.suite;
@@ -174,10 +176,11 @@ fn set_acl(
     caller: &Caller,
     names: &[Name],
     acl: &Acl,
+    way: &mut Way,
 ) -> Result<Answer, Stop>
     ensures { Runs (λ answer. answer) result known.now.suites log.old log.new (list_set caller.now names.now acl.now) }
 {
-    let suite = View { known, log }.owned(caller, names)?.suite;
+    let suite = View { known, log }.owned(caller, names, way)?.suite;
     let acl = acl.clone()?;
     set(known, log, suite, Edit::SetAcl(acl))?;
     Ok(Answer::Set)
@@ -191,13 +194,14 @@ fn set_votes(
     caller: &Caller,
     names: &[Name],
     given: &Votes,
+    way: &mut Way,
 ) -> Result<Answer, Stop>
     ensures { Runs (λ answer. answer) result known.now.suites log.old log.new (votes_set known.now.service caller.now names.now given.now) }
 {
     let service = known.service();
     let votes = service.known_votes(given)?;
     let view = View { known, log };
-    let place = view.owned(caller, names)?;
+    let place = view.owned(caller, names, way)?;
     let suite = place.suite;
     view.content_of(suite, place.row)?;
     set(known, log, suite, Edit::SetVotes(votes))?;
@@ -213,6 +217,7 @@ fn make(
     kind: Kind,
     init: &Init,
     given: &Option<Votes>,
+    way: &mut Way,
 ) -> Result<Answer, Stop>
     ensures { Runs (λ answer. answer) result transaction.entry.known.now.suites log.old log.new (made transaction.entry.known.now.service number transaction.entry.caller.now names.now kind init.now given.now) }
 {
@@ -226,7 +231,7 @@ fn make(
     let service = known.service();
     let votes = service.votes_of_new(given)?;
     let view = View { known, log };
-    let parent = view.parent_of(caller, folders)?;
+    let parent = view.parent_of(caller, folders, way)?;
     require_absent(parent.names, name)?;
     require_room(parent.names)?;
     view.look(number, LockMode::Exclusive)?;
@@ -282,12 +287,18 @@ fn refuse_used(view: View<'_, '_>, suite: u64, row: Option<Seen<'_>>) -> Result<
 }
 
 /// Takes a name out of a folder.
-fn drop(known: &Known<'_>, log: &mut Log, caller: &Caller, names: &[Name]) -> Result<Answer, Stop>
+fn drop(
+    known: &Known<'_>,
+    log: &mut Log,
+    caller: &Caller,
+    names: &[Name],
+    way: &mut Way,
+) -> Result<Answer, Stop>
     ensures { Runs (λ answer. answer) result known.now.suites log.old log.new (dropped caller.now names.now) }
 {
     let (name, folders) = last_name(names)?;
     let view = View { known, log };
-    let parent = view.parent_of(caller, folders)?;
+    let parent = view.parent_of(caller, folders, way)?;
     let number = number_in(parent.names, name)?;
     let row = view.look(number, LockMode::Shared)?;
     refuse_used(view, number, row)?;
@@ -308,6 +319,7 @@ pub(crate) fn operate(
     log: &mut Log,
     at: u8,
     op: &Op,
+    way: &mut Way,
 ) -> Result<Answer, Stop>
     requires { transaction.t < 2 ^ 60 }
     ensures { Runs (λ answer. answer) result transaction.entry.known.now.suites log.old log.new (operation transaction.entry.known.now.service transaction.entry.t at transaction.entry.caller.now op.now) }
@@ -322,17 +334,17 @@ pub(crate) fn operate(
         ..
     } = transaction;
     match &op.action {
-        Action::Read => read(View { known, log }, caller, names),
-        Action::List => list(View { known, log }, caller, names),
-        Action::GetAcl => get_acl(View { known, log }, caller, names),
-        Action::GetVotes => get_votes(View { known, log }, caller, names),
-        Action::Write(bytes) => write(known, log, caller, names, bytes),
-        Action::SetAcl(acl) => set_acl(known, log, caller, names, acl),
-        Action::SetVotes(votes) => set_votes(known, log, caller, names, votes),
-        Action::Drop => drop(known, log, caller, names),
+        Action::Read => read(View { known, log }, caller, names, way),
+        Action::List => list(View { known, log }, caller, names, way),
+        Action::GetAcl => get_acl(View { known, log }, caller, names, way),
+        Action::GetVotes => get_votes(View { known, log }, caller, names, way),
+        Action::Write(bytes) => write(known, log, caller, names, bytes, way),
+        Action::SetAcl(acl) => set_acl(known, log, caller, names, acl, way),
+        Action::SetVotes(votes) => set_votes(known, log, caller, names, votes, way),
+        Action::Drop => drop(known, log, caller, names, way),
         Action::Make(kind, init, votes) => {
             let number = made_number(t, at);
-            make(transaction, log, number, names, *kind, init, votes)
+            make(transaction, log, number, names, *kind, init, votes, way)
         }
     }
 }

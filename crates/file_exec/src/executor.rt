@@ -1,23 +1,27 @@
 //! A transaction on what is known.
 
-ghost use Rattle.std.specs.Prelude.{◌≡◌, ◌<◌, ◌^◌, true, take, Ok, IfOk, OnErr};
+ghost use Rattle.std.specs.Prelude.{◌≡◌, ◌<◌, ◌≤◌, ◌^◌, true, false, take, length, Ok, IfOk, OnErr};
 ghost use Rattle.std.specs.Result.{result_ok};
-ghost use Rattle.file_ops.specs.Transactions.{is_miscounted};
+ghost use Rattle.file_ops.specs.Transactions.{is_miscounted, max_operations};
 ghost use Rattle.file_ops.specs.declared.refusal.Why.TheVariants as why;
-ghost use Rattle.file_exec.specs.Changes.{answered};
+ghost use Rattle.file_exec.specs.Changes.{answered, changes_of};
 ghost use Rattle.file_exec.specs.code.Ends.{end_of};
+ghost use Rattle.file_exec.specs.code.Ways.{reached_of, PlaysTo};
 ghost use Rattle.file_exec.specs.Known.{exec_of, is_given};
+ghost use Rattle.file_exec.specs.Reaching.{IsReached, unbegun, is_need};
 ghost use Rattle.file_exec.specs.declared.executor.Outcome.TheVariants as told;
 
 use crate::act::{Transaction, operate};
 use crate::changes::Changes;
 use crate::known::Known;
-use crate::log::Log;
 use crate::need::Need;
+use crate::laws::unbegun_is_reached;
+use crate::progress::{Progress, Stage, Way};
 use crate::stop::Stop;
 use acl_core::Caller;
 use file_ops::{Answers, MAX_OPERATIONS, Op, Refusal, Why};
 use std::alloc::{AllocError, Global};
+use std::mem;
 
 /// What a transaction comes to on what is known.
 #[derive(Drop)]
@@ -50,7 +54,32 @@ pub fn exec(
     // memory there is.
     ensures first { OnErr result (is_given (exec_of known.now.service known.now.suites t caller.now (take 1 ops.now)) ≡ true) }
 {
+    unbegun_is_reached();
+    let mut progress = Progress::new(alloc);
+    exec_on(alloc, known, t, caller, ops, &mut progress)
+}
+
+/// Goes on with the transaction `t` from where it came when less was known. It comes to what [`exec`] does,
+/// and keeps how far it came now; where it needs nothing more, nothing is kept.
+pub fn exec_on(
+    alloc: Global,
+    known: &Known<'_>,
+    t: u64,
+    caller: &Caller,
+    ops: &[Op],
+    progress: &mut Progress,
+) -> Result<Outcome, AllocError>
+    requires number { t < 2 ^ 60 }
+    requires reached { IsReached known.now.service known.now.suites t caller.now ops.now progress.old }
+    ensures answer { IfOk result (λ outcome. outcome ≡ answered known.now.suites (exec_of known.now.service known.now.suites t caller.now ops.now)) }
+    ensures reached { IsReached known.now.service known.now.suites t caller.now ops.now progress.new }
+    ensures ended { IfOk result (λ outcome. is_need outcome ≡ false → progress.new ≡ unbegun) }
+    ensures err { OnErr result (progress.new ≡ unbegun) }
+    ensures counted { is_miscounted ops.now ≡ true → result ≡ Ok (told.Refused (record { op = 0; why = why.OpCount })) }
+    ensures first { OnErr result (is_given (exec_of known.now.service known.now.suites t caller.now (take 1 ops.now)) ≡ true) }
+{
     if ops.is_empty() || ops.len() > MAX_OPERATIONS {
+        *progress = Progress::new(alloc);
         return Ok(Outcome::Refused(Refusal {
             op: 0,
             why: Why::OpCount,
@@ -62,16 +91,51 @@ pub fn exec(
         t,
         caller,
     };
-    let mut log = Log::new(alloc);
-    let mut answers = Vec::new(alloc);
-    let mut at: u8 = 0;
-    for op in ops {
-        match operate(transaction, &mut log, at, op) {
-            Ok(answer) => answers.push(answer)?,
-            Err(stop) => return end(at, stop),
-        }
-        at += 1;
+    let played = match play_on(transaction, ops, &mut progress.stage) {
+        Ok(Some(Outcome::Need(need))) => return Ok(Outcome::Need(need)),
+        played => played,
+    };
+    let stage = mem::replace(&mut progress.stage, Stage::new(alloc));
+    match played? {
+        Some(outcome) => Ok(outcome),
+        None => finish(alloc, known, stage),
     }
+}
+
+/// Does the operations that are left. Where one does not go on it tells what the transaction comes to.
+fn play_on(
+    transaction: Transaction<'_, '_>,
+    ops: &[Op],
+    stage: &mut Stage,
+) -> Result<Option<Outcome>, AllocError>
+    requires number { transaction.t < 2 ^ 60 }
+    requires few { length ops.now ≤ max_operations }
+    requires reached { IsReached transaction.entry.known.now.service transaction.entry.known.now.suites transaction.entry.t transaction.entry.caller.now ops.now (reached_of stage.old) }
+    ensures ends { IfOk result (λ outcome. PlaysTo transaction.entry ops.now outcome stage.new) }
+    ensures reached { IfOk result (λ outcome. IsReached transaction.entry.known.now.service transaction.entry.known.now.suites transaction.entry.t transaction.entry.caller.now ops.now (reached_of stage.new)) }
+    ensures first { OnErr result (is_given (exec_of transaction.entry.known.now.service transaction.entry.known.now.suites transaction.entry.t transaction.entry.caller.now (take 1 ops.now)) ≡ true) }
+{
+    while usize::from(stage.at) < ops.len() {
+        let at = stage.at;
+        let op = &ops[usize::from(at)];
+        match operate(transaction, &mut stage.log, at, op, &mut stage.way) {
+            Ok(answer) => stage.answers.push(answer)?,
+            Err(stop) => {
+                let outcome = end(at, stop)?;
+                return Ok(Some(outcome));
+            }
+        }
+        stage.at = at + 1;
+        stage.way = Way::new();
+    }
+    Ok(None)
+}
+
+/// What a transaction comes to, all of whose operations were done.
+fn finish(alloc: Global, known: &Known<'_>, stage: Stage) -> Result<Outcome, AllocError>
+    ensures { IfOk result (λ outcome. outcome ≡ told.Done stage.answers.items (changes_of known.now.suites stage.log)) }
+{
+    let Stage { answers, log, .. } = stage;
     let answers = Answers::from_vec(answers)?;
     let changes = Changes::of(alloc, known, &log)?;
     Ok(Outcome::Done(answers, changes))

@@ -34,6 +34,8 @@ impl<'a> KnownSuite<'a> {
     ghost use Rattle.suite_prefix.specs.LockModes.{serves, stronger};
     ghost use Rattle.file_exec.specs.Known.{opened};
     ghost use Rattle.file_exec.specs.code.KnownFields.{known_so};
+    ghost use Rattle.file_exec.specs.Reaching.{takes};
+    ghost use Rattle.std.specs.Prelude.{Some};
 
     /// What is known of a suite that is held in a mode: its prefix, and its content, where that is known.
     pub fn new(mode: LockMode, prefix: &'a Prefix, content: Option<&'a Content>) -> KnownSuite<'a>
@@ -72,6 +74,20 @@ impl<'a> KnownSuite<'a> {
         ensures { result ≡ self.now.opened }
     {
         self.content.is_some()
+    }
+
+    /// Whether its content is not known, and this one is of its row's kind.
+    fn takes(&self, content: &Content) -> bool
+        ensures { result ≡ takes (Some self.now) content.now }
+    {
+        if self.is_opened() {
+            return false;
+        }
+        match self.prefix.kind {
+            PrefixKind::Absent => true,
+            PrefixKind::File => matches!(content, Content::Bytes(_)),
+            PrefixKind::Folder => matches!(content, Content::Names(_)),
+        }
     }
 
     /// Its row, if it has one.
@@ -118,6 +134,7 @@ impl<'a> Known<'a> {
     ghost use Rattle.std.specs.Ordering.{nat_cmp};
     ghost use Rattle.sorted_map.specs.SortedMap.{IsOrdered};
     ghost use Rattle.file_exec.specs.Known.{known_of, held_suite, opened_suite, is_held, known_rows};
+    ghost use Rattle.file_exec.specs.Reaching.{takes};
 
     /// Nothing is known yet but the service.
     pub fn new(alloc: Global, service: &'a Service) -> Known<'a>
@@ -164,6 +181,17 @@ impl<'a> Known<'a> {
     {
         if let Some(held) = self.suites.get_mut(&suite) {
             held.open(content);
+        }
+    }
+
+    /// Whether a suite is held whose content is not known, and a content is of its row's kind. To open it with
+    /// such a content tells more, and changes nothing of what was known.
+    pub fn takes(&self, suite: u64, content: &Content) -> bool
+        ensures { result ≡ takes (known_of self.now.suites suite) content.now }
+    {
+        match self.get(suite) {
+            Some(held) => held.takes(content),
+            None => false,
         }
     }
 

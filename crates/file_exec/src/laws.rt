@@ -2,6 +2,7 @@
 
 ghost use Rattle.file_exec.specs.Known.{GoesAsOnTheTable, IsTheTransaction, SetsWhatIsHeld, NeedsWhatIsUnmet};
 ghost use Rattle.file_exec.specs.Laws.{DoneIsTheTables, ChangesBySuite, ChangesAreHeld, UnsetVotesStay, ChangesLeadOn, MoreKnownChangesNothing, AMetNeedIsProgress, HoldingMeets, OpeningMeets};
+ghost use Rattle.file_exec.specs.Reaching.{UnbegunIsReached, ReachedStays, TakingTellsMore};
 ghost use Rattle.file_exec.specs.Runs.{ExecRuns};
 
 /// A law: on what is known of any table the executor goes as on the table. It does nothing.
@@ -76,4 +77,19 @@ pub fn holding_meets()
 /// A law: to open a suite meets the need, and tells more. It does nothing.
 pub fn opening_meets()
     ensures { OpeningMeets }
+{}
+
+/// A law: a transaction of which nothing was done yet came so far on whatever is known. It does nothing.
+pub fn unbegun_is_reached()
+    ensures { UnbegunIsReached }
+{}
+
+/// A law: what a transaction reached stays so, once more is known. It does nothing.
+pub fn reached_stays()
+    ensures { ReachedStays }
+{}
+
+/// A law: to open a suite with a content that it takes tells more. It does nothing.
+pub fn taking_tells_more()
+    ensures { TakingTellsMore }
 {}

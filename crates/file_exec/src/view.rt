@@ -13,14 +13,12 @@ use crate::known::Known;
 use crate::log::{Log, seen};
 use crate::need::Need;
 use crate::seen::{Seen, SeenContent};
+use crate::progress::Way;
 use crate::stop::Stop;
 use acl_core::{Caller, Perms};
 use file_ops::{Guarded, Why, to_change};
 use suite_content::{Content, FileBytes, FolderNames, Kind, Name};
 use suite_prefix::LockMode;
-
-/// The number of the root folder.
-const ROOT: u64 = 0;
 
 /// What a transaction sees on its way: what is known, with what it has set.
 #[derive(Clone, Copy)]
@@ -176,14 +174,14 @@ impl<'a, 'k> View<'a, 'k> {
     }
 
     /// The suite that names lead to from the root folder.
-    fn walk(self, caller: &Caller, names: &[Name]) -> Result<u64, Stop>
+    fn walk(self, caller: &Caller, names: &[Name], way: &mut Way) -> Result<u64, Stop>
         ensures { Sees (λ suite. suite) result self.entry (walk caller.now root names.now) }
     {
-        let mut suite = ROOT;
-        for name in names {
-            suite = self.step(caller, suite, name)?;
+        while way.depth < names.len() {
+            way.suite = self.step(caller, way.suite, &names[way.depth])?;
+            way.depth += 1;
         }
-        Ok(suite)
+        Ok(way.suite)
     }
 
     /// The file or folder that names lead to from the root folder, which is to be held in this mode.
@@ -192,39 +190,40 @@ impl<'a, 'k> View<'a, 'k> {
         caller: &Caller,
         names: &[Name],
         mode: LockMode,
+        way: &mut Way,
     ) -> Result<Place<'a>, Stop>
         ensures place { Sees seen_place result self.entry (reach caller.now names.now mode) }
         ensures seen { IfOk result (λ place. IsSeenAt self.entry place.suite (Some place.row)) }
     {
-        let suite = self.walk(caller, names)?;
+        let suite = self.walk(caller, names, way)?;
         self.held(suite, mode)
     }
 
     /// The file or folder whose list and votes the caller may see.
-    pub(crate) fn shown(self, caller: &Caller, names: &[Name]) -> Result<Place<'a>, Stop>
+    pub(crate) fn shown(self, caller: &Caller, names: &[Name], way: &mut Way) -> Result<Place<'a>, Stop>
         ensures place { Sees seen_place result self.entry (shown caller.now names.now) }
         ensures seen { IfOk result (λ place. IsSeenAt self.entry place.suite (Some place.row)) }
     {
-        let place = self.reach(caller, names, LockMode::Shared)?;
+        let place = self.reach(caller, names, LockMode::Shared, way)?;
         place.permit_others(caller, Perms::READ)?;
         Ok(place)
     }
 
     /// The file or folder whose list and votes the caller may change.
-    pub(crate) fn owned(self, caller: &Caller, names: &[Name]) -> Result<Place<'a>, Stop>
+    pub(crate) fn owned(self, caller: &Caller, names: &[Name], way: &mut Way) -> Result<Place<'a>, Stop>
         ensures place { Sees seen_place result self.entry (owned caller.now names.now) }
         ensures seen { IfOk result (λ place. IsSeenAt self.entry place.suite (Some place.row)) }
     {
-        let place = self.reach(caller, names, LockMode::Exclusive)?;
+        let place = self.reach(caller, names, LockMode::Exclusive, way)?;
         place.owner_only(caller)?;
         Ok(place)
     }
 
     /// The folder that names lead to, which the caller must be let write and search.
-    pub(crate) fn parent_of(self, caller: &Caller, folders: &[Name]) -> Result<Parent<'a>, Stop>
+    pub(crate) fn parent_of(self, caller: &Caller, folders: &[Name], way: &mut Way) -> Result<Parent<'a>, Stop>
         ensures { Sees seen_parent result self.entry (parent_of caller.now folders.now) }
     {
-        let place = self.reach(caller, folders, LockMode::Exclusive)?;
+        let place = self.reach(caller, folders, LockMode::Exclusive, way)?;
         place.require_folder()?;
         place.permit(caller, to_change())?;
         let names = self.names_of(place.suite, place.row)?;

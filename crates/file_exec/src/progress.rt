@@ -1,0 +1,84 @@
+//! How far a transaction came on what was known.
+
+ghost use Rattle.std.specs.Prelude.{◌≡◌};
+ghost use Rattle.file_exec.specs.Reaching.{unbegun};
+ghost use Rattle.file_exec.specs.code.Ways.{reached_of};
+
+use crate::log::Log;
+use file_ops::Answer;
+use std::alloc::Global;
+use std::marker::Model;
+
+/// The number of the root folder.
+const ROOT: u64 = 0;
+
+/// How far the walk of an operation came: to this suite, by so many names.
+#[derive(Clone, Copy)]
+pub(crate) struct Way {
+    pub(crate) suite: u64,
+    pub(crate) depth: usize,
+}
+
+impl Way {
+    /// Nothing was walked yet.
+    pub(crate) fn new() -> Way
+        ensures suite { result.suite ≡ 0 }
+        ensures depth { result.depth ≡ 0 }
+    {
+        Way {
+            suite: ROOT,
+            depth: 0,
+        }
+    }
+}
+
+/// The operations before a place were done, with these answers and these edits; and how far the walk of the
+/// next one came.
+#[derive(Drop)]
+pub(crate) struct Stage {
+    pub(crate) at: u8,
+    pub(crate) answers: Vec<Answer>,
+    pub(crate) log: Log,
+    pub(crate) way: Way,
+}
+
+impl Stage {
+    /// Nothing was done yet.
+    pub(crate) fn new(alloc: Global) -> Stage
+        ensures { reached_of result ≡ unbegun }
+    {
+        Stage {
+            at: 0,
+            answers: Vec::new(alloc),
+            log: Log::new(alloc),
+            way: Way::new(),
+        }
+    }
+}
+
+/// How far a transaction came on what was known. It can go on from there once more is known: see
+/// [`exec_on`](crate::exec_on).
+#[derive(Drop)]
+pub struct Progress {
+    pub(crate) stage: Stage,
+}
+
+impl Model for Progress {
+    ghost use Rattle.file_exec.specs.Reaching.{Reached};
+    ghost use Rattle.file_exec.specs.code.Ways.{reached_of};
+
+    ghost Value = { Reached };
+
+    ghost view = { λ progress. reached_of progress.stage };
+}
+
+impl Progress {
+    /// Nothing was done yet.
+    pub fn new(alloc: Global) -> Progress
+        ensures { result ≡ unbegun }
+    {
+        Progress {
+            stage: Stage::new(alloc),
+        }
+    }
+}
