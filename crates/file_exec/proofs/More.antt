@@ -9,8 +9,9 @@ use Rattle.file_ops.specs.Rows.{row_of}
 use Rattle.file_exec.specs.KnownSuites.{KnownSuite}
 use Rattle.file_exec.specs.declared.need.Need.{Need}
 use Rattle.file_exec.specs.declared.need.Need.TheVariants.{Hold, Know}
+use Rattle.file_exec.specs.Courses.{Course}
 use Rattle.file_exec.specs.Following.{Ended, needs, ending}
-use Rattle.file_exec.specs.Known.{Known, known_of, row_in, known_rows, is_held, is_opened, is_met, first_unmet, Needs, Done, heard, IsSoAt, AgreesWith, on_table}
+use Rattle.file_exec.specs.Known.{Known, known_of, row_in, known_rows, is_held, is_opened, is_met, first_unmet, Needs, Done, heard, followed, IsSoAt, AgreesWith, on_table}
 use Rattle.file_exec.specs.Operations.{transaction}
 use Rattle.file_exec.specs.Laws.{IsMoreAt, MoreKnown, MoreKnownChangesNothing, AMetNeedIsProgress, DoneIsTheTables}
 use Rattle.file_exec.proofs.Alike.{goes_alike}
@@ -89,13 +90,16 @@ module _ (less more : Need → Bool) (stays : (need : Need) → less need ≡ tr
 
 -- ---- the laws
 
-pub more_known_changes_nothing : MoreKnownChangesNothing
-more_known_changes_nothing service less more t caller ops result is_more is =
-    let course = transaction service t caller ops in
+-- of any course: what was done stays so
+pub done_stays : {A E : Type 0} (less more : Known) (course : Course A E) (result : Result (Ended A) E) → MoreKnown less more → followed less (known_rows less) course ≡ Done result → followed more (known_rows more) course ≡ Done result
+done_stays less more course result is_more is =
     let alike = goes_alike less (known_rows more) (less_agrees less more is_more) [] (λ _ set. cc) course in
     let both = done_unmet (first_unmet less (needs (known_rows more) [] course)) (ending (known_rows more) [] course) result (sym alike ∙ is) in
     ap (λ unmet. heard unmet (ending (known_rows more) [] course)) (none_left (is_met less) (is_met more) (met_on less more is_more) (needs (known_rows more) [] course) both.0)
     ∙ ap (λ end. Done end) both.1
+
+pub more_known_changes_nothing : MoreKnownChangesNothing
+more_known_changes_nothing service less more t caller ops result is_more is = done_stays less more (transaction service t caller ops) result is_more is
 
 pub a_met_need_is_progress : AMetNeedIsProgress
 a_met_need_is_progress service less more rows t caller ops need agrees is_more is met =

@@ -1,5 +1,5 @@
 -- Operations of a transaction one after the other.
-use Rattle.std.proofs.Common.{◌≡◌, ℕ, ◌+◌, ◌≤◌, true, false, cond, List, [], ◌∷◌, ◌++◌, Some, Result, Ok, Err, length, get_or, take, arith, refl, sym, ap, subst, ◌∙◌, ◌<◌, ◌⊎◌, inl, inr}
+use Rattle.std.proofs.Common.{◌≡◌, ℕ, zero, suc, ◌+◌, ◌≤◌, true, false, cond, List, [], ◌∷◌, ◌++◌, Some, Result, Ok, Err, length, get_or, take, arith, refl, sym, ap, subst, ◌∙◌, ◌<◌, ◌⊎◌, inl, inr}
 use Rattle.std.proofs.Math.Nat.{eq-zero-or-pos}
 use Rattle.std.specs.Prelude.{◌==◌, ◌||◌, IfOk, OnErr}
 use Rattle.std.proofs.lemmas.Bool.Decides.{nat_tests}
@@ -18,7 +18,7 @@ use Rattle.file_exec.specs.declared.need.Need.TheVariants.{Hold, Know}
 use Rattle.file_exec.specs.declared.stop.Stop.{Stop}
 use Rattle.file_exec.specs.declared.stop.Stop.TheVariants as stop
 use Rattle.file_exec.specs.Courses.{Course, Give, Refuse, Look, Read, Set, at_place}
-use Rattle.file_exec.specs.Following.{Edits, is_set, looked, content_read}
+use Rattle.file_exec.specs.Following.{Edits, Ended, is_set, looked, content_read}
 use Rattle.file_exec.specs.Operations.{operation, play}
 use Rattle.file_exec.specs.Known.{Known, known_rows, is_met, Heard, Needs, Done, is_given, exec_of}
 use Rattle.file_exec.specs.Runs.{run, then_run}
@@ -28,12 +28,12 @@ use Rattle.file_exec.specs.code.Steps.{Told, Runs}
 use Rattle.file_exec.proofs.Running.{runs_in_turn, exec_runs}
 
 -- what an operation at a place comes to, its refusal naming it
-abbrev named : {A : Type 0} → ℕ → Heard A Why → Heard A Refusal
+abbrev pub named : {A : Type 0} → ℕ → Heard A Why → Heard A Refusal
 named at (Needs need) = Needs need
 named at (Done (Ok ended)) = Done (Ok ended)
 named at (Done (Err why)) = Done (Err (record { op = at + 1; why = why }))
 
-run_at_place : {A : Type 0} (known : Known) (edits : Edits) (at : ℕ) (course : Course A Why) → run known edits (at_place at course) ≡ named at (run known edits course)
+pub run_at_place : {A : Type 0} (known : Known) (edits : Edits) (at : ℕ) (course : Course A Why) → run known edits (at_place at course) ≡ named at (run known edits course)
 run_at_place known edits at (Give given) = refl
 run_at_place known edits at (Refuse why) = refl
 run_at_place known edits at (Look suite mode later) =
@@ -59,6 +59,23 @@ module _ (known : Known) (service : Service) (t : ℕ) (caller : Identity) where
   from_one edits answers at op ops =
       runs_in_turn known edits (at_place at (operation service t at caller op)) (λ answer. play service (answers ++ answer ∷ []) t (at + 1) caller ops)
       ∙ ap (then_run known (λ answer. play service (answers ++ answer ∷ []) t (at + 1) caller ops)) (run_at_place known edits at (operation service t at caller op))
+
+  -- the operations before a place, and then the others
+  pub parts : (edits : Edits) (answers : List Answer) (at to : ℕ) (first then : List Op) → to ≡ at + length first
+      → run known edits (play service answers t at caller (first ++ then)) ≡ then_run known (λ answers. play service answers t to caller then) (run known edits (play service answers t at caller first))
+  parts edits answers at to [] then is = ap (λ at. run known edits (play service answers t at caller then)) (let same : at ≡ to = grind (arith, is) in same)
+  parts edits answers at to (op ∷ first) then is =
+      from_one edits answers at op (first ++ then)
+      ∙ of (λ ended. parts ended.edits (answers ++ ended.given ∷ []) (at + 1) to first then (grind (arith, is))) (named at (run known edits (operation service t at caller op)))
+      ∙ sym (ap (then_run known (λ answers. play service answers t to caller then)) (from_one edits answers at op first))
+    where
+      of : ((ended : Ended Answer) → run known ended.edits (play service (answers ++ ended.given ∷ []) t (at + 1) caller (first ++ then)) ≡ then_run known (λ answers. play service answers t to caller then) (run known ended.edits (play service (answers ++ ended.given ∷ []) t (at + 1) caller first)))
+          → (heard : Heard Answer Refusal)
+          → then_run known (λ answer. play service (answers ++ answer ∷ []) t (at + 1) caller (first ++ then)) heard
+          ≡ then_run known (λ answers. play service answers t to caller then) (then_run known (λ answer. play service (answers ++ answer ∷ []) t (at + 1) caller first) heard)
+      of rest (Needs need) = refl
+      of rest (Done (Ok ended)) = rest ended
+      of rest (Done (Err why)) = refl
 
   pub one_more : (before after : Edits) (answers : List Answer) (at : ℕ) (op : Op) (ops : List Op) (answer : Answer) → Runs (λ answer. answer) (Ok answer) known before after (operation service t at caller op)
       → run known before (play service answers t at caller (op ∷ ops)) ≡ run known after (play service (answers ++ answer ∷ []) t (at + 1) caller ops)
@@ -114,6 +131,22 @@ begins known service t caller ops log at index op unbegun begun counted below is
     of (inl none) =
         subst (λ ops. is_given (exec_of service known t caller ops) ≡ true) (first_taken ops op (subst (λ index. index < length ops) none below) (is ∙ ap (λ index. get_or ops index op) none))
         (first_given known service t caller op (ap (λ log. is_given (run known log (operation service t 0 caller op))) (sym (unbegun none)) ∙ ap (λ at. is_given (run known log (operation service t at caller op))) (sym (counted ∙ none)) ∙ given))
+
+-- once some operations were done, the first one gave something
+pub begun_first : (known : Known) (service : Service) (t : ℕ) (caller : Identity) (ops : List Op) (at : ℕ) (ended : Ended (List Answer)) → 0 < at → 0 < length ops
+    → run known [] (play service [] t 0 caller (take at ops)) ≡ Done (Ok ended) → is_given (exec_of service known t caller (take 1 ops)) ≡ true
+begun_first known service t caller ops zero ended some any is = absurd (omega arith)
+begun_first known service t caller [] (suc at) ended some any is = absurd (omega arith)
+begun_first known service t caller (op ∷ ops) (suc at) ended some any is =
+    first_given known service t caller op (of (run known [] (operation service t 0 caller op)) (sym (from_one known service t caller [] [] 0 op (take at ops)) ∙ is))
+  where
+    next : Answer → Course (List Answer) Refusal
+    next answer = play service ([] ++ answer ∷ []) t 1 caller (take at ops)
+
+    of : (heard : Heard Answer Why) → then_run known next (named 0 heard) ≡ Done (Ok ended) → is_given heard ≡ true
+    of (Needs need) is = cc
+    of (Done (Ok ended)) is = refl
+    of (Done (Err why)) is = cc
 
 -- memory is refused to an operation only where it gives something
 pub ends_given : {E : Type 0} (at : ℕ) (e : Stop) (result : Result Outcome E) (heard : Heard Answer Why) (after : Edits) {P : Type 0} → Told (λ heard. is_given heard ≡ true) (λ (answer : Answer). answer) (Err e) after heard

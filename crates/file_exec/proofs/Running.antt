@@ -29,7 +29,7 @@ runs_in_turn known edits (Set suite edit later) next =
       | false ↦ refl
     ]
 
-followed_runs : {A E : Type 0} (known : Known) (edits : Edits) (course : Course A E) → heard (first_unmet known (needs (known_rows known) edits course)) (ending (known_rows known) edits course) ≡ run known edits course
+pub followed_runs : {A E : Type 0} (known : Known) (edits : Edits) (course : Course A E) → heard (first_unmet known (needs (known_rows known) edits course)) (ending (known_rows known) edits course) ≡ run known edits course
 followed_runs known edits (Give given) = refl
 followed_runs known edits (Refuse why) = refl
 followed_runs known edits (Look suite mode later) =

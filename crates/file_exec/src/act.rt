@@ -1,16 +1,18 @@
 //! The operations of a transaction on what is known.
 
-ghost use Rattle.std.specs.Prelude.{◌≡◌, ◌<◌, ◌^◌, nat_lt, nat_le, length, is_some, IfOk};
+ghost use Rattle.std.specs.Prelude.{◌≡◌, ◌<◌, ◌^◌, nat_lt, nat_le, length, is_some, IfOk, OnErr};
 ghost use Rattle.suite_content.specs.Folders.{number_of, with_name, without_name};
 ghost use Rattle.suite_content.specs.Limits.{max_content, max_names};
 ghost use Rattle.file_ops.specs.declared.refusal.Why.TheVariants as why;
-ghost use Rattle.file_ops.specs.Operations.{refuse_if};
+ghost use Rattle.file_ops.specs.Operations.{refuse_if, last_name};
 ghost use Rattle.file_ops.specs.Steps.{found_or};
 ghost use Rattle.file_ops.specs.Rows.{new_row};
 ghost use Rattle.file_exec.specs.Courses.{set};
 ghost use Rattle.file_exec.specs.Operations.{bytes_read, names_listed, list_shown, votes_shown, bytes_written, list_set, votes_set, made, refuse_used, dropped, operation};
 ghost use Rattle.file_exec.specs.code.Overlay.{seen_head, IsSeenAt};
 ghost use Rattle.file_exec.specs.code.Steps.{Answers, Runs, Sees};
+ghost use Rattle.file_exec.specs.code.Ways.{LeadsTo};
+ghost use Rattle.file_exec.specs.Reaching.{folders_in, walked};
 
 use crate::known::Known;
 use crate::log::{Edit, Log};
@@ -99,7 +101,9 @@ fn without_name(names: &FolderNames, name: &Name) -> Result<FolderNames, AllocEr
 
 /// The bytes of a file.
 fn read(view: View<'_, '_>, caller: &Caller, names: &[Name], way: &mut Way) -> Result<Answer, Stop>
-    ensures { Answers (λ answer. answer) result view.entry (bytes_read caller.now names.now) }
+    requires { LeadsTo view.known.now.suites view.log.now caller.now names.now way.old }
+    ensures answer { Answers (λ answer. answer) result view.entry (bytes_read caller.now names.now) }
+    ensures way { LeadsTo view.entry.known.now.suites view.entry.log.now caller.now names.now way.new }
 {
     let place = view.reach(caller, names, LockMode::Shared, way)?;
     place.permit(caller, Perms::READ)?;
@@ -110,7 +114,9 @@ fn read(view: View<'_, '_>, caller: &Caller, names: &[Name], way: &mut Way) -> R
 
 /// The names of a folder.
 fn list(view: View<'_, '_>, caller: &Caller, names: &[Name], way: &mut Way) -> Result<Answer, Stop>
-    ensures { Answers (λ answer. answer) result view.entry (names_listed caller.now names.now) }
+    requires { LeadsTo view.known.now.suites view.log.now caller.now names.now way.old }
+    ensures answer { Answers (λ answer. answer) result view.entry (names_listed caller.now names.now) }
+    ensures way { LeadsTo view.entry.known.now.suites view.entry.log.now caller.now names.now way.new }
 {
     let place = view.reach(caller, names, LockMode::Shared, way)?;
     place.permit(caller, Perms::READ)?;
@@ -121,8 +127,15 @@ fn list(view: View<'_, '_>, caller: &Caller, names: &[Name], way: &mut Way) -> R
 }
 
 /// The access list of a file or folder.
-fn get_acl(view: View<'_, '_>, caller: &Caller, names: &[Name], way: &mut Way) -> Result<Answer, Stop>
-    ensures { Answers (λ answer. answer) result view.entry (list_shown caller.now names.now) }
+fn get_acl(
+    view: View<'_, '_>,
+    caller: &Caller,
+    names: &[Name],
+    way: &mut Way,
+) -> Result<Answer, Stop>
+    requires { LeadsTo view.known.now.suites view.log.now caller.now names.now way.old }
+    ensures answer { Answers (λ answer. answer) result view.entry (list_shown caller.now names.now) }
+    ensures way { LeadsTo view.entry.known.now.suites view.entry.log.now caller.now names.now way.new }
 {
     let place = view.shown(caller, names, way)?;
     let acl = place.row.acl.clone()?;
@@ -130,8 +143,15 @@ fn get_acl(view: View<'_, '_>, caller: &Caller, names: &[Name], way: &mut Way) -
 }
 
 /// The votes of a file or folder.
-fn get_votes(view: View<'_, '_>, caller: &Caller, names: &[Name], way: &mut Way) -> Result<Answer, Stop>
-    ensures { Answers (λ answer. answer) result view.entry (votes_shown caller.now names.now) }
+fn get_votes(
+    view: View<'_, '_>,
+    caller: &Caller,
+    names: &[Name],
+    way: &mut Way,
+) -> Result<Answer, Stop>
+    requires { LeadsTo view.known.now.suites view.log.now caller.now names.now way.old }
+    ensures answer { Answers (λ answer. answer) result view.entry (votes_shown caller.now names.now) }
+    ensures way { LeadsTo view.entry.known.now.suites view.entry.log.now caller.now names.now way.new }
 {
     let place = view.shown(caller, names, way)?;
     Ok(Answer::Votes(*place.row.votes))
@@ -139,7 +159,8 @@ fn get_votes(view: View<'_, '_>, caller: &Caller, names: &[Name], way: &mut Way)
 
 /// Sets something of a suite, which is to be held exclusively.
 fn set(known: &Known<'_>, log: &mut Log, suite: u64, edit: Edit) -> Result<(), Stop>
-    ensures { Runs (λ done. done) result known.now.suites log.old log.new (set suite edit) }
+    ensures set { Runs (λ done. done) result known.now.suites log.old log.new (set suite edit) }
+    ensures kept { OnErr result (log.new ≡ log.old) }
 {
     if !known.holds(suite, LockMode::Exclusive) {
         return Err(Stop::Needs(Need::Hold(suite, LockMode::Exclusive)));
@@ -157,7 +178,10 @@ fn write(
     bytes: &FileBytes,
     way: &mut Way,
 ) -> Result<Answer, Stop>
-    ensures { Runs (λ answer. answer) result known.now.suites log.old log.new (bytes_written caller.now names.now bytes.now) }
+    requires { LeadsTo known.now.suites log.old caller.now names.now way.old }
+    ensures answer { Runs (λ answer. answer) result known.now.suites log.old log.new (bytes_written caller.now names.now bytes.now) }
+    ensures kept { OnErr result (log.new ≡ log.old) }
+    ensures way { LeadsTo known.now.suites log.old caller.now names.now way.new }
 {
     require_fit(bytes)?;
     let place = View { known, log }.reach(caller, names, LockMode::Exclusive, way)?;
@@ -178,7 +202,10 @@ fn set_acl(
     acl: &Acl,
     way: &mut Way,
 ) -> Result<Answer, Stop>
-    ensures { Runs (λ answer. answer) result known.now.suites log.old log.new (list_set caller.now names.now acl.now) }
+    requires { LeadsTo known.now.suites log.old caller.now names.now way.old }
+    ensures answer { Runs (λ answer. answer) result known.now.suites log.old log.new (list_set caller.now names.now acl.now) }
+    ensures kept { OnErr result (log.new ≡ log.old) }
+    ensures way { LeadsTo known.now.suites log.old caller.now names.now way.new }
 {
     let suite = View { known, log }.owned(caller, names, way)?.suite;
     let acl = acl.clone()?;
@@ -196,7 +223,10 @@ fn set_votes(
     given: &Votes,
     way: &mut Way,
 ) -> Result<Answer, Stop>
-    ensures { Runs (λ answer. answer) result known.now.suites log.old log.new (votes_set known.now.service caller.now names.now given.now) }
+    requires { LeadsTo known.now.suites log.old caller.now names.now way.old }
+    ensures answer { Runs (λ answer. answer) result known.now.suites log.old log.new (votes_set known.now.service caller.now names.now given.now) }
+    ensures kept { OnErr result (log.new ≡ log.old) }
+    ensures way { LeadsTo known.now.suites log.old caller.now names.now way.new }
 {
     let service = known.service();
     let votes = service.known_votes(given)?;
@@ -219,7 +249,10 @@ fn make(
     given: &Option<Votes>,
     way: &mut Way,
 ) -> Result<Answer, Stop>
-    ensures { Runs (λ answer. answer) result transaction.entry.known.now.suites log.old log.new (made transaction.entry.known.now.service number transaction.entry.caller.now names.now kind init.now given.now) }
+    requires { LeadsTo transaction.known.now.suites log.old transaction.caller.now (folders_in (last_name names.now)) way.old }
+    ensures answer { Runs (λ answer. answer) result transaction.entry.known.now.suites log.old log.new (made transaction.entry.known.now.service number transaction.entry.caller.now names.now kind init.now given.now) }
+    ensures kept { OnErr result (log.new ≡ log.old) }
+    ensures way { LeadsTo transaction.entry.known.now.suites log.old transaction.entry.caller.now (folders_in (last_name names.now)) way.new }
 {
     let Transaction {
         alloc,
@@ -244,7 +277,10 @@ fn make(
         folder,
         Edit::SetContent(Content::Names(entries)),
     )?;
-    set(known, log, number, Edit::Make(row))?;
+    if let Err(stop) = set(known, log, number, Edit::Make(row)) {
+        log.take_back();
+        return Err(stop);
+    }
     Ok(Answer::Made(number))
 }
 
@@ -294,7 +330,10 @@ fn drop(
     names: &[Name],
     way: &mut Way,
 ) -> Result<Answer, Stop>
-    ensures { Runs (λ answer. answer) result known.now.suites log.old log.new (dropped caller.now names.now) }
+    requires { LeadsTo known.now.suites log.old caller.now (folders_in (last_name names.now)) way.old }
+    ensures answer { Runs (λ answer. answer) result known.now.suites log.old log.new (dropped caller.now names.now) }
+    ensures kept { OnErr result (log.new ≡ log.old) }
+    ensures way { LeadsTo known.now.suites log.old caller.now (folders_in (last_name names.now)) way.new }
 {
     let (name, folders) = last_name(names)?;
     let view = View { known, log };
@@ -321,8 +360,11 @@ pub(crate) fn operate(
     op: &Op,
     way: &mut Way,
 ) -> Result<Answer, Stop>
-    requires { transaction.t < 2 ^ 60 }
-    ensures { Runs (λ answer. answer) result transaction.entry.known.now.suites log.old log.new (operation transaction.entry.known.now.service transaction.entry.t at transaction.entry.caller.now op.now) }
+    requires number { transaction.t < 2 ^ 60 }
+    requires way { LeadsTo transaction.known.now.suites log.old transaction.caller.now (walked op.now) way.old }
+    ensures answer { Runs (λ answer. answer) result transaction.entry.known.now.suites log.old log.new (operation transaction.entry.known.now.service transaction.entry.t at transaction.entry.caller.now op.now) }
+    ensures kept { OnErr result (log.new ≡ log.old) }
+    ensures way { LeadsTo transaction.entry.known.now.suites log.old transaction.entry.caller.now (walked op.now) way.new }
 {
     let mut array = [no_name(); MAX_PATH_NAMES];
     let count = read_path(op.path.as_bytes(), &mut array).ok_or(Why::BadPath)?;

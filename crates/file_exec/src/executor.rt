@@ -14,8 +14,8 @@ ghost use Rattle.file_exec.specs.declared.executor.Outcome.TheVariants as told;
 use crate::act::{Transaction, operate};
 use crate::changes::Changes;
 use crate::known::Known;
-use crate::need::Need;
 use crate::laws::unbegun_is_reached;
+use crate::need::Need;
 use crate::progress::{Progress, Stage, Way};
 use crate::stop::Stop;
 use acl_core::Caller;
@@ -91,14 +91,20 @@ pub fn exec_on(
         t,
         caller,
     };
-    let played = match play_on(transaction, ops, &mut progress.stage) {
-        Ok(Some(Outcome::Need(need))) => return Ok(Outcome::Need(need)),
-        played => played,
-    };
-    let stage = mem::replace(&mut progress.stage, Stage::new(alloc));
-    match played? {
-        Some(outcome) => Ok(outcome),
-        None => finish(alloc, known, stage),
+    match play_on(transaction, ops, &mut progress.stage) {
+        Ok(Some(Outcome::Need(need))) => Ok(Outcome::Need(need)),
+        Ok(Some(outcome)) => {
+            *progress = Progress::new(alloc);
+            Ok(outcome)
+        }
+        Ok(None) => {
+            let stage = mem::replace(&mut progress.stage, Stage::new(alloc));
+            finish(alloc, known, stage)
+        }
+        Err(refused) => {
+            *progress = Progress::new(alloc);
+            Err(refused)
+        }
     }
 }
 
@@ -110,7 +116,7 @@ fn play_on(
 ) -> Result<Option<Outcome>, AllocError>
     requires number { transaction.t < 2 ^ 60 }
     requires few { length ops.now ≤ max_operations }
-    requires reached { IsReached transaction.entry.known.now.service transaction.entry.known.now.suites transaction.entry.t transaction.entry.caller.now ops.now (reached_of stage.old) }
+    requires reached { IsReached transaction.known.now.service transaction.known.now.suites transaction.t transaction.caller.now ops.now (reached_of stage.old) }
     ensures ends { IfOk result (λ outcome. PlaysTo transaction.entry ops.now outcome stage.new) }
     ensures reached { IfOk result (λ outcome. IsReached transaction.entry.known.now.service transaction.entry.known.now.suites transaction.entry.t transaction.entry.caller.now ops.now (reached_of stage.new)) }
     ensures first { OnErr result (is_given (exec_of transaction.entry.known.now.service transaction.entry.known.now.suites transaction.entry.t transaction.entry.caller.now (take 1 ops.now)) ≡ true) }

@@ -1,6 +1,6 @@
 //! What a transaction has set so far.
 
-ghost use Rattle.std.specs.Prelude.{◌≡◌, ◌∷◌, ◌||◌, [], Bool, OnOk, OnErr};
+ghost use Rattle.std.specs.Prelude.{◌≡◌, ◌<◌, ◌∷◌, ◌||◌, [], Bool, OnOk, OnErr, length, drop};
 ghost use Rattle.std.specs.Option.{option_map};
 ghost use Rattle.file_exec.specs.Following.{changed, seen, sets_content, is_set};
 ghost use Rattle.file_exec.specs.Changes.{makes, sets_acl, sets_votes, some};
@@ -104,6 +104,14 @@ impl Log {
     {
         self.edits.insert(0, (suite, edit))?;
         Ok(())
+    }
+
+    /// The newest edit is taken back.
+    pub(crate) fn take_back(&mut self)
+        requires { 0 < length self.old }
+        ensures { self.new ≡ drop 1 self.old }
+    {
+        self.edits.remove(0);
     }
 
     /// The edits with their suites, the newest first.

@@ -8,12 +8,13 @@ ghost use Rattle.file_exec.specs.Courses.{look, read};
 ghost use Rattle.file_exec.specs.Operations.{held, bytes_at, names_at, step, walk, reach, shown, owned, parent_of};
 ghost use Rattle.file_exec.specs.code.Overlay.{seen_head, seen_place, seen_parent, IsSeenAt};
 ghost use Rattle.file_exec.specs.code.Steps.{Answers, Sees};
+ghost use Rattle.file_exec.specs.code.Ways.{LeadsTo};
 
 use crate::known::Known;
 use crate::log::{Log, seen};
 use crate::need::Need;
-use crate::seen::{Seen, SeenContent};
 use crate::progress::Way;
+use crate::seen::{Seen, SeenContent};
 use crate::stop::Stop;
 use acl_core::{Caller, Perms};
 use file_ops::{Guarded, Why, to_change};
@@ -173,12 +174,15 @@ impl<'a, 'k> View<'a, 'k> {
         }
     }
 
-    /// The suite that names lead to from the root folder.
+    /// The suite that names lead to from the root folder: the walk goes on where it came.
     fn walk(self, caller: &Caller, names: &[Name], way: &mut Way) -> Result<u64, Stop>
-        ensures { Sees (λ suite. suite) result self.entry (walk caller.now root names.now) }
+        requires { LeadsTo self.known.now.suites self.log.now caller.now names.now way.old }
+        ensures suite { Sees (λ suite. suite) result self.entry (walk caller.now root names.now) }
+        ensures way { LeadsTo self.entry.known.now.suites self.entry.log.now caller.now names.now way.new }
     {
         while way.depth < names.len() {
-            way.suite = self.step(caller, way.suite, &names[way.depth])?;
+            let next = self.step(caller, way.suite, &names[way.depth])?;
+            way.suite = next;
             way.depth += 1;
         }
         Ok(way.suite)
@@ -192,17 +196,26 @@ impl<'a, 'k> View<'a, 'k> {
         mode: LockMode,
         way: &mut Way,
     ) -> Result<Place<'a>, Stop>
+        requires { LeadsTo self.known.now.suites self.log.now caller.now names.now way.old }
         ensures place { Sees seen_place result self.entry (reach caller.now names.now mode) }
         ensures seen { IfOk result (λ place. IsSeenAt self.entry place.suite (Some place.row)) }
+        ensures way { LeadsTo self.entry.known.now.suites self.entry.log.now caller.now names.now way.new }
     {
         let suite = self.walk(caller, names, way)?;
         self.held(suite, mode)
     }
 
     /// The file or folder whose list and votes the caller may see.
-    pub(crate) fn shown(self, caller: &Caller, names: &[Name], way: &mut Way) -> Result<Place<'a>, Stop>
+    pub(crate) fn shown(
+        self,
+        caller: &Caller,
+        names: &[Name],
+        way: &mut Way,
+    ) -> Result<Place<'a>, Stop>
+        requires { LeadsTo self.known.now.suites self.log.now caller.now names.now way.old }
         ensures place { Sees seen_place result self.entry (shown caller.now names.now) }
         ensures seen { IfOk result (λ place. IsSeenAt self.entry place.suite (Some place.row)) }
+        ensures way { LeadsTo self.entry.known.now.suites self.entry.log.now caller.now names.now way.new }
     {
         let place = self.reach(caller, names, LockMode::Shared, way)?;
         place.permit_others(caller, Perms::READ)?;
@@ -210,9 +223,16 @@ impl<'a, 'k> View<'a, 'k> {
     }
 
     /// The file or folder whose list and votes the caller may change.
-    pub(crate) fn owned(self, caller: &Caller, names: &[Name], way: &mut Way) -> Result<Place<'a>, Stop>
+    pub(crate) fn owned(
+        self,
+        caller: &Caller,
+        names: &[Name],
+        way: &mut Way,
+    ) -> Result<Place<'a>, Stop>
+        requires { LeadsTo self.known.now.suites self.log.now caller.now names.now way.old }
         ensures place { Sees seen_place result self.entry (owned caller.now names.now) }
         ensures seen { IfOk result (λ place. IsSeenAt self.entry place.suite (Some place.row)) }
+        ensures way { LeadsTo self.entry.known.now.suites self.entry.log.now caller.now names.now way.new }
     {
         let place = self.reach(caller, names, LockMode::Exclusive, way)?;
         place.owner_only(caller)?;
@@ -220,8 +240,15 @@ impl<'a, 'k> View<'a, 'k> {
     }
 
     /// The folder that names lead to, which the caller must be let write and search.
-    pub(crate) fn parent_of(self, caller: &Caller, folders: &[Name], way: &mut Way) -> Result<Parent<'a>, Stop>
-        ensures { Sees seen_parent result self.entry (parent_of caller.now folders.now) }
+    pub(crate) fn parent_of(
+        self,
+        caller: &Caller,
+        folders: &[Name],
+        way: &mut Way,
+    ) -> Result<Parent<'a>, Stop>
+        requires { LeadsTo self.known.now.suites self.log.now caller.now folders.now way.old }
+        ensures parent { Sees seen_parent result self.entry (parent_of caller.now folders.now) }
+        ensures way { LeadsTo self.entry.known.now.suites self.entry.log.now caller.now folders.now way.new }
     {
         let place = self.reach(caller, folders, LockMode::Exclusive, way)?;
         place.require_folder()?;

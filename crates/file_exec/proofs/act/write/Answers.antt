@@ -5,24 +5,24 @@ use Rattle.suite_content.specs.declared.content.Content.TheVariants.{Bytes}
 use Rattle.file_exec.specs.declared.log.Edit.TheVariants.{SetContent}
 use Rattle.file_exec.proofs.act.write.Goals as goal
 
-pub returns-in_err-require_fit : goal.returns-in_err-require_fit
-returns-in_err-require_fit c = overruled _ (sym c.in_err-require_fit.ensures) c.from_residual.ensures
+pub returns-in_err-require_fit-clause-answer : goal.returns-in_err-require_fit-clause-answer
+returns-in_err-require_fit-clause-answer c = overruled _ (sym c.in_err-require_fit.ensures) c.from_residual.ensures
 
-pub returns-in_err-place : goal.returns-in_err-place
-returns-in_err-place c = ruled _ (sym c.in_ok-require_fit.ensures) (stops _ c.in_err-place.ensures.place c.from_residual-in_err-place.ensures)
+pub returns-in_err-place-clause-answer : goal.returns-in_err-place-clause-answer
+returns-in_err-place-clause-answer c = ruled _ (sym c.in_ok-require_fit.ensures) (stops _ c.in_err-place.ensures.place c.from_residual-in_err-place.ensures)
 
-pub returns-in_err-permit : goal.returns-in_err-permit
-returns-in_err-permit c = ruled _ (sym c.in_ok-require_fit.ensures) (goes _ c.in_ok-place.ensures.place (overruled _ (sym c.in_err-permit.ensures) c.from_residual-in_err-permit.ensures))
+pub returns-in_err-permit-clause-answer : goal.returns-in_err-permit-clause-answer
+returns-in_err-permit-clause-answer c = ruled _ (sym c.in_ok-require_fit.ensures) (goes _ c.in_ok-place.ensures.place (overruled _ (sym c.in_err-permit.ensures) c.from_residual-in_err-permit.ensures))
 
-pub returns-in_err-require_file : goal.returns-in_err-require_file
-returns-in_err-require_file c = ruled _ (sym c.in_ok-require_fit.ensures) (goes _ c.in_ok-place.ensures.place (ruled _ (sym c.in_ok-permit.ensures) (overruled _ (sym c.in_err-require_file.ensures) c.from_residual-in_err-require_file.ensures)))
+pub returns-in_err-require_file-clause-answer : goal.returns-in_err-require_file-clause-answer
+returns-in_err-require_file-clause-answer c = ruled _ (sym c.in_ok-require_fit.ensures) (goes _ c.in_ok-place.ensures.place (ruled _ (sym c.in_ok-permit.ensures) (overruled _ (sym c.in_err-require_file.ensures) c.from_residual-in_err-require_file.ensures)))
 
-pub returns-in_err-set : goal.returns-in_err-set
-returns-in_err-set c = let copied : c.in_ok-bytes.bytes ≡ c.args.bytes.now = c.in_ok-bytes.ensures.cases in ruled _ (sym c.in_ok-require_fit.ensures) (goes _ c.in_ok-place.ensures.place (ruled _ (sym c.in_ok-permit.ensures) (ruled _ (sym c.in_ok-require_file.ensures) (stopped_set refl (same_set (ap (λ x. SetContent (Bytes x)) copied) c.in_err-set.ensures) c.from_residual-in_err-set.ensures))))
+pub returns-in_err-set-clause-answer : goal.returns-in_err-set-clause-answer
+returns-in_err-set-clause-answer c = let copied : c.in_ok-bytes.bytes ≡ c.args.bytes.now = c.in_ok-bytes.ensures.cases in ruled _ (sym c.in_ok-require_fit.ensures) (goes _ c.in_ok-place.ensures.place (ruled _ (sym c.in_ok-permit.ensures) (ruled _ (sym c.in_ok-require_file.ensures) (stopped_set refl (same_set (ap (λ x. SetContent (Bytes x)) copied) c.in_err-set.ensures.set) c.from_residual-in_err-set.ensures))))
 
-pub returns : goal.returns
-returns c = let copied : c.in_ok-bytes.bytes ≡ c.args.bytes.now = c.in_ok-bytes.ensures.cases in ruled _ (sym c.in_ok-require_fit.ensures) (goes _ c.in_ok-place.ensures.place (ruled _ (sym c.in_ok-permit.ensures) (ruled _ (sym c.in_ok-require_file.ensures) (after_set (same_set (ap (λ x. SetContent (Bytes x)) copied) c.in_ok-set.ensures) (record { told = refl })))))
+pub returns-clause-answer : goal.returns-clause-answer
+returns-clause-answer c = let copied : c.in_ok-bytes.bytes ≡ c.args.bytes.now = c.in_ok-bytes.ensures.cases in ruled _ (sym c.in_ok-require_fit.ensures) (goes _ c.in_ok-place.ensures.place (ruled _ (sym c.in_ok-permit.ensures) (ruled _ (sym c.in_ok-require_file.ensures) (after_set (same_set (ap (λ x. SetContent (Bytes x)) copied) c.in_ok-set.ensures.set) (record { told = refl })))))
 
-pub returns-in_err-bytes : goal.returns-in_err-bytes
-returns-in_err-bytes c =
+pub returns-in_err-bytes-clause-answer : goal.returns-in_err-bytes-clause-answer
+returns-in_err-bytes-clause-answer c =
     ruled _ (sym c.in_ok-require_fit.ensures) (goes _ c.in_ok-place.ensures.place (ruled _ (sym c.in_ok-permit.ensures) (ruled _ (sym c.in_ok-require_file.ensures) (unset (reached c.args.caller.now c.args.names.now c.in_ok-place.ensures.place) refl c.from_residual-in_err-bytes.ensures))))

@@ -1,21 +1,14 @@
-use Rattle.std.proofs.Common.{◌≡◌, ℕ, ◌+◌, ◌<◌, List, ◌∷◌, length, get_or, drop, sym, ap, ◌∙◌}
-use Rattle.std.proofs.lemmas.List.{drop_more}
-use Rattle.acl_core.specs.Identity.{Identity}
-use Rattle.file_exec.specs.Following.{Edits}
-use Rattle.file_exec.specs.Known.{Known}
-use Rattle.file_exec.specs.Runs.{run}
-use Rattle.file_exec.specs.Operations.{walk}
-use Rattle.file_exec.proofs.Steps.{goes_on, stops, in_other_words}
+use Rattle.file_exec.proofs.Steps.{in_other_words, stops}
+use Rattle.file_exec.proofs.Walking.{next_step, leads_on}
 use Rattle.file_exec.proofs.view.View.walk.Goals as goal
 
--- the names that are left, of which one is the next
-left : (known : Known) (edits : Edits) (caller : Identity) (suite : ℕ) (names : List (List ℕ)) (at : ℕ) (name : List ℕ) → at < length names → name ≡ get_or names at name
-    → run known edits (walk caller suite (name ∷ drop (at + 1) names)) ≡ run known edits (walk caller suite (drop at names))
-left known edits caller suite names at name below is = ap (λ left. run known edits (walk caller suite left)) (sym (drop_more names at name below ∙ ap (λ name. name ∷ drop (at + 1) names) (sym is)))
+pub returns-in_err-next-clause-suite : goal.returns-in_err-next-clause-suite
+returns-in_err-next-clause-suite c =
+    let known = c.args.self.known.now.suites in
+    let edits = c.args.self.log.now in
+    in_other_words (next_step known edits c.args.caller.now c.args.names.now c.loop-way.way.depth c.loop-way.way.suite c.loop-way.invariant _ c.loop-way-test.true c.index-names-way.is)
+    (stops _ c.in_err-next.ensures c.from_residual.ensures)
 
-pub returns-in_err-suite : goal.returns-in_err-suite
-returns-in_err-suite c =
-    in_other_words (left _ _ _ _ c.args.names.now c.loop-name.name-index _ c.loop-name-test.true c.name-item.is ∙ c.loop-name.invariant) (stops _ c.in_err-suite.ensures c.from_residual.ensures)
-
-pub loop-name-preserved : goal.loop-name-preserved
-loop-name-preserved c = sym (goes_on _ c.in_ok-suite.ensures) ∙ left _ _ _ _ c.args.names.now c.loop-name.name-index _ c.loop-name-test.true c.name-item.is ∙ c.loop-name.invariant
+pub loop-way-preserved : goal.loop-way-preserved
+loop-way-preserved c =
+    leads_on c.args.self.known.now.suites c.args.self.log.now c.args.caller.now c.args.names.now c.loop-way.way.depth c.loop-way.way.suite c.loop-way.invariant _ c.in_ok-next.next c.loop-way-test.true c.index-names-way.is c.in_ok-next.ensures.told
