@@ -226,13 +226,16 @@ impl Store {
         self.intentions.reserve(parts.len())
     }
 
-    /// Keeps the intentions of a Prepare, for which there is room.
+    /// Keeps the intentions of a Prepare, for which there is room. Most only lock what was read: then no part is moved.
     pub(crate) fn intend(&mut self, t: u64, parts: Vec<Part>)
         requires sound { list_all (store.is_sound_part self.old.store) parts.items ≡ true }
         requires few { store.overfills t self.old.store parts.items ≡ false }
         requires room { length parts.items ≤ self.old.room }
         ensures { self.new.store ≡ store.intended t parts.items self.old.store }
     {
+        if take_nothing(parts.as_slice()) {
+            return;
+        }
         keep_all(&mut self.intentions, t, parts);
     }
 
@@ -325,6 +328,12 @@ fn any_holds_last(parts: &[Part]) -> bool
     ensures { result ≡ list_any (λ part. store.holds_last part.take) parts.now }
 {
     parts.iter().any(|part| holds_last(&part.take))
+}
+
+fn take_nothing(parts: &[Part]) -> bool
+    ensures { result ≡ list_all (λ part. store.is_keep part.take) parts.now }
+{
+    parts.iter().all(|part| is_keep(&part.take))
 }
 
 /// Keeps the intentions of parts, for which there is room.
