@@ -64,7 +64,7 @@ module _ {V : Type 0} where
       ap is_eq (swapped e.0 pair.0 (at_index (λ b. nat_cmp e.0 b ≡ Less) es i pair in_range is (sorted_head nat_cmp e.0 (keys_of es) rising)))
 
   -- the value at a place's key is the one there
-  has_at : (pairs : List (ℕ × V)) (i : ℕ) (pair : ℕ × V) → IsOrdered nat_cmp pairs → i < length pairs → pair ≡ get_or pairs i pair → get nat_cmp pairs pair.0 ≡ Some pair.1
+  pub has_at : (pairs : List (ℕ × V)) (i : ℕ) (pair : ℕ × V) → IsOrdered nat_cmp pairs → i < length pairs → pair ≡ get_or pairs i pair → get nat_cmp pairs pair.0 ≡ Some pair.1
   has_at [] i pair rising in_range is = absurd (omega arith)
   has_at (e ∷ es) zero pair rising in_range is =
       lookup_head (is_at (nat_cmp pair.0)) e es (ap (λ p. is_at (nat_cmp pair.0) p.0) (sym is) ∙ at_itself pair.0) ∙ ap (λ p. Some p.1) (sym is)

@@ -4,9 +4,9 @@ use Rattle.std.specs.Prelude.{unwrap_or, is_some}
 use Rattle.std.specs.Ordering.{nat_cmp, is_eq}
 use Rattle.std.specs.Cmp.{eq_by_cmp_equiv}
 use Rattle.std.specs.BTreeMap.{is_at}
-use Rattle.std.specs.List.{AllByRecursion}
+use Rattle.std.specs.List.{AllByRecursion, list_all}
 use Rattle.std.specs.Map.{keys_of}
-use Rattle.std.proofs.lemmas.Bool.{cases_Bool, false≢true}
+use Rattle.std.proofs.lemmas.Bool.{cases_Bool, false≢true, and_parts}
 use Rattle.std.proofs.lemmas.Bool.Decides.{nat_tests}
 use Rattle.std.proofs.lemmas.Cmp.{nat_cmp_total}
 use Rattle.std.proofs.lemmas.Option.{none-some, same_Some}
@@ -21,10 +21,11 @@ use Rattle.vote_core.specs.Quorums.{Configuration}
 use Rattle.suite_prefix.specs.declared.copies.Prefix.{Prefix}
 use Rattle.suite_prefix.specs.declared.copies.Replica.{Replica}
 use Rattle.rep_core.specs.declared.intention.Intention.{Intention}
+use Rattle.rep_core.specs.declared.request.Part.{Part}
 use Rattle.rep_core.specs.declared.request.Take.{Take}
 use Rattle.rep_core.specs.declared.request.Take.TheVariants as take
 use Rattle.suite_prefix.specs.Absent.{absent_copy}
-use Rattle.rep_core.specs.Store.{copy_in, left_by, with_prefix, with_taken, with_copies, without_intentions, in_effect}
+use Rattle.rep_core.specs.Store.{is_keep, with_intentions, copy_in, left_by, with_prefix, with_taken, with_copies, without_intentions, in_effect}
 
 same_key : (key other : ℕ) → is_eq (nat_cmp key other) ≡ true → key ≡ other
 same_key key other here = grind (arith, nat_tests)
@@ -159,3 +160,11 @@ module _ (c0 : Configuration) where
       (cases_Bool (is_of t e)))
       ∙ ap (λ o. in_effect o (λ u. u == t) (copy_in c0 copies suite)) (sym (lookup_tail (is_at (nat_cmp suite)) e es there)))
       (cases_Bool (is_at (nat_cmp suite) e.0))
+
+-- parts that take nothing leave the intentions as they were
+pub nothing_taken : (t : ℕ) (parts : List Part) (intentions : List (ℕ × Intention)) → list_all (λ part. is_keep part.take) parts ≡ true → with_intentions t parts intentions ≡ intentions
+nothing_taken t [] intentions keeps = refl
+nothing_taken t (part ∷ parts) intentions keeps =
+    let each = and_parts (is_keep part.take) (list_all (λ part. is_keep part.take) parts) keeps in
+    ap (λ b. with_intentions t parts (cond b intentions (insert nat_cmp intentions part.suite (record { t = t; take = part.take })))) each.0
+    ∙ nothing_taken t parts intentions each.1

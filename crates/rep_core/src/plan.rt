@@ -238,8 +238,9 @@ impl Holdings {
         ensures bare { IsTrue (serving.is_bare (changing.granted (state_of self.now) request.now)) → IsOk result }
     {
         match request {
-            Request::Poll { suite, .. } => self.store.hold(*suite, reply),
-            Request::Upgrade { suite, .. } => self.store.hold(*suite, reply),
+            Request::Poll { suite, .. } | Request::Upgrade { suite, .. } => {
+                self.store.hold(*suite, reply)
+            }
             Request::Fetch { suite, .. } => self.store.give(*suite, reply),
             Request::Prepare { .. } => {
                 *reply = Reply::Prepared;

@@ -105,17 +105,18 @@ impl Store {
     pub(crate) fn hold(&self, suite: u64, reply: &mut Reply) -> Result<(), AllocError>
         ensures { OnOk result (reply.new ≡ held (store.copy_of self.now.store suite)) }
     {
-        match self.copies.get(&suite) {
-            Some(copy) => tell_held(&copy.prefix, copy.dver, reply),
-            None => tell_held(&self.absent, 0, reply),
-        }
+        let (prefix, dver) = match self.stored(suite) {
+            Some(copy) => (&copy.prefix, copy.dver),
+            None => (&self.absent, 0),
+        };
+        tell_held(prefix, dver, reply)
     }
 
     /// Writes the content of a suite's copy, and its version.
     pub(crate) fn give(&self, suite: u64, reply: &mut Reply) -> Result<(), AllocError>
         ensures { OnOk result (reply.new ≡ given (store.copy_of self.now.store suite)) }
     {
-        let (dver, content) = match self.copies.get(&suite) {
+        let (dver, content) = match self.stored(suite) {
             Some(copy) => (copy.dver, copy.content.clone()?),
             None => (0, Content::empty(self.alloc, Kind::File)),
         };
@@ -149,9 +150,21 @@ impl Store {
     fn kind_of(&self, suite: u64) -> PrefixKind
         ensures { result ≡ (store.copy_of self.now.store suite).prefix.kind }
     {
-        match self.copies.get(&suite) {
+        match self.stored(suite) {
             Some(copy) => copy.prefix.kind,
             None => self.absent.kind,
+        }
+    }
+
+    /// The copy of a suite that has one. The place of its number is looked at before the others are searched:
+    /// there stands a suite that no lower one is missing before, as the root folder, and the first folders
+    /// that were made, through which most ways lead.
+    fn stored(&self, suite: u64) -> Option<&Replica>
+        ensures { option_copied result ≡ get nat_cmp self.now.store.copies suite }
+    {
+        match self.copies.as_slice().get(suite as usize) {
+            Some((there, copy)) if *there == suite => Some(copy),
+            _ => self.copies.get(&suite),
         }
     }
 
@@ -213,13 +226,16 @@ impl Store {
         self.intentions.reserve(parts.len())
     }
 
-    /// Keeps the intentions of a Prepare, for which there is room.
+    /// Keeps the intentions of a Prepare, for which there is room. Most only lock what was read: then no part is moved.
     pub(crate) fn intend(&mut self, t: u64, parts: Vec<Part>)
         requires sound { list_all (store.is_sound_part self.old.store) parts.items ≡ true }
         requires few { store.overfills t self.old.store parts.items ≡ false }
         requires room { length parts.items ≤ self.old.room }
         ensures { self.new.store ≡ store.intended t parts.items self.old.store }
     {
+        if take_nothing(parts.as_slice()) {
+            return;
+        }
         keep_all(&mut self.intentions, t, parts);
     }
 
@@ -312,6 +328,12 @@ fn any_holds_last(parts: &[Part]) -> bool
     ensures { result ≡ list_any (λ part. store.holds_last part.take) parts.now }
 {
     parts.iter().any(|part| holds_last(&part.take))
+}
+
+fn take_nothing(parts: &[Part]) -> bool
+    ensures { result ≡ list_all (λ part. store.is_keep part.take) parts.now }
+{
+    parts.iter().all(|part| is_keep(&part.take))
 }
 
 /// Keeps the intentions of parts, for which there is room.

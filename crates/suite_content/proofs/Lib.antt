@@ -1,2 +1,3 @@
 mod ByteOrder
 mod Lists
+mod Fronts

@@ -1,9 +1,10 @@
 //! Names in a folder.
 
-ghost use Rattle.std.specs.Prelude.{◌≡◌, ◌↔◌, ◌⊎◌, All, IsSome, IfSome, IsTrue, codes};
+ghost use Rattle.std.specs.Prelude.{◌≡◌, ◌↔◌, ◌⊎◌, ◌≤◌, All, IsSome, IfSome, IsTrue, codes, length, drop, min};
 ghost use Rattle.std.specs.Ordering.{nat_cmp};
 ghost use Rattle.std.specs.Cmp.Lexicographic.{slice_cmp};
 ghost use Rattle.suite_content.specs.Names.{IsName, is_name_byte};
+ghost use Rattle.suite_content.specs.code.Fronts.{front};
 
 use std::cmp::Ordering;
 use std::fmt;
@@ -12,6 +13,9 @@ use std::marker::Model;
 
 /// The most bytes of a name.
 pub const MAX_NAME: usize = 64;
+
+/// So many bytes of two names are compared at once, as numbers.
+const FRONT: usize = 8;
 
 /// A name in a folder: 1 to 64 bytes of `A` to `Z`, `a` to `z`, `0` to `9`, `.`, `_` and `-`, and
 /// neither `.` nor `..`. It takes no memory. Names are ordered by their bytes.
@@ -95,7 +99,13 @@ impl Ord for Name {
     ghost matches_eq = { texts_ties };
 
     fn cmp(&self, other: &Name) -> Ordering {
-        order(self.as_bytes(), other.as_bytes())
+        let (front, other_front) = (self.front(), other.front());
+        if front != other_front {
+            return front.cmp(&other_front);
+        }
+        let (bytes, other_bytes) = (self.as_bytes(), other.as_bytes());
+        let same = FRONT.min(bytes.len()).min(other_bytes.len());
+        order_from(bytes, other_bytes, same)
     }
 }
 
@@ -129,6 +139,15 @@ impl Name {
     {
         &self.array[..self.count as usize]
     }
+
+    /// Its first eight bytes as one number, with zeros behind a shorter name.
+    fn front(&self) -> u64
+        ensures value { result ≡ front 8 self.now }
+        ensures is_name { IsName self.now }
+    {
+        let a = &self.array;
+        u64::from_be_bytes([a[0], a[1], a[2], a[3], a[4], a[5], a[6], a[7]])
+    }
 }
 
 /// Whether bytes are a name.
@@ -150,12 +169,14 @@ fn is_reserved(bytes: &[u8]) -> bool
     }
 }
 
-/// The order of two runs of bytes. It goes byte by byte: names are short, and most differ early.
-fn order(left: &[u8], right: &[u8]) -> Ordering
+/// The order of two runs of bytes, the first of which are the same. From this place on it goes byte by byte.
+fn order_from(left: &[u8], right: &[u8], from: usize) -> Ordering
+    requires within { from ≤ min (length left.now) (length right.now) }
+    requires same { slice_cmp nat_cmp (drop from left.now) (drop from right.now) ≡ slice_cmp nat_cmp left.now right.now }
     ensures { result ≡ slice_cmp nat_cmp left.now right.now }
 {
     let both = left.len().min(right.len());
-    for at in 0..both {
+    for at in from..both {
         let found = left[at].cmp(&right[at]);
         if found.is_ne() {
             return found;

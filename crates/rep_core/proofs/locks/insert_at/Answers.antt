@@ -1,4 +1,4 @@
-use Rattle.std.proofs.Common.{◌≡◌, ◌∷◌, [], ◌++◌, ◌+◌, ◌<◌, length, set, ap, ◌∙◌, arith}
+use Rattle.std.proofs.Common.{◌≡◌, ◌∷◌, [], ◌++◌, ◌+◌, length, set, ap, ◌∙◌, arith}
 use Rattle.std.specs.List.{copy_within}
 use Rattle.rep_core.proofs.Places.{put_in}
 use Rattle.rep_core.proofs.locks.insert_at.Goals as goal

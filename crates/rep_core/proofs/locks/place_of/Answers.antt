@@ -1,7 +1,6 @@
-use Rattle.std.proofs.Common.{◌≡◌, ◌-◌, ◌<◌, ◌≤◌, false, length, get_or, take, ap, sym, ◌∙◌, arith}
+use Rattle.std.proofs.Common.{◌-◌, ◌<◌, ◌≤◌, length, ap, sym, ◌∙◌, arith}
 use Rattle.std.proofs.lemmas.List.{get_or_default, length-take-le}
 use Rattle.rep_core.specs.code.Ranges.{IsPlaceOf}
-use Rattle.rep_core.specs.declared.lock.Lock.{Lock}
 use Rattle.rep_core.proofs.Places.{rise_front, place_in_front, count_place}
 use Rattle.rep_core.proofs.Searching.{stands_before}
 use Rattle.rep_core.proofs.locks.place_of.Goals as goal

@@ -1,8 +1,9 @@
-use Rattle.std.proofs.Common.{◌≡◌, true, false, ap, subst, sym, arith}
+use Rattle.std.proofs.Common.{rules, ◌≡◌, true, false, ap, subst, sym, arith}
 use Rattle.std.specs.List.{list_all}
 use Rattle.rep_core.specs.code.Holding.{Storing}
-use Rattle.rep_core.specs.Store.{Store, intended, is_sound_part, overfills}
+use Rattle.rep_core.specs.Store.{Store, intended, is_keep, is_sound_part, overfills}
 use Rattle.rep_core.specs.code.StoreFields.{store_of}
+use Rattle.rep_core.proofs.Intentions.{nothing_taken}
 use Rattle.rep_core.proofs.Soundness.{sound_once_intended}
 use Rattle.rep_core.proofs.store.Store.intend.Goals as goal
 
@@ -25,3 +26,10 @@ invariant_of-self c =
       omega (arith, c.keep_all.ensures.few, c.self.invariant.1, room, c.requires.room),
       sound_once_intended old new c.args.t parts c.self.invariant.2 are few is c.keep_all.ensures.rising,
     )
+
+pub returns-then-take_nothing : goal.returns-then-take_nothing
+returns-then-take_nothing c =
+    let parts = c.args.parts.items in
+    let store : Store = c.args.self.now.store in
+    let keeps : list_all (λ part. is_keep part.take) parts ≡ true = search rules in
+    ap (λ intentions. record store { intentions = intentions }) (sym (nothing_taken c.args.t parts store.intentions keeps))

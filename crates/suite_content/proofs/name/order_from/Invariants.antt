@@ -2,7 +2,7 @@ use Rattle.std.proofs.Common.{◌≡◌, ◌≤◌, length, drop}
 use Rattle.std.specs.Prelude.{min}
 use Rattle.std.specs.Ordering.{nat_cmp}
 use Rattle.std.specs.Cmp.Lexicographic.{slice_cmp}
-use Rattle.suite_content.proofs.name.order.Given as goal
+use Rattle.suite_content.proofs.name.order_from.Given as goal
 
 -- what the bytes from a place on answer, all of them answer
 abbrev pub invariant-loop-at : goal.invariant-loop-at
