@@ -68,8 +68,11 @@ fn prefix(rt: &(impl Abort + AllocGlobal), pver: u64, place: Where) -> Prefix {
     }
 }
 
-/// A reply to what is asked next.
+/// A reply to what is asked next. Where it gives a quorum it is taken in place first, and taken back.
 fn tell(rt: &impl Abort, collect: &mut Collect, reply: Reply) {
+    if let Some(before) = collect.take_last(&reply) {
+        collect.undo(before);
+    }
     assert!(rt; collect.accepts(&reply));
     collect.take(reply);
 }
@@ -271,4 +274,22 @@ fn only_some_replies_are_gone_on_with(rt: HostRuntime) {
     assert!(rt; !collect.accepts(&Reply::Down));
     collect.raise();
     assert!(rt; !collect.accepts(&Reply::Down));
+}
+
+#[test]
+fn a_lock_that_gives_a_quorum_is_taken_back(rt: HostRuntime) {
+    let mut collect = Collect::new(7, 9, LockMode::Shared, prefix(&rt, 0, Where::Here));
+    act(&rt, &mut collect, &Do::Held(1, Where::Here, 1));
+    let held = |pver| Reply::Held {
+        prefix: prefix(&rt, pver, Where::Here),
+        dver: 2,
+    };
+    assert!(rt; collect.take_last(&held(2)).is_none());
+    assert!(rt; collect.take_last(&Reply::Down).is_none());
+    let before = collect.take_last(&held(1)).expect(&rt, "a quorum");
+    let got = words(&rt, &collect);
+    assert_eq!(rt; got.as_str(), "prefix 1 content 2 of [0, 1] from Some(1)");
+    collect.undo(before);
+    let got = words(&rt, &collect);
+    assert_eq!(rt; got.as_str(), "Shared at 1");
 }

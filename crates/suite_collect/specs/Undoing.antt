@@ -49,6 +49,7 @@ pub record LeavesLast (was : Collector) (reply : Reply) (after : Collector) : Ty
   pub same : after ≡ was
   pub few : (last : Told) → told_by (next was) reply ≡ Some last → was.widening ≡ None → shows_known was reply ≡ true → has_quorum (next (tell last was)) ≡ false
 
+-- the reply was taken, where something was kept, and else left
 abbrev pub TakesLast : Option Before → Collector → Reply → Collector → Type 0
 TakesLast (Some kept) was reply after = Completes was reply kept after
 TakesLast None was reply after = LeavesLast was reply after

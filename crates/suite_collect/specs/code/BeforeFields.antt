@@ -10,6 +10,7 @@ use Rattle.suite_collect.specs.Undoing.{Before}
 abbrev pub before_of : Inside → Before
 before_of fields = record { server = fields.server; told = fields.told.items }
 
+-- what is kept beside what was told says of the told servers what that says
 pub record IsKept (fields : Inside) : Type 0 where
   pub known : fields.server < MAX_SERVERS
   pub held : (server : ℕ) → contains fields.held server ≡ holds Shared fields.told.items server

@@ -6,6 +6,7 @@ use Rattle.suite_collect.specs.declared.told.Told.{Told}
 use Rattle.suite_collect.specs.code.Dues.{lock_of}
 use Rattle.suite_collect.specs.Undoing.{Before}
 
+-- the lock of a server was told last, after what was told before
 pub record FollowsBy (before : Before) (told : List Told) : Type 0 where
   pub mode : LockMode
   pub prefix : Prefix

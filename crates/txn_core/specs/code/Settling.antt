@@ -18,6 +18,7 @@ unsettled before suite = record suite {
   mode = before.mode;
 }
 
+-- the suites, with the one of a number as it was before
 abbrev pub unsettled_at : ℕ → Unsettled → Option Suite → Suites → Suites
 unsettled_at number before (Some suite) suites = with_suite number (unsettled before suite) suites
 unsettled_at number before None suites = suites
@@ -27,6 +28,7 @@ pub record Restores (before : Unsettled) (suite : Suite) : Type 0 where
   pub undoes : Undoes before.collect suite.collector
   pub unused : SawUnused (undone before.collect suite.collector)
 
+-- the same of the suite of a number, where there is one
 abbrev pub RestoresAt : Unsettled → Option Suite → Type 0
 RestoresAt before (Some suite) = Restores before suite
 RestoresAt before None = Unit {0}
@@ -51,6 +53,7 @@ pub record SettlesIn (was : Course) (number : ℕ) (suite : Suite) (said : Reply
   pub restores : RestoresAt before (suite_of after.suites number)
   pub back : record after { suites = unsettled_at number before (suite_of after.suites number) after.suites } ≡ was
 
+-- and of whether it was settled or left
 abbrev pub SettledIn : Option Unsettled → Course → ℕ → Suite → Reply → Course → Type 0
 SettledIn (Some before) was number suite said after = SettlesIn was number suite said before after
 SettledIn None was number suite said after = after ≡ was
