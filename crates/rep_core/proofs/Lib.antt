@@ -26,3 +26,4 @@ pub mod Changes
 mod Searching
 mod Ranges
 mod Places
+mod RisingParts

@@ -1,6 +1,6 @@
 //! How a request is taken, found before anything is changed.
 
-ghost use Rattle.std.specs.Prelude.{◌≡◌, ◌≢◌, ◌↔◌, ◌&&◌, ◌==◌, if◌then◌else◌, is_some, IfOk, IsOk, OnOk, IsTrue, Err};
+ghost use Rattle.std.specs.Prelude.{◌≡◌, ◌≢◌, ◌↔◌, ◌&&◌, ◌==◌, false, if◌then◌else◌, is_some, IfOk, IsOk, OnOk, IsTrue, Err};
 ghost use Rattle.std.specs.List.{list_all, list_any};
 ghost use Rattle.suite_prefix.specs.declared.lock_mode.LockMode.TheVariants.{Exclusive};
 ghost use Rattle.rep_core.specs.declared.stamped.Lack.TheVariants.{Full, Memory};
@@ -303,8 +303,29 @@ fn way_down(request: &Request) -> Way
     }
 }
 
-/// Whether a suite stands twice among parts.
+/// Whether a suite stands twice among parts. Mostly the suites rise, and then none does.
 fn lists_twice(parts: &[Part]) -> bool
+    ensures { result ≡ store.lists_twice parts.now }
+{
+    !suites_rise(parts) && any_stands_twice(parts)
+}
+
+/// Whether each part's suite is above the one before.
+fn suites_rise(parts: &[Part]) -> bool
+    ensures { IsTrue result → store.lists_twice parts.now ≡ false }
+{
+    let mut left = parts;
+    while let [first, second, ..] = left {
+        if first.suite >= second.suite {
+            return false;
+        }
+        left = &left[1..];
+    }
+    true
+}
+
+/// Whether a suite stands twice, each compared with all behind it.
+fn any_stands_twice(parts: &[Part]) -> bool
     ensures { result ≡ store.lists_twice parts.now }
 {
     for (i, part) in parts.iter().enumerate() {
