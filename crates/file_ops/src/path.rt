@@ -96,7 +96,10 @@ fn collect(alloc: Global, text: &[u8]) -> Result<Option<Vec<Name>>, AllocError>
 {
     let mut names = Vec::with_capacity(alloc, USUAL_PATH_NAMES)?;
     for part in text.split(|byte| *byte == b'/') {
-        if names.len() == MAX_PATH_NAMES || !is_name(part) {
+        if names.len() == MAX_PATH_NAMES {
+            return Ok(None);
+        }
+        if !is_name(part) {
             return Ok(None);
         }
         names.push(Name::known(part))?;

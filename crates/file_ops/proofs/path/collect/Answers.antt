@@ -9,18 +9,18 @@ use Rattle.file_ops.specs.Limits.{max_path_names}
 use Rattle.file_ops.specs.Paths.{is_slash, is_name}
 use Rattle.file_ops.proofs.PathFacts.{too_many, all_names, not_all, no_name, test_name, one_more, some_part}
 use Rattle.file_ops.proofs.path.collect.Goals as goal
-use Rattle.file_ops.proofs.path.collect.Goals.{then-len-eq-MAX_PATH_NAMES-via-then-len-eq-MAX_PATH_NAMES, then-len-eq-MAX_PATH_NAMES-via-else-len-eq-MAX_PATH_NAMES+then-not-is_name}
 
 pub returns-then-len-eq-MAX_PATH_NAMES : goal.returns-then-len-eq-MAX_PATH_NAMES
 returns-then-len-eq-MAX_PATH_NAMES c =
-    let parts = slice_split is_slash c.args.text.now in
     let turn = YieldsList-turn (YieldsList-from_slice_split _ is_slash c.args.text.now (cc) (cc) (cc) (λ x b q k. search (rules, tests))) c.loop-part.yielded _ c.loop-part.yielded_by _ _ c.in-Some.part c.in-Some.is c.next.ensures.steps in
     let count = c.loop-part.names.ok.0 ∙ ap length c.loop-part.invariant.3 ∙ length-map c.loop-part.yielded (λ (x : Bor (List ℕ)). x.now) in
-    elim c.then-len-eq-MAX_PATH_NAMES.branch [
-      | then-len-eq-MAX_PATH_NAMES-via-then-len-eq-MAX_PATH_NAMES w ↦ sym (too_many parts (omega (arith, turn.0, count, c.len.ensures, w.if-len-eq-MAX_PATH_NAMES.true)))
-      | then-len-eq-MAX_PATH_NAMES-via-else-len-eq-MAX_PATH_NAMES+then-not-is_name w ↦
-          sym (not_all parts (list_all_at is_name parts (length c.loop-part.yielded) c.in-Some.part.now turn.0 (ap is_name (sym turn.1) ∙ no_name c.in-Some.part.now (λ name. false≢true (search rules)))))
-    ]
+    sym (too_many (slice_split is_slash c.args.text.now) (omega (arith, turn.0, count, c.len.ensures, c.if-len-eq-MAX_PATH_NAMES.true)))
+
+pub returns-then-not-is_name : goal.returns-then-not-is_name
+returns-then-not-is_name c =
+    let parts = slice_split is_slash c.args.text.now in
+    let turn = YieldsList-turn (YieldsList-from_slice_split _ is_slash c.args.text.now (cc) (cc) (cc) (λ x b q k. search (rules, tests))) c.loop-part.yielded _ c.loop-part.yielded_by _ _ c.in-Some.part c.in-Some.is c.next.ensures.steps in
+    sym (not_all parts (list_all_at is_name parts (length c.loop-part.yielded) c.in-Some.part.now turn.0 (ap is_name (sym turn.1) ∙ no_name c.in-Some.part.now (λ name. false≢true (search rules)))))
 
 pub loop-part-preserved : goal.loop-part-preserved
 loop-part-preserved c =
