@@ -23,9 +23,7 @@ use crate::seen::Seen;
 use crate::stop::Stop;
 use crate::view::View;
 use acl_core::{Acl, Caller, Perms};
-use file_ops::{
-    Action, Answer, Init, MAX_PATH_NAMES, Op, Why, last_name, made_number, no_name, read_path,
-};
+use file_ops::{Action, Answer, Init, Op, Why, last_name, made_number};
 use std::alloc::{AllocError, Global};
 use suite_content::{Content, FileBytes, FolderNames, Kind, Name};
 use suite_prefix::LockMode;
@@ -366,9 +364,7 @@ pub(crate) fn operate(
     ensures kept { OnErr result (log.new ≡ log.old) }
     ensures way { LeadsTo transaction.entry.known.now.suites log.old transaction.entry.caller.now (walked op.now) way.new }
 {
-    let mut array = [no_name(); MAX_PATH_NAMES];
-    let count = read_path(op.path.as_bytes(), &mut array).ok_or(Why::BadPath)?;
-    let names = &array[..count];
+    let names = op.path.names().ok_or(Why::BadPath)?;
     let Transaction {
         known,
         t,

@@ -1,5 +1,6 @@
 pub mod Plain
 pub mod PathFacts
+pub mod PathTexts
 pub mod EditLaws
 pub mod LastName
 pub mod CapacityLaws

@@ -1,5 +1,5 @@
 -- Texts cut at their slashes: which are paths.
-use Rattle.std.proofs.Common.{◌≡◌, ◌≢◌, ℕ, ◌+◌, ◌<◌, ◌≤◌, Bool, true, false, not, ◌&&◌, cond, nat_eq, List, [], ◌∷◌, ◌++◌, length, take, drop, Some, None, refl, sym, ap, ◌∙◌, arith, add-one}
+use Rattle.std.proofs.Common.{◌≡◌, ◌≢◌, ℕ, ◌<◌, ◌≤◌, Bool, true, false, not, ◌&&◌, cond, nat_eq, List, [], ◌∷◌, ◌++◌, length, take, drop, Some, None, refl, sym, ap, ◌∙◌, arith}
 use Rattle.std.specs.Prelude.{nat_le, codes}
 use Rattle.std.specs.List.{list_all, slice_split, onto_first}
 use Rattle.std.specs.Cmp.Lexicographic.{pointwise}
@@ -11,8 +11,6 @@ use Rattle.std.proofs.lemmas.Bool.{false≢true, true≢false, not_from_false, n
 use Rattle.std.proofs.lemmas.List.Sums.{AllPass-from_list_all, list_all-from_AllPass}
 use Rattle.std.proofs.lemmas.List.Folds.{list_all-append}
 use Rattle.std.proofs.lemmas.List.Splits.{length-slice_split}
-use Rattle.std.proofs.Math.ListN.{set}
-use Rattle.std.proofs.Math.Seq.{take-suc-set}
 use Rattle.std.proofs.lemmas.Slice.Eq.{bytes_eq-Decides}
 use Rattle.suite_content.specs.Limits.{max_name}
 use Rattle.suite_content.specs.Names.{IsName, is_name_byte}
@@ -79,10 +77,6 @@ no_name bytes bad = false_from_ne_true _ (λ test. bad (name_from_test bytes tes
 pub one_more : (parts : List (List ℕ)) (part : List ℕ) → list_all is_name parts ≡ true → is_name part ≡ true → list_all is_name (parts ++ part ∷ []) ≡ true
 one_more parts part names name = list_all-append is_name parts (part ∷ []) ∙ both_true names (both_true name refl)
 
--- one more name, written behind those in an array
-pub set_further : (array so_far : List (List ℕ)) (count : ℕ) (name part : List ℕ) → count < length array → take count array ≡ so_far → name ≡ part → take (count + 1) (set array count name) ≡ so_far ++ part ∷ []
-set_further array so_far count name part room front is = rw add-one (take-suc-set array count name room ∙ (λ i. front i ++ is i ∷ []))
-
 pub some_part : (text : List ℕ) → 1 ≤ length (slice_split is_slash text)
 some_part text = omega (arith, length-slice_split is_slash text)
 
@@ -99,10 +93,13 @@ behind true byte (part ∷ parts) some = refl
 behind false byte [] some = refl
 behind false byte (part ∷ parts) some = refl
 
+pub other_first : (byte : ℕ) (rest : List ℕ) → is_slash byte ≡ false → names_of (byte ∷ rest) ≡ None
+other_first byte rest other = front (is_slash byte) byte (slice_split is_slash rest) other
+
 -- a path begins with a slash, and what follows the slash decides
 pub no_slash : (text : List ℕ) → pointwise nat_eq (take 1 text) (47 ∷ []) ≡ false → names_of text ≡ None
 no_slash [] other = refl
-no_slash (byte ∷ rest) other = front (is_slash byte) byte (slice_split is_slash rest) (sym (and-true (is_slash byte)) ∙ other)
+no_slash (byte ∷ rest) other = other_first byte rest (sym (and-true (is_slash byte)) ∙ other)
 
 pub root_path : names_of (47 ∷ []) ≡ Some []
 root_path = refl

@@ -1,3 +1,4 @@
+pub mod PathTexts
 pub mod Stored
 pub mod Edits
 pub mod Capacity

@@ -13,7 +13,6 @@ ghost use Rattle.file_ops.specs.code.Done.{Does, Acts};
 use crate::answer::Answer;
 use crate::edit::list_names;
 use crate::operation::{Action, Init, Op, made_number};
-use crate::path::{MAX_PATH_NAMES, no_name, read_path};
 use crate::refusal::Why;
 use crate::service::Service;
 use crate::stored::{StoredContent, StoredRow, StoredRows};
@@ -272,9 +271,7 @@ pub(crate) fn operate(
     ensures acts { Acts result rows.old rows.new (operation transaction.entry.service.now (plain rows.old) transaction.entry.t at transaction.entry.caller.now op.now) }
     ensures err { OnErr result (Restores rows.old rows.new) }
 {
-    let mut array = [no_name(); MAX_PATH_NAMES];
-    let count = read_path(op.path.as_bytes(), &mut array).ok_or(Why::BadPath)?;
-    let names = &array[..count];
+    let names = op.path.names().ok_or(Why::BadPath)?;
     let Transaction {
         alloc,
         service,

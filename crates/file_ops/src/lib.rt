@@ -28,7 +28,7 @@ pub use answer::{Answer, Answers};
 pub use audit::AuditItem;
 pub use guarded::{Guarded, to_change};
 pub use operation::{Action, Init, MAX_OPERATIONS, Op, made_number};
-pub use path::{MAX_PATH_NAMES, PathText, no_name, read_path};
+pub use path::PathText;
 pub use refusal::{ApplyError, Denial, Refusal, Why};
 pub use service::Service;
 pub use table::Table;

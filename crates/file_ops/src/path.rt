@@ -1,37 +1,50 @@
 //! Paths.
 
-ghost use Rattle.std.specs.Prelude.{◌≡◌, ◌≤◌, IfOk, IfSome, codes, option_map, take};
+ghost use Rattle.std.specs.Prelude.{◌≡◌, IfOk, option_map};
+ghost use Rattle.std.specs.Option.{option_copied};
 ghost use Rattle.std.specs.List.{slice_split};
-ghost use Rattle.file_ops.specs.Limits.{max_path_names};
 ghost use Rattle.file_ops.specs.Paths.{is_slash, some_names, names_of};
 
 use std::alloc::{AllocError, Global};
 use std::marker::Model;
-use std::sync::ArcSlice;
-use suite_content::Name;
+use suite_content::{Name, is_name};
 
-/// A path as its caller wrote it: any bytes. It is judged when its operation is played. A clone
-/// shares the bytes.
+/// A path as its caller wrote it: any bytes. They are read once, when it is made; whether they are a path is judged when its
+/// operation is played.
 #[derive(Debug, Drop)]
 pub struct PathText {
-    bytes: ArcSlice<u8>,
+    reading: Reading,
+}
+
+/// What a text was read as.
+#[derive(Debug, Drop)]
+enum Reading {
+    /// A path: its names, from the root folder down.
+    Path(Vec<Name>),
+    /// No path: its bytes.
+    Text(Vec<u8>),
 }
 
 impl Model for PathText {
     ghost use Rattle.std.specs.Prelude.{ℕ, List};
-    ghost use Rattle.std.specs.Arc.{arc_slice_items};
+    ghost use Rattle.file_ops.specs.code.PathTexts.{text_of, IsRead};
 
     ghost Value = { List ℕ };
 
-    ghost view = { λ path. arc_slice_items path.bytes };
+    ghost view = { λ path. text_of path.reading };
+
+    ghost invariant = { λ path. IsRead path.reading };
 }
 
 impl Clone for PathText {
     ghost is_clone = { λ path copy. copy ≡ path };
 
     fn clone(&self) -> Result<PathText, AllocError> {
-        let bytes = self.bytes.clone()?;
-        Ok(PathText { bytes })
+        let reading = match &self.reading {
+            Reading::Path(names) => Reading::Path(names.clone()?),
+            Reading::Text(bytes) => Reading::Text(bytes.clone()?),
+        };
+        Ok(PathText { reading })
     }
 }
 
@@ -40,53 +53,56 @@ impl PathText {
     pub fn new(alloc: Global, text: &[u8]) -> Result<PathText, AllocError>
         ensures { IfOk result (λ path. path ≡ text.now) }
     {
-        let bytes = ArcSlice::from_slice(alloc, text)?;
-        Ok(PathText { bytes })
+        let reading = match read(alloc, text)? {
+            Some(names) => Reading::Path(names),
+            None => Reading::Text(Vec::from_slice(alloc, text)?),
+        };
+        Ok(PathText { reading })
     }
 
-    /// Its bytes.
-    pub fn as_bytes(&self) -> &[u8]
-        ensures { result.now ≡ self.now }
+    /// Its names, from the root folder down, where it is a path.
+    pub fn names(&self) -> Option<&[Name]>
+        ensures { option_copied result ≡ names_of self.now }
     {
-        self.bytes.as_slice()
+        match &self.reading {
+            Reading::Path(names) => Some(names.as_slice()),
+            Reading::Text(_) => None,
+        }
     }
 }
 
 /// The most names of a path.
-pub const MAX_PATH_NAMES: usize = 8;
+const MAX_PATH_NAMES: usize = 8;
 
-/// Writes the names of a path's text, from the root folder down, to the front of the array, and answers how many
-/// they are, where it is a path. Of another text the array's names say nothing.
-pub fn read_path(text: &[u8], array: &mut [Name; MAX_PATH_NAMES]) -> Option<usize>
-    ensures names { option_map (λ count. take count array.new) result ≡ names_of text.now }
-    ensures count { IfSome result (λ count. count ≤ max_path_names) }
+/// As many names as most paths have at the most. Room for them is taken at once, which costs less than to count them first.
+const USUAL_PATH_NAMES: usize = 4;
+
+/// The names of a text, from the root folder down, where it is a path.
+fn read(alloc: Global, text: &[u8]) -> Result<Option<Vec<Name>>, AllocError>
+    ensures { IfOk result (λ names. option_map (λ names. names.items) names ≡ names_of text.now) }
 {
-    let rest = text.strip_prefix(b"/")?;
+    let Some(rest) = text.strip_prefix(b"/") else {
+        return Ok(None);
+    };
     if rest.is_empty() {
-        return Some(0);
+        return Ok(Some(Vec::new(alloc)));
     }
-    collect(rest, array)
+    collect(alloc, rest)
 }
 
-/// Writes the names between the slashes of a text, where there are no more parts than a path has names, and each is a name.
-fn collect(text: &[u8], array: &mut [Name; MAX_PATH_NAMES]) -> Option<usize>
-    ensures names { option_map (λ count. take count array.new) result ≡ some_names (slice_split is_slash text.now) }
-    ensures count { IfSome result (λ count. count ≤ max_path_names) }
+/// The parts between the slashes of a text, where they are no more than a path has names, and each is a name.
+fn collect(alloc: Global, text: &[u8]) -> Result<Option<Vec<Name>>, AllocError>
+    ensures { IfOk result (λ names. option_map (λ names. names.items) names ≡ some_names (slice_split is_slash text.now)) }
 {
-    let mut count = 0;
+    let mut names = Vec::with_capacity(alloc, USUAL_PATH_NAMES)?;
     for part in text.split(|byte| *byte == b'/') {
-        if count == MAX_PATH_NAMES {
-            return None;
+        if names.len() == MAX_PATH_NAMES {
+            return Ok(None);
         }
-        array[count] = Name::new(part)?;
-        count += 1;
+        if !is_name(part) {
+            return Ok(None);
+        }
+        names.push(Name::known(part))?;
     }
-    Some(count)
-}
-
-/// A name for the places of an array that no name of a path has taken.
-pub fn no_name() -> Name
-    ensures { result ≡ codes "-" }
-{
-    Name::known(b"-")
+    Ok(Some(names))
 }

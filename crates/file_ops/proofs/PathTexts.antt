@@ -1,0 +1,30 @@
+-- The names of a path, written, are its text again.
+use Rattle.std.proofs.Common.{◌≡◌, ℕ, Bool, true, false, List, [], ◌∷◌, Some, refl, sym, ap, ◌∙◌}
+use Rattle.std.specs.List.{slice_split}
+use Rattle.std.proofs.lemmas.Bool.{eqb-true}
+use Rattle.std.proofs.lemmas.Option.{none-some, same_Some, cond_some}
+use Rattle.std.proofs.lemmas.List.Splits.{join_with_byte-slice_split}
+use Rattle.file_ops.specs.Paths.{is_slash, names_of}
+use Rattle.file_ops.specs.code.PathTexts.{written}
+use Rattle.file_ops.proofs.PathFacts.{other_first, after_slash}
+
+pub written_back : (text : List ℕ) (names : List (List ℕ)) → names_of text ≡ Some names → written names ≡ text
+written_back [] names is = absurd (none-some _ is)
+written_back (byte ∷ rest) names is = by (is_slash byte) refl
+  where
+    behind : (rest : List ℕ) → names_of (47 ∷ rest) ≡ Some names → written names ≡ 47 ∷ rest
+    behind [] is = ap written (sym (same_Some [] names is))
+    behind (next ∷ rest) is =
+        let parts = slice_split is_slash (next ∷ rest) in
+        let same = (cond_some _ parts names (sym (after_slash next rest) ∙ is)).1 in
+        ap written (sym same) ∙ ap (λ t. 47 ∷ t) (join_with_byte-slice_split 47 (next ∷ rest))
+
+    by : (slash : Bool) → is_slash byte ≡ slash → written names ≡ byte ∷ rest
+    by false other = absurd (none-some _ (sym (other_first byte rest other) ∙ is))
+    by true slash =
+        let first : byte ≡ 47 = eqb-true byte 47 slash in
+        behind rest (ap (λ b. names_of (b ∷ rest)) (sym first) ∙ is) ∙ ap (λ b. b ∷ rest) (sym first)
+
+-- names that were read of a text are read of it as it is written again
+pub read_back : (text : List ℕ) (names : List (List ℕ)) → names_of text ≡ Some names → names_of (written names) ≡ Some names
+read_back text names is = ap names_of (written_back text names is) ∙ is
