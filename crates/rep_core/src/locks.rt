@@ -71,6 +71,7 @@ impl LockTable {
     }
 
     /// Sets a lock, for which there is room, or makes the transaction's own one stronger.
+    #[inline(always)]
     pub(crate) fn set(&mut self, t: u64, suite: u64, mode: LockMode)
         requires { 0 < self.old.room }
         ensures { self.new.locks ≡ locking.locked t suite mode self.old.locks }
@@ -79,6 +80,7 @@ impl LockTable {
     }
 
     /// Makes the transaction's locks on the parts' suites prepared.
+    #[inline(always)]
     pub(crate) fn prepare(&mut self, t: u64, parts: &[Part])
         ensures { self.new.locks ≡ locking.with_prepared t parts.now self.old.locks }
     {
@@ -93,6 +95,7 @@ impl LockTable {
     }
 
     /// Lets a transaction's locks go.
+    #[inline(always)]
     pub(crate) fn release(&mut self, t: u64)
         ensures { self.new.locks ≡ locking.released t self.old.locks }
     {

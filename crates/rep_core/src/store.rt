@@ -227,6 +227,7 @@ impl Store {
     }
 
     /// Keeps the intentions of a Prepare, for which there is room. Most only lock what was read: then no part is moved.
+    #[inline(always)]
     pub(crate) fn intend(&mut self, t: u64, parts: Vec<Part>)
         requires sound { list_all (store.is_sound_part self.old.store) parts.items ≡ true }
         requires few { store.overfills t self.old.store parts.items ≡ false }
@@ -240,6 +241,7 @@ impl Store {
     }
 
     /// Lets the intentions of a transaction go. Where it was answered they become copies.
+    #[inline(always)]
     pub(crate) fn finish(&mut self, t: u64, answered: bool)
         ensures { self.new.store ≡ store.finished t answered self.old.store }
     {

@@ -208,10 +208,11 @@ fn push_steps(
     if world.idle(agent) {
         return Ok(());
     }
+    let event = Event::Step { agent };
     let mut ended = None;
     let mut left = count;
     while left > 0 && ended.is_none() {
-        world.advance(&Event::Step { agent }, &mut ended)?;
+        world.advance(&event, &mut ended)?;
         left -= 1;
     }
     push_ended(alloc, text, &ended)

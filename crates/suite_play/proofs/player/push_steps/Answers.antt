@@ -1,8 +1,10 @@
-use Rattle.std.proofs.Common.{◌∙◌, ◌++◌, List, ℕ, ap, arith, sym}
+use Rattle.std.proofs.Common.{◌∙◌, ◌++◌, List, ℕ, ap, arith, refl, sym}
 use Rattle.std.proofs.lemmas.List.{append-nil}
 use Rattle.std.proofs.lemmas.Result.{on_ok_weaker}
 use Rattle.txn_core.specs.Agents.{fixed_of}
+use Rattle.std.specs.Option.{option_or}
 use Rattle.run_core.specs.Opened.{Opened}
+use Rattle.run_core.specs.Worlds.{step, Stepped}
 use Rattle.suite_play.specs.Playing.{Printed}
 use Rattle.suite_play.proofs.Idle.{steps_idle}
 use Rattle.suite_play.proofs.Ended.{NothingLeft, all_text, all_world, from_start, has_ended, none_left, nothing_put, one_more, something_put}
@@ -21,13 +23,19 @@ returns-then-idle-clause-world c =
     ap (λ (all : Printed). record here { world = all.world }) (sym (steps_idle (fixed_of here.given) here.world c.args.agent c.args.count (sym c.idle.ensures ∙ c.if-idle.true)))
 
 pub loop-left-init : goal.loop-left-init
-loop-left-init c = from_start c.args.world.now c.args.agent c.args.count
+loop-left-init c = record { played = from_start c.args.world.now c.args.agent c.args.count; event = refl }
 
 pub loop-left-preserved : goal.loop-left-preserved
 loop-left-preserved c =
     let left = c.in_ok-advance.ensures in
-    one_more c.args.world.now c.loop-left.world c.advance.new.self c.args.agent c.args.count c.loop-left.left c.loop-left.ended c.advance.new.ended
-    c.loop-left-test.true (nothing_put c.loop-left.ended c.is_none.result c.is_none.ensures c.if-is_none.true) left.given left.world left.ended c.loop-left.invariant
+    let same = ap (λ event. (step (fixed_of c.loop-left.world.given) c.loop-left.world.world event)) c.loop-left.invariant.event in
+    record {
+      played = one_more c.args.world.now c.loop-left.world c.advance.new.self c.args.agent c.args.count c.loop-left.left c.loop-left.ended c.advance.new.ended
+          c.loop-left-test.true (nothing_put c.loop-left.ended c.is_none.result c.is_none.ensures c.if-is_none.true) left.given
+          (left.world ∙ ap (λ (all : Stepped). all.world) same)
+          (left.ended ∙ ap (λ (all : Stepped). option_or all.done.outcome c.loop-left.ended) same) c.loop-left.invariant.played;
+      event = c.loop-left.invariant.event;
+    }
 
 pub returns-clause-printed : goal.returns-clause-printed
 returns-clause-printed c =
@@ -35,11 +43,11 @@ returns-clause-printed c =
     let here = c.loop-left.world in
     let nothing : NothingLeft here c.args.agent c.loop-left.left = elim c.loop-left-test.branch [
       | then-loop-left-test+else-is_none w ↦
-          has_ended start here c.args.agent c.args.count c.loop-left.left c.loop-left.ended (something_put c.loop-left.ended w.is_none.result w.is_none.ensures w.if-is_none.false) c.loop-left.invariant
+          has_ended start here c.args.agent c.args.count c.loop-left.left c.loop-left.ended (something_put c.loop-left.ended w.is_none.result w.is_none.ensures w.if-is_none.false) c.loop-left.invariant.played
       | else-loop-left-test w ↦ none_left here c.args.agent c.loop-left.left (omega (arith, w.loop-left-test.false))
     ] in
     on_ok_weaker c.push_ended.result
-    (λ printed. printed ∙ ap (λ (text : List ℕ). c.args.text.now.items ++ text) (all_text start here c.args.agent c.args.count c.loop-left.left c.loop-left.ended nothing c.loop-left.invariant))
+    (λ printed. printed ∙ ap (λ (text : List ℕ). c.args.text.now.items ++ text) (all_text start here c.args.agent c.args.count c.loop-left.left c.loop-left.ended nothing c.loop-left.invariant.played))
     c.push_ended.ensures
 
 pub returns-clause-world : goal.returns-clause-world
@@ -48,7 +56,7 @@ returns-clause-world c =
     let here = c.loop-left.world in
     let nothing : NothingLeft here c.args.agent c.loop-left.left = elim c.loop-left-test.branch [
       | then-loop-left-test+else-is_none w ↦
-          has_ended start here c.args.agent c.args.count c.loop-left.left c.loop-left.ended (something_put c.loop-left.ended w.is_none.result w.is_none.ensures w.if-is_none.false) c.loop-left.invariant
+          has_ended start here c.args.agent c.args.count c.loop-left.left c.loop-left.ended (something_put c.loop-left.ended w.is_none.result w.is_none.ensures w.if-is_none.false) c.loop-left.invariant.played
       | else-loop-left-test w ↦ none_left here c.args.agent c.loop-left.left (omega (arith, w.loop-left-test.false))
     ] in
-    on_ok_weaker c.push_ended.result (λ _. all_world start here c.args.agent c.args.count c.loop-left.left c.loop-left.ended nothing c.loop-left.invariant) c.push_ended.ensures
+    on_ok_weaker c.push_ended.result (λ _. all_world start here c.args.agent c.args.count c.loop-left.left c.loop-left.ended nothing c.loop-left.invariant.played) c.push_ended.ensures
