@@ -5,16 +5,17 @@
 
 use acl_core::{Acl, Caller};
 use file_exec::{
-    Known, Need, Outcome, a_met_need_is_progress, changes_are_held, changes_by_suite,
-    changes_lead_on, done_is_the_tables, exec, exec_runs, goes_as_on_the_table, holding_meets,
-    is_the_transaction, more_known_changes_nothing, needs_what_is_unmet, opening_meets,
-    sets_what_is_held, unset_votes_stay,
+    Known, Need, Outcome, Progress, a_met_need_is_progress, changes_are_held, changes_by_suite,
+    changes_lead_on, done_is_the_tables, exec, exec_on, exec_runs, goes_as_on_the_table,
+    holding_meets, is_the_transaction, more_known_changes_nothing, needs_what_is_unmet,
+    opening_meets, reached_stays, sets_what_is_held, taking_tells_more, unbegun_is_reached,
+    unset_votes_stay,
 };
 use file_ops::{Op, Service};
 use read::{bytes, caller, mode, number, ops, votes};
 use show::{end_text, need_text};
 use std::process::Abort;
-use suite_content::{Content, FolderNames, Name};
+use suite_content::{Content, FolderNames, Kind, Name};
 use suite_prefix::{Prefix, PrefixKind};
 use vote_core::{MAX_SERVERS, Votes};
 
@@ -145,11 +146,28 @@ fn meet<'a>(
     let suite = suite.expect(rt, "a suite");
     match need {
         Need::Hold(_, mode) => grown!(rt, known.hold(number, mode, &suite.prefix)),
-        Need::Know(_) => known.open(number, &suite.content),
+        Need::Know(_) => {
+            let other = match suite.content.kind() {
+                Kind::File => Kind::Folder,
+                Kind::Folder => Kind::File,
+            };
+            assert!(rt; !known.takes(number, &Content::empty(rt.alloc(), other)));
+            assert!(rt; known.takes(number, &suite.content));
+            known.open(number, &suite.content);
+            assert!(rt; !known.takes(number, &suite.content));
+        }
     }
 }
 
-/// Executes, and once more where memory was refused.
+/// The same need, or the same end.
+fn alike(rt: &(impl Abort + AllocGlobal), one: &Outcome, other: &Outcome) {
+    let end = grown!(rt, end_text(rt.alloc(), one));
+    let again = grown!(rt, end_text(rt.alloc(), other));
+    assert_eq!(rt; end.as_str(), again.as_str());
+}
+
+/// Executes, and once more where memory was refused. What goes on from nothing, and what then goes on from
+/// where it came, comes to the same.
 fn executed(
     rt: &(impl Abort + AllocGlobal),
     known: &Known<'_>,
@@ -157,7 +175,15 @@ fn executed(
     caller: &Caller,
     ops: &[Op],
 ) -> Outcome {
-    grown!(rt, exec(rt.alloc(), known, u64::from(t), caller, ops))
+    let (alloc, t) = (rt.alloc(), u64::from(t));
+    let outcome = grown!(rt, exec(alloc, known, t, caller, ops));
+    unbegun_is_reached();
+    let mut progress = Progress::new(alloc);
+    let first = grown!(rt, exec_on(alloc, known, t, caller, ops, &mut progress));
+    alike(rt, &outcome, &first);
+    let again = grown!(rt, exec_on(alloc, known, t, caller, ops, &mut progress));
+    alike(rt, &outcome, &again);
+    outcome
 }
 
 fn same(rt: &impl Abort, got: &str, want: &str) {
@@ -327,6 +353,9 @@ fn the_laws_are_called(_rt: HostRuntime) {
     sets_what_is_held();
     needs_what_is_unmet();
     exec_runs();
+    unbegun_is_reached();
+    reached_stays();
+    taking_tells_more();
     done_is_the_tables();
     changes_by_suite();
     changes_are_held();
