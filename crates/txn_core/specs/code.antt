@@ -18,3 +18,4 @@ pub mod Sorting
 pub mod Telling
 pub mod Endings
 pub mod Passing
+pub mod Reaching

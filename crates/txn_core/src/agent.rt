@@ -18,6 +18,7 @@ use crate::job::Job;
 use crate::sweep::Round;
 use crate::task::Task;
 use crate::word::Word;
+use file_exec::Progress;
 use file_ops::Service;
 use rep_core::{Lack, Reply, Request};
 use std::alloc::{AllocError, Global};
@@ -48,6 +49,8 @@ pub struct Agent {
     service: Service,
     cache: WeakCache,
     doing: Option<Doing>,
+    /// How far the transaction came that it carries out.
+    progress: Progress,
 }
 
 impl Model for Agent {
@@ -80,6 +83,7 @@ impl Agent {
             service,
             cache,
             doing: None,
+            progress: Progress::new(alloc),
         })
     }
 
@@ -128,7 +132,15 @@ impl Agent {
         ensures ok { OnOk result (self.new ≡ record self.old { state = (agents.with_step self.old.state (course.execute self.old.fixed task (record { suites = []; cache = self.old.state.cache }))).agent }) }
         ensures err { OnErr result (self.new ≡ self.old) }
     {
-        let course = Course::begin(self.alloc, &self.service, &mut self.cache, task)?;
+        let mut progress = Progress::new(self.alloc);
+        let course = Course::begin(
+            self.alloc,
+            &self.service,
+            &mut self.cache,
+            &mut progress,
+            task,
+        )?;
+        self.progress = progress;
         self.doing = course.map(Doing::Running);
         Ok(())
     }
@@ -232,6 +244,7 @@ impl Agent {
                     self.alloc,
                     &self.service,
                     &mut self.cache,
+                    &mut self.progress,
                     server,
                     said,
                     ended,
@@ -258,7 +271,9 @@ impl Agent {
         ensures place { Puts result ended.old ended.new }
     {
         match &mut self.doing {
-            Some(Doing::Running(course)) => course.hear_lack(&self.service, lack, ended),
+            Some(Doing::Running(course)) => {
+                course.hear_lack(self.alloc, &self.service, &mut self.progress, lack, ended)
+            }
             Some(Doing::Rounding(round)) => round.lacked(&self.service, lack, ended),
             None => false,
         }

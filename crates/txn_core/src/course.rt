@@ -1,7 +1,10 @@
 //! The course of a transaction.
 
 ghost use Rattle.std.specs.Prelude.{◌≡◌, ◌<◌, ◌≤◌, ℕ, List, true, IfOk, IfErr, OnErr, IsSome, IsTrue, Some, [], ◌∷◌, is_some, option_map};
+ghost use Rattle.std.specs.Ordering.{nat_cmp};
+ghost use Rattle.file_exec.specs.Reaching.{unbegun};
 ghost use Rattle.rep_core.specs.Fits.{is_held};
+ghost use Rattle.sorted_map.specs.SortedMap.{IsOrdered};
 ghost use Rattle.suite_collect.specs.Collecting as collecting;
 ghost use Rattle.weak_cache.specs.Cache.{Limits};
 ghost use Rattle.weak_cache.specs.Entries.{Cache};
@@ -11,6 +14,7 @@ ghost use Rattle.txn_core.specs.code.Endings.{Puts, put_in};
 ghost use Rattle.txn_core.specs.code.Hearing.{heard, on_hearing};
 ghost use Rattle.txn_core.specs.code.HearingOn.{GoesOnBy, SettlesBy};
 ghost use Rattle.txn_core.specs.code.Hears.{Hears, on_heard};
+ghost use Rattle.txn_core.specs.code.Reaching.{does_go_on, IsReachedBy, IsReachedIf, IsReachedIn, IsReachedUnless};
 ghost use Rattle.txn_core.specs.code.Sequels.{follow, gather_again};
 ghost use Rattle.txn_core.specs.Standing.{FitsAsked};
 ghost use Rattle.txn_core.specs.code.Steps.{Steps, taken};
@@ -28,6 +32,7 @@ use crate::sequel::Sequel;
 use crate::servers::locked_at;
 use crate::suites::Suite;
 use crate::task::Task;
+use file_exec::Progress;
 use file_ops::Service;
 use rep_core::{Lack, Reply};
 use sorted_map::RoomyMap;
@@ -76,11 +81,14 @@ impl Course {
         alloc: Global,
         service: &Service,
         cache: &mut WeakCache,
+        progress: &mut Progress,
         task: Task,
     ) -> Result<Option<Course>, AllocError>
         requires unused { HasUnused cache.old.entries }
+        requires unbegun { progress.old ≡ unbegun }
         ensures ok { IfOk result (λ begun. let step = course.execute (record { service = service.now; limits = cache.old.limits }) task (record { suites = []; cache = cache.old.entries }) in (cache.new.entries ≡ step.cache) × (option_map doing.Running begun ≡ left doing.Running step.after)) }
         ensures err { OnErr result (cache.new ≡ cache.old) }
+        ensures reached { IfOk result (λ begun. IsReachedIf begun service.now progress.new) }
         ensures limits { cache.new.limits ≡ cache.old.limits }
         ensures unused { HasUnused cache.new.entries }
     {
@@ -90,7 +98,7 @@ impl Course {
             service,
             task: &task,
         };
-        let sequel = execution.execute(&mut suites, cache)?;
+        let sequel = execution.execute(&mut suites, cache, progress)?;
         let mut course = Course {
             task,
             suites,
@@ -107,14 +115,18 @@ impl Course {
     /// place: tells whether it is.
     pub(crate) fn hear_lack(
         &mut self,
+        alloc: Global,
         service: &Service,
+        progress: &mut Progress,
         lack: Lack,
         ended: &mut Option<Ending>,
     ) -> bool
         requires { (0 < service.now.servers) × (service.now.servers ≤ MAX_SERVERS) }
         ensures steps { (limits : Limits) (cache : Cache) → let fixed : doing.Fixed = record { service = service.now; limits = limits } in Steps (taken fixed self.old cache (course.request_of fixed self.old) (Lacked lack)) (put_in result ended.new) self.new cache }
         ensures place { Puts result ended.old ended.new }
+        ensures reached { IsReachedBy service.now self.new progress.new }
     {
+        *progress = Progress::new(alloc);
         let Some(server) = self.asked(service) else {
             return false;
         };
@@ -128,10 +140,12 @@ impl Course {
         alloc: Global,
         service: &Service,
         cache: &mut WeakCache,
+        progress: &mut Progress,
         server: u8,
         said: &Reply,
         ended: &mut Option<Ending>,
     ) -> Result<bool, AllocError>
+        requires reached { IsReachedBy service.now self.old progress.old }
         requires servers { (0 < service.now.servers) × (service.now.servers ≤ MAX_SERVERS) }
         requires unused { HasUnused cache.old.entries }
         requires asked { option_map (λ asked. asked.0) (course.request_of (record { service = service.now; limits = cache.old.limits }) self.old) ≡ Some server }
@@ -139,6 +153,38 @@ impl Course {
         ensures ok { IfOk result (λ ends. let fixed : doing.Fixed = record { service = service.now; limits = cache.old.limits } in Steps (taken fixed self.old cache.old.entries (course.request_of fixed self.old) (Replied said.now)) (put_in ends ended.new) self.new cache.new.entries) }
         ensures place { IfOk result (λ ends. Puts ends ended.old ended.new) }
         ensures err { OnErr result ((self.new ≡ self.old) × (cache.new ≡ cache.old) × (ended.new ≡ ended.old)) }
+        ensures reached { IsReachedBy service.now self.new progress.new }
+        ensures limits { cache.new.limits ≡ cache.old.limits }
+        ensures unused { HasUnused cache.new.entries }
+        ensures memory { IfErr result (λ _. IsTrue (wanting.by_taking (course.request_of (record { service = service.now; limits = cache.old.limits }) self.old) (Replied said.now))) }
+    {
+        let told = self.hear_reply(alloc, service, cache, progress, server, said, ended);
+        if !goes_on(&told) {
+            *progress = Progress::new(alloc);
+        }
+        told
+    }
+
+    /// The same, also where the transaction is at its end or wants memory.
+    fn hear_reply(
+        &mut self,
+        alloc: Global,
+        service: &Service,
+        cache: &mut WeakCache,
+        progress: &mut Progress,
+        server: u8,
+        said: &Reply,
+        ended: &mut Option<Ending>,
+    ) -> Result<bool, AllocError>
+        requires reached { IsReachedBy service.now self.old progress.old }
+        requires servers { (0 < service.now.servers) × (service.now.servers ≤ MAX_SERVERS) }
+        requires unused { HasUnused cache.old.entries }
+        requires asked { option_map (λ asked. asked.0) (course.request_of (record { service = service.now; limits = cache.old.limits }) self.old) ≡ Some server }
+        requires fits { FitsAsked (course.request_of (record { service = service.now; limits = cache.old.limits }) self.old) (Replied said.now) }
+        ensures ok { IfOk result (λ ends. let fixed : doing.Fixed = record { service = service.now; limits = cache.old.limits } in Steps (taken fixed self.old cache.old.entries (course.request_of fixed self.old) (Replied said.now)) (put_in ends ended.new) self.new cache.new.entries) }
+        ensures place { IfOk result (λ ends. Puts ends ended.old ended.new) }
+        ensures err { OnErr result ((self.new ≡ self.old) × (cache.new ≡ cache.old) × (ended.new ≡ ended.old)) }
+        ensures reached { IfOk result (λ ends. IsReachedUnless ends service.now self.new progress.new) }
         ensures limits { cache.new.limits ≡ cache.old.limits }
         ensures unused { HasUnused cache.new.entries }
         ensures memory { IfErr result (λ _. IsTrue (wanting.by_taking (course.request_of (record { service = service.now; limits = cache.old.limits }) self.old) (Replied said.now))) }
@@ -146,11 +192,11 @@ impl Course {
         match &self.phase {
             Phase::Gathering(number) => {
                 let number = *number;
-                self.gathered(alloc, service, cache, number, server, said, ended)
+                self.gathered(alloc, service, cache, progress, number, server, said, ended)
             }
             Phase::Fetching(number) => {
                 let number = *number;
-                self.fetched(alloc, service, cache, number, server, said, ended)
+                self.fetched(alloc, service, cache, progress, number, server, said, ended)
             }
             Phase::Widening { number, .. } => {
                 let number = *number;
@@ -162,12 +208,14 @@ impl Course {
         }
     }
 
-    /// The same of a suite that did not get its quorum in its place.
+    /// The same of a suite that did not get its quorum in its place. Nothing of the transaction is done
+    /// any more.
     pub(crate) fn gathered_on(
         &mut self,
         alloc: Global,
         service: &Service,
         cache: &mut WeakCache,
+        progress: &mut Progress,
         number: u64,
         server: u8,
         said: &Reply,
@@ -179,12 +227,16 @@ impl Course {
         ensures ok { (suite : gathering.Suite) → gathering.suite_of self.old.suites number ≡ Some suite → IfOk result (λ ends. Steps (on_hearing self.old.task cache.old.entries self.old.suites self.old.phase number server (heard suite said.now) (λ suite. course.execute (record { service = service.now; limits = cache.old.limits }) self.old.task (record { suites = gathering.with_suite number suite self.old.suites; cache = cache.old.entries }))) (put_in ends ended.new) self.new cache.new.entries) }
         ensures place { IfOk result (λ ends. Puts ends ended.old ended.new) }
         ensures err { OnErr result ((self.new ≡ self.old) × (cache.new ≡ cache.old) × (ended.new ≡ ended.old)) }
+        ensures reached { IfOk result (λ ends. IsReachedUnless ends service.now self.new progress.new) }
         ensures limits { cache.new.limits ≡ cache.old.limits }
         ensures unused { HasUnused cache.new.entries }
         ensures memory { (suite : gathering.Suite) → gathering.suite_of self.old.suites number ≡ Some suite → IfErr result (λ _. IsTrue (is_held said.now)) }
     {
+        *progress = Progress::new(alloc);
         match self.hear(number, said)? {
-            Heard::Settled(suite) => self.execute_with(alloc, service, cache, number, suite, ended),
+            Heard::Settled(suite) => self.execute_with(
+                alloc, service, cache, progress, number, suite, ended,
+            ),
             heard => Ok(self.go_on(number, server, &heard, ended)),
         }
     }
@@ -195,6 +247,7 @@ impl Course {
         alloc: Global,
         service: &Service,
         cache: &mut WeakCache,
+        progress: &mut Progress,
         number: u64,
         suite: Suite,
         ended: &mut Option<Ending>,
@@ -204,6 +257,7 @@ impl Course {
         ensures ok { IfOk result (λ ends. Steps (course.execute (record { service = service.now; limits = cache.old.limits }) self.old.task (record { suites = gathering.with_suite number suite self.old.suites; cache = cache.old.entries })) (put_in ends ended.new) self.new cache.new.entries) }
         ensures place { IfOk result (λ ends. Puts ends ended.old ended.new) }
         ensures err { OnErr result ((self.new ≡ self.old) × (cache.new ≡ cache.old) × (ended.new ≡ ended.old)) }
+        ensures reached { IfOk result (λ ends. IsReachedUnless ends service.now self.new progress.new) }
         ensures limits { cache.new.limits ≡ cache.old.limits }
         ensures unused { HasUnused cache.new.entries }
     {
@@ -212,7 +266,7 @@ impl Course {
             service,
             task: &self.task,
         };
-        let sequel = execution.execute_with(&mut self.suites, cache, number, suite)?;
+        let sequel = execution.execute_with(&mut self.suites, cache, progress, number, suite)?;
         Ok(self.follow(sequel, ended))
     }
 
@@ -285,6 +339,7 @@ impl Course {
     pub(crate) fn hear_on(&mut self, number: u64, said: &Reply) -> Result<Onward, AllocError>
         requires shown { shows_unused said.now ≡ true }
         ensures ok { (suite : gathering.Suite) → gathering.suite_of self.old.suites number ≡ Some suite → IfOk result (λ onward. GoesOnBy onward self.old number suite said.now self.new) }
+        ensures ordered { IsOrdered nat_cmp self.old.suites }
         ensures err { OnErr result (self.new ≡ self.old) }
         ensures memory { IfErr result (λ _. IsTrue (is_held said.now)) }
     {
@@ -325,15 +380,18 @@ impl Course {
         alloc: Global,
         service: &Service,
         cache: &mut WeakCache,
+        progress: &mut Progress,
         number: u64,
         server: u8,
         said: &Reply,
         ended: &mut Option<Ending>,
     ) -> Result<bool, AllocError>
         requires unused { HasUnused cache.old.entries }
+        requires reached { IsReachedIn service.now self.old.task self.old.suites progress.old }
         ensures ok { IfOk result (λ ends. Steps (course.fetched (record { service = service.now; limits = cache.old.limits }) self.old.task cache.old.entries self.old.suites number (gathering.suite_of self.old.suites number) server (course.given_in said.now)) (put_in ends ended.new) self.new cache.new.entries) }
         ensures place { IfOk result (λ ends. Puts ends ended.old ended.new) }
         ensures err { OnErr result ((self.new ≡ self.old) × (cache.new ≡ cache.old) × (ended.new ≡ ended.old)) }
+        ensures reached { IfOk result (λ ends. IsReachedUnless ends service.now self.new progress.new) }
         ensures limits { cache.new.limits ≡ cache.old.limits }
         ensures unused { HasUnused cache.new.entries }
         ensures memory { IfErr result (λ _. IsTrue (is_some (course.given_in said.now))) }
@@ -346,7 +404,7 @@ impl Course {
             service,
             task: &self.task,
         };
-        let sequel = execution.execute_given(&mut self.suites, cache, number, content)?;
+        let sequel = execution.execute_given(&mut self.suites, cache, progress, number, content)?;
         Ok(match sequel {
             Some(sequel) => self.follow(sequel, ended),
             None => self.give_up(Cause::Lost { server }, ended),
@@ -385,4 +443,11 @@ impl Course {
         self.phase = Phase::Gathering(number);
         false
     }
+}
+
+/// Whether a transaction goes on: it is not at its end, and wants no memory.
+fn goes_on(told: &Result<bool, AllocError>) -> bool
+    ensures { result ≡ does_go_on told.now }
+{
+    matches!(told, Ok(false))
 }

@@ -6,6 +6,7 @@ ghost use Rattle.sorted_map.specs.SortedMap.{IsOrdered};
 ghost use Rattle.rep_core.specs.Store.{is_used_up};
 ghost use Rattle.weak_cache.specs.Entries.{max_sites};
 ghost use Rattle.txn_core.specs.code.Plans as planning;
+ghost use Rattle.txn_core.specs.code.Reaching.{IsReachedIn};
 ghost use Rattle.txn_core.specs.code.Sequels.{follow, follow_or};
 ghost use Rattle.txn_core.specs.code.Settling.{RestoresAt, unsettled_at};
 ghost use Rattle.txn_core.specs.Suites.{suite_of, with_suite};
@@ -17,6 +18,7 @@ use crate::sequel::Sequel;
 use crate::shelf::{Fetched, Shelf, put};
 use crate::suites::{Suite, Unsettled};
 use crate::task::Task;
+use file_exec::Progress;
 use file_ops::Service;
 use sorted_map::RoomyMap;
 use std::alloc::{AllocError, Global};
@@ -37,21 +39,25 @@ impl<'a> Execution<'a> {
         self,
         suites: &mut RoomyMap<u64, Suite>,
         cache: &mut WeakCache,
+        progress: &mut Progress,
     ) -> Result<Sequel, AllocError>
+        requires reached { IsReachedIn self.service.now self.task.now suites.old.pairs progress.old }
         requires hints { HasUnused cache.old.entries }
         ensures ok { IfOk result (λ sequel. follow self.entry.task.now cache.new.entries suites.new.pairs sequel ≡ course.execute (planning.fixed_in self.entry cache.old) self.entry.task.now (record { suites = suites.old.pairs; cache = cache.old.entries })) }
         ensures limits { cache.new.limits ≡ cache.old.limits }
         ensures unused { HasUnused cache.new.entries }
+        ensures reached { IfOk result (λ _. IsReachedIn self.entry.service.now self.entry.task.now suites.new.pairs progress.new) }
         ensures err { OnErr result ((suites.new.pairs ≡ suites.old.pairs) × (cache.new ≡ cache.old)) }
     {
-        self.execute_after(suites, cache, None)
+        self.execute_after(suites, cache, progress, None)
     }
 
-    /// The same with a suite in place of the one of its number.
+    /// The same with a suite in place of the one of its number, from the first operation on.
     pub(crate) fn execute_with(
         self,
         suites: &mut RoomyMap<u64, Suite>,
         cache: &mut WeakCache,
+        progress: &mut Progress,
         number: u64,
         suite: Suite,
     ) -> Result<Sequel, AllocError>
@@ -60,10 +66,12 @@ impl<'a> Execution<'a> {
         ensures ok { IfOk result (λ sequel. follow self.entry.task.now cache.new.entries suites.new.pairs sequel ≡ course.execute (planning.fixed_in self.entry cache.old) self.entry.task.now (record { suites = with_suite number suite suites.old.pairs; cache = cache.old.entries })) }
         ensures limits { cache.new.limits ≡ cache.old.limits }
         ensures unused { HasUnused cache.new.entries }
+        ensures reached { IfOk result (λ _. IsReachedIn self.entry.service.now self.entry.task.now suites.new.pairs progress.new) }
         ensures err { OnErr result ((suites.new.pairs ≡ suites.old.pairs) × (cache.new ≡ cache.old)) }
     {
+        *progress = Progress::new(self.alloc);
         let before = suites.insert_in_room(number, suite);
-        match self.execute_after(suites, cache, None) {
+        match self.execute_after(suites, cache, progress, None) {
             Ok(sequel) => Ok(sequel),
             Err(refused) => {
                 put_back(suites, number, before);
@@ -77,17 +85,20 @@ impl<'a> Execution<'a> {
         self,
         suites: &mut RoomyMap<u64, Suite>,
         cache: &mut WeakCache,
+        progress: &mut Progress,
         number: u64,
         before: Unsettled,
     ) -> Result<Sequel, AllocError>
         requires restores { RestoresAt before (suite_of suites.old.pairs number) }
+        requires reached { IsReachedIn self.service.now self.task.now suites.old.pairs progress.old }
         requires hints { HasUnused cache.old.entries }
         ensures ok { IfOk result (λ sequel. follow self.entry.task.now cache.new.entries suites.new.pairs sequel ≡ course.execute (planning.fixed_in self.entry cache.old) self.entry.task.now (record { suites = suites.old.pairs; cache = cache.old.entries })) }
         ensures limits { cache.new.limits ≡ cache.old.limits }
         ensures unused { HasUnused cache.new.entries }
+        ensures reached { IfOk result (λ _. IsReachedIn self.entry.service.now self.entry.task.now suites.new.pairs progress.new) }
         ensures err { OnErr result ((suites.new.pairs ≡ unsettled_at number before (suite_of suites.old.pairs number) suites.old.pairs) × (cache.new ≡ cache.old)) }
     {
-        match self.execute_after(suites, cache, None) {
+        match self.execute_after(suites, cache, progress, None) {
             Ok(sequel) => Ok(sequel),
             Err(refused) => {
                 undo(suites, number, before);
@@ -101,21 +112,27 @@ impl<'a> Execution<'a> {
         self,
         suites: &mut RoomyMap<u64, Suite>,
         cache: &mut WeakCache,
+        progress: &mut Progress,
         number: u64,
         content: &Content,
     ) -> Result<Option<Sequel>, AllocError>
+        requires reached { IsReachedIn self.service.now self.task.now suites.old.pairs progress.old }
         requires hints { HasUnused cache.old.entries }
         ensures ok { IfOk result (λ sequel. (server : ℕ) → follow_or self.entry.task.now cache.new.entries suites.new.pairs server sequel ≡ course.fetched (planning.fixed_in self.entry cache.old) self.entry.task.now cache.old.entries suites.old.pairs number (suite_of suites.old.pairs number) server (Some content.now)) }
         ensures limits { cache.new.limits ≡ cache.old.limits }
         ensures unused { HasUnused cache.new.entries }
+        ensures reached { IfOk result (λ _. IsReachedIn self.entry.service.now self.entry.task.now suites.new.pairs progress.new) }
         ensures err { OnErr result ((suites.new.pairs ≡ suites.old.pairs) × (cache.new ≡ cache.old)) }
     {
         let Some(fetched) = self.fetched(suites, number, content)? else {
             return Ok(None);
         };
         let given = content.clone()?;
+        if !takes(suites, number, content) {
+            *progress = Progress::new(self.alloc);
+        }
         let before = exchange(suites, number, Some(given));
-        match self.execute_after(suites, cache, Some(fetched)) {
+        match self.execute_after(suites, cache, progress, Some(fetched)) {
             Ok(sequel) => Ok(Some(sequel)),
             Err(refused) => {
                 exchange(suites, number, before);
@@ -158,23 +175,36 @@ impl<'a> Execution<'a> {
         self,
         suites: &mut RoomyMap<u64, Suite>,
         cache: &mut WeakCache,
+        progress: &mut Progress,
         fetched: Option<Fetched>,
     ) -> Result<Sequel, AllocError>
         requires site { IfSome fetched (λ one. one.site < max_sites) }
+        requires reached { IsReachedIn self.service.now self.task.now suites.old.pairs progress.old }
         requires hints { HasUnused (planning.shelved cache.old fetched) }
         ensures ok { IfOk result (λ sequel. follow self.entry.task.now cache.new.entries suites.new.pairs sequel ≡ course.execute (planning.fixed_in self.entry cache.old) self.entry.task.now (record { suites = suites.old.pairs; cache = planning.shelved cache.old fetched })) }
         ensures limits { cache.new.limits ≡ cache.old.limits }
         ensures unused { OnOk result (HasUnused cache.new.entries) }
+        ensures reached { IfOk result (λ _. IsReachedIn self.entry.service.now self.entry.task.now suites.new.pairs progress.new) }
         ensures err { OnErr result ((suites.new.pairs ≡ suites.old.pairs) × (cache.new ≡ cache.old)) }
     {
         let shelf = Shelf {
             cache,
             fetched: fetched.as_ref(),
         };
-        let plan = self.plan(suites, shelf)?;
+        let plan = self.plan(suites, shelf, progress)?;
         plan.make_room(suites)?;
         put(cache, fetched)?;
         Ok(plan.carry_out(self.task, suites, cache))
+    }
+}
+
+/// Whether a suite had a quorum, its content is not there, and this one is of its kind.
+fn takes(suites: &RoomyMap<u64, Suite>, number: u64, content: &Content) -> bool
+    ensures { result ≡ planning.takes_in (suite_of suites.now.pairs number) content.now }
+{
+    match suites.get(&number) {
+        Some(suite) => suite.takes(content),
+        None => false,
     }
 }
 

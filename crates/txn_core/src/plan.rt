@@ -1,7 +1,8 @@
 //! What an execution sets, found before anything is set.
 
-ghost use Rattle.std.specs.Prelude.{◌≡◌, ◌<◌, ◌≤◌, IfOk, IsSome, unwrap_or, option_map};
+ghost use Rattle.std.specs.Prelude.{◌≡◌, ◌<◌, ◌≤◌, IfOk, OnOk, IsSome, unwrap_or, option_map};
 ghost use Rattle.std.specs.Option.{option_copied};
+ghost use Rattle.std.specs.Ordering.{nat_cmp};
 ghost use Rattle.sorted_map.specs.SortedMap.{IsOrdered};
 ghost use Rattle.suite_collect.specs.Collecting.{raise};
 ghost use Rattle.suite_prefix.specs.Absent.{absent_prefix};
@@ -10,6 +11,7 @@ ghost use Rattle.txn_core.specs.code.Plans as spec;
 ghost use Rattle.txn_core.specs.code.Sequels as sequel;
 ghost use Rattle.txn_core.specs.Suites.{suite_of};
 ghost use Rattle.txn_core.specs.Transactions.{free_content};
+ghost use Rattle.txn_core.specs.code.Reaching.{IsReachedIn};
 ghost use Rattle.txn_core.specs.code.Unused.{HasUnused};
 
 use crate::empty::Empty;
@@ -18,7 +20,7 @@ use crate::first::First;
 use crate::knowing::known_of;
 use crate::shelf::Shelf;
 use crate::suites::Suite;
-use file_exec::{Need, Outcome, exec};
+use file_exec::{Need, Outcome, Progress, exec_on};
 use sorted_map::RoomyMap;
 use std::alloc::AllocError;
 use suite_content::Content;
@@ -41,11 +43,15 @@ impl<'a> Execution<'a> {
         self,
         suites: &RoomyMap<u64, Suite>,
         shelf: Shelf<'_>,
+        progress: &mut Progress,
     ) -> Result<Plan, AllocError>
-        requires { HasUnused (spec.entries_on shelf) }
-        ensures { IfOk result (λ plan. spec.IsPlanOf (spec.fixed_in self.entry shelf.entry.cache.now) self.entry.task.now (spec.seen_on shelf.entry suites.now.pairs) plan) }
+        requires unused { HasUnused (spec.entries_on shelf) }
+        requires reached { IsReachedIn self.service.now self.task.now suites.now.pairs progress.old }
+        ensures ordered { OnOk result (IsOrdered nat_cmp suites.now.pairs) }
+        ensures plan { IfOk result (λ plan. spec.IsPlanOf (spec.fixed_in self.entry shelf.entry.cache.now) self.entry.task.now (spec.seen_on shelf.entry suites.now.pairs) plan) }
+        ensures reached { IfOk result (λ plan. IsReachedIn self.entry.service.now self.entry.task.now (spec.opened_all self.entry.task.now plan.opened.items (spec.seen_on shelf.entry suites.now.pairs)).suites progress.new) }
     {
-        let (opened, outcome) = self.play(suites, shelf)?;
+        let (opened, outcome) = self.play(suites, shelf, progress)?;
         let new = self.new_for(suites, shelf, &outcome)?;
         Ok(Plan {
             opened,
@@ -54,13 +60,17 @@ impl<'a> Execution<'a> {
         })
     }
 
-    /// Executes the transaction, opens what it needs and is to be had without asking, and so on.
+    /// Executes the transaction, opens what it needs and is to be had without asking, and goes on.
     fn play(
         self,
         suites: &RoomyMap<u64, Suite>,
         shelf: Shelf<'_>,
+        progress: &mut Progress,
     ) -> Result<(Vec<(u64, Content)>, Outcome), AllocError>
-        ensures { IfOk result (λ played. spec.IsPlayed (spec.fixed_in self.entry shelf.entry.cache.now) self.entry.task.now (spec.seen_on shelf.entry suites.now.pairs) played.0.items played.1) }
+        requires { IsReachedIn self.service.now self.task.now suites.now.pairs progress.old }
+        ensures reached { IfOk result (λ played. IsReachedIn self.entry.service.now self.entry.task.now (spec.opened_all self.entry.task.now played.0.items (spec.seen_on shelf.entry suites.now.pairs)).suites progress.new) }
+        ensures ordered { OnOk result (IsOrdered nat_cmp suites.now.pairs) }
+        ensures played { IfOk result (λ played. spec.IsPlayed (spec.fixed_in self.entry shelf.entry.cache.now) self.entry.task.now (spec.seen_on shelf.entry suites.now.pairs) played.0.items played.1) }
     {
         let task = self.task;
         task.facts();
@@ -68,12 +78,13 @@ impl<'a> Execution<'a> {
         let mut known = known_of(self.alloc, self.service, suites)?;
         let mut opened = Vec::new(self.alloc);
         loop {
-            let outcome = exec(
+            let outcome = exec_on(
                 self.alloc,
                 &known,
                 task.t,
                 &task.caller,
                 task.ops.as_slice(),
+                progress,
             )?;
             if opened.len() == suites.len() {
                 return Ok((opened, outcome));
@@ -81,6 +92,9 @@ impl<'a> Execution<'a> {
             let Some((number, content)) = self.to_open(suites, shelf, &empty, &outcome) else {
                 return Ok((opened, outcome));
             };
+            if !known.takes(number, content) {
+                *progress = Progress::new(self.alloc);
+            }
             known.open(number, content);
             opened.push((number, content.clone()?))?;
         }

@@ -9,6 +9,7 @@ ghost use Rattle.suite_collect.specs.Collecting as spec;
 ghost use Rattle.suite_collect.specs.Telling.{shown};
 ghost use Rattle.txn_core.specs.code.Coming.{told_one, settled_by};
 ghost use Rattle.txn_core.specs.code.HearingOn.{HearsOn};
+ghost use Rattle.txn_core.specs.code.Plans.{takes_in};
 ghost use Rattle.txn_core.specs.code.Settling.{Restores, SettledBy, unsettled};
 ghost use Rattle.txn_core.specs.Suites as gathering;
 ghost use Rattle.txn_core.specs.code.Unused.{shows_unused};
@@ -21,7 +22,7 @@ use std::marker::Model;
 use std::mem;
 use suite_collect::{Before, Collect, Coming, Members, Next};
 use suite_content::Content;
-use suite_prefix::{LockMode, Prefix};
+use suite_prefix::{LockMode, Prefix, PrefixKind};
 use vote_core::Votes;
 
 /// A suite that was asked for. What was gathered of it stands on the heap, so that it is cheap to move.
@@ -84,6 +85,15 @@ impl Clone for Gathered {
     }
 }
 
+impl Unsettled {
+    /// Whether a first quorum had given what is there.
+    pub(crate) fn had_first(&self) -> bool
+        ensures { result ≡ self.now.had_first }
+    {
+        self.had_first
+    }
+}
+
 impl Suite {
     /// A suite of which nothing was told. `start` is a prefix that it once had, or that of what was never
     /// made.
@@ -133,6 +143,23 @@ impl Suite {
         ensures { self.new ≡ record self.old { content = Some content } }
     {
         self.gathered.content = Some(content);
+    }
+
+    /// Whether it had a quorum, its content is not there, and this one is of its kind.
+    pub(crate) fn takes(&self, content: &Content) -> bool
+        ensures { result ≡ takes_in (Some self.now) content.now }
+    {
+        if self.content().is_some() {
+            return false;
+        }
+        let Some(first) = self.first() else {
+            return false;
+        };
+        match first.prefix.kind {
+            PrefixKind::Absent => true,
+            PrefixKind::File => matches!(content, Content::Bytes(_)),
+            PrefixKind::Folder => matches!(content, Content::Names(_)),
+        }
     }
 
     /// It has this content from now on, or none. What it had comes back.

@@ -1,5 +1,7 @@
 -- The fields of `Agent` as contracts see them, and what they keep.
-use Rattle.std.specs.Prelude.{◌<◌, ◌≤◌, option_map}
+use Rattle.std.specs.Prelude.{◌<◌, ◌≤◌, Option, Some, None, option_map}
+use Rattle.file_ops.specs.declared.service.Service.{Service}
+use Rattle.file_exec.specs.Reaching.{Reached}
 use Rattle.txn_core.specs.declared.agent.Agent.TheInside.{Inside}
 use Rattle.txn_core.specs.declared.agent.Doing.{Doing as Coded}
 use Rattle.txn_core.specs.declared.agent.Doing.TheVariants as coded
@@ -7,6 +9,7 @@ use Rattle.vote_core.specs.declared.TheConstants.{MAX_SERVERS}
 use Rattle.txn_core.specs.Doing.{Doing, Running, Rounding}
 use Rattle.txn_core.specs.Agents.{max_jobs}
 use Rattle.txn_core.specs.Standing.{Standing}
+use Rattle.txn_core.specs.code.Reaching.{IsReachedBy}
 use Rattle.txn_core.specs.code.Unused.{HasUnused}
 
 abbrev pub doing_of : Coded → Doing
@@ -19,8 +22,15 @@ standing_of fields = record {
   state = record { index = fields.index; count = fields.count; cache = fields.cache.entries; doing = option_map doing_of fields.doing };
 }
 
+-- the transaction that is carried out, if one is, came so far
+abbrev pub Reaches : Option Coded → Service → Reached → Type 0
+Reaches (Some (coded.Running course)) service reached = IsReachedBy service course reached
+Reaches (Some (coded.Rounding round)) service reached = Unit {0}
+Reaches None service reached = Unit {0}
+
 pub record IsStanding (fields : Inside) : Type 0 where
   pub index : fields.index < 64
   pub jobs : fields.count ≤ max_jobs
   pub servers : (0 < fields.service.servers) × (fields.service.servers ≤ MAX_SERVERS)
   pub unused : HasUnused fields.cache.entries
+  pub reached : Reaches fields.doing fields.service fields.progress

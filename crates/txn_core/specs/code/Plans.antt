@@ -1,11 +1,13 @@
 -- What an execution sets, told before anything is set.
-use Rattle.std.specs.Prelude.{◌≡◌, ℕ, List, [], ◌∷◌, length, option_map, Option, Some, None}
+use Rattle.std.specs.Prelude.{◌≡◌, ℕ, Bool, List, [], ◌∷◌, length, option_map, Option, Some, None}
 use Rattle.std.specs.Option.{option_copied}
 use Rattle.suite_content.specs.declared.content.Content.{Content}
 use Rattle.suite_prefix.specs.declared.lock_mode.LockMode.{LockMode}
 use Rattle.suite_collect.specs.Collecting.{raise}
 use Rattle.weak_cache.specs.Entries.{Cache}
 use Rattle.weak_cache.specs.Cache.{Limited, put}
+use Rattle.file_exec.specs.KnownSuites.{KnownSuite}
+use Rattle.file_exec.specs.Reaching.{takes}
 use Rattle.file_exec.specs.declared.need.Need.TheVariants.{Hold, Know}
 use Rattle.file_exec.specs.declared.executor.Outcome.{Outcome as Executed}
 use Rattle.file_exec.specs.declared.executor.Outcome.TheVariants as exec
@@ -14,7 +16,7 @@ use Rattle.txn_core.specs.declared.plan.Plan.{Plan}
 use Rattle.txn_core.specs.declared.shelf.Fetched.{Fetched}
 use Rattle.txn_core.specs.declared.shelf.Shelf.{Shelf}
 use Rattle.txn_core.specs.Doing.{Fixed, Task}
-use Rattle.txn_core.specs.Suites.{First, Suite, Suites, suite_of, with_suite}
+use Rattle.txn_core.specs.Suites.{First, Suite, Suites, suite_of, with_suite, known_row}
 use Rattle.txn_core.specs.Transactions.{Gathered, heard_on, free_content, after_search, opened, raised_or_new}
 
 -- the service of an execution, with the limits of a cache
@@ -127,6 +129,14 @@ fetched_of task number content None = None
 abbrev pub content_in : Option Suite → Option Content
 content_in (Some suite) = suite.content
 content_in None = None
+
+-- whether a suite had a quorum, its content is not there, and another is of its kind
+abbrev pub known_in : Option Suite → Option KnownSuite
+known_in (Some suite) = option_map (known_row suite) suite.first
+known_in None = None
+
+abbrev pub takes_in : Option Suite → Content → Bool
+takes_in suite content = takes (known_in suite) content
 
 -- and another in its place
 abbrev pub with_content : ℕ → Option Content → Option Suite → Suites → Suites

@@ -9,6 +9,7 @@ use Rattle.txn_core.specs.code.Hears.{Hears}
 use Rattle.txn_core.specs.code.Steps.{Steps}
 use Rattle.txn_core.specs.Suites.{Suite, with_suite}
 use Rattle.txn_core.specs.Transactions.{Step, execute}
+use Rattle.txn_core.proofs.Reaching.{unbegun_unless}
 use Rattle.txn_core.proofs.InPlace.{goes_through}
 use Rattle.txn_core.proofs.course.Course.gathered_on.Goals as goal
 
@@ -33,3 +34,6 @@ returns-in_default-clause-ok c = λ suite there.
     let settled : Suite → Step = λ suite. execute fixed now.task (record { suites = with_suite c.args.number suite now.suites; cache = cache.entries }) in
     goes_through now c.hear.new.self c.go_on.new.self c.args.number c.args.server (heard suite c.args.said.now) c.in_ok-heard.heard cache.entries settled (put_in c.go_on.result c.go_on.new.ended) c.in_default.not-Settled
     (c.in_ok-heard.ensures.ok suite there) (c.go_on.ensures.steps cache.entries)
+
+pub returns-in_default-clause-reached : goal.returns-in_default-clause-reached
+returns-in_default-clause-reached c = unbegun_unless c.go_on.result c.args.service.now c.go_on.new.self _ c.new.ensures

@@ -8,8 +8,11 @@ use Rattle.txn_core.specs.code.Steps.{Steps}
 use Rattle.txn_core.specs.declared.suites.Unsettled.{Unsettled}
 use Rattle.txn_core.specs.Suites.{suite_of, with_suite}
 use Rattle.txn_core.specs.Transactions.{execute}
+use Rattle.txn_core.specs.code.Reaching.{IsReachedIn}
+use Rattle.txn_core.proofs.Reaching.{unbegun_in, reached_settled}
 use Rattle.txn_core.proofs.Settled.{of_there, went_settled, undone_settled, wants_settled}
 use Rattle.txn_core.proofs.course.Course.settle.Goals as goal
+use Rattle.txn_core.proofs.course.Course.settle.Goals.{then-had_first, else-had_first}
 
 pub execute_settled-requires-clause-restores : goal.execute_settled-requires-clause-restores
 execute_settled-requires-clause-restores c =
@@ -31,8 +34,8 @@ gathered_on-requires-clause-there c =
     let same : given ≡ now = subst Settled' c.in-None.is (c.in_ok-before.ensures.ok suite there) in
     subst (λ (course : Course). IsSome (suite_of course.suites c.args.number)) (sym same) c.requires.there)
 
-pub returns-in-Some-clause-ok : goal.returns-in-Some-clause-ok
-returns-in-Some-clause-ok c = λ suite there.
+pub returns-after-had_first-clause-ok : goal.returns-after-had_first-clause-ok
+returns-after-had_first-clause-ok c = λ suite there.
     let now = c.args.self.now in
     let given = c.settle_by.new.self in
     let cache = c.args.cache.now in
@@ -42,8 +45,8 @@ returns-in-Some-clause-ok c = λ suite there.
     went_settled now given c.args.number suite c.args.said.now c.in-Some.before settles c.execute_settled.new.self c.args.server cache.entries c.execute_settled.new.cache.entries
     (λ course. execute fixed course.task (record { suites = course.suites; cache = cache.entries })) (λ ends. put_in ends c.execute_settled.new.ended) c.execute_settled.result c.execute_settled.ensures.ok
 
-pub returns-in-Some-clause-err : goal.returns-in-Some-clause-err
-returns-in-Some-clause-err c =
+pub returns-after-had_first-clause-err : goal.returns-after-had_first-clause-err
+returns-after-had_first-clause-err c =
     let now = c.args.self.now in
     let given = c.settle_by.new.self in
     let cache = c.args.cache.now in
@@ -53,8 +56,8 @@ returns-in-Some-clause-err c =
     let settles : SettlesIn now c.args.number suite c.args.said.now c.in-Some.before given = subst Settled' c.in-Some.is (c.in_ok-before.ensures.ok suite there) in
     undone_settled now given c.args.number suite c.args.said.now c.in-Some.before settles c.execute_settled.new.self (c.execute_settled.new.cache ≡ cache) (c.execute_settled.new.ended ≡ c.args.ended.now) c.execute_settled.result c.execute_settled.ensures.err)
 
-pub returns-in-Some-clause-memory : goal.returns-in-Some-clause-memory
-returns-in-Some-clause-memory c = λ suite there.
+pub returns-after-had_first-clause-memory : goal.returns-after-had_first-clause-memory
+returns-after-had_first-clause-memory c = λ suite there.
     let now = c.args.self.now in
     let given = c.settle_by.new.self in
     let Settled' : Option Unsettled → Type 0 = λ before. SettledIn before now c.args.number suite c.args.said.now given in
@@ -91,3 +94,19 @@ returns-in-None-clause-memory c = λ suite there.
     let Settled' : Option Unsettled → Type 0 = λ before. SettledIn before now c.args.number suite c.args.said.now given in
     let same : given ≡ now = subst Settled' c.in-None.is (c.in_ok-before.ensures.ok suite there) in
     c.gathered_on.ensures.memory suite (ap (λ (course : Course). suite_of course.suites c.args.number) same ∙ there)
+
+pub execute_settled-requires-clause-reached : goal.execute_settled-requires-clause-reached
+execute_settled-requires-clause-reached c =
+    let now = c.args.self.now in
+    let given = c.settle_by.new.self in
+    let service = c.args.service.now in
+    elim c.if-had_first.branch [
+      | then-had_first w ↦ unbegun_in service given.task given.suites c.if-had_first.progress (w.progress-is ∙ w.new.ensures)
+      | else-had_first w ↦
+          subst (IsReachedIn service given.task given.suites) (sym w.progress-is)
+          (of_there now.suites c.args.number (IsReachedIn service given.task given.suites c.args.progress.now) c.requires.there
+          (λ suite there.
+          let Settled' : Option Unsettled → Type 0 = λ before. SettledIn before now c.args.number suite c.args.said.now given in
+          let settles : SettlesIn now c.args.number suite c.args.said.now c.in-Some.before given = subst Settled' c.in-Some.is (c.in_ok-before.ensures.ok suite there) in
+          reached_settled service c.args.progress.now now given c.args.number suite c.args.said.now c.in-Some.before c.settle_by.ensures.ordered there settles (sym c.had_first.ensures ∙ w.if-had_first.false) c.requires.reached))
+    ]

@@ -1,4 +1,5 @@
 use Rattle.std.proofs.Common.{◌∙◌}
+use Rattle.txn_core.proofs.Reaching.{unbegun_in}
 use Rattle.txn_core.proofs.Carried.{still_there, put_back}
 use Rattle.txn_core.proofs.execution.Execution.execute_with.Goals as goal
 
@@ -11,3 +12,6 @@ returns-in-Err-clause-err c = (
       c.insert_in_room-before.ensures.before (c.in-Err.ensures.err.0 ∙ c.insert_in_room-before.ensures.pairs) c.put_back.ensures,
   c.in-Err.ensures.err.1,
 )
+
+pub execute_after-requires-clause-reached : goal.execute_after-requires-clause-reached
+execute_after-requires-clause-reached c = unbegun_in c.args.self.service.now c.args.self.task.now c.insert_in_room-before.new.self.pairs _ c.new.ensures

@@ -1,0 +1,351 @@
+-- How far a transaction came, as its suites and its phase go on.
+use Rattle.std.proofs.Common.{◌≡◌, ℕ, Bool, true, false, cond, List, [], ◌∷◌, Option, Some, None, Result, Ok, Err, refl, sym, ap, subst, ◌∙◌}
+use Rattle.std.specs.declared.alloc.AllocError.{AllocError}
+use Rattle.std.specs.Prelude.{is_some, option_map, IfOk}
+use Rattle.std.specs.Option.{MatchOption, IsSomeAnd}
+use Rattle.std.specs.Ordering.{nat_cmp}
+use Rattle.std.proofs.lemmas.Bool.{false≢true}
+use Rattle.std.proofs.lemmas.Option.{none-some, same_Some}
+use Rattle.sorted_map.specs.SortedMap.{IsOrdered}
+use Rattle.suite_content.specs.declared.content.Content.{Content}
+use Rattle.suite_collect.specs.declared.told.Said.{Said}
+use Rattle.suite_collect.specs.declared.told.Told.{Told}
+use Rattle.suite_collect.specs.Collecting.{mode_of, raise, Next, Current, Ask, Short, next, tell, told_by}
+use Rattle.rep_core.specs.declared.reply.Reply.{Reply}
+use Rattle.rep_core.specs.declared.reply.Verdict.{Verdict}
+use Rattle.rep_core.specs.declared.reply.Verdict.TheVariants as verdict
+use Rattle.rep_core.specs.declared.request.Request.{Request}
+use Rattle.rep_core.specs.Fits.{is_prepared}
+use Rattle.weak_cache.specs.Cache.{Limited}
+use Rattle.weak_cache.specs.Entries.{Cache}
+use Rattle.file_ops.specs.declared.service.Service.{Service}
+use Rattle.file_exec.specs.declared.need.Need.TheVariants.{Hold, Know}
+use Rattle.file_exec.specs.declared.executor.Outcome.{Outcome as Executed}
+use Rattle.file_exec.specs.declared.executor.Outcome.TheVariants as exec
+use Rattle.file_exec.specs.Laws.{MoreKnown}
+use Rattle.file_exec.specs.Known as exec_known
+use Rattle.file_exec.specs.Known.{Knowledge, opened_suite}
+use Rattle.file_exec.specs.Reaching.{Reached, IsReached, unbegun, takes}
+use Rattle.file_exec.proofs.Reaching.{unbegun_is_reached, reached_stays, taking_tells_more}
+use Rattle.txn_core.specs.declared.ending.Cause.{Cause}
+use Rattle.txn_core.specs.declared.ending.Ending.{Ending}
+use Rattle.txn_core.specs.declared.ending.Cause.TheVariants.{Lost}
+use Rattle.txn_core.specs.declared.ending.Ending.TheVariants.{Undecided}
+use Rattle.txn_core.specs.declared.word.Word.TheVariants.{Replied}
+use Rattle.txn_core.specs.declared.hearing.Hearing.TheVariants as hearing
+use Rattle.txn_core.specs.declared.plan.Plan.{Plan}
+use Rattle.txn_core.specs.declared.shelf.Fetched.{Fetched}
+use Rattle.txn_core.specs.declared.sequel.Sequel.{Sequel}
+use Rattle.txn_core.specs.declared.sequel.Sequel.TheVariants.{Gather, Fetch, Grant, Refuse}
+use Rattle.txn_core.specs.Doing.{Fixed, Task, Granted, Outcome, Phase, Gathering, Fetching, Widening, Preparing, Deciding, Finishing, Course, After, GoesOn, Ends}
+use Rattle.txn_core.specs.Suites.{First, Suite, Suites, suite_of, with_suite, known_row, known_of, settled}
+use Rattle.txn_core.specs.Transactions.{Gathered, Step, decided, short_cause, verdict_in, ending_by, cause_of_abort, raised_or_new, tell_end, give_up, locked_at, prepare, gather_by, to_widen, widened, widen_by, widen_one, widen_all, collected, hear, heard_of, said_to, after_reply}
+use Rattle.txn_core.specs.code.AgentFields.{Reaches}
+use Rattle.txn_core.specs.declared.agent.Doing.{Doing as Coded}
+use Rattle.txn_core.specs.declared.agent.Doing.TheVariants as coded
+use Rattle.txn_core.specs.code.Endings.{put_in}
+use Rattle.txn_core.specs.code.Hearing.{heard_next, heard_one, heard}
+use Rattle.txn_core.specs.code.HearingOn.{GoesOnBy}
+use Rattle.txn_core.specs.code.Settling.{SettlesIn}
+use Rattle.txn_core.specs.declared.hearing.Onward.{Onward}
+use Rattle.txn_core.specs.declared.hearing.Onward.TheVariants.{Left, Asks, Short as Shorted}
+use Rattle.txn_core.specs.declared.suites.Unsettled.{Unsettled}
+use Rattle.txn_core.specs.code.Reaching.{does_go_on, IsReachedIn, IsReachedAt, IsReachedBy, IsReachedIf, IsReachedUnless}
+use Rattle.txn_core.specs.code.Sequels.{gather_again, follow}
+use Rattle.txn_core.specs.code.Steps.{Becomes, Steps, taken}
+use Rattle.txn_core.specs.code.Plans.{takes_in, with_content, new_unless, new_for, raised_at, with_asked_at, with_asked, opened_all, carried_out, shelved, IsPlanOf}
+use Rattle.txn_core.proofs.Kept.{Keeps, keeps_all}
+use Rattle.txn_core.proofs.Growing.{more_known, no_less, collects, starts}
+use Rattle.txn_core.proofs.Openings.{known_opened}
+use Rattle.txn_core.proofs.Setting.{known_at}
+
+-- ---- by what is known
+
+-- of nothing it came so far on whatever is known
+pub unbegun_in : (service : Service) (task : Task) (suites : Suites) (reached : Reached) → reached ≡ unbegun → IsReachedIn service task suites reached
+unbegun_in service task suites reached is = subst (IsReachedIn service task suites) (sym is) (unbegun_is_reached service (known_of suites) task.t task.caller task.ops)
+
+pub reached_in : (service : Service) (task : Task) (less more : Suites) (reached : Reached) → MoreKnown (known_of less) (known_of more) → IsReachedIn service task less reached → IsReachedIn service task more reached
+reached_in service task less more reached is_more is = reached_stays service (known_of less) (known_of more) task.t task.caller task.ops reached is_more is
+
+-- it may be executed again, or will not be
+pub reached_at : (phase : Phase) (T : Type 0) → T → IsReachedAt phase T
+reached_at (Gathering number) T is = is
+reached_at (Fetching number) T is = is
+reached_at (Widening left granted) T is = tt
+reached_at (Preparing left outcome) T is = tt
+reached_at (Deciding outcome) T is = tt
+reached_at (Finishing left verdict ending) T is = tt
+
+pub unbegun_by : (service : Service) (course : Course) (reached : Reached) → reached ≡ unbegun → IsReachedBy service course reached
+unbegun_by service course reached is = reached_at course.phase (IsReachedIn service course.task course.suites reached) (unbegun_in service course.task course.suites reached is)
+
+pub unbegun_unless : (ends : Bool) (service : Service) (course : Course) (reached : Reached) → reached ≡ unbegun → IsReachedUnless ends service course reached
+unbegun_unless true service course reached is = tt
+unbegun_unless false service course reached is = unbegun_by service course reached is
+
+-- ---- by the steps of a course
+
+module _ (service : Service) (reached : Reached) where
+  abbrev pub Goes : After Course → Type 0
+  Goes (GoesOn course) = IsReachedBy service course reached
+  Goes (Ends ending) = Unit {0}
+
+  pub goes_end : (task : Task) (cache : Cache) (suites : Suites) (v : Verdict) (ending : Ending) (servers : List ℕ) → Goes (tell_end task cache suites v ending servers).after
+  goes_end task cache suites v ending [] = tt
+  goes_end task cache suites v ending (server ∷ servers) = tt
+
+  pub goes_up : (task : Task) (cache : Cache) (suites : Suites) (cause : Cause) → Goes (give_up task cache suites cause).after
+  goes_up task cache suites cause = goes_end task cache suites verdict.Aborted (Undecided cause) (locked_at suites)
+
+  pub goes_prepare : (task : Task) (cache : Cache) (suites : Suites) (outcome : Outcome) (servers : List ℕ) → Goes (prepare task cache suites outcome servers).after
+  goes_prepare task cache suites outcome [] = tt
+  goes_prepare task cache suites outcome (server ∷ servers) = tt
+
+  pub goes_widen : (task : Task) (cache : Cache) (suites : Suites) (granted : Granted) (left : List ℕ) → Goes (widen_all task cache suites granted left).after
+  goes_widen task cache suites granted [] = goes_prepare task cache suites (Ok granted) (locked_at suites)
+  goes_widen task cache suites granted (number ∷ left) = of (λ suites. goes_widen task cache suites granted left) (suite_of suites number)
+    where
+      by : ((suites : Suites) → Goes (widen_all task cache suites granted left).after) → (now : Suites) (what : Next) → Goes (widen_by task cache now (Widening (number ∷ left) granted) number what (λ suites. widen_all task cache suites granted left)).after
+      by rest now (Current prefix dver members) = rest now
+      by rest now (Ask server asked) = tt
+      by rest now (Short got needed busy) = goes_up task cache now (short_cause number got needed busy)
+
+      of : ((suites : Suites) → Goes (widen_all task cache suites granted left).after) → (found : Option Suite) → Goes (widen_one task cache suites (Widening (number ∷ left) granted) granted.changes number found (λ suites. widen_all task cache suites granted left)).after
+      of rest (Some suite) = by rest (with_suite number (widened granted.changes number suite) suites) (next (widened granted.changes number suite).collector)
+      of rest None = rest suites
+
+  pub goes_gather : (task : Task) (cache : Cache) (suites : Suites) (number : ℕ) (found : Option Suite) → IsReachedIn service task suites reached → Goes (gather_again task cache suites number found).after
+  goes_gather task cache suites number (Some suite) is = of (next suite.collector)
+    where
+      of : (what : Next) → Goes (gather_by task cache suites number what).after
+      of (Short got needed busy) = goes_up task cache suites (short_cause number got needed busy)
+      of (Ask server asked) = is
+      of (Current prefix dver members) = is
+  goes_gather task cache suites number None is = is
+
+  pub goes_follow : (task : Task) (cache : Cache) (suites : Suites) (sequel : Sequel) → IsReachedIn service task suites reached → Goes (follow task cache suites sequel).after
+  goes_follow task cache suites (Gather number) is = goes_gather task cache suites number (suite_of suites number) is
+  goes_follow task cache suites (Fetch number) is = is
+  goes_follow task cache suites (Grant granted) is = goes_widen task cache suites granted (to_widen granted.changes)
+  goes_follow task cache suites (Refuse refusal) is = goes_prepare task cache suites (Err refusal) (locked_at suites)
+
+  -- once it is not executed any more, it stays so
+  abbrev pub IsLate : Phase → Type 0
+  IsLate (Gathering number) = ⊥
+  IsLate (Fetching number) = ⊥
+  IsLate other = Unit {0}
+
+  goes_heard : (task : Task) (cache : Cache) (suites : Suites) (number : ℕ) (left : List ℕ) (granted : Granted) (found : Option Suite) (server : ℕ) (asked : Request) (said : Reply)
+      → Goes (heard_of task cache suites (Widening (number ∷ left) granted) number found server asked said (λ suites. widen_all task cache suites granted left)).after
+  goes_heard task cache suites number left granted None server asked said = goes_up task cache suites (Lost server)
+  goes_heard task cache suites number left granted (Some suite) server asked said = of (said_to asked said)
+    where
+      by : (after : Suite) (what : Next) → Goes (collected task cache suites (Widening (number ∷ left) granted) number after what (λ suite. widen_all task cache (with_suite number suite suites) granted left)).after
+      by after (Ask server asked) = tt
+      by after (Short got needed busy) = goes_up task cache (with_suite number after suites) (short_cause number got needed busy)
+      by after (Current prefix dver members) = goes_widen task cache (with_suite number (settled prefix dver members after) suites) granted left
+
+      of : (heard : Option Said) → Goes (hear task cache suites (Widening (number ∷ left) granted) number suite server asked heard (λ suite. widen_all task cache (with_suite number suite suites) granted left)).after
+      of (Some said) = let after : Suite = record suite { collector = tell (record { server = server; mode = mode_of asked; said = said }) suite.collector } in by after (next after.collector)
+      of None = goes_up task cache suites (Lost server)
+
+  goes_prepared : (task : Task) (cache : Cache) (suites : Suites) (outcome : Outcome) (server : ℕ) (left : List ℕ) (b : Bool) → Goes (cond b (prepare task cache suites outcome left) (give_up task cache suites (Lost server))).after
+  goes_prepared task cache suites outcome server left true = goes_prepare task cache suites outcome left
+  goes_prepared task cache suites outcome server left false = goes_up task cache suites (Lost server)
+
+  pub goes_decided : (task : Task) (cache : Cache) (suites : Suites) (said : Reply) → Goes (decided task cache suites said).after
+  goes_decided task cache suites said = goes_end task cache suites (verdict_in said verdict.Aborted) (ending_by (verdict_in said verdict.Aborted) (cause_of_abort said)) (locked_at suites)
+
+  goes_reply : (fixed : Fixed) (task : Task) (cache : Cache) (suites : Suites) (phase : Phase) (server : ℕ) (asked : Request) (said : Reply) → IsLate phase → Goes (after_reply fixed task cache suites phase server asked said).after
+  goes_reply fixed task cache suites (Gathering number) server asked said late = absurd late
+  goes_reply fixed task cache suites (Fetching number) server asked said late = absurd late
+  goes_reply fixed task cache suites (Widening [] granted) server asked said late = goes_up task cache suites (Lost server)
+  goes_reply fixed task cache suites (Widening (number ∷ left) granted) server asked said late = goes_heard task cache suites number left granted (suite_of suites number) server asked said
+  goes_reply fixed task cache suites (Preparing [] outcome) server asked said late = goes_up task cache suites (Lost server)
+  goes_reply fixed task cache suites (Preparing (now ∷ left) outcome) server asked said late = goes_prepared task cache suites outcome server left (is_prepared said)
+  goes_reply fixed task cache suites (Deciding outcome) server asked said late = goes_decided task cache suites said
+  goes_reply fixed task cache suites (Finishing [] v ending) server asked said late = goes_end task cache suites v ending []
+  goes_reply fixed task cache suites (Finishing (now ∷ left) v ending) server asked said late = goes_end task cache suites v ending left
+
+  goes_taken : (fixed : Fixed) (course : Course) (cache : Cache) (asked : Option (ℕ × Request)) (said : Reply) → IsLate course.phase → Goes (taken fixed course cache asked (Replied said)).after
+  goes_taken fixed course cache (Some asked) said late = goes_reply fixed course.task cache course.suites course.phase asked.0 asked.1 said late
+  goes_taken fixed course cache None said late = stays course.phase late
+    where
+      stays : (phase : Phase) → IsLate phase → IsReachedAt phase (IsReachedIn service course.task course.suites reached)
+      stays (Gathering number) late = absurd late
+      stays (Fetching number) late = absurd late
+      stays (Widening left granted) late = tt
+      stays (Preparing left outcome) late = tt
+      stays (Deciding outcome) late = tt
+      stays (Finishing left verdict ending) late = tt
+
+  -- so it is where the step is done, unless there is an ending
+  pub goes_unless : (step : Step) (ends : Bool) (place : Option Ending) (course : Course) (cache : Cache) → Goes step.after → Steps step (put_in ends place) course cache → IsReachedUnless ends service course reached
+  goes_unless step true place course cache goes steps = tt
+  goes_unless step false place course cache goes steps = of step.after goes steps.1
+    where
+      of : (after : After Course) → Goes after → Becomes after None course → IsReachedBy service course reached
+      of (GoesOn more) goes becomes = subst (λ course. IsReachedBy service course reached) (sym becomes.1) goes
+      of (Ends how) goes becomes = absurd (none-some how becomes)
+
+  pub follows_unless : (task : Task) (suites : Suites) (sequel : Sequel) (ends : Bool) (place : Option Ending) (course : Course) → IsReachedIn service task suites reached → ((cache : Cache) → Steps (follow task cache suites sequel) (put_in ends place) course cache)
+      → IsReachedUnless ends service course reached
+  follows_unless task suites sequel ends place course is steps = goes_unless (follow task [] suites sequel) ends place course [] (goes_follow task [] suites sequel is) (steps [])
+
+  pub gives_up : (task : Task) (suites : Suites) (cause : Cause) (ends : Bool) (place : Option Ending) (course : Course) → ((cache : Cache) → Steps (give_up task cache suites cause) (put_in ends place) course cache) → IsReachedUnless ends service course reached
+  gives_up task suites cause ends place course steps = goes_unless (give_up task [] suites cause) ends place course [] (goes_up task [] suites cause) (steps [])
+
+  -- the same of what a call answers
+  pub goes_if : (step : Step) (result : Result Bool AllocError) (place : Option Ending) (course : Course) (cache : Cache) → Goes step.after → IfOk result (λ ends. Steps step (put_in ends place) course cache)
+      → IfOk result (λ ends. IsReachedUnless ends service course reached)
+  goes_if step (Ok ends) place course cache goes steps = goes_unless step ends place course cache goes steps
+  goes_if step (Err why) place course cache goes steps = tt
+
+  pub goes_further : (told : Result Bool AllocError) (course : Course) → does_go_on told ≡ true → IfOk told (λ ends. IsReachedUnless ends service course reached) → IsReachedBy service course reached
+  goes_further (Ok false) course goes is = is
+  goes_further (Ok true) course goes is = cc
+  goes_further (Err refused) course goes is = cc
+
+  pub late_if : (fixed : Fixed) (before : Course) (asked : Option (ℕ × Request)) (said : Reply) (result : Result Bool AllocError) (place : Option Ending) (after : Course) (cache then' : Cache) (phase : Phase) → before.phase ≡ phase → IsLate phase
+      → IfOk result (λ ends. Steps (taken fixed before cache asked (Replied said)) (put_in ends place) after then') → IfOk result (λ ends. IsReachedUnless ends service after reached)
+  late_if fixed before asked said result place after cache then' phase is late steps =
+      goes_if (taken fixed before cache asked (Replied said)) result place after then' (goes_taken fixed before cache asked said (subst IsLate (sym is) late)) steps
+
+-- ---- by what is told
+
+-- a suite that asks on, or of which nobody is left to ask, was told something
+pub asks_on : (suite new : Suite) (said : Reply) → heard suite said ≡ hearing.Asks new → new ≡ record suite { collector = new.collector }
+asks_on suite new said = of (told_by (next suite.collector) said)
+  where
+    at : (after : Suite) (what : Next) → after ≡ record suite { collector = after.collector } → heard_next after what ≡ hearing.Asks new → new ≡ record suite { collector = new.collector }
+    at after (Ask server asked) same is = let it : after ≡ new = cc in subst (λ new. new ≡ record suite { collector = new.collector }) it same
+    at after (Current prefix dver members) same is = cc
+    at after (Short got needed busy) same is = cc
+
+    of : (one : Option Told) → heard_one suite one ≡ hearing.Asks new → new ≡ record suite { collector = new.collector }
+    of (Some one) is = let after : Suite = record suite { collector = tell one suite.collector } in at after (next after.collector) refl is
+    of None is = cc
+
+pub falls_short : (suite new : Suite) (said : Reply) (got needed : ℕ) (busy : Option (ℕ × ℕ)) → heard suite said ≡ hearing.Short new got needed busy → new ≡ record suite { collector = new.collector }
+falls_short suite new said got needed busy = of (told_by (next suite.collector) said)
+  where
+    at : (after : Suite) (what : Next) → after ≡ record suite { collector = after.collector } → heard_next after what ≡ hearing.Short new got needed busy → new ≡ record suite { collector = new.collector }
+    at after (Ask server asked) same is = cc
+    at after (Current prefix dver members) same is = cc
+    at after (Short had wanting first) same is = let it : after ≡ new = cc in subst (λ new. new ≡ record suite { collector = new.collector }) it same
+
+    of : (one : Option Told) → heard_one suite one ≡ hearing.Short new got needed busy → new ≡ record suite { collector = new.collector }
+    of (Some one) is = let after : Suite = record suite { collector = tell one suite.collector } in at after (next after.collector) refl is
+    of None is = cc
+
+-- ---- by a plan
+
+-- a suite that is asked for has no quorum yet, and of one that is raised what it gave stays
+asked_more : (fixed : Fixed) (task : Task) (all more : Gathered) → Keeps all more → IsOrdered nat_cmp all.suites → (outcome : Executed) (new : Option Suite) → new ≡ new_for fixed task all outcome
+    → MoreKnown (known_of more.suites) (known_of (with_asked outcome new more.suites))
+asked_more fixed task all more keeps ordered (exec.Need (Hold number mode)) new is =
+    subst (λ new. MoreKnown (known_of more.suites) (known_of (with_asked_at number new more.suites))) (sym is)
+    (of (suite_of all.suites number) (suite_of more.suites number) refl (keeps.there number))
+  where
+    of : (before after : Option Suite) → suite_of more.suites number ≡ after → is_some after ≡ is_some before → MoreKnown (known_of more.suites) (known_of (with_asked_at number (new_unless fixed task all.cache number mode before) more.suites))
+    of None None at there = more_known more.suites number (raised_or_new fixed task all.cache number mode None) (keeps.ordered ordered) (λ before found. absurd (none-some before (sym at ∙ found)))
+    of (Some before) (Some after) at there =
+        let raised : Suite = record after { collector = raise after.collector } in
+        subst (λ found. MoreKnown (known_of more.suites) (known_of (raised_at number found more.suites))) (sym at)
+        (more_known more.suites number raised (keeps.ordered ordered) (λ before found. collects before raised (ap (λ (suite : Suite). record suite { collector = raised.collector }) (same_Some after before (sym at ∙ found)))))
+    of None (Some after) at there = absurd (false≢true (sym there))
+    of (Some before) None at there = absurd (false≢true there)
+asked_more fixed task all more keeps ordered (exec.Need (Know number)) new is = no_less (known_of more.suites)
+asked_more fixed task all more keeps ordered (exec.Done answers changes) new is = no_less (known_of more.suites)
+asked_more fixed task all more keeps ordered (exec.Refused refusal) new is = no_less (known_of more.suites)
+
+-- where it was planned with the cache as it would be, and then carried out
+pub reached_carried : (service : Service) (reached : Reached) (fixed : Fixed) (task : Task) (before put : Limited) (suites room after : Suites) (seen fetched : Option Fetched) (plan : Plan)
+    → IsPlanOf fixed task (record { suites = suites; cache = shelved before seen }) plan → seen ≡ fetched → put ≡ record before { entries = shelved before fetched } → room ≡ suites → IsOrdered nat_cmp suites
+    → after ≡ (carried_out task plan (record { suites = room; cache = put.entries })).suites
+    → IsReachedIn service task (opened_all task plan.opened.items (record { suites = suites; cache = shelved before seen })).suites reached → IsReachedIn service task after reached
+reached_carried service reached fixed task before put suites room after seen fetched plan is same is_put roomy ordered after_is reaches =
+    let all : Gathered = record { suites = suites; cache = shelved before seen } in
+    let more = opened_all task plan.opened.items all in
+    let kept : put.entries ≡ shelved before seen = ap (λ (l : Limited). l.entries) is_put ∙ ap (shelved before) (sym same) in
+    let now : record { suites = room; cache = put.entries } ≡ all = λ i. record { suites = roomy i; cache = kept i } in
+    subst (λ suites. IsReachedIn service task suites reached) (sym (after_is ∙ ap (λ g. (carried_out task plan g).suites) now))
+    (reached_in service task more.suites (with_asked plan.outcome plan.new more.suites) reached
+    (asked_more fixed task all more (keeps_all task plan.opened.items all) ordered plan.outcome plan.new is.new) reaches)
+
+-- ---- by a reply, and by a content
+
+module _ (service : Service) (reached : Reached) where
+  pub reached_on : (before after : Course) (number : ℕ) (suite : Suite) (said : Reply) (onward : Onward) → IsOrdered nat_cmp before.suites → suite_of before.suites number ≡ Some suite → GoesOnBy onward before number suite said after
+      → IsReachedIn service before.task before.suites reached → IsReachedIn service after.task after.suites reached
+  reached_on before after number suite said Left ordered there goes is = subst (λ (course : Course). IsReachedIn service course.task course.suites reached) (sym goes.0) is
+  reached_on before after number suite said Asks ordered there goes is =
+      let new = goes.0 in
+      subst (λ (course : Course). IsReachedIn service course.task course.suites reached) (sym goes.2)
+      (reached_in service before.task before.suites (with_suite number new before.suites) reached
+      (more_known before.suites number new ordered (λ one found. collects one new (asks_on suite new said goes.1 ∙ ap (λ (suite : Suite). record suite { collector = new.collector }) (same_Some suite one (sym there ∙ found))))) is)
+  reached_on before after number suite said Shorted ordered there goes is =
+      let new = goes.0 in
+      let short = goes.1 in
+      subst (λ (course : Course). IsReachedIn service course.task course.suites reached) (sym goes.2)
+      (reached_in service before.task before.suites (with_suite number new before.suites) reached
+      (more_known before.suites number new ordered (λ one found. collects one new (falls_short suite new said short.0 short.1 short.2 short.4 ∙ ap (λ (suite : Suite). record suite { collector = new.collector }) (same_Some suite one (sym there ∙ found))))) is)
+
+  -- a suite that had no quorum is settled
+  pub reached_settled : (was given : Course) (number : ℕ) (suite : Suite) (said : Reply) (before : Unsettled) → IsOrdered nat_cmp was.suites → suite_of was.suites number ≡ Some suite → SettlesIn was number suite said before given
+      → before.had_first ≡ false → IsReachedIn service was.task was.suites reached → IsReachedIn service given.task given.suites reached
+  reached_settled was given number suite said before ordered there settles fresh is =
+      let new = settles.new in
+      let none : suite.first ≡ None = ap (λ (suite : Suite). suite.first) (sym settles.settles.back) ∙ ap (λ had. cond had new.first None) fresh in
+      subst (λ (course : Course). IsReachedIn service course.task course.suites reached) (sym settles.put)
+      (reached_in service was.task was.suites (with_suite number new was.suites) reached
+      (more_known was.suites number new ordered (λ one found. starts one new (ap (λ (suite : Suite). suite.first) (same_Some one suite (sym found ∙ there)) ∙ none))) is)
+
+  -- a suite gets a content that it takes
+  pub reached_given : (task : Task) (suites now : Suites) (number : ℕ) (content : Content) → IsOrdered nat_cmp suites → takes_in (suite_of suites number) content ≡ true → now ≡ with_content number (Some content) (suite_of suites number) suites
+      → IsReachedIn service task suites reached → IsReachedIn service task now reached
+  reached_given task suites now number content ordered may given is = of (suite_of suites number) refl may given
+    where
+      had : (suite : Suite) (first : Option First) → suite_of suites number ≡ Some suite → suite.first ≡ first → takes (option_map (known_row suite) first) content ≡ true
+          → now ≡ with_suite number (record suite { content = Some content }) suites → IsReachedIn service task now reached
+      had suite (Some first) there was may given =
+          let opens = taking_tells_more (known_of suites) number content (ap (λ held. takes held content) (known_at suites number suite first there was) ∙ may) in
+          let more = with_suite number (record suite { content = Some content }) suites in
+          subst (λ suites. IsReachedIn service task suites reached) (sym given)
+          (reached_in service task suites more reached (subst (MoreKnown (known_of suites)) (known_opened suites number suite first content ordered there was) opens) is)
+      had suite None there was may given = cc
+
+      of : (found : Option Suite) → suite_of suites number ≡ found → takes_in found content ≡ true → now ≡ with_content number (Some content) found suites → IsReachedIn service task now reached
+      of (Some suite) there may given = had suite suite.first there refl may given
+      of None there may given = cc
+
+-- ---- by an execution
+
+abbrev pub IsReachedOn : Knowledge → Task → Reached → Type 0
+IsReachedOn known task reached = IsReached known.service known.suites task.t task.caller task.ops reached
+
+pub reached_opened : (known more : Knowledge) (task : Task) (reached : Reached) (number : ℕ) (content : Content) → more.service ≡ known.service → more.suites ≡ opened_suite known.suites number content
+    → takes (exec_known.known_of known.suites number) content ≡ true → IsReachedOn known task reached → IsReachedOn more task reached
+reached_opened known more task reached number content service suites may is =
+    subst (λ service. IsReached service more.suites task.t task.caller task.ops reached) (sym service)
+    (subst (λ suites. IsReached known.service suites task.t task.caller task.ops reached) (sym suites)
+    (reached_stays known.service known.suites (opened_suite known.suites number content) task.t task.caller task.ops reached (taking_tells_more known.suites number content may) is))
+
+pub unbegun_on : (known : Knowledge) (task : Task) (reached : Reached) → reached ≡ unbegun → IsReachedOn known task reached
+unbegun_on known task reached is = subst (IsReachedOn known task) (sym is) (unbegun_is_reached known.service known.suites task.t task.caller task.ops)
+
+pub reached_as : (known : Knowledge) (service : Service) (suites : Suites) (task : Task) (reached : Reached) → known ≡ record { service = service; suites = known_of suites } → IsReachedOn known task reached → IsReachedIn service task suites reached
+reached_as known service suites task reached is on = subst (λ known. IsReachedOn known task reached) is on
+
+pub reached_from : (known : Knowledge) (service : Service) (suites : Suites) (task : Task) (reached : Reached) → known ≡ record { service = service; suites = known_of suites } → IsReachedIn service task suites reached → IsReachedOn known task reached
+reached_from known service suites task reached is in' = subst (λ known. IsReachedOn known task reached) (sym is) in'
+
+-- ---- by an agent
+
+pub reaches_begun : {P : Course → Coded → Type 0} (service : Service) (reached : Reached) (begun : Option Course) (doing : Option Coded)
+    → MatchOption begun (doing ≡ None) (λ course. IsSomeAnd doing (P course)) → ((course : Course) (doing : Coded) → P course doing → doing ≡ coded.Running course)
+    → IsReachedIf begun service reached → Reaches doing service reached
+reaches_begun service reached (Some course) (Some doing) cases is reaches = subst (λ doing. Reaches (Some doing) service reached) (sym (is course doing cases)) reaches
+reaches_begun service reached (Some course) None cases is reaches = absurd cases
+reaches_begun service reached None doing cases is reaches = subst (λ doing. Reaches doing service reached) (sym cases) tt

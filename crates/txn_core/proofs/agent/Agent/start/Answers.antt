@@ -1,0 +1,14 @@
+use Rattle.std.proofs.Common.{rules}
+use Rattle.txn_core.proofs.Reaching.{reaches_begun}
+use Rattle.txn_core.proofs.agent.Agent.start.Goals as goal
+
+pub invariant_of-self-2 : goal.invariant_of-self-2
+invariant_of-self-2 c =
+    let kept = c.self.invariant in
+    record {
+      index = kept.index;
+      jobs = kept.jobs;
+      servers = kept.servers;
+      unused = c.begin.ensures.unused;
+      reached = reaches_begun c.self.inside.service c.begin.new.progress c.in_ok-course.course c.map.result c.map.ensures.cases (λ course doing post. search rules) c.in_ok-course.ensures.reached;
+    }

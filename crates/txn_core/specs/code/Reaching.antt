@@ -1,0 +1,37 @@
+-- How far the transaction of an agent came on what was known of its suites.
+use Rattle.std.specs.Prelude.{Bool, true, false, not, Option, Some, None, Result, Ok, Err}
+use Rattle.std.specs.declared.alloc.AllocError.{AllocError}
+use Rattle.file_ops.specs.declared.service.Service.{Service}
+use Rattle.file_exec.specs.Reaching.{Reached, IsReached}
+use Rattle.txn_core.specs.Doing.{Task, Phase, Gathering, Fetching, Widening, Preparing, Deciding, Finishing, Course}
+use Rattle.txn_core.specs.Suites.{Suites, known_of}
+
+abbrev pub IsReachedIn : Service → Task → Suites → Reached → Type 0
+IsReachedIn service task suites reached = IsReached service (known_of suites) task.t task.caller task.ops reached
+
+-- it may be executed again while suites are gathered and contents fetched; later no more
+abbrev pub IsReachedAt : Phase → Type 0 → Type 0
+IsReachedAt (Gathering number) reached = reached
+IsReachedAt (Fetching number) reached = reached
+IsReachedAt (Widening left granted) reached = Unit {0}
+IsReachedAt (Preparing left outcome) reached = Unit {0}
+IsReachedAt (Deciding outcome) reached = Unit {0}
+IsReachedAt (Finishing left verdict ending) reached = Unit {0}
+
+abbrev pub IsReachedBy : Service → Course → Reached → Type 0
+IsReachedBy service course reached = IsReachedAt course.phase (IsReachedIn service course.task course.suites reached)
+
+-- so it is where a transaction is not at its end
+abbrev pub IsReachedUnless : Bool → Service → Course → Reached → Type 0
+IsReachedUnless true service course reached = Unit {0}
+IsReachedUnless false service course reached = IsReachedBy service course reached
+
+-- and where one goes on at all
+abbrev pub IsReachedIf : Option Course → Service → Reached → Type 0
+IsReachedIf (Some course) service reached = IsReachedBy service course reached
+IsReachedIf None service reached = Unit {0}
+
+-- it goes on: it is not at its end, and wants no memory
+abbrev pub does_go_on : Result Bool AllocError → Bool
+does_go_on (Ok ends) = not ends
+does_go_on (Err refused) = false
