@@ -134,7 +134,8 @@ impl Course {
     }
 
     /// Takes the reply of the server that is asked next. Where the transaction is at its end, the ending is
-    /// put into its place: tells whether it is. An error leaves all as it was.
+    /// put into its place: tells whether it is. An error leaves all as it was. What was reached is kept as
+    /// long as the transaction goes on.
     pub(crate) fn answer(
         &mut self,
         alloc: Global,
@@ -208,8 +209,8 @@ impl Course {
         }
     }
 
-    /// The same of a suite that did not get its quorum in its place. Nothing of the transaction is done
-    /// any more.
+    /// A suite that is gathered is told a reply that gave it no quorum in its place: on a copy, where need be.
+    /// What was reached is let go.
     pub(crate) fn gathered_on(
         &mut self,
         alloc: Global,

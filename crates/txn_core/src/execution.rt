@@ -34,7 +34,8 @@ pub(crate) struct Execution<'a> {
 }
 
 impl<'a> Execution<'a> {
-    /// Executes the transaction on what it gathered. An error leaves all as it was.
+    /// Executes the transaction on what it gathered, from where it came when less was known. An error leaves
+    /// all as it was, but for what was reached.
     pub(crate) fn execute(
         self,
         suites: &mut RoomyMap<u64, Suite>,
@@ -128,6 +129,7 @@ impl<'a> Execution<'a> {
             return Ok(None);
         };
         let given = content.clone()?;
+        // With a content that it takes more is known of the suite; with any other something else.
         if !takes(suites, number, content) {
             *progress = Progress::new(self.alloc);
         }

@@ -38,7 +38,7 @@ pub(crate) struct Plan {
 }
 
 impl<'a> Execution<'a> {
-    /// The plan of an execution. It changes nothing.
+    /// The plan of an execution, which goes on from where the transaction came. Nothing else is changed.
     pub(crate) fn plan(
         self,
         suites: &RoomyMap<u64, Suite>,
@@ -92,6 +92,7 @@ impl<'a> Execution<'a> {
             let Some((number, content)) = self.to_open(suites, shelf, &empty, &outcome) else {
                 return Ok((opened, outcome));
             };
+            // With a content that it takes more is known of a suite; with any other something else.
             if !known.takes(number, content) {
                 *progress = Progress::new(self.alloc);
             }

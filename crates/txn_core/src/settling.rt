@@ -84,6 +84,7 @@ impl Course {
     {
         match self.settle_by(number, said)? {
             Some(before) => {
+                // A suite that was raised is known already, in another mode.
                 if before.had_first() {
                     *progress = Progress::new(alloc);
                 }
