@@ -4,7 +4,7 @@ use Rattle.txn_core.specs.Doing.{Doing, Fixed}
 use Rattle.txn_core.specs.Agents.{is_idle, next_in}
 use Rattle.run_core.specs.Worlds.{Actor, World, actor_at, asks, has_no_job, quiet, step, steps_once}
 use Rattle.run_core.specs.declared.event.Event.TheVariants.{Step}
-use Rattle.suite_play.specs.Playing.{Printed, before, of_event, steps}
+use Rattle.suite_play.specs.Playing.{before, of_event, steps}
 
 asks_nothing : (fixed : Fixed) (doing : Option Doing) → is_idle doing ≡ true → next_in fixed doing ≡ None
 asks_nothing fixed None idle = refl

@@ -3,7 +3,6 @@ use Rattle.std.proofs.lemmas.List.{append-nil}
 use Rattle.std.proofs.lemmas.Result.{on_ok_weaker}
 use Rattle.txn_core.specs.Agents.{fixed_of}
 use Rattle.std.specs.Option.{option_or}
-use Rattle.run_core.specs.Opened.{Opened}
 use Rattle.run_core.specs.Worlds.{step, Stepped}
 use Rattle.suite_play.specs.Playing.{Printed}
 use Rattle.suite_play.proofs.Idle.{steps_idle}
