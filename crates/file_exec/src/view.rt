@@ -102,6 +102,7 @@ impl<'a> Place<'a> {
 
 impl<'a, 'k> View<'a, 'k> {
     /// The row of a suite, which is to be held in this mode.
+    #[inline(always)]
     pub(crate) fn look(self, suite: u64, mode: LockMode) -> Result<Option<Seen<'a>>, Stop>
         ensures row { Sees seen_head result self.entry (look suite mode) }
         ensures seen { IfOk result (λ row. IsSeenAt self.entry suite row) }

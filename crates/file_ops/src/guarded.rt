@@ -18,6 +18,7 @@ pub struct Guarded<'a> {
 
 impl<'a> Guarded<'a> {
     /// Whether the caller has what it wants of a file or a folder.
+    #[inline(always)]
     pub fn permit(self, caller: &Caller, wanted: Perms) -> Result<(), Why>
         ensures { result ≡ permit_guarded caller.now self.entry wanted }
     {

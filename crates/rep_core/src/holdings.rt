@@ -73,6 +73,7 @@ impl Holdings {
     }
 
     /// Makes sure of the memory that a request takes: room, or the record itself.
+    #[inline(always)]
     pub(crate) fn begin(&mut self, way: Way, request: &Request) -> Result<(), AllocError>
         ensures ok { OnOk result (state_of self.new ≡ changing.begun way request.now (state_of self.old)) }
         ensures room { OnOk result (changing.HasRoom way request.now self.new) }
@@ -114,6 +115,7 @@ impl Holdings {
     }
 
     /// Completes a request that was begun. It takes no memory.
+    #[inline(always)]
     pub(crate) fn complete(&mut self, way: Way, request: Request)
         requires sound { changing.IsSoundChange way request (state_of self.old) }
         requires room { changing.HasRoom way request self.old }

@@ -47,6 +47,7 @@ pub(crate) struct Plan {
 
 impl Holdings {
     /// How a request is taken. This takes no memory.
+    #[inline(always)]
     pub(crate) fn plan(&self, request: &Stamped<Request>) -> Result<Plan, Lack>
         ensures stamp { IfOk result (λ plan. plan.stamp ≡ serving.next_stamp (state_of self.now) request.now) }
         ensures reply { IfOk result (λ plan. changing.answered plan.way (state_of self.now) request.now.value ≡ service.reply_of (state_of self.now) request.now.value) }
@@ -189,6 +190,7 @@ impl Holdings {
     }
 
     /// Writes the reply to a request that is taken so. Nothing but what is held takes memory.
+    #[inline(always)]
     pub(crate) fn answer(
         &self,
         way: Way,

@@ -103,6 +103,7 @@ impl Seat {
 
     /// Takes a reply of the server that it asks, and has the reply's stamp from then on. How its job ended is
     /// put into a place of the caller's, which else keeps what it has.
+    #[inline(always)]
     pub(crate) fn take_reply(
         &mut self,
         number: u8,

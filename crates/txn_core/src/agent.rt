@@ -147,6 +147,7 @@ impl Agent {
 
     /// Of which server it asks next, and what, which is put into a place of the caller's: nothing is, where
     /// it is idle. Only the list of a Prepare may want memory, and the answers of a Decide or a Finish.
+    #[inline(always)]
     pub fn ask(&self, request: &mut Request) -> Result<Option<u8>, AllocError>
         ensures ok { IfOk result (λ server. option_map (λ server. (server, request.new)) server ≡ agents.next_of self.now.fixed self.now.state) }
         ensures none { IfOk result (λ server. IfNone server (request.new ≡ request.old)) }
@@ -205,6 +206,7 @@ impl Agent {
 
     /// Takes the reply to what it asks next, from the server that it asks, as `take` does. The ending of its
     /// job, where that is at its end, is put into a place of the caller's, which else keeps what it has.
+    #[inline(always)]
     pub fn hear(
         &mut self,
         server: u8,
