@@ -1,10 +1,11 @@
 -- The counts of buckets when an entry comes or goes.
-use Rattle.std.proofs.Common.{◌≡◌, ℕ, ◌+◌, ◌-◌, ◌≤◌, ◌<◌, ◌≢◌, Bool, true, false, cond, Option, None, Some, List, [], ◌∷◌, ◌++◌, length, replicate, refl, sym, ap, ◌∙◌, arith, eq-eqb}
+use Rattle.std.proofs.Common.{◌≡◌, ℕ, ◌+◌, ◌-◌, ◌*◌, ◌/◌, ◌%◌, ◌≤◌, ◌<◌, ◌≢◌, Bool, true, false, cond, Option, None, Some, List, [], ◌∷◌, ◌++◌, length, replicate, subst, refl, sym, ap, ◌∙◌, arith, eq-eqb}
 use Rattle.std.specs.Prelude.{slice_index, slice_set, ◌==◌, ◌&&◌, filter, find}
 use Rattle.std.specs.List.{position_from}
 use Rattle.std.proofs.lemmas.Bool.{eqb-true, false≢true}
 use Rattle.std.proofs.lemmas.List.{get_or-set_same, get_or-set_other, get_or-replicate, length-set}
-use Rattle.std.proofs.lemmas.Nat.{mod_below}
+use Rattle.std.proofs.lemmas.Nat.{div_below, mod_below}
+use Rattle.std.proofs.Math.Nat.{mul_comm, mul-lt-mul_of_pos_right}
 use Rattle.weak_cache.specs.code.Buckets.{AreCounts, bucket_of, falls, hash_of, with_one_less, with_one_more}
 use Rattle.weak_cache.specs.Entries.{Entry, Cache, is_of, entry_of}
 use Rattle.weak_cache.proofs.Keeping.{both}
@@ -31,8 +32,15 @@ apart many bucket e other same = false≢true (sym other ∙ eq-eqb (bucket_of m
 own_bucket : (many : ℕ) (e : Entry) → falls many (bucket_of many e.site e.suite) e ≡ true
 own_bucket many e = eq-eqb (bucket_of many e.site e.suite) (bucket_of many e.site e.suite) refl
 
+-- a part of all that is less than the whole
+part_within : (hash many all : ℕ) → 0 < all → hash < all → 0 < many → hash * many / all < many
+part_within hash many all some below any = div_below (hash * many) all many some (subst (λ n. hash * many < n) (mul_comm all many) (mul-lt-mul_of_pos_right below any))
+
+hash_below : (site suite : ℕ) → hash_of site suite < 4294967296
+hash_below site suite = mod_below ((suite % 268435456 * 16 + site) * 2654435761) 4294967296 (omega arith)
+
 pub within_buckets : (counts : List ℕ) (site suite : ℕ) → 0 < length counts → bucket_of (length counts) site suite < length counts
-within_buckets counts site suite some = mod_below (hash_of site suite) (length counts) some
+within_buckets counts site suite some = part_within (hash_of site suite) (length counts) 4294967296 (omega arith) (hash_below site suite) some
 
 -- the counts with another at an entry's bucket
 counts_changed : (counts : List ℕ) (e : Entry) (count : ℕ) (before after : Cache) → 0 < length counts → AreCounts counts before → count ≡ length (filter (falls (length counts) (bucket_of (length counts) e.site e.suite)) after)

@@ -12,6 +12,9 @@ const BUCKETS_A_SLOT: usize = 8;
 /// The most buckets.
 const MAX_BUCKETS: usize = 65_536;
 
+/// How many hashes there are.
+const HASHES: u64 = 0x1_0000_0000;
+
 /// How many entries fall into each bucket of keys.
 #[derive(Drop)]
 pub(crate) struct Buckets {
@@ -19,13 +22,13 @@ pub(crate) struct Buckets {
 }
 
 impl Model for Buckets {
-    ghost use Rattle.std.specs.Prelude.{ℕ, ◌<◌, List, length};
+    ghost use Rattle.std.specs.Prelude.{ℕ, ◌<◌, ◌≤◌, List, length};
 
     ghost Value = { List ℕ };
 
     ghost view = { λ buckets. buckets.counts.items };
 
-    ghost invariant = { λ buckets. 0 < length buckets.counts.items };
+    ghost invariant = { λ buckets. (0 < length buckets.counts.items) × (length buckets.counts.items ≤ 65536) };
 }
 
 impl Buckets {
@@ -64,19 +67,20 @@ impl Buckets {
         self.counts[bucket] -= 1;
     }
 
-    /// The bucket of a key.
+    /// The bucket of a key: the same part of all buckets as its hash is of all hashes.
     fn bucket(&self, site: u8, suite: u64) -> usize
         ensures value { result ≡ bucket_of (length self.now) site suite }
         ensures within { result < length self.now }
     {
-        hash(site, suite) % self.counts.len()
+        (hash(site, suite) * self.counts.len() as u64 / HASHES) as usize
     }
 }
 
-/// A hash of a key: the middle digits of a multiple.
-const fn hash(site: u8, suite: u64) -> usize
-    ensures { result ≡ hash_of site suite }
+/// A hash of a key: the last digits of a multiple.
+const fn hash(site: u8, suite: u64) -> u64
+    ensures value { result ≡ hash_of site suite }
+    ensures below { result < 2 ^ 32 }
 {
     let key = suite % 0x1000_0000 * 16 + site as u64;
-    (key * 0x9E37_79B1 / 0x10_0000) as usize
+    key * 0x9E37_79B1 % HASHES
 }

@@ -1,6 +1,6 @@
 //! The list of a cache's entries, the newest first. Nothing else knows that it is a queue, and what is counted of it.
 
-ghost use Rattle.std.specs.Prelude.{◌≡◌, ◌≤◌, ◌<◌, ◌+◌, ◌^◌, ◌⊎◌, ◌∷◌, ◌++◌, [], length, None, IfSome, IfNone, IfOk, OnOk, OnErr, IsOk, IsSome, MatchOption, get_or, true, false};
+ghost use Rattle.std.specs.Prelude.{◌≡◌, ◌==◌, ◌&&◌, ◌≤◌, ◌<◌, ◌+◌, ◌^◌, ◌⊎◌, ◌∷◌, ◌++◌, [], length, None, IfSome, IfNone, IfOk, OnOk, OnErr, IsOk, IsSome, IsTrue, MatchOption, get_or, true, false};
 ghost use Rattle.std.specs.List.{position_from, filter};
 ghost use Rattle.std.specs.Option.{option_copied};
 ghost use Rattle.std.specs.VecDeque.{deque_len, deque_capacity};
@@ -116,8 +116,31 @@ impl EntryList {
         }
     }
 
-    /// What a site would keep of a suite beside an entry that is put.
+    /// What a site would keep of a suite beside an entry of another key that is put. Where no entry goes for
+    /// want of bytes, one that stands at a place below the slots stays.
     pub(crate) fn find_beside(&self, new: Beside, site: u8, suite: u64) -> Option<&SizedEntry>
+        requires { ((new.site == site) && (new.suite == suite)) ≡ false }
+        ensures { option_copied result ≡ entry_of (stays new.site new.suite new.quota new.budget new.slots self.now) site suite }
+    {
+        if self.all_have_room(new) {
+            let at = place_of(&self.entries, &self.tally, site, suite)?;
+            if at < new.slots {
+                return Some(&self.entries[at]);
+            }
+        }
+        self.search_beside(new, site, suite)
+    }
+
+    /// Whether all entries together have this room in bytes, and those of the site.
+    fn all_have_room(&self, new: Beside) -> bool
+        ensures { IsTrue result → (sum_of self.now ≤ new.budget) × (sum_of (list_of new.site self.now) ≤ new.quota) }
+    {
+        self.tally.sum <= new.budget && self.tally.sum_at(new.site) <= new.quota
+    }
+
+    /// What a site would keep of a suite beside an entry that is put: the entries are gone through, and what
+    /// room each leaves.
+    fn search_beside(&self, new: Beside, site: u8, suite: u64) -> Option<&SizedEntry>
         ensures { option_copied result ≡ entry_of (stays new.site new.suite new.quota new.budget new.slots self.now) site suite }
     {
         if self.tally.lacks(site, suite) {

@@ -2,13 +2,13 @@
 use Rattle.std.specs.Prelude.{◌≡◌, ℕ, ◌+◌, ◌-◌, ◌*◌, ◌/◌, ◌%◌, ◌<◌, ◌==◌, Bool, List, length, filter, slice_index, slice_set}
 use Rattle.weak_cache.specs.Entries.{Entry, Cache}
 
--- a hash of a key: the middle digits of a multiple
+-- a hash of a key: the last digits of a multiple
 abbrev pub hash_of : ℕ → ℕ → ℕ
-hash_of site suite = (suite % 268435456 * 16 + site) * 2654435761 / 1048576
+hash_of site suite = (suite % 268435456 * 16 + site) * 2654435761 % 4294967296
 
--- the bucket of a key among so many
+-- the bucket of a key among so many: the same part of them as its hash is of all hashes
 abbrev pub bucket_of : ℕ → ℕ → ℕ → ℕ
-bucket_of many site suite = hash_of site suite % many
+bucket_of many site suite = hash_of site suite * many / 4294967296
 
 -- whether an entry's key falls into a bucket
 abbrev pub falls : ℕ → ℕ → Entry → Bool
