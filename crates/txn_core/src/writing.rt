@@ -1,6 +1,6 @@
 //! What a transaction leaves of each suite at each server.
 
-ghost use Rattle.std.specs.Prelude.{◌≡◌, ◌+◌, false, IfOk, unwrap_or, []};
+ghost use Rattle.std.specs.Prelude.{◌≡◌, ◌+◌, ◌++◌, ◌∷◌, false, IfOk, IfSome, IfNone, OnOk, unwrap_or, []};
 ghost use Rattle.std.specs.Option.{option_copied};
 ghost use Rattle.rep_core.specs.Store.{is_used_up};
 ghost use Rattle.txn_core.specs.Writing as spec;
@@ -27,28 +27,58 @@ pub(crate) fn parts_at(
     let mut parts = Vec::with_capacity(alloc, suites.len())?;
     for (number, suite) in suites {
         if suite.holds_lock(server) {
-            let part = part_of(*number, suite, changes, server)?;
-            parts.push(part)?;
+            add_part(&mut parts, *number, suite, changes, server)?;
         }
     }
     Ok(Parts::from_vec(parts))
 }
 
-fn part_of(
+/// Adds what a server is to prepare of a suite. Where it takes nothing, which is the rule, the part is made
+/// where it is to stand.
+fn add_part(
+    parts: &mut Vec<Part>,
     number: u64,
     suite: &Suite,
     changes: Option<&Changes>,
     server: u8,
-) -> Result<Part, AllocError>
-    ensures { IfOk result (λ part. part ≡ spec.part_of (unwrap_or (option_copied changes.entry) []) server (number, suite.now)) }
+) -> Result<(), AllocError>
+    ensures { OnOk result (parts.new.items ≡ parts.old.items ++ spec.part_of (unwrap_or (option_copied changes.entry) []) server (number, suite.now) ∷ []) }
 {
-    let change = change_of(changes, number);
-    let take = take_from(suite, server, change)?;
-    Ok(Part {
-        suite: number,
-        mode: suite.lock_mode(server),
-        take,
-    })
+    let mode = suite.lock_mode(server);
+    match taken(number, suite, changes, server) {
+        None => parts.push(Part {
+            suite: number,
+            mode,
+            take: Take::Keep,
+        })?,
+        Some((first, change)) => {
+            let take = take_of_changed(first, change, server)?;
+            parts.push(Part {
+                suite: number,
+                mode,
+                take,
+            })?;
+        }
+    }
+    Ok(())
+}
+
+/// What is set of a suite, with what its first quorum gave, where a server holds the suite exclusively:
+/// else it takes nothing.
+fn taken<'a>(
+    number: u64,
+    suite: &'a Suite,
+    changes: Option<&'a Changes>,
+    server: u8,
+) -> Option<(&'a First, &'a Change)>
+    ensures some { IfSome result (λ one. spec.take_from suite.now server suite.now.first (spec.change_of (unwrap_or (option_copied changes.entry) []) number) ≡ spec.take_of_changed one.0.now one.1.now server) }
+    ensures none { IfNone result (spec.take_from suite.now server suite.now.first (spec.change_of (unwrap_or (option_copied changes.entry) []) number) ≡ Take.Keep) }
+{
+    if !suite.holds_exclusively(server) {
+        return None;
+    }
+    let change = change_of(changes, number)?;
+    Some((suite.first()?, change))
 }
 
 fn change_of(changes: Option<&Changes>, number: u64) -> Option<&Change>
@@ -58,19 +88,6 @@ fn change_of(changes: Option<&Changes>, number: u64) -> Option<&Change>
         Some(changes) => changes.get(number),
         None => None,
     }
-}
-
-/// What a server takes of a suite.
-fn take_from(suite: &Suite, server: u8, change: Option<&Change>) -> Result<Take, AllocError>
-    ensures { IfOk result (λ what. what ≡ spec.take_from suite.now server suite.now.first (option_copied change.entry)) }
-{
-    let (Some(first), Some(change)) = (suite.first(), change) else {
-        return Ok(Take::Keep);
-    };
-    if !suite.holds_exclusively(server) {
-        return Ok(Take::Keep);
-    }
-    take_of_changed(first, change, server)
 }
 
 /// What a server that holds a suite exclusively takes of it, where it is changed.
