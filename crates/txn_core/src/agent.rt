@@ -14,6 +14,7 @@ ghost use Rattle.txn_core.specs.declared.word.Word.TheVariants.{Replied, Lacked}
 
 use crate::course::Course;
 use crate::ending::Ending;
+use crate::ground::Ground;
 use crate::job::Job;
 use crate::sweep::Round;
 use crate::task::Task;
@@ -46,7 +47,7 @@ pub struct Agent {
     alloc: Global,
     index: u8,
     count: u64,
-    service: Service,
+    service: Ground,
     cache: WeakCache,
     doing: Option<Doing>,
     /// How far the transaction came that it carries out.
@@ -75,6 +76,7 @@ impl Agent {
             servers: settings.servers(),
             c0: *settings.c0(),
         };
+        let service = Ground::new(alloc, service)?;
         let cache = WeakCache::new(alloc, settings.budget(), settings.quota(), settings.slots())?;
         Ok(Agent {
             alloc,
@@ -123,7 +125,7 @@ impl Agent {
     {
         match job {
             Job::Transaction { site, .. } => *site < MAX_SITES,
-            Job::Sweep { server } => usize::from(*server) < self.service.servers,
+            Job::Sweep { server } => usize::from(*server) < self.service.servers(),
         }
     }
 
@@ -312,7 +314,7 @@ impl Agent {
 
 impl Doing {
     /// The server that is asked next.
-    fn asked(&self, service: &Service) -> Option<u8>
+    fn asked(&self, service: &Ground) -> Option<u8>
         requires { (0 < service.now.servers) × (service.now.servers ≤ MAX_SERVERS) }
         ensures { (limits : Limits) → result ≡ option_map (λ asked. asked.0) (agents.next_in (record { service = service.now; limits = limits }) (Some (doing_of self.now))) }
     {
@@ -326,7 +328,7 @@ impl Doing {
     fn ask(
         &self,
         alloc: Global,
-        service: &Service,
+        service: &Ground,
         request: &mut Request,
     ) -> Result<Option<u8>, AllocError>
         requires { (0 < service.now.servers) × (service.now.servers ≤ MAX_SERVERS) }

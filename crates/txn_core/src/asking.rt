@@ -11,12 +11,12 @@ ghost use Rattle.txn_core.specs.declared.ending.Ending.{Ending};
 
 use crate::course::Course;
 use crate::granted::Outcome;
+use crate::ground::Ground;
 use crate::home::home_of;
 use crate::phase::Phase;
 use crate::servers::Servers;
 use crate::task::Task;
 use crate::writing::parts_at;
-use file_ops::Service;
 use rep_core::{Decision, Request, Verdict};
 use std::alloc::{AllocError, Global};
 use suite_collect::Coming;
@@ -28,7 +28,7 @@ impl Course {
     pub(crate) fn ask(
         &self,
         alloc: Global,
-        service: &Service,
+        service: &Ground,
         request: &mut Request,
     ) -> Result<Option<u8>, AllocError>
         requires { (0 < service.now.servers) × (service.now.servers ≤ MAX_SERVERS) }
@@ -51,7 +51,7 @@ impl Course {
     }
 
     /// The server that is asked next.
-    pub(crate) fn asked(&self, service: &Service) -> Option<u8>
+    pub(crate) fn asked(&self, service: &Ground) -> Option<u8>
         requires { (0 < service.now.servers) × (service.now.servers ≤ MAX_SERVERS) }
         ensures { (limits : Limits) → result ≡ option_map (λ asked. asked.0) (course.request_of (record { service = service.now; limits = limits }) self.now) }
     {
@@ -136,7 +136,7 @@ impl Course {
     /// The home is asked to record an outcome.
     fn ask_decide(
         &self,
-        service: &Service,
+        service: &Ground,
         outcome: &Outcome,
         request: &mut Request,
     ) -> Result<Option<u8>, AllocError>

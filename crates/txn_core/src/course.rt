@@ -26,6 +26,7 @@ ghost use Rattle.txn_core.specs.declared.word.Word.TheVariants.{Replied, Lacked}
 
 use crate::ending::{Cause, Ending};
 use crate::execution::Execution;
+use crate::ground::Ground;
 use crate::hearing::{Hearing, Onward};
 use crate::phase::Phase;
 use crate::sequel::Sequel;
@@ -33,7 +34,6 @@ use crate::servers::locked_at;
 use crate::suites::Suite;
 use crate::task::Task;
 use file_exec::Progress;
-use file_ops::Service;
 use rep_core::{Lack, Reply};
 use sorted_map::RoomyMap;
 use std::alloc::{AllocError, Global};
@@ -79,7 +79,7 @@ impl Course {
     /// was.
     pub(crate) fn begin(
         alloc: Global,
-        service: &Service,
+        service: &Ground,
         cache: &mut WeakCache,
         progress: &mut Progress,
         task: Task,
@@ -116,7 +116,7 @@ impl Course {
     pub(crate) fn hear_lack(
         &mut self,
         alloc: Global,
-        service: &Service,
+        service: &Ground,
         progress: &mut Progress,
         lack: Lack,
         ended: &mut Option<Ending>,
@@ -139,7 +139,7 @@ impl Course {
     pub(crate) fn answer(
         &mut self,
         alloc: Global,
-        service: &Service,
+        service: &Ground,
         cache: &mut WeakCache,
         progress: &mut Progress,
         server: u8,
@@ -170,7 +170,7 @@ impl Course {
     fn hear_reply(
         &mut self,
         alloc: Global,
-        service: &Service,
+        service: &Ground,
         cache: &mut WeakCache,
         progress: &mut Progress,
         server: u8,
@@ -214,7 +214,7 @@ impl Course {
     pub(crate) fn gathered_on(
         &mut self,
         alloc: Global,
-        service: &Service,
+        service: &Ground,
         cache: &mut WeakCache,
         progress: &mut Progress,
         number: u64,
@@ -246,7 +246,7 @@ impl Course {
     fn execute_with(
         &mut self,
         alloc: Global,
-        service: &Service,
+        service: &Ground,
         cache: &mut WeakCache,
         progress: &mut Progress,
         number: u64,
@@ -379,7 +379,7 @@ impl Course {
     fn fetched(
         &mut self,
         alloc: Global,
-        service: &Service,
+        service: &Ground,
         cache: &mut WeakCache,
         progress: &mut Progress,
         number: u64,

@@ -13,13 +13,13 @@ ghost use Rattle.txn_core.specs.Suites.{suite_of, with_suite};
 ghost use Rattle.txn_core.specs.Transactions as course;
 ghost use Rattle.txn_core.specs.code.Unused.{HasUnused};
 
+use crate::ground::Ground;
 use crate::plan::Plan;
 use crate::sequel::Sequel;
 use crate::shelf::{Fetched, Shelf, put};
 use crate::suites::{Suite, Unsettled};
 use crate::task::Task;
 use file_exec::Progress;
-use file_ops::Service;
 use sorted_map::RoomyMap;
 use std::alloc::{AllocError, Global};
 use suite_content::Content;
@@ -29,7 +29,7 @@ use weak_cache::WeakCache;
 #[derive(Clone, Copy)]
 pub(crate) struct Execution<'a> {
     pub(crate) alloc: Global,
-    pub(crate) service: &'a Service,
+    pub(crate) service: &'a Ground,
     pub(crate) task: &'a Task,
 }
 

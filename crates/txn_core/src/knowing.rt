@@ -3,16 +3,16 @@
 ghost use Rattle.std.specs.Prelude.{◌≡◌, ◌++◌, [], IfOk, OnOk};
 ghost use Rattle.txn_core.specs.Suites as gathering;
 
+use crate::ground::Ground;
 use crate::suites::Suite;
 use file_exec::{Known, KnownSuite};
-use file_ops::Service;
 use sorted_map::RoomyMap;
 use std::alloc::{AllocError, Global};
 
 /// What is known of the suites that had a quorum. It refers to what they have.
 pub(crate) fn known_of<'a>(
     alloc: Global,
-    service: &'a Service,
+    service: &'a Ground,
     suites: &'a RoomyMap<u64, Suite>,
 ) -> Result<Known<'a>, AllocError>
     ensures { IfOk result (λ known. known ≡ record { service = service.now; suites = gathering.known_of suites.now.pairs }) }
@@ -21,7 +21,7 @@ pub(crate) fn known_of<'a>(
     for (number, suite) in suites.as_slice() {
         tell(&mut known, *number, suite)?;
     }
-    Ok(Known::of(service, known))
+    Ok(Known::of(service.as_service(), known))
 }
 
 /// Tells what the first quorum of a suite gave, and its content, where it is there.

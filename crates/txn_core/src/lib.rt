@@ -11,6 +11,7 @@ mod execution;
 mod finishing;
 mod first;
 mod granted;
+mod ground;
 mod hearing;
 mod home;
 mod job;

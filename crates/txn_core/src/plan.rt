@@ -14,7 +14,6 @@ ghost use Rattle.txn_core.specs.Transactions.{free_content};
 ghost use Rattle.txn_core.specs.code.Reaching.{IsReachedIn};
 ghost use Rattle.txn_core.specs.code.Unused.{HasUnused};
 
-use crate::empty::Empty;
 use crate::execution::Execution;
 use crate::first::First;
 use crate::knowing::known_of;
@@ -74,7 +73,6 @@ impl<'a> Execution<'a> {
     {
         let task = self.task;
         task.facts();
-        let empty = Empty::new(self.alloc);
         let mut known = known_of(self.alloc, self.service, suites)?;
         let mut opened = Vec::new(self.alloc);
         loop {
@@ -89,7 +87,7 @@ impl<'a> Execution<'a> {
             if opened.len() == suites.len() {
                 return Ok((opened, outcome));
             }
-            let Some((number, content)) = self.to_open(suites, shelf, &empty, &outcome) else {
+            let Some((number, content)) = self.to_open(suites, shelf, &outcome) else {
                 return Ok((opened, outcome));
             };
             // With a content that it takes more is known of a suite; with any other something else.
@@ -102,48 +100,41 @@ impl<'a> Execution<'a> {
     }
 
     /// The content that is needed, where it is to be had without asking.
-    fn to_open<'b>(
+    fn to_open(
         self,
         suites: &RoomyMap<u64, Suite>,
-        shelf: Shelf<'b>,
-        empty: &'b Empty,
+        shelf: Shelf<'a>,
         outcome: &Outcome,
-    ) -> Option<(u64, &'b Content)>
+    ) -> Option<(u64, &'a Content)>
         ensures { option_map (λ one. (one.0, one.1.now)) result ≡ spec.to_open self.entry.task.now (spec.seen_on shelf.entry suites.now.pairs) outcome.now }
     {
         let Outcome::Need(Need::Know(number)) = outcome else {
             return None;
         };
-        let content = self.free_of(suites, shelf, empty, *number)?;
+        let content = self.free_of(suites, shelf, *number)?;
         Some((*number, content))
     }
 
     /// The content of a suite, where it is to be had without asking.
-    fn free_of<'b>(
+    fn free_of(
         self,
         suites: &RoomyMap<u64, Suite>,
-        shelf: Shelf<'b>,
-        empty: &'b Empty,
+        shelf: Shelf<'a>,
         number: u64,
-    ) -> Option<&'b Content>
+    ) -> Option<&'a Content>
         ensures { option_copied result ≡ spec.free_of self.entry.task.now (spec.entries_on shelf.entry) number (suite_of suites.now.pairs number) }
     {
         let suite = suites.get(&number)?;
         let first = suite.first()?;
-        self.free_content(shelf, empty, number, first)
+        self.free_content(shelf, number, first)
     }
 
     /// An empty content of version 0, or one of the cache.
-    fn free_content<'b>(
-        self,
-        shelf: Shelf<'b>,
-        empty: &'b Empty,
-        number: u64,
-        first: &First,
-    ) -> Option<&'b Content>
+    fn free_content(self, shelf: Shelf<'a>, number: u64, first: &First) -> Option<&'a Content>
         ensures { option_copied result ≡ free_content self.entry.task.now (spec.entries_on shelf.entry) number first.now }
     {
         if first.dver == 0 {
+            let empty = self.service.empty();
             return Some(empty.content(first.prefix.kind.held()));
         }
         let task = self.task;
@@ -179,7 +170,7 @@ impl<'a> Execution<'a> {
         let task = self.task;
         match shelf.hint(task.site, number) {
             Some(prefix) => prefix.clone(),
-            None => Prefix::absent(self.alloc, self.service.c0),
+            None => self.service.absent().clone(),
         }
     }
 }

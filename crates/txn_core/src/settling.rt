@@ -16,10 +16,10 @@ ghost use Rattle.txn_core.specs.code.Unused.{HasUnused, shows_unused};
 use crate::course::Course;
 use crate::ending::Ending;
 use crate::execution::Execution;
+use crate::ground::Ground;
 use crate::hearing::Onward;
 use crate::suites::Unsettled;
 use file_exec::Progress;
-use file_ops::Service;
 use rep_core::Reply;
 use std::alloc::{AllocError, Global};
 use weak_cache::WeakCache;
@@ -29,7 +29,7 @@ impl Course {
     pub(crate) fn gathered(
         &mut self,
         alloc: Global,
-        service: &Service,
+        service: &Ground,
         cache: &mut WeakCache,
         progress: &mut Progress,
         number: u64,
@@ -62,7 +62,7 @@ impl Course {
     fn settle(
         &mut self,
         alloc: Global,
-        service: &Service,
+        service: &Ground,
         cache: &mut WeakCache,
         progress: &mut Progress,
         number: u64,
@@ -113,7 +113,7 @@ impl Course {
     fn execute_settled(
         &mut self,
         alloc: Global,
-        service: &Service,
+        service: &Ground,
         cache: &mut WeakCache,
         progress: &mut Progress,
         number: u64,

@@ -14,9 +14,9 @@ ghost use Rattle.txn_core.specs.Wanting as wanting;
 ghost use Rattle.txn_core.specs.code.RoundFields.{sweeping_of, with_counts, total, left_in, first_of, Comes};
 
 use crate::ending::{Cause, Ending};
+use crate::ground::Ground;
 use crate::home::home_of;
 use crate::sorting::rising;
-use file_ops::Service;
 use rep_core::{Lack, Lock, Reply, Request, Verdict};
 use std::alloc::{AllocError, Global};
 use std::collections::VecDeque;
@@ -84,7 +84,7 @@ impl Round {
 
     /// Of which server is asked next, and what, which is put into its place. Only to tell answers again it
     /// may want memory.
-    pub(crate) fn ask(&self, service: &Service, request: &mut Request) -> Result<u8, AllocError>
+    pub(crate) fn ask(&self, service: &Ground, request: &mut Request) -> Result<u8, AllocError>
         requires { (0 < service.now.servers) × (service.now.servers ≤ MAX_SERVERS) }
         ensures ok { IfOk result (λ server. (server, request.new) ≡ sweeping.asked_now service.now self.now self.now.now) }
         ensures err { OnErr result (request.new ≡ request.old) }
@@ -106,7 +106,7 @@ impl Round {
     }
 
     /// The server that is asked next.
-    pub(crate) fn asked(&self, service: &Service) -> u8
+    pub(crate) fn asked(&self, service: &Ground) -> u8
         requires { (0 < service.now.servers) × (service.now.servers ≤ MAX_SERVERS) }
         ensures { result ≡ (sweeping.asked_now service.now self.now self.now.now).0 }
     {
@@ -117,7 +117,7 @@ impl Round {
     }
 
     /// What was asked next was not served: the round is at its end.
-    pub(crate) fn lacked(&self, service: &Service, lack: Lack, ended: &mut Option<Ending>) -> bool
+    pub(crate) fn lacked(&self, service: &Ground, lack: Lack, ended: &mut Option<Ending>) -> bool
         requires { (0 < service.now.servers) × (service.now.servers ≤ MAX_SERVERS) }
         ensures ends { result ≡ true }
         ensures place { ended.new ≡ Some (Ending.Undecided (course.lack_cause (sweeping.asked_now service.now self.now self.now.now).0 lack)) }
@@ -133,7 +133,7 @@ impl Round {
     pub(crate) fn answer(
         &mut self,
         alloc: Global,
-        service: &Service,
+        service: &Ground,
         said: &Reply,
         ended: &mut Option<Ending>,
     ) -> Result<bool, AllocError>
