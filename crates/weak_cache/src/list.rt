@@ -1,6 +1,6 @@
 //! The list of a cache's entries, the newest first. Nothing else knows that it is a queue, and what is counted of it.
 
-ghost use Rattle.std.specs.Prelude.{◌≡◌, ◌==◌, ◌&&◌, ◌≤◌, ◌<◌, ◌+◌, ◌^◌, ◌⊎◌, ◌∷◌, ◌++◌, [], length, None, IfSome, IfNone, IfOk, OnOk, OnErr, IsOk, IsSome, IsTrue, MatchOption, get_or, true, false};
+ghost use Rattle.std.specs.Prelude.{◌≡◌, ◌↔◌, ◌==◌, ◌&&◌, ◌≤◌, ◌<◌, ◌+◌, ◌^◌, ◌⊎◌, ◌∷◌, ◌++◌, [], length, None, IfSome, IfNone, IfOk, OnOk, OnErr, IsOk, IsSome, IsTrue, MatchOption, get_or, true, false};
 ghost use Rattle.std.specs.List.{position_from, filter};
 ghost use Rattle.std.specs.Option.{option_copied};
 ghost use Rattle.std.specs.VecDeque.{deque_len, deque_capacity};
@@ -133,7 +133,7 @@ impl EntryList {
 
     /// Whether all entries together have this room in bytes, and those of the site.
     fn all_have_room(&self, new: Beside) -> bool
-        ensures { IsTrue result → (sum_of self.now ≤ new.budget) × (sum_of (list_of new.site self.now) ≤ new.quota) }
+        ensures { IsTrue result ↔ ((sum_of self.now ≤ new.budget) × (sum_of (list_of new.site self.now) ≤ new.quota)) }
     {
         self.tally.sum <= new.budget && self.tally.sum_at(new.site) <= new.quota
     }

@@ -17,4 +17,4 @@ pub returns-then-at-new : goal.returns-then-at-new
 returns-then-at-new c =
     let n = c.args.new in
     let items = c.self.inside.entries.items in
-    rw (← c.self.view_is) (stays_there c.args.site c.args.suite n.site n.suite n.quota n.budget n.slots c.in_ok-at.at items c.index.result.now c.requires (rw c.self.view_is (c.all_have_room.ensures c.if-all_have_room.true)) (sym c.place_of.ensures.place ∙ c.in_ok-at.was) c.if-at-new.true c.index.ensures)
+    rw (← c.self.view_is) (stays_there c.args.site c.args.suite n.site n.suite n.quota n.budget n.slots c.in_ok-at.at items c.index.result.now c.requires (rw c.self.view_is (c.all_have_room.ensures.0 c.if-all_have_room.true)) (sym c.place_of.ensures.place ∙ c.in_ok-at.was) c.if-at-new.true c.index.ensures)
