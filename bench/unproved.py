@@ -6,7 +6,8 @@ Nothing is proved of it, and it is no part of the gate. On a script of 10,000 ev
 does, so far as that can be told.
 
 `rt try` makes the module, with checks at run time. It is taken while that runs; the checks are struck out, since the proved
-program has none, and so is the filling of fresh slots with a pattern, which only `rt try` asks for; then it is compiled.
+program has none, and so is the filling of fresh slots with a pattern, which only `rt try` asks for; the hints on inlining,
+which `rt try` drops, are put in again (`hints.py`); then it is compiled.
 
 Count instructions with `valgrind --tool=callgrind OUT play < SCRIPT`: the count is the same whatever else the machine does.
 """
@@ -17,6 +18,8 @@ import subprocess
 import sys
 import tempfile
 import time
+
+import hints
 
 TOP = os.path.join(os.path.dirname(os.path.abspath(__file__)), "..")
 MODULE = "module.bc"
@@ -65,8 +68,9 @@ def main():
         subprocess.run([clang, "-O2", "-S", "-emit-llvm", "-Xclang", "-disable-llvm-passes", taken(folder), "-o", text], check=True)
         with open(text, encoding="utf-8") as module:
             struck = PATTERN.sub("", TRAP.sub("", module.read()))
+        roots = [os.path.join(kit, "rattle"), os.path.join(TOP, "crates")]
         with open(text, "w", encoding="utf-8") as module:
-            module.write(struck)
+            module.write(hints.hinted(struck, roots))
         subprocess.run([clang, "-O2", "-c", text, "-o", made], check=True)
         libraries = [os.path.join(kit, "c", name) for name in ("libos_c.a", "liblibc_c.a")]
         subprocess.run(["gcc", "-static", "-o", sys.argv[1], made, *libraries], check=True)
