@@ -1,5 +1,5 @@
 pub mod PermissionTable
-pub mod Lists
+pub mod ListFacts
 pub mod TagFacts
 pub mod Faults
 pub mod Sorting
@@ -10,3 +10,5 @@ pub mod Numbers
 pub mod Tallying
 pub mod OneOrder
 pub mod Reordered
+pub mod Inheriting
+pub mod ListsEquality

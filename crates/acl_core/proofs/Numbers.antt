@@ -15,7 +15,7 @@ use Rattle.acl_core.specs.AccessLists.{count_of, has_named, has_twice}
 use Rattle.acl_core.specs.code.Sorted.{IsSortedCopy, stands_beside}
 use Rattle.acl_core.specs.Tallies.{is_doubled, user_of, group_of}
 use Rattle.acl_core.proofs.Doubles.{beside-twice}
-use Rattle.acl_core.proofs.Lists.{count_by-cons}
+use Rattle.acl_core.proofs.ListFacts.{count_by-cons}
 
 -- the users of some entries, and the groups
 abbrev pub user_before : Tag → List ℕ → List ℕ

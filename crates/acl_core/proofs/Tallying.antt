@@ -15,7 +15,7 @@ use Rattle.acl_core.specs.Tags.{same_tag}
 use Rattle.acl_core.specs.AccessLists.{IsAccepted, count_of, faults, first_fault, has_fault}
 use Rattle.acl_core.specs.Tallies.{IsTallyOf, IsWhole, Tallied, group_of, is_doubled, up_to_two, user_of}
 use Rattle.acl_core.proofs.Faults.{accepted_without_fault}
-use Rattle.acl_core.proofs.Lists.{count_by-cons}
+use Rattle.acl_core.proofs.ListFacts.{count_by-cons}
 use Rattle.acl_core.proofs.Numbers.{is_some, twice_users, twice_groups, named_some}
 
 -- ---- one entry more

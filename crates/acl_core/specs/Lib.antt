@@ -5,6 +5,8 @@ pub mod Entries
 pub mod AccessLists
 pub mod Tallies
 pub mod Modes
+pub mod Creation
+pub mod Pairs
 pub mod InOrder
 pub mod Checks
 pub mod code

@@ -2,3 +2,4 @@ pub mod Padding
 pub mod TallyFields
 pub mod Sorted
 pub mod EntryLaws
+pub mod ListsEquality

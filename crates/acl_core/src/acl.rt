@@ -1,10 +1,12 @@
 //! Valid lists.
 
-ghost use Rattle.std.specs.Prelude.{◌≡◌, ◌==◌, IfOk, IsPermutation, ◌↔◌, None};
+ghost use Rattle.std.specs.Prelude.{◌≡◌, ◌<◌, ◌==◌, IfOk, IfSome, IsPermutation, ◌↔◌, None, map};
 ghost use Rattle.acl_core.specs.AccessLists.{IsAcl, first_fault, fault_in, IsAccepted};
 ghost use Rattle.acl_core.specs.InOrder.{in_order};
 ghost use Rattle.acl_core.specs.Modes.{minimal_list};
+ghost use Rattle.acl_core.specs.Creation.{cut_to, inherited, limit_of};
 
+use crate::check::has_entry;
 use crate::entry::{Entry, Tag};
 use crate::fault::AclError;
 use crate::mode::Mode;
@@ -126,6 +128,19 @@ impl Acl {
         Ok(Acl { entries })
     }
 
+    /// The list of what is made with a mode in a folder whose default list this is: the same entries, of
+    /// which the owner's, the mask (the file's group where there is no mask) and the others' keep only what
+    /// the mode grants the owner, the group and the others.
+    pub fn inherit(&self, alloc: Global, mode: Mode) -> Result<Acl, AllocError>
+        ensures list { IfOk result (λ acl. acl ≡ inherited self.now mode) }
+        ensures acl { IfOk result IsAcl }
+    {
+        let masked = has_entry(&self.entries, Tag::Mask);
+        let entries = all_cut(alloc, &self.entries, masked, mode)?;
+        let entries = ArcSlice::from_vec(entries)?;
+        Ok(Acl { entries })
+    }
+
     /// The entries, in canonical order.
     pub fn entries(&self) -> &[Entry]
         ensures value { result.now ≡ self.now }
@@ -133,4 +148,44 @@ impl Acl {
     {
         &self.entries
     }
+}
+
+/// The digit of a mode that limits an entry, if one does, in a list with or without a mask.
+fn limit_of(tag: Tag, masked: bool, mode: Mode) -> Option<u8>
+    ensures value { result ≡ limit_of masked mode tag }
+    ensures small { IfSome result (λ digit. digit < 8) }
+{
+    let [owner, group, others] = mode.digits();
+    match tag {
+        Tag::UserObj => Some(owner),
+        Tag::GroupObj if masked => None,
+        Tag::GroupObj | Tag::Mask => Some(group),
+        Tag::Other => Some(others),
+        Tag::User(_) | Tag::Group(_) => None,
+    }
+}
+
+/// An entry with no more than the mode grants.
+fn cut(entry: Entry, masked: bool, mode: Mode) -> Entry
+    ensures { result ≡ cut_to (limit_of masked mode entry.tag) entry }
+{
+    match limit_of(entry.tag, masked, mode) {
+        Some(digit) => Entry::from_digit(entry.tag, entry.perms.common_digit(digit)),
+        None => entry,
+    }
+}
+
+/// Entries, each with no more than the mode grants.
+fn all_cut(
+    alloc: Global,
+    entries: &[Entry],
+    masked: bool,
+    mode: Mode,
+) -> Result<Vec<Entry>, AllocError>
+    ensures { IfOk result (λ all. all.items ≡ map (λ e. cut_to (limit_of masked mode e.tag) e) entries.now) }
+{
+    entries
+        .iter()
+        .map(|entry| cut(*entry, masked, mode))
+        .collect(alloc)
 }

@@ -1,6 +1,7 @@
 //! Sets of permissions.
 
 ghost use Rattle.std.specs.Prelude.{⊤, ◌≡◌, ◌<◌, [], ◌∷◌, codes};
+ghost use Rattle.std.specs.Int.RustNames.{bit_and};
 ghost use Rattle.acl_core.specs.Permissions.{digit_of, has_all, number_of, IsPermissionSet};
 
 use bitflags::{Flag, Flags, bitflag_items};
@@ -58,6 +59,15 @@ impl Perms {
         ensures known { IsPermissionSet result }
     {
         Perms(digit)
+    }
+
+    /// The octal digit of what is both in this set and in that of an octal digit.
+    pub(crate) fn common_digit(self, digit: u8) -> u8
+        requires { digit < 8 }
+        ensures value { result ≡ bit_and (number_of self) digit }
+        ensures small { result < 8 }
+    {
+        self.0 & digit
     }
 
     /// Whether this set has all that is wanted. What is neither read, write nor execute counts nowhere.

@@ -89,6 +89,13 @@ impl Tally {
         Ok(())
     }
 
+    /// Whether no entry was taken.
+    pub fn is_empty(&self) -> bool
+        ensures { (entries : List Entry) → IsTallyOf self.now entries → result ≡ (length entries == 0) }
+    {
+        self.kept.is_empty()
+    }
+
     /// The list of the entries that were taken, or the first thing that is wrong with them, which is told
     /// also where memory would not have sufficed.
     pub fn finish(self) -> Result<Acl, AclError>

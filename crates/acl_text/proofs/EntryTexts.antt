@@ -1,5 +1,5 @@
 -- The text of an entry is read as that entry.
-use Rattle.std.proofs.Common.{◌≡◌, ℕ, ◌<◌, ◌≤◌, ◌%◌, ◌&&◌, Bool, true, false, not, eqb, List, [], ◌∷◌, ◌++◌, length, map, Option, Some, Result, Ok, codes, decimal, refl, sym, ap, ◌∙◌, append_assoc, arith}
+use Rattle.std.proofs.Common.{◌≡◌, ℕ, ◌<◌, ◌≤◌, ◌%◌, ◌&&◌, Bool, true, false, not, eqb, List, [], ◌∷◌, ◌++◌, length, map, Some, Ok, codes, decimal, refl, sym, ap, ◌∙◌, append_assoc, arith}
 use Rattle.std.specs.Char.{is_ascii_digit}
 use Rattle.std.specs.List.{list_all}
 use Rattle.std.specs.Result.{result_map_both}
@@ -19,13 +19,15 @@ use Rattle.acl_core.specs.Tags.{qualifier}
 use Rattle.acl_core.proofs.EntryEquality.{same_by_fields}
 use Rattle.acl_text.specs.declared.keyword.Keyword.{Keyword}
 use Rattle.acl_text.specs.declared.keyword.Keyword.TheVariants.{User, Group, Mask, Other}
-use Rattle.acl_text.specs.declared.item.ItemFault.{ItemFault}
-use Rattle.acl_text.specs.Grammar.{reading, entry_reading, fits_keyword, numbered, tag_of, are_permissions, permission_digit}
+use Rattle.acl_text.specs.declared.item.Side.{Side}
+use Rattle.acl_text.specs.declared.item.Side.TheVariants.{Access, Default}
+use Rattle.acl_text.specs.Grammar.{reading, entry_reading, fields_reading, said_reading, fits_keyword, numbered, tag_of, are_permissions, permission_digit}
 use Rattle.acl_text.specs.Keywords.{word_of, keyword_of, is_default}
 use Rattle.acl_text.specs.Layout.{is_white, colon, parts, trimmed, fields_of}
 use Rattle.acl_text.specs.Qualifiers.{is_name_byte, max_id}
+use Rattle.acl_text.specs.Sides.{said_of}
 use Rattle.acl_text.specs.Tables.{Tables}
-use Rattle.acl_text.specs.Writing.{entry_text, tag_text}
+use Rattle.acl_text.specs.Writing.{entry_text, sided_text, tag_text}
 use Rattle.acl_text.proofs.CleanText.{lacks, split_at_byte, trimmed_clean, list_all_wider}
 use Rattle.acl_text.proofs.Letters.{three, tail, is_plain, letter_facts}
 use Rattle.acl_text.proofs.Numbers.{fits}
@@ -131,9 +133,16 @@ qualifier_facts names tag.Mask small = record { no_colon = refl; trims = refl; f
 qualifier_facts names tag.Other small = record { no_colon = refl; trims = refl; fit = refl; whom = refl; plain = refl }
 
 -- an item of three fields
-reading_fields : (names : Tables) (text word q permissions : List ℕ) → list_all is_white text ≡ false → fields_of text ≡ word ∷ q ∷ permissions ∷ [] → is_default word ≡ false
-    → reading names text ≡ result_map_both Some (λ fault. fault) (entry_reading names (keyword_of word) q permissions)
-reading_fields names text word q permissions no_blank three_fields no_default = rw (no_blank, three_fields, no_default) refl
+reading_fields : (names : Tables) (text word q permissions : List ℕ) (e : Entry) → list_all is_white text ≡ false → fields_of text ≡ word ∷ q ∷ permissions ∷ [] → is_default word ≡ false
+    → entry_reading names (keyword_of word) q permissions ≡ Ok e → reading names text ≡ Ok (Some (said_of Access e))
+reading_fields names text word q permissions e no_blank three_fields no_default read = rw (no_blank, three_fields, no_default, read) refl
+
+-- an item of a default list
+reading_marked : (names : Tables) (text : List ℕ) (e : Entry) → fields_reading names (fields_of text) ≡ Ok e → reading names (codes "default:" ++ text) ≡ Ok (Some (said_of Default e))
+reading_marked names text e read =
+    let cut : fields_of (codes "default:" ++ text) ≡ codes "default" ∷ fields_of text = ap (map trimmed) (split_at_byte (λ b. eqb b colon) (codes "default") 58 text refl refl) in
+    ap (λ fields. result_map_both Some (λ fault. fault) (said_reading names fields)) cut
+    ∙ ap (λ r. result_map_both Some (λ fault. fault) (result_map_both (said_of Default) (λ fault. fault) r)) read
 
 -- cut at two colons
 cut_fields : (word q last : List ℕ) → lacks (λ b. eqb b colon) word ≡ true → lacks (λ b. eqb b colon) q ≡ true → parts colon last ≡ last ∷ []
@@ -157,32 +166,55 @@ entry_of-shown e =
     let set : ℕ → Perms = λ n. record { 0 = n } in
     same_by_fields _ e refl (ap set (same_digit e.perms.0 e.known))
 
--- an entry's text, also with a tab after it, is read as that entry
-pub entry_text_read : (names : Tables) (e : Entry) (t : Bool) → qualifier e.tag ≤ max_id → reading names (entry_text e ++ tail t) ≡ Ok (Some e)
-entry_text_read names e t small =
+-- the fields of an entry's text, also with a tab after it, and what is read of them
+record FieldFacts (names : Tables) (e : Entry) (t : Bool) : Type 0 where
+  word : List ℕ
+  q : List ℕ
+  permissions : List ℕ
+  no_blank : list_all is_white (entry_text e ++ tail t) ≡ false
+  fields : fields_of (entry_text e ++ tail t) ≡ word ∷ q ∷ permissions ∷ []
+  no_default : is_default word ≡ false
+  read : entry_reading names (keyword_of word) q permissions ≡ Ok e
+
+field_facts : (names : Tables) (e : Entry) (t : Bool) → qualifier e.tag ≤ max_id → FieldFacts names e t
+field_facts names e t small =
     let r = has_permission e.perms may_read in
     let w = has_permission e.perms may_write in
     let x = has_permission e.perms may_execute in
     let k = keyword_of_tag e.tag in
     let q = qualifier_text e.tag in
     let letters = letter_facts r w x t in
-    let word = word_facts k in
+    let facts = word_facts k in
     let qualified = qualifier_facts names e.tag small in
     let text = word_of k ++ 58 ∷ (q ++ 58 ∷ (three r w x ++ tail t)) in
     let is : entry_text e ++ tail t ≡ text = append_assoc (tag_text e.tag) (three r w x) (tail t) ∙ tag_fields e.tag (three r w x ++ tail t) in
-    let fields : fields_of text ≡ word_of k ∷ q ∷ three r w x ∷ [] =
-    cut_fields (word_of k) q (three r w x ++ tail t) word.no_colon qualified.no_colon letters.one_field
-    ∙ (λ i. word.trims i ∷ qualified.trims i ∷ letters.trims i ∷ []) in
-    let said : Result Entry ItemFault → Result (Option Entry) ItemFault = result_map_both Some (λ fault. fault) in
-    ap (reading names) is
-    ∙ reading_fields names text (word_of k) q (three r w x) (word.no_blank (58 ∷ (q ++ 58 ∷ (three r w x ++ tail t)))) fields word.no_default
-    ∙ ap (λ keyword. said (entry_reading names keyword q (three r w x))) word.known
-    ∙ ap said (reading_parts names e.tag (three r w x) qualified letters.permissions)
-    ∙ ap (λ digit. said (Ok (entry_of e.tag digit))) letters.digit
-    ∙ ap (λ entry. said (Ok entry)) (entry_of-shown e)
+    let cut : fields_of text ≡ word_of k ∷ q ∷ three r w x ∷ [] =
+    cut_fields (word_of k) q (three r w x ++ tail t) facts.no_colon qualified.no_colon letters.one_field
+    ∙ (λ i. facts.trims i ∷ qualified.trims i ∷ letters.trims i ∷ []) in
+    record {
+      word = word_of k;
+      q = q;
+      permissions = three r w x;
+      no_blank = ap (list_all is_white) is ∙ facts.no_blank (58 ∷ (q ++ 58 ∷ (three r w x ++ tail t)));
+      fields = ap fields_of is ∙ cut;
+      no_default = facts.no_default;
+      read = ap (λ keyword. entry_reading names keyword q (three r w x)) facts.known
+          ∙ reading_parts names e.tag (three r w x) qualified letters.permissions
+          ∙ ap (λ digit. Ok (entry_of e.tag digit)) letters.digit
+          ∙ ap Ok (entry_of-shown e);
+    }
+
+-- the text of an entry of one of the two lists, also with a tab after it, is read as that entry
+pub sided_text_read : (names : Tables) (side : Side) (e : Entry) (t : Bool) → qualifier e.tag ≤ max_id → reading names (sided_text side e ++ tail t) ≡ Ok (Some (said_of side e))
+sided_text_read names Access e t small =
+    let f = field_facts names e t small in
+    reading_fields names (entry_text e ++ tail t) f.word f.q f.permissions e f.no_blank f.fields f.no_default f.read
+sided_text_read names Default e t small =
+    let f = field_facts names e t small in
+    reading_marked names (entry_text e ++ tail t) e (ap (fields_reading names) f.fields ∙ f.read)
 
 -- an entry's text cuts no text into items
-pub entry_text_plain : (names : Tables) (e : Entry) (t : Bool) → qualifier e.tag ≤ max_id → list_all is_plain (entry_text e ++ tail t) ≡ true
+entry_text_plain : (names : Tables) (e : Entry) (t : Bool) → qualifier e.tag ≤ max_id → list_all is_plain (entry_text e ++ tail t) ≡ true
 entry_text_plain names e t small =
     let r = has_permission e.perms may_read in
     let w = has_permission e.perms may_write in
@@ -194,3 +226,7 @@ entry_text_plain names e t small =
     let after : list_all is_plain (q ++ 58 ∷ last) ≡ true =
     list_all-append is_plain q (58 ∷ last) ∙ and_from _ _ (qualifier_facts names e.tag small).plain (letter_facts r w x t).plain in
     ap (list_all is_plain) is ∙ list_all-append is_plain (word_of k) (58 ∷ (q ++ 58 ∷ last)) ∙ and_from _ _ (word_facts k).plain after
+
+pub sided_text_plain : (names : Tables) (side : Side) (e : Entry) (t : Bool) → qualifier e.tag ≤ max_id → list_all is_plain (sided_text side e ++ tail t) ≡ true
+sided_text_plain names Access e t small = entry_text_plain names e t small
+sided_text_plain names Default e t small = entry_text_plain names e t small

@@ -1,5 +1,5 @@
 -- An item reads as an entry exactly when it is written as one.
-use Rattle.std.proofs.Common.{◌≡◌, ℕ, ◌<◌, ◌≤◌, Bool, true, false, cond, leb, eqb, not, ◌&&◌, ◌||◌, List, [], ◌∷◌, ◌++◌, length, map, Option, Some, None, Result, Ok, Err, refl, sym, ap, subst, ◌∙◌, inl, inr, arith}
+use Rattle.std.proofs.Common.{◌≡◌, ℕ, ◌<◌, ◌≤◌, Bool, true, false, cond, leb, eqb, not, ◌&&◌, ◌||◌, List, [], ◌∷◌, ◌++◌, length, map, Option, Some, None, Result, Ok, Err, codes, refl, sym, ap, subst, ◌∙◌, inl, inr, arith}
 use Rattle.std.specs.Char.{is_ascii_digit}
 use Rattle.std.specs.List.{list_all, list_any, find, count_by, join_with_byte}
 use Rattle.std.specs.Option.{ok_or}
@@ -11,7 +11,7 @@ use Rattle.std.proofs.lemmas.Bool.Decides.{nat_tests}
 use Rattle.std.proofs.lemmas.List.Folds.{list_all-append}
 use Rattle.std.proofs.lemmas.List.Splits.{join_with_byte-slice_split}
 use Rattle.std.proofs.lemmas.Slice.Eq.{bytes_eq-Decides}
-use Rattle.acl_core.proofs.Lists.{count_by-cons}
+use Rattle.acl_core.proofs.ListFacts.{count_by-cons}
 use Rattle.acl_core.specs.declared.entry.Tag.{Tag}
 use Rattle.acl_core.specs.declared.entry.Tag.TheVariants as tag
 use Rattle.acl_core.specs.declared.entry.Entry.{Entry}
@@ -19,13 +19,17 @@ use Rattle.acl_core.specs.Entries.{entry_of}
 use Rattle.acl_core.specs.Permissions.{digit_of}
 use Rattle.acl_text.specs.declared.item.ItemFault.{ItemFault}
 use Rattle.acl_text.specs.declared.item.ItemFault.TheVariants as item
+use Rattle.acl_text.specs.declared.item.Said.{Said}
+use Rattle.acl_text.specs.declared.item.Side.{Side}
+use Rattle.acl_text.specs.declared.item.Side.TheVariants.{Access, Default}
 use Rattle.acl_text.specs.declared.keyword.Keyword.{Keyword}
 use Rattle.acl_text.specs.declared.keyword.Keyword.TheVariants.{User, Group, Mask, Other}
-use Rattle.acl_text.specs.Grammar.{letter_r, letter_w, letter_x, hyphen, times_in, stands_in, are_permissions, permission_bytes, permission_digit, is_permission_byte, numbered, tag_of, fits_keyword, entry_reading, fields_reading, is_of_default, reading}
-use Rattle.acl_text.specs.Items.{IsSpaced, Denotes, Says, Grants, IsLong, IsShort, IsLaidOut, IsItemOf, is_single}
+use Rattle.acl_text.specs.Grammar.{letter_r, letter_w, letter_x, hyphen, times_in, stands_in, are_permissions, permission_bytes, permission_digit, is_permission_byte, numbered, tag_of, fits_keyword, entry_reading, fields_reading, said_reading, reading}
+use Rattle.acl_text.specs.Items.{IsSpaced, Denotes, Says, Grants, IsLong, IsShort, IsLaidOut, IsItemOf, IsDefaultItemOf, SaysItem, is_single}
 use Rattle.acl_text.specs.Keywords.{word_of, letter_of, keyword_among, keyword_of, single_keyword_of, is_default}
 use Rattle.acl_text.specs.Layout.{colon, is_white, parts, trimmed, fields_of}
 use Rattle.acl_text.specs.Qualifiers.{is_name_byte, max_id, id_of}
+use Rattle.acl_text.specs.Sides.{said_of}
 use Rattle.acl_text.specs.Tables.{Tables, number_in}
 use Rattle.acl_text.proofs.CleanText.{lacks, split_lacking, split_at_byte, list_all_wider}
 use Rattle.acl_text.proofs.Trimming.{trimmed_spaced, spaced_by_trimming}
@@ -276,38 +280,75 @@ single_empty names (tag.Group id) k q single says = let other : is_single k ≡ 
 single_empty names tag.Mask k q single says = says.1
 single_empty names tag.Other k q single says = says.1
 
--- what some fields say
-abbrev said_by : Tables → List (List ℕ) → Result (Option Entry) ItemFault
-said_by names fields = cond (is_of_default fields) (Err item.DefaultEntry) (result_map_both Some (λ fault. fault) (fields_reading names fields))
+-- an item that is written as an entry: its first field is no word of a default list, and what is read of its fields
+record IsRead (names : Tables) (e : Entry) (bytes : List ℕ) : Type 0 where
+  word : List ℕ
+  more : List (List ℕ)
+  no_blank : list_all is_white bytes ≡ false
+  fields : fields_of bytes ≡ word ∷ more
+  no_default : is_default word ≡ false
+  read : fields_reading names (word ∷ more) ≡ Ok e
 
 laid_out_read : (long : Bool) (names : Tables) (k : Keyword) (whole : Bool) (q p : List ℕ) (t : Tag) (e : Entry) (bytes : List ℕ)
-    → IsLaidOut long k (cond whole (word_of k) (letter_of k)) q p bytes → Says names t k q → list_all is_kept p ≡ true → entry_reading names (Some k) q p ≡ Ok e → reading names bytes ≡ Ok (Some e)
+    → IsLaidOut long k (cond whole (word_of k) (letter_of k)) q p bytes → Says names t k q → list_all is_kept p ≡ true → entry_reading names (Some k) q p ≡ Ok e → IsRead names e bytes
 laid_out_read true names k whole q p t e bytes long says kept is =
     let word = cond whole (word_of k) (letter_of k) in
     let facts = word_facts k whole in
-    let nothing : Result (Option Entry) ItemFault = Ok None in
-    ap (λ blank. cond blank nothing (said_by names (fields_of bytes))) (not_blank long.first (long.second ++ colon ∷ long.third) bytes long.is)
-    ∙ ap (said_by names) (long_fields word q p bytes long facts.kept (qualifier_kept names t k q says) kept)
-    ∙ ap (λ default. cond default (Err item.DefaultEntry) (result_map_both Some (λ fault. fault) (entry_reading names (keyword_of word) q p))) facts.no_default
-    ∙ ap (λ found. result_map_both Some (λ fault. fault) (entry_reading names found q p)) facts.known
-    ∙ ap (result_map_both Some (λ fault. fault)) is
+    record {
+      word = word;
+      more = q ∷ p ∷ [];
+      no_blank = not_blank long.first (long.second ++ colon ∷ long.third) bytes long.is;
+      fields = long_fields word q p bytes long facts.kept (qualifier_kept names t k q says) kept;
+      no_default = facts.no_default;
+      read = ap (λ found. entry_reading names found q p) facts.known ∙ is;
+    }
 laid_out_read false names k whole q p t e bytes short says kept is =
     let word = cond whole (word_of k) (letter_of k) in
     let facts = word_facts k whole in
-    let nothing : Result (Option Entry) ItemFault = Ok None in
     let empty = single_empty names t k q short.0 says in
-    ap (λ blank. cond blank nothing (said_by names (fields_of bytes))) (not_blank short.1.first short.1.last bytes short.1.is)
-    ∙ ap (said_by names) (short_fields word p bytes short.1 facts.kept kept)
-    ∙ ap (λ default. cond default (Err item.DefaultEntry) (result_map_both Some (λ fault. fault) (entry_reading names (single_keyword_of word) [] p))) facts.no_default
-    ∙ ap (λ found. result_map_both Some (λ fault. fault) (entry_reading names found [] p)) (facts.single short.0)
-    ∙ ap (result_map_both Some (λ fault. fault)) (subst (λ q. entry_reading names (Some k) q p ≡ Ok e) empty is)
+    record {
+      word = word;
+      more = p ∷ [];
+      no_blank = not_blank short.1.first short.1.last bytes short.1.is;
+      fields = short_fields word p bytes short.1 facts.kept kept;
+      no_default = facts.no_default;
+      read = ap (λ found. entry_reading names found [] p) (facts.single short.0) ∙ subst (λ q. entry_reading names (Some k) q p ≡ Ok e) empty is;
+    }
 
-pub read_if_written : (names : Tables) (e : Entry) (bytes : List ℕ) → IsItemOf names e bytes → reading names bytes ≡ Ok (Some e)
-read_if_written names e bytes it =
+fields_if_written : (names : Tables) (e : Entry) (bytes : List ℕ) → IsItemOf names e bytes → IsRead names e bytes
+fields_if_written names e bytes it =
     let made = entry_from names it.whom it.keyword it.qualifier it.permissions it.reads it.writes it.executes it.says it.grants in
     laid_out_read it.long names it.keyword it.whole_word it.qualifier it.permissions it.whom e bytes it.laid_out it.says
     (list_all_wider is_permission_byte is_kept permission_kept it.permissions it.grants.known)
     (made ∙ ap Ok (sym it.is))
+
+record DefaultWord (word : List ℕ) : Type 0 where
+  kept : list_all is_kept word ≡ true
+  known : is_default word ≡ true
+
+default_word : (whole : Bool) → DefaultWord (cond whole (codes "default") (codes "d"))
+default_word true = record { kept = refl; known = refl }
+default_word false = record { kept = refl; known = refl }
+
+said_by_fields : (names : Tables) (bytes word : List ℕ) (more : List (List ℕ)) (marked : Bool) (r : Result Entry ItemFault) → list_all is_white bytes ≡ false → fields_of bytes ≡ word ∷ more → is_default word ≡ marked
+    → reading names bytes ≡ result_map_both Some (λ fault. fault) (cond marked (result_map_both (said_of Default) (λ fault. fault) (fields_reading names more)) (result_map_both (said_of Access) (λ fault. fault) (fields_reading names (word ∷ more))))
+said_by_fields names bytes word more marked r no_blank fields default = rw (no_blank, fields, default) refl
+
+pub read_if_written : (names : Tables) (side : Side) (e : Entry) (bytes : List ℕ) → SaysItem names side e bytes → reading names bytes ≡ Ok (Some (said_of side e))
+read_if_written names Access e bytes it =
+    let is = fields_if_written names e bytes it in
+    said_by_fields names bytes is.word is.more false (Ok e) is.no_blank is.fields is.no_default
+    ∙ ap (λ r. result_map_both Some (λ fault. fault) (result_map_both (said_of Access) (λ fault. fault) r)) is.read
+read_if_written names Default e bytes it =
+    let is = fields_if_written names e it.rest it.of_entry in
+    let word = cond it.whole_word (codes "default") (codes "d") in
+    let facts = default_word it.whole_word in
+    let fields : fields_of bytes ≡ word ∷ fields_of it.rest =
+    ap fields_of it.is
+    ∙ ap (map trimmed) (split_at_byte (λ b. eqb b colon) it.first colon it.rest (uncut word it.first it.of_word facts.kept) refl)
+    ∙ ap (λ w. w ∷ fields_of it.rest) (trims word it.first it.of_word facts.kept) in
+    said_by_fields names bytes word (fields_of it.rest) true (Ok e) (not_blank it.first it.rest bytes it.is) fields facts.known
+    ∙ ap (λ r. result_map_both Some (λ fault. fault) (result_map_both (said_of Default) (λ fault. fault) r)) (ap (fields_reading names) is.fields ∙ is.read)
 
 mapped : (r : Result Tag ItemFault) (f : Tag → Entry) (e : Entry) → result_map_both f (λ fault. fault) r ≡ Ok e → (t : Tag) × (r ≡ Ok t) × (f t ≡ e)
 mapped (Ok t) f e h = (t, refl, cc)
@@ -391,12 +432,47 @@ written_by_parts names e bytes (a ∷ b ∷ c ∷ []) joined h =
     }
 written_by_parts names e bytes (a ∷ b ∷ c ∷ d ∷ more) joined h = cc
 
-fields_read : (blank default : Bool) (r : Result Entry ItemFault) (e : Entry) → cond blank (Ok None) (cond default (Err item.DefaultEntry) (result_map_both Some (λ fault. fault) r)) ≡ Ok (Some e) → r ≡ Ok e
-fields_read true default r e h = cc
-fields_read false true r e h = cc
-fields_read false false (Ok x) e h = let same : x ≡ e = cc in ap Ok same
-fields_read false false (Err fault) e h = cc
+said_read : (blank : Bool) (r : Result Said ItemFault) (s : Said) → cond blank (Ok None) (result_map_both Some (λ fault. fault) r) ≡ Ok (Some s) → r ≡ Ok s
+said_read true r s h = cc
+said_read false (Ok x) s h = let same : x ≡ s = cc in ap Ok same
+said_read false (Err fault) s h = cc
 
-pub written_if_read : (names : Tables) (e : Entry) (bytes : List ℕ) → reading names bytes ≡ Ok (Some e) → IsItemOf names e bytes
-written_if_read names e bytes h =
-    written_by_parts names e bytes (parts colon bytes) (join_with_byte-slice_split colon bytes) (fields_read (list_all is_white bytes) (is_of_default (fields_of bytes)) (fields_reading names (fields_of bytes)) e h)
+-- an entry that was read for one side
+sided : (s side : Side) (r : Result Entry ItemFault) (e : Entry) → result_map_both (said_of s) (λ fault. fault) r ≡ Ok (said_of side e) → (s ≡ side) × (r ≡ Ok e)
+sided s side (Ok x) e h = let same : said_of s x ≡ said_of side e = cc in (ap (λ (y : Said). y.side) same, ap (λ (y : Said). Ok y.entry) same)
+sided s side (Err fault) e h = cc
+
+marked_by_parts : (names : Tables) (e : Entry) (a bytes : List ℕ) (cut : List (List ℕ)) → is_default (trimmed a) ≡ true → join_with_byte colon (a ∷ cut) ≡ bytes → fields_reading names (map trimmed cut) ≡ Ok e → IsDefaultItemOf names e bytes
+marked_by_parts names e a bytes [] default joined h = cc
+marked_by_parts names e a bytes (b ∷ cut) default joined h =
+    let rest = join_with_byte colon (b ∷ cut) in
+    let chosen : (whole : Bool) × (trimmed a ≡ cond whole (codes "default") (codes "d")) = elim (or_cases (bytes_eq (trimmed a) (codes "default")) (bytes_eq (trimmed a) (codes "d")) default) [
+      | inl whole ↦ (true, (bytes_eq-Decides (trimmed a) (codes "default")).0 whole)
+      | inr letter ↦ (false, (bytes_eq-Decides (trimmed a) (codes "d")).0 letter)
+    ] in
+    record {
+      whole_word = chosen.0;
+      first = a;
+      rest = rest;
+      of_word = subst (λ w. IsSpaced w a) chosen.1 (spaced_by_trimming a);
+      of_entry = written_by_parts names e rest (b ∷ cut) refl h;
+      is = sym joined;
+    }
+
+says_by_parts : (names : Tables) (side : Side) (e : Entry) (bytes : List ℕ) (cut : List (List ℕ)) → join_with_byte colon cut ≡ bytes → said_reading names (map trimmed cut) ≡ Ok (said_of side e) → SaysItem names side e bytes
+says_by_parts names side e bytes [] joined h = cc
+says_by_parts names side e bytes (a ∷ cut) joined h =
+    let marked : Result Said ItemFault = result_map_both (said_of Default) (λ fault. fault) (fields_reading names (map trimmed cut)) in
+    let plain : Result Said ItemFault = result_map_both (said_of Access) (λ fault. fault) (fields_reading names (map trimmed (a ∷ cut))) in
+    elim (cases_Bool (is_default (trimmed a))) [
+      | inl default ↦
+          let both = sided Default side (fields_reading names (map trimmed cut)) e (sym (ap (λ test. cond test marked plain) default) ∙ h) in
+          subst (λ s. SaysItem names s e bytes) both.0 (marked_by_parts names e a bytes cut default joined both.1)
+      | inr other ↦
+          let both = sided Access side (fields_reading names (map trimmed (a ∷ cut))) e (sym (ap (λ test. cond test marked plain) other) ∙ h) in
+          subst (λ s. SaysItem names s e bytes) both.0 (written_by_parts names e bytes (a ∷ cut) joined both.1)
+    ]
+
+pub written_if_read : (names : Tables) (side : Side) (e : Entry) (bytes : List ℕ) → reading names bytes ≡ Ok (Some (said_of side e)) → SaysItem names side e bytes
+written_if_read names side e bytes h =
+    says_by_parts names side e bytes (parts colon bytes) (join_with_byte-slice_split colon bytes) (said_read (list_all is_white bytes) (said_reading names (fields_of bytes)) (said_of side e) h)

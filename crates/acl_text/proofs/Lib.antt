@@ -4,6 +4,7 @@ pub mod Numbers
 pub mod FieldLists
 pub mod ItemCounts
 pub mod Spelling
+pub mod Taking
 pub mod Appending
 pub mod CleanText
 pub mod Letters

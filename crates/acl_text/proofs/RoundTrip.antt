@@ -1,21 +1,26 @@
--- The texts that are written of a list spell that list.
+-- The texts that are written of two lists spell these lists.
 use Rattle.std.proofs.Common.{◌≡◌, ℕ, ◌≤◌, ◌&&◌, Bool, true, false, not, eqb, List, [], ◌∷◌, ◌++◌, map, Option, None, Some, Ok, codes, refl, sym, ap, ◌∙◌, ◌⊎◌, inl, inr, append_assoc, append-nil}
-use Rattle.std.specs.List.{list_all, filter_map, flat_map}
+use Rattle.std.specs.List.{list_all, filter_map, flat_map, join_by}
 use Rattle.std.proofs.lemmas.Bool.{cases_Bool, and_parts, and_from}
 use Rattle.std.proofs.lemmas.List.Folds.{list_all-append}
 use Rattle.acl_core.specs.declared.entry.Entry.{Entry}
 use Rattle.acl_core.specs.declared.perms.Perms.{Perms}
 use Rattle.acl_core.specs.Permissions.{may_read, may_write, may_execute, has_permission, has_all}
 use Rattle.acl_core.specs.Tags.{qualifier}
+use Rattle.acl_text.specs.declared.item.Said.{Said}
+use Rattle.acl_text.specs.declared.item.Side.{Side}
+use Rattle.acl_text.specs.declared.item.Side.TheVariants.{Access, Default}
 use Rattle.acl_text.specs.Grammar.{reading}
 use Rattle.acl_text.specs.Laws.{LongTextSpells, ShortTextSpells, NumbersFit}
 use Rattle.acl_text.specs.Layout.{items_of, items_of_line, uncommented, parts, comma, line_feed}
 use Rattle.acl_text.specs.Qualifiers.{max_id}
+use Rattle.acl_text.specs.Sides.{default_entries, entries_of, said_of}
 use Rattle.acl_text.specs.Tables.{Tables}
-use Rattle.acl_text.specs.Writing.{entry_text, remark, is_limited, common_text, line_text, mask_of}
+use Rattle.acl_text.specs.Texts.{Spells, readings}
+use Rattle.acl_text.specs.Writing.{canonical, entry_text, remark, is_limited, common_text, line_text, long_lines, mask_of, next_text, sided_text}
 use Rattle.acl_text.proofs.CleanText.{lacks, split_lacking, split_at_byte, before_lacking, before_at_byte, list_all_wider}
 use Rattle.acl_text.proofs.Letters.{tail, is_plain, letter_facts}
-use Rattle.acl_text.proofs.EntryTexts.{entry_text_read, entry_text_plain}
+use Rattle.acl_text.proofs.EntryTexts.{sided_text_read, sided_text_plain}
 
 -- plain bytes are no line feed, no comment mark and no comma
 no_line_feed : (b : ℕ) → is_plain b ≡ true → not (eqb b 10) ≡ true
@@ -42,33 +47,33 @@ remark_of (Some mask) e =
     ]
 
 -- a line without its end
-abbrev body : Option Perms → Entry → List ℕ
-body mask e = entry_text e ++ remark mask e
+abbrev body : Side → Option Perms → Entry → List ℕ
+body side mask e = sided_text side e ++ remark mask e
 
-record IsLine (names : Tables) (mask : Option Perms) (e : Entry) : Type 0 where
-  unbroken : lacks (λ b. eqb b line_feed) (body mask e) ≡ true
+record IsLine (names : Tables) (side : Side) (mask : Option Perms) (e : Entry) : Type 0 where
+  unbroken : lacks (λ b. eqb b line_feed) (body side mask e) ≡ true
   item : List ℕ
-  one_item : items_of_line (body mask e) ≡ item ∷ []
-  read_back : reading names item ≡ Ok (Some e)
+  one_item : items_of_line (body side mask e) ≡ item ∷ []
+  read_back : reading names item ≡ Ok (Some (said_of side e))
 
-line_by : (names : Tables) (mask : Option Perms) (e : Entry) → qualifier e.tag ≤ max_id → IsRemark (remark mask e) → IsLine names mask e
-line_by names mask e small (inl none) =
-    let text = entry_text e ++ tail false in
-    let plain = entry_text_plain names e false small in
-    let is : body mask e ≡ text = ap (λ r. entry_text e ++ r) none in
+line_by : (names : Tables) (side : Side) (mask : Option Perms) (e : Entry) → qualifier e.tag ≤ max_id → IsRemark (remark mask e) → IsLine names side mask e
+line_by names side mask e small (inl none) =
+    let text = sided_text side e ++ tail false in
+    let plain = sided_text_plain names side e false small in
+    let is : body side mask e ≡ text = ap (λ r. sided_text side e ++ r) none in
     record {
       unbroken = ap (lacks (λ b. eqb b line_feed)) is ∙ list_all_wider is_plain (λ b. not (eqb b 10)) no_line_feed text plain;
       item = text;
       one_item = ap items_of_line is
           ∙ ap (parts comma) (before_lacking (λ b. eqb b 35) text (list_all_wider is_plain (λ b. not (eqb b 35)) no_mark text plain))
           ∙ split_lacking (λ b. eqb b comma) text (list_all_wider is_plain (λ b. not (eqb b 44)) no_comma text plain);
-      read_back = entry_text_read names e false small;
+      read_back = sided_text_read names side e false small;
     }
-line_by names mask e small (inr some) =
-    let text = entry_text e ++ tail true in
-    let plain = entry_text_plain names e true small in
+line_by names side mask e small (inr some) =
+    let text = sided_text side e ++ tail true in
+    let plain = sided_text_plain names side e true small in
     let more = some.0 in
-    let is : body mask e ≡ text ++ 35 ∷ more = ap (λ r. entry_text e ++ r) some.1 ∙ sym (append_assoc (entry_text e) (9 ∷ []) (35 ∷ more)) in
+    let is : body side mask e ≡ text ++ 35 ∷ more = ap (λ r. sided_text side e ++ r) some.1 ∙ sym (append_assoc (sided_text side e) (9 ∷ []) (35 ∷ more)) in
     record {
       unbroken = ap (lacks (λ b. eqb b line_feed)) is ∙ list_all-append (λ b. not (eqb b 10)) text (35 ∷ more)
           ∙ and_from _ _ (list_all_wider is_plain (λ b. not (eqb b 10)) no_line_feed text plain) some.2;
@@ -76,85 +81,175 @@ line_by names mask e small (inr some) =
       one_item = ap items_of_line is
           ∙ ap (parts comma) (before_at_byte (λ b. eqb b 35) text 35 more (list_all_wider is_plain (λ b. not (eqb b 35)) no_mark text plain) refl)
           ∙ split_lacking (λ b. eqb b comma) text (list_all_wider is_plain (λ b. not (eqb b 44)) no_comma text plain);
-      read_back = entry_text_read names e true small;
+      read_back = sided_text_read names side e true small;
     }
 
--- the lines of a long text
-lines_of : (names : Tables) (mask : Option Perms) (list : List Entry) → NumbersFit list → parts line_feed (flat_map (line_text mask) list) ≡ map (body mask) list ++ [] ∷ []
-lines_of names mask [] fit = refl
-lines_of names mask (e ∷ list) fit =
-    let line = line_by names mask e fit.0 (remark_of mask e) in
-    ap (parts line_feed) (append_assoc (body mask e) (10 ∷ []) (flat_map (line_text mask) list))
-    ∙ split_at_byte (λ b. eqb b line_feed) (body mask e) 10 (flat_map (line_text mask) list) line.unbroken refl
-    ∙ ap (λ rest. body mask e ∷ rest) (lines_of names mask list fit.1)
+-- the lines of one of the lists, and what stands behind them
+lines_of : (names : Tables) (side : Side) (mask : Option Perms) (list : List Entry) (rest : List ℕ) → NumbersFit list
+    → parts line_feed (flat_map (line_text side mask) list ++ rest) ≡ map (body side mask) list ++ parts line_feed rest
+lines_of names side mask [] rest fit = refl
+lines_of names side mask (e ∷ list) rest fit =
+    let line = line_by names side mask e fit.0 (remark_of mask e) in
+    let later = flat_map (line_text side mask) list in
+    ap (parts line_feed) (append_assoc (line_text side mask e) later rest ∙ append_assoc (body side mask e) (10 ∷ []) (later ++ rest))
+    ∙ split_at_byte (λ b. eqb b line_feed) (body side mask e) 10 (later ++ rest) line.unbroken refl
+    ∙ ap (λ more. body side mask e ∷ more) (lines_of names side mask list rest fit.1)
 
--- what the lines say: the entries, and the empty line at the end nothing
-lines_read : (names : Tables) (mask : Option Perms) (list : List Entry) → NumbersFit list
-    → map (reading names) (flat_map items_of_line (map (body mask) list ++ [] ∷ [])) ≡ map Ok (map Some list ++ None ∷ [])
-lines_read names mask [] fit = refl
-lines_read names mask (e ∷ list) fit =
-    let line = line_by names mask e fit.0 (remark_of mask e) in
-    ap (λ items. map (reading names) (items ++ flat_map items_of_line (map (body mask) list ++ [] ∷ []))) line.one_item
-    ∙ (λ i. line.read_back i ∷ lines_read names mask list fit.1 i)
+-- what these lines say
+said_by : Side → List Entry → List (Option Said)
+said_by side list = map (λ e. Some (said_of side e)) list
 
-said_in_order : (list : List Entry) → filter_map (λ entry. entry) (map Some list ++ None ∷ []) ≡ list
-said_in_order [] = refl
-said_in_order (e ∷ list) = ap (λ rest. e ∷ rest) (said_in_order list)
+lines_read : (names : Tables) (side : Side) (mask : Option Perms) (list : List Entry) (lines : List (List ℕ)) (said : List (Option Said)) → NumbersFit list
+    → map (reading names) (flat_map items_of_line lines) ≡ map Ok said
+    → map (reading names) (flat_map items_of_line (map (body side mask) list ++ lines)) ≡ map Ok (said_by side list ++ said)
+unfolding said_by
+lines_read names side mask [] lines said fit read = read
+lines_read names side mask (e ∷ list) lines said fit read =
+    let line = line_by names side mask e fit.0 (remark_of mask e) in
+    ap (λ items. map (reading names) (items ++ flat_map items_of_line (map (body side mask) list ++ lines))) line.one_item
+    ∙ (λ i. line.read_back i ∷ lines_read names side mask list lines said fit.1 read i)
+
+-- the entries of a side among what is said of the two lists, access list first, and nothing after it
+access_said : (access : List Entry) (rest : List (Option Said)) → entries_of Access (filter_map (λ entry. entry) (said_by Access access ++ rest)) ≡ access ++ entries_of Access (filter_map (λ entry. entry) rest)
+unfolding said_by
+access_said [] rest = refl
+access_said (e ∷ access) rest = ap (λ more. e ∷ more) (access_said access rest)
+
+access_passed : (default : List Entry) (rest : List (Option Said)) → entries_of Access (filter_map (λ entry. entry) (said_by Default default ++ rest)) ≡ entries_of Access (filter_map (λ entry. entry) rest)
+unfolding said_by
+access_passed [] rest = refl
+access_passed (e ∷ default) rest = access_passed default rest
+
+default_said : (default : List Entry) (rest : List (Option Said)) → entries_of Default (filter_map (λ entry. entry) (said_by Default default ++ rest)) ≡ default ++ entries_of Default (filter_map (λ entry. entry) rest)
+unfolding said_by
+default_said [] rest = refl
+default_said (e ∷ default) rest = ap (λ more. e ∷ more) (default_said default rest)
+
+default_passed : (access : List Entry) (rest : List (Option Said)) → entries_of Default (filter_map (λ entry. entry) (said_by Access access ++ rest)) ≡ entries_of Default (filter_map (λ entry. entry) rest)
+unfolding said_by
+default_passed [] rest = refl
+default_passed (e ∷ access) rest = default_passed access rest
+
+-- what is said: the entries of both lists, and in between and at the end nothing more
+both_said : List Entry → List Entry → List (Option Said) → List (Option Said)
+both_said access default rest = said_by Access access ++ (said_by Default default ++ rest)
+
+of_access_side : (access default : List Entry) (rest : List (Option Said)) → filter_map (λ entry. entry) rest ≡ [] → entries_of Access (filter_map (λ entry. entry) (both_said access default rest)) ≡ access
+unfolding both_said
+of_access_side access default rest none =
+    access_said access (said_by Default default ++ rest)
+    ∙ ap (λ more. access ++ more) (access_passed default rest ∙ ap (entries_of Access) none)
+    ∙ append-nil access
+
+of_default_side : (access default : List Entry) (rest : List (Option Said)) → filter_map (λ entry. entry) rest ≡ [] → entries_of Default (filter_map (λ entry. entry) (both_said access default rest)) ≡ default
+unfolding both_said
+of_default_side access default rest none =
+    default_passed access (said_by Default default ++ rest)
+    ∙ default_said default rest
+    ∙ ap (λ more. default ++ entries_of Default more) none
+    ∙ append-nil default
 
 pub long_text_spells : LongTextSpells
-long_text_spells list names fit = record {
-  said = map Some list ++ None ∷ [];
-  each_read = ap (λ lines. map (reading names) (flat_map items_of_line lines)) (lines_of names (mask_of list) list fit) ∙ lines_read names (mask_of list) list fit;
-  in_order = said_in_order list;
-}
+unfolding both_said
+long_text_spells lists names fit =
+    let access = lists.access in
+    let default = default_entries lists.default in
+    let lines : parts line_feed (canonical lists) ≡ map (body Access (mask_of access)) access ++ (map (body Default (mask_of default)) default ++ [] ∷ []) =
+    lines_of names Access (mask_of access) access (long_lines Default default) fit.0
+    ∙ ap (λ more. map (body Access (mask_of access)) access ++ more)
+    (ap (parts line_feed) (sym (append-nil (long_lines Default default))) ∙ lines_of names Default (mask_of default) default [] fit.1) in
+    record {
+      said = both_said access default (None ∷ []);
+      each_read = ap (λ all. map (reading names) (flat_map items_of_line all)) lines
+          ∙ lines_read names Access (mask_of access) access _ _ fit.0 (lines_read names Default (mask_of default) default ([] ∷ []) (None ∷ []) fit.1 refl);
+      of_access = of_access_side access default (None ∷ []) refl;
+      of_default = of_default_side access default (None ∷ []) refl;
+    }
 
 no_names : Tables
 no_names = record { users = []; groups = [] }
 
-plain_entry : (e : Entry) → qualifier e.tag ≤ max_id → list_all is_plain (entry_text e) ≡ true
-plain_entry e small = ap (list_all is_plain) (sym (append-nil (entry_text e))) ∙ entry_text_plain no_names e false small
-
--- the entries after the first, each with a comma before it
-abbrev later : List Entry → List ℕ
-later list = flat_map (λ e. codes "," ++ entry_text e) list
+plain_entry : (side : Side) (e : Entry) → qualifier e.tag ≤ max_id → list_all is_plain (sided_text side e) ≡ true
+plain_entry side e small = ap (list_all is_plain) (sym (append-nil (sided_text side e))) ∙ sided_text_plain no_names side e false small
 
 -- a test that plain bytes and commas pass is passed by a short text
-passes : (p : ℕ → Bool) → ((b : ℕ) → is_plain b ≡ true → p b ≡ true) → p 44 ≡ true → (e : Entry) (list : List Entry) → NumbersFit (e ∷ list) → list_all p (entry_text e ++ later list) ≡ true
-passes p wider at_comma e [] fit =
-    ap (list_all p) (append-nil (entry_text e)) ∙ list_all_wider is_plain p wider (entry_text e) (plain_entry e fit.0)
-passes p wider at_comma e (next ∷ list) fit =
-    list_all-append p (entry_text e) (later (next ∷ list))
-    ∙ and_from _ _ (list_all_wider is_plain p wider (entry_text e) (plain_entry e fit.0)) (and_from (p 44) _ at_comma (passes p wider at_comma next list fit.1))
+passes_more : (p : ℕ → Bool) → ((b : ℕ) → is_plain b ≡ true → p b ≡ true) → p 44 ≡ true → (side : Side) (list : List Entry) → NumbersFit list → list_all p (flat_map (next_text side) list) ≡ true
+passes_more p wider at_comma side [] fit = refl
+passes_more p wider at_comma side (e ∷ list) fit =
+    list_all-append p (next_text side e) (flat_map (next_text side) list)
+    ∙ and_from _ _ (and_from (p 44) _ at_comma (list_all_wider is_plain p wider (sided_text side e) (plain_entry side e fit.0))) (passes_more p wider at_comma side list fit.1)
 
--- a short text is cut into its entries
-cut_at_commas : (e : Entry) (list : List Entry) → NumbersFit (e ∷ list) → parts comma (entry_text e ++ later list) ≡ map entry_text (e ∷ list)
-cut_at_commas e [] fit =
-    ap (parts comma) (append-nil (entry_text e)) ∙ split_lacking (λ b. eqb b comma) (entry_text e) (list_all_wider is_plain (λ b. not (eqb b 44)) no_comma (entry_text e) (plain_entry e fit.0))
-cut_at_commas e (next ∷ list) fit =
-    split_at_byte (λ b. eqb b comma) (entry_text e) 44 (entry_text next ++ later list) (list_all_wider is_plain (λ b. not (eqb b 44)) no_comma (entry_text e) (plain_entry e fit.0)) refl
-    ∙ ap (λ rest. entry_text e ∷ rest) (cut_at_commas next list fit.1)
+-- the entries of a side, each with a comma before it
+abbrev later : Side → List Entry → List ℕ
+later side list = flat_map (next_text side) list
+
+lacks_comma : (text : List ℕ) → list_all is_plain text ≡ true → lacks (λ b. eqb b comma) text ≡ true
+lacks_comma text plain = list_all_wider is_plain (λ b. not (eqb b 44)) no_comma text plain
+
+-- what is cut at commas: what stands first, and the entries behind it
+cut_later : (side : Side) (list : List Entry) (more : List ℕ) (tail : List (List ℕ)) → ((text : List ℕ) → list_all is_plain text ≡ true → parts comma (text ++ more) ≡ text ∷ tail) → NumbersFit list
+    → (first : List ℕ) → list_all is_plain first ≡ true → parts comma (first ++ (later side list ++ more)) ≡ first ∷ (map (sided_text side) list ++ tail)
+cut_later side [] more tail ends fit first plain = ends first plain
+cut_later side (e ∷ list) more tail ends fit first plain =
+    ap (λ text. parts comma (first ++ text)) (append_assoc (next_text side e) (later side list) more)
+    ∙ split_at_byte (λ b. eqb b comma) first 44 (sided_text side e ++ (later side list ++ more)) (lacks_comma first plain) refl
+    ∙ ap (λ rest. first ∷ rest) (cut_later side list more tail ends fit.1 (sided_text side e) (plain_entry side e fit.0))
+
+cut_end : (text : List ℕ) → list_all is_plain text ≡ true → parts comma (text ++ []) ≡ text ∷ []
+cut_end text plain = ap (parts comma) (append-nil text) ∙ split_lacking (λ b. eqb b comma) text (lacks_comma text plain)
+
+cut_default : (default : List Entry) → NumbersFit default → (text : List ℕ) → list_all is_plain text ≡ true → parts comma (text ++ later Default default) ≡ text ∷ map (sided_text Default) default
+cut_default default fit text plain =
+    ap (λ end. parts comma (text ++ end)) (sym (append-nil (later Default default)))
+    ∙ cut_later Default default [] [] cut_end fit text plain
+    ∙ ap (λ rest. text ∷ rest) (append-nil (map (sided_text Default) default))
 
 -- what the entries' texts say
-entries_read : (names : Tables) (list : List Entry) → NumbersFit list → map (reading names) (map entry_text list) ≡ map Ok (map Some list)
-entries_read names [] fit = refl
-entries_read names (e ∷ list) fit =
-    let read_back : reading names (entry_text e) ≡ Ok (Some e) = ap (reading names) (sym (append-nil (entry_text e))) ∙ entry_text_read names e false fit.0 in
-    λ i. read_back i ∷ entries_read names list fit.1 i
+entries_read : (names : Tables) (side : Side) (list : List Entry) (items : List (List ℕ)) (said : List (Option Said)) → NumbersFit list → map (reading names) items ≡ map Ok said
+    → map (reading names) (map (sided_text side) list ++ items) ≡ map Ok (said_by side list ++ said)
+unfolding said_by
+entries_read names side [] items said fit read = read
+entries_read names side (e ∷ list) items said fit read =
+    let read_back : reading names (sided_text side e) ≡ Ok (Some (said_of side e)) = ap (reading names) (sym (append-nil (sided_text side e))) ∙ sided_text_read names side e false fit.0 in
+    λ i. read_back i ∷ entries_read names side list items said fit.1 read i
 
-all_in_order : (list : List Entry) → filter_map (λ entry. entry) (map Some list) ≡ list
-all_in_order [] = refl
-all_in_order (e ∷ list) = ap (λ rest. e ∷ rest) (all_in_order list)
+-- what a text without line ends says that begins with a text of one item
+short_by : (names : Tables) (first : List ℕ) (said : Option Said) (list default : List Entry) → list_all is_plain first ≡ true → reading names first ≡ Ok said → NumbersFit list → NumbersFit default
+    → readings ((first ++ later Access list) ++ later Default default) names ≡ map Ok (said ∷ both_said list default [])
+unfolding both_said
+short_by names first said list default plain read fit fit_default =
+    let text = first ++ (later Access list ++ later Default default) in
+    let passes : (p : ℕ → Bool) → ((b : ℕ) → is_plain b ≡ true → p b ≡ true) → p 44 ≡ true → list_all p text ≡ true = λ p wider at_comma.
+    list_all-append p first (later Access list ++ later Default default)
+    ∙ and_from _ _ (list_all_wider is_plain p wider first plain)
+    (list_all-append p (later Access list) (later Default default) ∙ and_from _ _ (passes_more p wider at_comma Access list fit) (passes_more p wider at_comma Default default fit_default)) in
+    let one_line : parts line_feed text ≡ text ∷ [] = split_lacking (λ b. eqb b line_feed) text (passes (λ b. not (eqb b 10)) no_line_feed refl) in
+    let no_comment : uncommented text ≡ text = before_lacking (λ b. eqb b 35) text (passes (λ b. not (eqb b 35)) no_mark refl) in
+    let items : items_of text ≡ first ∷ (map (sided_text Access) list ++ map (sided_text Default) default) =
+    ap (flat_map items_of_line) one_line ∙ append-nil (items_of_line text) ∙ ap (parts comma) no_comment
+    ∙ cut_later Access list (later Default default) (map (sided_text Default) default) (cut_default default fit_default) fit first plain in
+    let ends : map (reading names) (map (sided_text Default) default) ≡ map Ok (said_by Default default ++ []) =
+    ap (map (reading names)) (sym (append-nil (map (sided_text Default) default))) ∙ entries_read names Default default [] [] fit_default refl in
+    ap (λ t. map (reading names) (items_of t)) (append_assoc first (later Access list) (later Default default))
+    ∙ ap (map (reading names)) items
+    ∙ (λ i. read i ∷ entries_read names Access list (map (sided_text Default) default) (said_by Default default ++ []) fit ends i)
+
+short_spells : (names : Tables) (access default : List Entry) → NumbersFit access → NumbersFit default → Spells (join_by entry_text (codes ",") access ++ later Default default) names access default
+unfolding both_said said_by
+short_spells names [] default fit fit_default = record {
+  said = None ∷ both_said [] default [];
+  each_read = short_by names [] None [] default refl refl fit fit_default;
+  of_access = of_access_side [] default [] refl;
+  of_default = of_default_side [] default [] refl;
+}
+short_spells names (e ∷ list) default fit fit_default =
+    let read_back : reading names (entry_text e) ≡ Ok (Some (said_of Access e)) = ap (reading names) (sym (append-nil (entry_text e))) ∙ sided_text_read names Access e false fit.0 in
+    record {
+      said = Some (said_of Access e) ∷ both_said list default [];
+      each_read = short_by names (entry_text e) (Some (said_of Access e)) list default (plain_entry Access e fit.0) read_back fit.1 fit_default;
+      of_access = of_access_side (e ∷ list) default [] refl;
+      of_default = of_default_side (e ∷ list) default [] refl;
+    }
 
 pub short_text_spells : ShortTextSpells
-short_text_spells [] names fit = record { said = None ∷ []; each_read = refl; in_order = refl }
-short_text_spells (e ∷ list) names fit =
-    let text = entry_text e ++ later list in
-    let one_line : parts line_feed text ≡ text ∷ [] = split_lacking (λ b. eqb b line_feed) text (passes (λ b. not (eqb b 10)) no_line_feed refl e list fit) in
-    let no_comment : uncommented text ≡ text = before_lacking (λ b. eqb b 35) text (passes (λ b. not (eqb b 35)) no_mark refl e list fit) in
-    let items : items_of text ≡ map entry_text (e ∷ list) =
-    ap (flat_map items_of_line) one_line ∙ append-nil (items_of_line text) ∙ ap (parts comma) no_comment ∙ cut_at_commas e list fit in
-    record {
-      said = map Some (e ∷ list);
-      each_read = ap (map (reading names)) items ∙ entries_read names (e ∷ list) fit;
-      in_order = all_in_order (e ∷ list);
-    }
+short_text_spells lists names fit = short_spells names lists.access (default_entries lists.default) fit.0 fit.1

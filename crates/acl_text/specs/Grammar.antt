@@ -1,6 +1,6 @@
 -- The entries that a text spells, after acl(5), "ACL TEXT FORMS", and the faults of a text that spells
 -- none. What is said of an item is said of its fields.
-use Rattle.std.specs.Prelude.{◌≡◌, ℕ, ◌==◌, nat_le, Bool, true, false, ◌&&◌, ◌||◌, if◌then◌else◌, List, [], ◌∷◌, length, count_by, Option, None, Some, Result, Ok, Err}
+use Rattle.std.specs.Prelude.{ℕ, ◌==◌, nat_le, Bool, ◌&&◌, ◌||◌, if◌then◌else◌, List, [], ◌∷◌, length, count_by, Option, None, Some, Result, Ok, Err}
 use Rattle.std.specs.Char.{is_ascii_digit}
 use Rattle.std.specs.List.{list_all, list_any}
 use Rattle.std.specs.Option.{ok_or}
@@ -12,11 +12,14 @@ use Rattle.acl_core.specs.Entries.{entry_of}
 use Rattle.acl_core.specs.Permissions.{digit_of}
 use Rattle.acl_text.specs.declared.item.ItemFault.{ItemFault}
 use Rattle.acl_text.specs.declared.item.ItemFault.TheVariants as item
+use Rattle.acl_text.specs.declared.item.Said.{Said}
+use Rattle.acl_text.specs.declared.item.Side.TheVariants.{Access, Default}
 use Rattle.acl_text.specs.declared.keyword.Keyword.{Keyword}
 use Rattle.acl_text.specs.declared.keyword.Keyword.TheVariants.{User, Group, Mask, Other}
 use Rattle.acl_text.specs.Layout.{fields_of, is_white}
 use Rattle.acl_text.specs.Keywords.{keyword_of, single_keyword_of, is_default}
 use Rattle.acl_text.specs.Qualifiers.{is_name_byte, id_of}
+use Rattle.acl_text.specs.Sides.{said_of}
 use Rattle.acl_text.specs.Tables.{Tables, number_in}
 
 -- how often a byte stands in a field, and whether it does
@@ -92,14 +95,14 @@ fields_reading names (word ∷ permissions ∷ []) = entry_reading names (single
 fields_reading names (word ∷ qualifier ∷ permissions ∷ []) = entry_reading names (keyword_of word) qualifier permissions
 fields_reading names fields = Err item.Syntax
 
--- whether an item is of a default list, whatever follows
-abbrev pub is_of_default : List (List ℕ) → Bool
-is_of_default [] = false
-is_of_default (word ∷ more) = is_default word
+-- what fields say: an entry of the access list, or, behind the word of a default list, one of that
+abbrev pub said_reading : Tables → List (List ℕ) → Result Said ItemFault
+said_reading names [] = Err item.Syntax
+said_reading names (word ∷ fields) =
+    if is_default word then result_map_both (said_of Default) (λ fault. fault) (fields_reading names fields)
+    else result_map_both (said_of Access) (λ fault. fault) (fields_reading names (word ∷ fields))
 
--- what an item says: nothing, where there is nothing but white space, or an entry
-abbrev pub reading : Tables → List ℕ → Result (Option Entry) ItemFault
+-- what an item says: nothing, where there is nothing but white space, or an entry of one of the two lists
+abbrev pub reading : Tables → List ℕ → Result (Option Said) ItemFault
 reading names bytes =
-    if list_all is_white bytes then Ok None
-    else if is_of_default (fields_of bytes) then Err item.DefaultEntry
-    else result_map_both Some (λ fault. fault) (fields_reading names (fields_of bytes))
+    if list_all is_white bytes then Ok None else result_map_both Some (λ fault. fault) (said_reading names (fields_of bytes))

@@ -1,7 +1,7 @@
 -- An item of a list's text as it is written, after acl(5), "LONG TEXT FORM" and "SHORT TEXT FORM": the word of a
 -- keyword, a colon, a qualifier, a colon and permissions, with white space round each of the three. Nothing
 -- here cuts a text or trims it: the choices that a writer has are named, and they make the item.
-use Rattle.std.specs.Prelude.{◌≡◌, ℕ, ◌<◌, ◌≤◌, true, false, Bool, if◌then◌else◌, List, [], ◌∷◌, ◌++◌, length, Some}
+use Rattle.std.specs.Prelude.{◌≡◌, ℕ, ◌<◌, ◌≤◌, true, false, Bool, if◌then◌else◌, List, [], ◌∷◌, ◌++◌, length, codes, Some}
 use Rattle.std.specs.Char.{is_ascii_digit}
 use Rattle.std.specs.List.{list_all}
 use Rattle.std.specs.Str.Parse.{digits_value}
@@ -10,6 +10,8 @@ use Rattle.acl_core.specs.declared.entry.Tag.TheVariants as tag
 use Rattle.acl_core.specs.declared.entry.Entry.{Entry}
 use Rattle.acl_core.specs.Entries.{entry_of}
 use Rattle.acl_core.specs.Permissions.{digit_of}
+use Rattle.acl_text.specs.declared.item.Side.{Side}
+use Rattle.acl_text.specs.declared.item.Side.TheVariants.{Access, Default}
 use Rattle.acl_text.specs.declared.keyword.Keyword.{Keyword}
 use Rattle.acl_text.specs.declared.keyword.Keyword.TheVariants.{User, Group, Mask, Other}
 use Rattle.acl_text.specs.Grammar.{letter_r, letter_w, letter_x, hyphen, is_permission_byte, times_in}
@@ -92,3 +94,18 @@ pub record IsItemOf (names : Tables) (entry : Entry) (item : List ℕ) : Type 0 
   pub grants : Grants permissions reads writes executes
   pub laid_out : IsLaidOut long keyword (if whole_word then word_of keyword else letter_of keyword) qualifier permissions item
   pub is : entry ≡ entry_of whom (digit_of reads writes executes)
+
+-- an item that is an entry of a default list: the word `default`, or its first letter, a colon, and an item that is
+-- the entry
+pub record IsDefaultItemOf (names : Tables) (entry : Entry) (item : List ℕ) : Type 0 where
+  pub whole_word : Bool
+  pub first : List ℕ
+  pub rest : List ℕ
+  pub of_word : IsSpaced (if whole_word then codes "default" else codes "d") first
+  pub of_entry : IsItemOf names entry rest
+  pub is : item ≡ first ++ colon ∷ rest
+
+-- an item that says an entry of one of the two lists
+abbrev pub SaysItem : Tables → Side → Entry → List ℕ → Type 0
+SaysItem names Access entry item = IsItemOf names entry item
+SaysItem names Default entry item = IsDefaultItemOf names entry item

@@ -2,6 +2,7 @@ pub mod Layout
 pub mod Qualifiers
 pub mod Tables
 pub mod Keywords
+pub mod Sides
 pub mod Grammar
 pub mod Faults
 pub mod Texts

@@ -1,7 +1,5 @@
 -- The qualifier of an entry: empty, or the number or the name of a user or a group.
-use Rattle.std.specs.Prelude.{◌≡◌, ℕ, ◌==◌, nat_le, Bool, true, false, ◌&&◌, ◌||◌, not, if◌then◌else◌, List, Option, None, Some}
-use Rattle.std.specs.Char.{is_ascii_digit}
-use Rattle.std.specs.List.{list_all}
+use Rattle.std.specs.Prelude.{ℕ, ◌==◌, nat_le, Bool, ◌&&◌, ◌||◌, not, if◌then◌else◌, List, Option, None, Some}
 use Rattle.std.specs.Str.Parse.{digits_value}
 use Rattle.acl_text.specs.Layout.{colon, comma, comment_mark}
 

@@ -1,15 +1,19 @@
 -- The texts that are written of a list, after acl(5), "LONG TEXT FORM" and "SHORT TEXT FORM". The
--- entries of a list are in canonical order, so each list has one long text and one short text.
+-- entries of a list are in canonical order, so two lists have one long text and one short text.
 use Rattle.std.specs.Prelude.{ℕ, Bool, true, false, ◌&&◌, not, if◌then◌else◌, List, [], ◌∷◌, ◌++◌, codes, decimal, Option, None, Some, option_map}
 use Rattle.std.specs.List.{find, flat_map, join_by}
 use Rattle.acl_core.specs.declared.entry.Tag.{Tag}
 use Rattle.acl_core.specs.declared.entry.Tag.TheVariants.{UserObj, User, GroupObj, Group, Mask, Other}
 use Rattle.acl_core.specs.declared.entry.Entry.{Entry}
+use Rattle.acl_core.specs.declared.lists.Lists.{Lists}
 use Rattle.acl_core.specs.declared.perms.Perms.{Perms}
 use Rattle.acl_core.specs.Permissions.{may_read, may_write, may_execute, has_permission, has_all}
 use Rattle.acl_core.specs.Tags.{same_tag}
+use Rattle.acl_text.specs.declared.item.Side.{Side}
+use Rattle.acl_text.specs.declared.item.Side.TheVariants.{Access, Default}
 use Rattle.acl_text.specs.Grammar.{letter_r, letter_w, letter_x, hyphen}
 use Rattle.acl_text.specs.Layout.{line_feed}
+use Rattle.acl_text.specs.Sides.{default_entries}
 
 -- whom an entry is about, with both colons
 abbrev pub tag_text : Tag → List ℕ
@@ -51,13 +55,28 @@ remark (Some mask) entry =
 abbrev pub mask_of : List Entry → Option Perms
 mask_of list = option_map (λ e. e.perms) (find (λ e. same_tag e.tag Mask) list)
 
--- the long text: one entry a line
-abbrev pub line_text : Option Perms → Entry → List ℕ
-line_text mask entry = entry_text entry ++ remark mask entry ++ line_feed ∷ []
+-- what stands before an entry of one of the two lists
+abbrev pub side_text : Side → List ℕ
+side_text Access = []
+side_text Default = codes "default:"
 
-abbrev pub canonical : List Entry → List ℕ
-canonical list = flat_map (line_text (mask_of list)) list
+-- an entry of one of the two lists
+abbrev pub sided_text : Side → Entry → List ℕ
+sided_text side entry = side_text side ++ entry_text entry
 
--- the short text: the entries with commas between them, and no line end
-abbrev pub short_text : List Entry → List ℕ
-short_text list = join_by entry_text (codes ",") list
+-- the long text: one entry a line, the default list last, and each list's entries with what its own mask leaves
+abbrev pub line_text : Side → Option Perms → Entry → List ℕ
+line_text side mask entry = sided_text side entry ++ remark mask entry ++ line_feed ∷ []
+
+abbrev pub long_lines : Side → List Entry → List ℕ
+long_lines side list = flat_map (line_text side (mask_of list)) list
+
+abbrev pub canonical : Lists → List ℕ
+canonical lists = long_lines Access lists.access ++ long_lines Default (default_entries lists.default)
+
+-- the short text: the same entries without these remarks, with commas between them, and no line end
+abbrev pub next_text : Side → Entry → List ℕ
+next_text side entry = codes "," ++ sided_text side entry
+
+abbrev pub short_text : Lists → List ℕ
+short_text lists = join_by entry_text (codes ",") lists.access ++ flat_map (next_text Default) (default_entries lists.default)

@@ -2,9 +2,9 @@
 
 ghost use Rattle.std.specs.Prelude.{◌≡◌, ℕ, false, List, [], ◌∷◌, ◌++◌, map, Err, MatchOption, if◌then◌else◌};
 ghost use Rattle.std.specs.List.{list_all};
-ghost use Rattle.acl_text.specs.Layout.{colon, trimmed};
+ghost use Rattle.acl_text.specs.Layout.{colon, fields_of, trimmed};
 ghost use Rattle.acl_text.specs.code.Remaining.{parts_left};
-ghost use Rattle.acl_text.specs.Grammar.{are_permissions, entry_reading, fields_reading, fits_keyword, numbered, reading, tag_of};
+ghost use Rattle.acl_text.specs.Grammar.{are_permissions, entry_reading, fields_reading, fits_keyword, numbered, reading, said_reading, tag_of};
 ghost use Rattle.acl_text.specs.code.Reading.{IsReadOf};
 ghost use Rattle.acl_text.specs.Qualifiers.{is_name_byte};
 
@@ -20,7 +20,20 @@ pub(crate) enum ItemFault {
     Syntax,
     UnknownName,
     NumberTooBig,
-    DefaultEntry,
+}
+
+/// The two lists of a file or a folder.
+#[derive(Clone, Copy)]
+pub(crate) enum Side {
+    Access,
+    Default,
+}
+
+/// What an item says: an entry of one of the two lists.
+#[derive(Clone, Copy)]
+pub(crate) struct Said {
+    pub(crate) side: Side,
+    pub(crate) entry: Entry,
 }
 
 /// What was read of permissions: the letters, and how many hyphens.
@@ -140,17 +153,44 @@ fn read_fields(word: &[u8], rest: Option<&[u8]>, names: &Names) -> Result<Entry,
     read_entry(Keyword::of(word), trimmed(second), trimmed(third), names)
 }
 
-/// What an item says: nothing, or an entry.
-pub(crate) fn read_item(item: &[u8], names: &Names) -> Result<Option<Entry>, ItemFault>
+/// The entry of what stands behind the word of a default list.
+fn read_marked(rest: Option<&[u8]>, names: &Names) -> Result<Entry, ItemFault>
+    ensures { result ≡ fields_reading names.now (map trimmed (parts_left colon rest.entry)) }
+{
+    let Some(rest) = rest else {
+        return Err(ItemFault::Syntax);
+    };
+    let (word, rest) = cut(rest, b':');
+    read_fields(trimmed(word), rest, names)
+}
+
+/// What the fields of an item say: an entry of one of the two lists.
+fn read_said(item: &[u8], names: &Names) -> Result<Said, ItemFault>
+    ensures { result ≡ said_reading names.now (fields_of item.now) }
+{
+    let (word, rest) = cut(item, b':');
+    let word = trimmed(word);
+    if is_default(word) {
+        let entry = read_marked(rest, names)?;
+        Ok(Said {
+            side: Side::Default,
+            entry,
+        })
+    } else {
+        let entry = read_fields(word, rest, names)?;
+        Ok(Said {
+            side: Side::Access,
+            entry,
+        })
+    }
+}
+
+/// What an item says: nothing, or an entry of one of the two lists.
+pub(crate) fn read_item(item: &[u8], names: &Names) -> Result<Option<Said>, ItemFault>
     ensures { result ≡ reading names.now item.now }
 {
     if is_blank(item) {
         return Ok(None);
     }
-    let (word, rest) = cut(item, b':');
-    let word = trimmed(word);
-    if is_default(word) {
-        return Err(ItemFault::DefaultEntry);
-    }
-    read_fields(word, rest, names).map(Some)
+    read_said(item, names).map(Some)
 }

@@ -2,10 +2,11 @@
 //! joined by commas.
 //!
 //! [`read_acl`] reads both, also mixed, with comments and white space, as `getfacl` writes them. It
-//! answers the list that the text spells (`specs/Grammar.antt`, `specs/Texts.antt`) or the first thing
-//! wrong with it. Names of users and groups are looked up in [`Names`]. [`write_acl`] and
-//! [`write_short`] give the one long and the one short text of a list (`specs/Writing.antt`). That each
-//! of them spells its list is a theorem: see [`long_text_spells_its_list`].
+//! answers the lists that the text spells (`specs/Grammar.antt`, `specs/Texts.antt`), the access list and,
+//! where items begin with `default:`, the default list, or the first thing wrong with the text. Names of
+//! users and groups are looked up in [`Names`]. [`write_acl`] and [`write_short`] give the one long and the
+//! one short text of two lists (`specs/Writing.antt`). That each of them spells its lists is a theorem: see
+//! [`long_text_spells_its_lists`].
 #![tactic(auto)]
 
 mod cut;
@@ -18,7 +19,7 @@ mod read;
 mod write;
 
 pub use laws::{
-    items_read_as_written, long_text_spells_its_list, short_text_spells_its_list,
+    items_read_as_written, long_text_spells_its_lists, short_text_spells_its_lists,
     what_is_spelled_is_read,
 };
 pub use names::{MAX_NAME, NameError, Names};

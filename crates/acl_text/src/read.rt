@@ -1,16 +1,20 @@
 //! Lists read from their text.
 
-ghost use Rattle.std.specs.Prelude.{◌≡◌, ◌≢◌, [], None, Some, Err, IfOk, IfErr, OnOk};
-ghost use Rattle.std.specs.List.{filter_map};
-ghost use Rattle.acl_core.specs.InOrder.{in_order};
+ghost use Rattle.std.specs.Prelude.{◌≡◌, ◌≢◌, List, [], ◌∷◌, ◌++◌, None, Some, Err, IfOk, IfErr, OnOk, IsPermutation};
+ghost use Rattle.acl_core.specs.Tallies.{IsTallyOf};
+ghost use Rattle.acl_core.specs.declared.entry.Entry.{Entry};
 ghost use Rattle.acl_text.specs.Faults.{fault_at, fault_of_list};
-ghost use Rattle.acl_text.specs.Texts.{SpellsList, entry_said, fault, readings};
+ghost use Rattle.acl_text.specs.code.Tallied.{AreTallied};
+ghost use Rattle.acl_text.specs.declared.item.Said.{Said};
+ghost use Rattle.acl_text.specs.declared.item.Side.TheVariants.{Access, Default};
+ghost use Rattle.acl_text.specs.Sides.{default_entries, default_of, entries_of, lists_of};
+ghost use Rattle.acl_text.specs.Texts.{SpellsLists, default_fault, fault, lists_fault, said_in};
 ghost use Rattle.acl_text.specs.declared.read.TextFault.TheVariants.{Memory};
 
 use crate::cut::Items;
-use crate::item::{ItemFault, read_item};
+use crate::item::{ItemFault, Said, Side, read_item};
 use crate::names::Names;
-use acl_core::{Acl, AclError, AclFault, Tally};
+use acl_core::{Acl, AclError, AclFault, Lists, Tally};
 use std::alloc::{AllocError, Global};
 use thiserror::Error;
 
@@ -26,12 +30,12 @@ pub enum TextFault {
     /// The number of a user or a group is above 4294967295.
     #[error("item {0} has a number that is too big")]
     NumberTooBig(usize),
-    /// An item is of a default list.
-    #[error("item {0} is of a default list")]
-    DefaultEntry(usize),
     /// The entries are no valid list.
     #[error("the entries are no valid list: {0}")]
     Invalid(AclFault),
+    /// The entries of the default list are no valid list.
+    #[error("the entries of the default list are no valid list: {0}")]
+    DefaultInvalid(AclFault),
     /// Memory ran out.
     #[error("out of memory")]
     Memory,
@@ -65,30 +69,89 @@ impl ItemFault {
             ItemFault::Syntax => TextFault::Syntax(number),
             ItemFault::UnknownName => TextFault::UnknownName(number),
             ItemFault::NumberTooBig => TextFault::NumberTooBig(number),
-            ItemFault::DefaultEntry => TextFault::DefaultEntry(number),
         }
     }
 }
 
-/// The list that a text spells. A growth that is refused is answered at once, and nothing is then said
-/// of the rest of the text. A text whose items say no entry takes no memory, and so has its fault.
-pub fn read_acl(alloc: Global, text: &[u8], names: &Names) -> Result<Acl, TextFault>
-    ensures spelled { IfOk result (SpellsList text.now names.now) }
-    ensures value { IfOk result (λ list. list ≡ in_order (filter_map entry_said (readings text.now names.now))) }
+/// The default list of the entries that were taken, if there were some.
+fn default_list(entries: Tally) -> Result<Option<Acl>, TextFault>
+    ensures value { IfOk result (λ list. (taken : List Entry) → IsTallyOf entries taken → list ≡ default_of taken) }
+    ensures same_entries { IfOk result (λ list. (taken : List Entry) → IsTallyOf entries taken → IsPermutation taken (default_entries list)) }
+    ensures faultless { OnOk result ((taken : List Entry) → IsTallyOf entries taken → default_fault taken ≡ None) }
+    ensures refused { IfErr result (λ e. (taken : List Entry) → IsTallyOf entries taken → e ≢ TextFault.Memory → default_fault taken ≡ Some e) }
+{
+    if entries.is_empty() {
+        return Ok(None);
+    }
+    match entries.finish() {
+        Ok(acl) => Ok(Some(acl)),
+        Err(AclError::Invalid(fault)) => Err(TextFault::DefaultInvalid(fault)),
+        Err(AclError::Memory) => Err(TextFault::Memory),
+    }
+}
+
+/// What is kept of the entries of both lists.
+#[derive(Drop)]
+pub(crate) struct Tallies {
+    access: Tally,
+    default: Tally,
+}
+
+impl Tallies {
+    /// No entry yet.
+    fn new(alloc: Global) -> Tallies
+        ensures { AreTallied result [] }
+    {
+        Tallies {
+            access: Tally::new(alloc),
+            default: Tally::new(alloc),
+        }
+    }
+
+    /// Takes an entry of one of the two lists.
+    fn take(&mut self, said: Said) -> Result<(), AllocError>
+        ensures taken { OnOk result ((taken : List Said) → AreTallied self.old taken → AreTallied self.new (taken ++ said ∷ [])) }
+    {
+        match said.side {
+            Side::Access => self.access.take(said.entry),
+            Side::Default => self.default.take(said.entry),
+        }
+    }
+
+    /// The lists of the entries that were taken, or the first thing that is wrong with them.
+    fn finish(self) -> Result<Lists, TextFault>
+        ensures value { IfOk result (λ lists. (taken : List Said) → AreTallied self taken → lists ≡ lists_of taken) }
+        ensures same_access { IfOk result (λ lists. (taken : List Said) → AreTallied self taken → IsPermutation (entries_of Access taken) lists.access) }
+        ensures same_default { IfOk result (λ lists. (taken : List Said) → AreTallied self taken → IsPermutation (entries_of Default taken) (default_entries lists.default)) }
+        ensures faultless { OnOk result ((taken : List Said) → AreTallied self taken → lists_fault taken ≡ None) }
+        ensures refused { IfErr result (λ e. (taken : List Said) → AreTallied self taken → e ≢ TextFault.Memory → lists_fault taken ≡ Some e) }
+        ensures memory { result ≡ Err TextFault.Memory → (taken : List Said) → AreTallied self taken → taken ≢ [] }
+    {
+        let access = self.access.finish()?;
+        let default = default_list(self.default)?;
+        Ok(Lists { access, default })
+    }
+}
+
+/// The lists that a text spells: an access list, and a default list where an item is of one. A growth that
+/// is refused is answered at once, and nothing is then said of the rest of the text. A text whose items say
+/// no entry takes no memory, and so has its fault.
+pub fn read_acl(alloc: Global, text: &[u8], names: &Names) -> Result<Lists, TextFault>
+    ensures spelled { IfOk result (SpellsLists text.now names.now) }
+    ensures value { IfOk result (λ lists. lists ≡ lists_of (said_in text.now names.now)) }
     ensures faultless { OnOk result (fault text.now names.now ≡ None) }
     ensures refused { IfErr result (λ e. e ≢ TextFault.Memory → fault text.now names.now ≡ Some e) }
-    ensures memory { result ≡ Err TextFault.Memory → filter_map entry_said (readings text.now names.now) ≢ [] }
+    ensures memory { result ≡ Err TextFault.Memory → said_in text.now names.now ≢ [] }
 {
-    let mut tally = Tally::new(alloc);
+    let mut tallies = Tallies::new(alloc);
     let mut number = 0;
     for item in Items::of(text) {
         number += 1;
         match read_item(item, names) {
             Ok(None) => {}
-            Ok(Some(entry)) => tally.take(entry)?,
+            Ok(Some(said)) => tallies.take(said)?,
             Err(fault) => return Err(fault.at(number)),
         }
     }
-    let acl = tally.finish()?;
-    Ok(acl)
+    tallies.finish()
 }

@@ -1,12 +1,15 @@
 //! Lists written as text.
 
 ghost use Rattle.std.specs.Prelude.{◌≡◌, ◌==◌, ◌++◌, codes, decimal, ◌∷◌, List, ℕ, take, IfOk, OnOk, OnErr, if◌then◌else◌};
-ghost use Rattle.acl_text.specs.Writing.{canonical, common_text, entry_text, is_limited, line_text, mask_of, permission_text, remark, short_text, tag_text};
+ghost use Rattle.acl_text.specs.Writing.{canonical, common_text, entry_text, is_limited, line_text, mask_of, next_text, permission_text, remark, short_text, side_text, sided_text, tag_text};
+ghost use Rattle.std.specs.List.{flat_map, join_by};
+ghost use Rattle.acl_text.specs.Sides.{default_entries};
 ghost use Rattle.acl_text.specs.Tables.{Tables};
 ghost use Rattle.acl_text.specs.Texts.{Spells};
 
-use crate::laws::{long_text_spells_its_list, numbers_fit, short_text_spells_its_list};
-use acl_core::{Acl, Entry, Perms, Tag};
+use crate::item::Side;
+use crate::laws::{all_numbers_fit, long_text_spells_its_lists, short_text_spells_its_lists};
+use acl_core::{Entry, Lists, Perms, Tag};
 use itoa::Buffer;
 use std::alloc::{AllocError, Global};
 
@@ -117,49 +120,115 @@ fn mask_of(entries: &[Entry]) -> Option<Perms>
         .map(|entry| entry.perms)
 }
 
-/// Appends an entry of the long text, with its line end.
-fn append_line(text: &mut Vec<u8>, entry: Entry, mask: Option<Perms>) -> Result<(), AllocError>
-    ensures appended { OnOk result (text.new.items ≡ text.old.items ++ line_text mask entry) }
+/// What stands before an entry of one of the two lists.
+fn side_text(side: Side) -> &'static [u8]
+    ensures { result.now ≡ side_text side }
+{
+    match side {
+        Side::Access => b"",
+        Side::Default => b"default:",
+    }
+}
+
+/// Appends an entry of one of the two lists.
+fn append_sided(text: &mut Vec<u8>, side: Side, entry: Entry) -> Result<(), AllocError>
+    ensures appended { OnOk result (text.new.items ≡ text.old.items ++ sided_text side entry) }
     ensures grown { OnErr result ((more : List ℕ) × (text.new.items ≡ text.old.items ++ more)) }
 {
-    append_entry(text, entry)?;
+    text.extend_from_slice(side_text(side))?;
+    append_entry(text, entry)
+}
+
+/// Appends an entry of the long text, with its line end.
+fn append_line(
+    text: &mut Vec<u8>,
+    side: Side,
+    entry: Entry,
+    mask: Option<Perms>,
+) -> Result<(), AllocError>
+    ensures appended { OnOk result (text.new.items ≡ text.old.items ++ line_text side mask entry) }
+    ensures grown { OnErr result ((more : List ℕ) × (text.new.items ≡ text.old.items ++ more)) }
+{
+    append_sided(text, side, entry)?;
     append_remark(text, entry, mask)?;
     text.push(b'\n')?;
     Ok(())
 }
 
-fn append_lines(text: &mut Vec<u8>, entries: &[Entry]) -> Result<(), AllocError>
-    ensures appended { OnOk result (text.new.items ≡ text.old.items ++ canonical entries.now) }
+/// Appends the lines of one of the two lists, whose mask this is.
+fn append_lines(
+    text: &mut Vec<u8>,
+    side: Side,
+    mask: Option<Perms>,
+    entries: &[Entry],
+) -> Result<(), AllocError>
+    ensures appended { OnOk result (text.new.items ≡ text.old.items ++ flat_map (line_text side mask) entries.now) }
     ensures grown { OnErr result ((more : List ℕ) × (text.new.items ≡ text.old.items ++ more)) }
 {
-    let mask = mask_of(entries);
     for entry in entries {
-        append_line(text, *entry, mask)?;
+        append_line(text, side, *entry, mask)?;
     }
     Ok(())
 }
 
+/// Appends the lines of both lists.
+fn append_both(text: &mut Vec<u8>, lists: &Lists) -> Result<(), AllocError>
+    ensures appended { OnOk result (text.new.items ≡ text.old.items ++ canonical lists.now) }
+    ensures grown { OnErr result ((more : List ℕ) × (text.new.items ≡ text.old.items ++ more)) }
+{
+    let access = lists.access.entries();
+    append_lines(text, Side::Access, mask_of(access), access)?;
+    match &lists.default {
+        Some(default) => {
+            let mask = mask_of(default.entries());
+            append_lines(text, Side::Default, mask, default.entries())
+        }
+        None => Ok(()),
+    }
+}
+
 /// Appends a comma and an entry of the short text.
-fn append_next(text: &mut Vec<u8>, entry: Entry) -> Result<(), AllocError>
-    ensures appended { OnOk result (text.new.items ≡ text.old.items ++ (codes "," ++ entry_text entry)) }
+fn append_next(text: &mut Vec<u8>, side: Side, entry: Entry) -> Result<(), AllocError>
+    ensures appended { OnOk result (text.new.items ≡ text.old.items ++ next_text side entry) }
     ensures grown { OnErr result ((more : List ℕ) × (text.new.items ≡ text.old.items ++ more)) }
 {
     text.push(b',')?;
-    append_entry(text, entry)
+    append_sided(text, side, entry)
 }
 
+/// Appends entries of the short text, each with a comma before it.
+fn append_more(text: &mut Vec<u8>, side: Side, entries: &[Entry]) -> Result<(), AllocError>
+    ensures appended { OnOk result (text.new.items ≡ text.old.items ++ flat_map (next_text side) entries.now) }
+    ensures grown { OnErr result ((more : List ℕ) × (text.new.items ≡ text.old.items ++ more)) }
+{
+    for entry in entries {
+        append_next(text, side, *entry)?;
+    }
+    Ok(())
+}
+
+/// Appends the entries of an access list with commas between them.
 fn append_joined(text: &mut Vec<u8>, entries: &[Entry]) -> Result<(), AllocError>
-    ensures appended { OnOk result (text.new.items ≡ text.old.items ++ short_text entries.now) }
+    ensures appended { OnOk result (text.new.items ≡ text.old.items ++ join_by entry_text (codes ",") entries.now) }
     ensures grown { OnErr result ((more : List ℕ) × (text.new.items ≡ text.old.items ++ more)) }
 {
     let Some((first, others)) = entries.split_first() else {
         return Ok(());
     };
     append_entry(text, *first)?;
-    for entry in others {
-        append_next(text, *entry)?;
+    append_more(text, Side::Access, others)
+}
+
+/// Appends the entries of both lists with commas between them.
+fn append_all(text: &mut Vec<u8>, lists: &Lists) -> Result<(), AllocError>
+    ensures appended { OnOk result (text.new.items ≡ text.old.items ++ short_text lists.now) }
+    ensures grown { OnErr result ((more : List ℕ) × (text.new.items ≡ text.old.items ++ more)) }
+{
+    append_joined(text, lists.access.entries())?;
+    match &lists.default {
+        Some(default) => append_more(text, Side::Default, default.entries()),
+        None => Ok(()),
     }
-    Ok(())
 }
 
 /// Takes away what was appended, where memory ran out.
@@ -188,52 +257,51 @@ pub fn append_tag(text: &mut Vec<u8>, tag: Tag) -> Result<(), AllocError>
     or_truncated(text, begun, done)
 }
 
-/// Appends the long text of a list, which spells the list under all names. Where memory runs out, the
-/// text stays as it was.
-pub fn append_acl(text: &mut Vec<u8>, acl: &Acl) -> Result<(), AllocError>
-    ensures appended { OnOk result (text.new.items ≡ text.old.items ++ canonical acl.now) }
-    ensures spells { (names : Tables) → Spells (canonical acl.now) names acl.now }
+/// Appends the long text of two lists, which spells them under all names. Where memory runs out, the text
+/// stays as it was.
+pub fn append_acl(text: &mut Vec<u8>, lists: &Lists) -> Result<(), AllocError>
+    ensures appended { OnOk result (text.new.items ≡ text.old.items ++ canonical lists.now) }
+    ensures spells { (names : Tables) → Spells (canonical lists.now) names lists.now.access (default_entries lists.now.default) }
     ensures unchanged { OnErr result (text.new.items ≡ text.old.items) }
 {
-    numbers_fit(acl.entries());
-    long_text_spells_its_list();
+    all_numbers_fit(lists);
+    long_text_spells_its_lists();
     let begun = text.len();
-    let done = append_lines(text, acl.entries());
+    let done = append_both(text, lists);
     or_truncated(text, begun, done)
 }
 
-/// Appends the short text of a list, which spells the list under all names. Where memory runs out, the
-/// text stays as it was.
-pub fn append_short(text: &mut Vec<u8>, acl: &Acl) -> Result<(), AllocError>
-    ensures appended { OnOk result (text.new.items ≡ text.old.items ++ short_text acl.now) }
-    ensures spells { (names : Tables) → Spells (short_text acl.now) names acl.now }
+/// Appends the short text of two lists, which spells them under all names. Where memory runs out, the text
+/// stays as it was.
+pub fn append_short(text: &mut Vec<u8>, lists: &Lists) -> Result<(), AllocError>
+    ensures appended { OnOk result (text.new.items ≡ text.old.items ++ short_text lists.now) }
+    ensures spells { (names : Tables) → Spells (short_text lists.now) names lists.now.access (default_entries lists.now.default) }
     ensures unchanged { OnErr result (text.new.items ≡ text.old.items) }
 {
-    numbers_fit(acl.entries());
-    short_text_spells_its_list();
+    all_numbers_fit(lists);
+    short_text_spells_its_lists();
     let begun = text.len();
-    let done = append_joined(text, acl.entries());
+    let done = append_all(text, lists);
     or_truncated(text, begun, done)
 }
 
-/// The long text of a list: numbers, one entry a line, in canonical order. It spells the list under all
-/// names.
-pub fn write_acl(alloc: Global, acl: &Acl) -> Result<Vec<u8>, AllocError>
-    ensures value { IfOk result (λ text. text.items ≡ canonical acl.now) }
-    ensures spells { IfOk result (λ text. (names : Tables) → Spells text.items names acl.now) }
+/// The long text of two lists: numbers, one entry a line, each list in canonical order, and the default list
+/// last. It spells them under all names.
+pub fn write_acl(alloc: Global, lists: &Lists) -> Result<Vec<u8>, AllocError>
+    ensures value { IfOk result (λ text. text.items ≡ canonical lists.now) }
+    ensures spells { IfOk result (λ text. (names : Tables) → Spells text.items names lists.now.access (default_entries lists.now.default)) }
 {
     let mut text = Vec::new(alloc);
-    append_acl(&mut text, acl)?;
+    append_acl(&mut text, lists)?;
     Ok(text)
 }
 
-/// The short text of a list: the same entries, with commas between them. It spells the list under all
-/// names.
-pub fn write_short(alloc: Global, acl: &Acl) -> Result<Vec<u8>, AllocError>
-    ensures value { IfOk result (λ text. text.items ≡ short_text acl.now) }
-    ensures spells { IfOk result (λ text. (names : Tables) → Spells text.items names acl.now) }
+/// The short text of two lists: the same entries, with commas between them. It spells them under all names.
+pub fn write_short(alloc: Global, lists: &Lists) -> Result<Vec<u8>, AllocError>
+    ensures value { IfOk result (λ text. text.items ≡ short_text lists.now) }
+    ensures spells { IfOk result (λ text. (names : Tables) → Spells text.items names lists.now.access (default_entries lists.now.default)) }
 {
     let mut text = Vec::new(alloc);
-    append_short(&mut text, acl)?;
+    append_short(&mut text, lists)?;
     Ok(text)
 }

@@ -8,7 +8,7 @@ use Rattle.std.proofs.lemmas.Bool.{cases_Bool, eqb-true, eqb-false, false≢true
 use Rattle.std.proofs.lemmas.Cmp.{nat_cmp_total}
 use Rattle.std.proofs.lemmas.Option.{none-some, same_Some}
 use Rattle.std.proofs.lemmas.Map.Entries.{lookup_head, lookup_tail}
-use Rattle.acl_core.specs.declared.entry.Entry.{Entry}
+use Rattle.acl_core.specs.declared.lists.Lists.{Lists}
 use Rattle.vote_core.specs.Quorums.{Configuration}
 use Rattle.sorted_map.specs.SortedMap.{IsOrdered, get, replace}
 use Rattle.sorted_map.specs.Roomy.{Roomy}
@@ -124,10 +124,10 @@ left_back before now s edit seen ordered leaves rows capacity = record {
   capacity = λ q. omega (arith, capacity q, left_capacity now s edit seen leaves q);
 }
 
-leaves_listed : (acl : List Entry) → Leaves (with_stored_acl acl) (put_acl acl)
+leaves_listed : (acl : Lists) → Leaves (with_stored_acl acl) (put_acl acl)
 leaves_listed acl = record { plainly = λ row. refl; content = λ row. refl }
 
-pub listed_taken : (rows : StoredRows) (s : ℕ) (acl before : List Entry) → IsOrdered nat_cmp rows → Some before ≡ option_map (λ row. row.acl) (get nat_cmp rows s) → TakesBack (Listed s before) rows (exchanged rows s (with_stored_acl acl))
+pub listed_taken : (rows : StoredRows) (s : ℕ) (acl before : Lists) → IsOrdered nat_cmp rows → Some before ≡ option_map (λ row. row.acl) (get nat_cmp rows s) → TakesBack (Listed s before) rows (exchanged rows s (with_stored_acl acl))
 listed_taken rows s acl before ordered was = by_stored (get nat_cmp rows s)
     (λ absent. absurd (none-some before (sym (ap (option_map (λ row. row.acl)) absent) ∙ sym was)))
     (λ row there.
@@ -138,7 +138,7 @@ listed_taken rows s acl before ordered was = by_stored (get nat_cmp rows s)
       there = tt;
     })
 
-pub listed_back : (before now : StoredRows) (s : ℕ) (acl : List Entry) → IsOrdered nat_cmp now → TakesBack (Listed s acl) before now → Restores before (exchanged now s (with_stored_acl acl))
+pub listed_back : (before now : StoredRows) (s : ℕ) (acl : Lists) → IsOrdered nat_cmp now → TakesBack (Listed s acl) before now → Restores before (exchanged now s (with_stored_acl acl))
 listed_back before now s acl ordered back = left_back before now s (with_stored_acl acl) (put_acl acl) ordered (leaves_listed acl) back.rows back.capacity
 
 leaves_voted : (votes : Configuration) → Leaves (with_stored_votes votes) (put_votes votes)

@@ -2,7 +2,7 @@
 use Rattle.std.specs.Prelude.{ℕ, ◌-◌, nat_lt, nat_le, Bool, true, false, List, length, take, is_some, slice_get, Option, Some, None, Result, Ok, Err}
 use Rattle.std.specs.Borrow.{Bor}
 use Rattle.acl_core.specs.Identity.{Identity}
-use Rattle.acl_core.specs.declared.entry.Entry.{Entry}
+use Rattle.acl_core.specs.declared.lists.Lists.{Lists}
 use Rattle.vote_core.specs.Quorums.{Configuration}
 use Rattle.suite_content.specs.declared.content.Kind.{Kind}
 use Rattle.suite_content.specs.declared.content.Content.{Content}
@@ -19,6 +19,8 @@ use Rattle.file_ops.specs.declared.refusal.Why.{Why}
 use Rattle.file_ops.specs.declared.refusal.Why.TheVariants as why
 use Rattle.file_ops.specs.declared.service.Service.{Service}
 use Rattle.file_ops.specs.Steps.{◌>>=◌, ◌>>◌, found_or}
+use Rattle.suite_content.specs.Contents.{kind_of}
+use Rattle.file_ops.specs.Lists.{gives_default, is_misplaced, lists_of}
 use Rattle.file_ops.specs.Paths.{names_of}
 use Rattle.file_ops.specs.Rows.{Row, Rows, row_of, with_row, with_acl, with_votes, with_content, made_number, new_row}
 use Rattle.file_ops.specs.Walks.{Place, bytes_in, names_in, to_read, to_write, to_change, permit, reach, shown, owned}
@@ -79,10 +81,11 @@ bytes_written rows caller names bytes = do
   before ← bytes_in place.row.content
   Ok (record { answer = answer.Wrote; rows = with_row rows place.suite (with_content place.row (Bytes bytes)) })
 
--- another access list set; other votes set
-abbrev pub list_set : Rows → Identity → List (List ℕ) → List Entry → Result Done Why
+-- other lists set, of which a file has no default list; other votes set
+abbrev pub list_set : Rows → Identity → List (List ℕ) → Lists → Result Done Why
 list_set rows caller names acl = do
   place ← owned rows caller names
+  refuse_if (is_misplaced (kind_of place.row.content) (is_some acl.default)) why.DefaultOnFile
   Ok (record { answer = answer.Set; rows = with_row rows place.suite (with_acl place.row acl) })
 
 abbrev pub votes_set : Service → Rows → Identity → List (List ℕ) → Configuration → Result Done Why
@@ -124,10 +127,11 @@ abbrev pub made : Service → Rows → ℕ → Identity → List (List ℕ) → 
 made service rows number caller names kind init given = do
   path ← last_name names
   votes ← votes_of_new service given
+  refuse_if (is_misplaced kind (gives_default init)) why.DefaultOnFile
   parent ← parent_of rows caller path.folders
   refuse_if (is_some (folders.number_of parent.names path.name)) why.Exists
   refuse_if (nat_le max_names (length parent.names)) why.FolderFull
-  Ok (record { answer = answer.Made number; rows = with_made rows parent path.name number (new_row kind init votes caller) })
+  Ok (record { answer = answer.Made number; rows = with_made rows parent path.name number (new_row kind (lists_of kind parent.place.row.acl.default init) votes caller) })
 
 -- whether it is a folder that has names
 abbrev pub is_used : Content → Bool

@@ -2,7 +2,7 @@
 use Rattle.std.specs.Prelude.{ℕ, ◌+◌, ◌*◌, List, [], ◌∷◌, Option}
 use Rattle.std.specs.Ordering.{nat_cmp}
 use Rattle.sorted_map.specs.SortedMap.{get, insert}
-use Rattle.acl_core.specs.declared.entry.Entry.{Entry}
+use Rattle.acl_core.specs.declared.lists.Lists.{Lists}
 use Rattle.acl_core.specs.Identity.{Identity}
 use Rattle.vote_core.specs.Quorums.{Configuration}
 use Rattle.suite_content.specs.declared.content.Kind.{Kind}
@@ -11,16 +11,14 @@ use Rattle.suite_content.specs.declared.content.Content.{Content}
 use Rattle.suite_content.specs.Contents.{empty_content}
 use Rattle.suite_prefix.specs.SettingsRules.{Opening}
 use Rattle.file_ops.specs.declared.service.Service.{Service}
-use Rattle.file_ops.specs.declared.operation.Init.{Init}
 use Rattle.file_ops.specs.declared.audit.AuditItem.{AuditItem}
 use Rattle.file_ops.specs.Limits.{max_operations}
-use Rattle.file_ops.specs.Lists.{list_of}
 
 -- one file or folder: a file holds bytes, and a folder names
 pub record Row : Type 0 where
   pub owner : ℕ
   pub group : ℕ
-  pub acl : List Entry
+  pub acl : Lists
   pub votes : Configuration
   pub content : Content
 
@@ -51,12 +49,12 @@ abbrev pub made_number : ℕ → ℕ → ℕ
 made_number t place = max_operations * t + place + 1
 
 -- the row of a new file or folder: the caller's, in its own group, and empty
-abbrev pub new_row : Kind → Init → Configuration → Identity → Row
-new_row kind init votes caller =
-    record { owner = caller.uid; group = caller.gid; acl = list_of init; votes = votes; content = empty_content kind }
+abbrev pub new_row : Kind → Lists → Configuration → Identity → Row
+new_row kind lists votes caller =
+    record { owner = caller.uid; group = caller.gid; acl = lists; votes = votes; content = empty_content kind }
 
--- a row with another list
-abbrev pub with_acl : Row → List Entry → Row
+-- a row with other lists
+abbrev pub with_acl : Row → Lists → Row
 with_acl row acl = record row { acl = acl }
 
 -- a row with other votes

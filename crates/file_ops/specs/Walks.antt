@@ -55,7 +55,7 @@ unless_denied suite wanted (Denied decider) = Err (why.Denied (record { suite = 
 -- whether a caller has what it wants of a file or a folder
 abbrev pub permit : Identity → Place → Perms → Result (Unit {0}) Why
 permit caller place wanted =
-    unless_denied place.suite wanted (check_of place.row.acl place.row.owner place.row.group caller wanted)
+    unless_denied place.suite wanted (check_of place.row.acl.access place.row.owner place.row.group caller wanted)
 
 -- the same, of whoever does not own it; the owner needs no permission
 abbrev pub permit_others : Identity → Place → Perms → Result (Unit {0}) Why

@@ -3,7 +3,6 @@
 ghost use Rattle.std.specs.Prelude.{◌≡◌, ◌+◌, ◌<◌, ◌^◌, IfOk, OnErr};
 ghost use Rattle.acl_core.specs.declared.perms.Perms.{Perms};
 ghost use Rattle.file_ops.specs.declared.act.OpError.TheVariants as stopped;
-ghost use Rattle.file_ops.specs.Lists.{list_of};
 ghost use Rattle.file_ops.specs.Rows.{row_of, new_row};
 ghost use Rattle.file_ops.specs.code.Stored.{plain, plain_row};
 ghost use Rattle.file_ops.specs.Operations.{bytes_read, names_listed, list_shown, votes_shown, bytes_written, list_set, votes_set, made, dropped, has_names, operation};
@@ -12,13 +11,13 @@ ghost use Rattle.file_ops.specs.code.Done.{Does, Acts};
 
 use crate::answer::Answer;
 use crate::edit::list_names;
-use crate::operation::{Action, Init, Op, made_number};
+use crate::operation::{Action, Init, Op, made_number, require_placed};
 use crate::refusal::Why;
 use crate::service::Service;
 use crate::stored::{StoredContent, StoredRow, StoredRows};
 use crate::undo::{Undo, make_row, replace_acl, replace_content, replace_votes, take_out_name};
 use crate::walk::{last_name, owned, parent_of, permit, reach, shown};
-use acl_core::{Acl, Caller, Perms};
+use acl_core::{Acl, Caller, Lists, Perms};
 use std::alloc::{AllocError, Global};
 use suite_content::{FileBytes, Kind, MAX_NAMES, Name};
 use vote_core::Votes;
@@ -140,12 +139,14 @@ fn set_acl(
     rows: &mut StoredRows,
     caller: &Caller,
     names: &[Name],
-    acl: &Acl,
+    acl: &Lists,
 ) -> Result<Done, OpError>
     ensures acts { Acts result rows.old rows.new (list_set (plain rows.old) caller.now names.now acl.now) }
     ensures err { OnErr result (Restores rows.old rows.new) }
 {
-    let suite = owned(rows, caller, names)?.suite;
+    let place = owned(rows, caller, names)?;
+    require_placed(place.row.content.kind(), acl.default.is_some())?;
+    let suite = place.suite;
     let acl = acl.clone()?;
     let undo = replace_acl(rows, suite, acl);
     Ok(Done {
@@ -195,6 +196,7 @@ fn make(
     } = transaction;
     let (name, folders) = last_name(names)?;
     let votes = service.votes_of_new(given)?;
+    require_placed(kind, init.gives_default())?;
     let parent = parent_of(rows, caller, folders)?;
     if parent.names.contains_key(name) {
         return Err(OpError::Refused(Why::Exists));
@@ -203,7 +205,8 @@ fn make(
         return Err(OpError::Refused(Why::FolderFull));
     }
     let folder = parent.place.suite;
-    let row = new_row(alloc, kind, init, votes, caller)?;
+    let lists = init.lists(alloc, kind, &parent.place.row.acl.default)?;
+    let row = new_row(alloc, kind, lists, votes, caller);
     let undo = make_row(rows, folder, name, number, row)?;
     Ok(Done {
         answer: Answer::Made(number),
@@ -215,20 +218,19 @@ fn make(
 fn new_row(
     alloc: Global,
     kind: Kind,
-    init: &Init,
+    acl: Lists,
     votes: Votes,
     caller: &Caller,
-) -> Result<StoredRow, AllocError>
-    ensures { IfOk result (λ row. plain_row row ≡ new_row kind init.now votes caller.now) }
+) -> StoredRow
+    ensures { plain_row result ≡ new_row kind acl votes caller.now }
 {
-    let acl = init.list(alloc)?;
-    Ok(StoredRow {
+    StoredRow {
         owner: caller.uid(),
         group: caller.gid(),
         acl,
         votes,
         content: StoredContent::empty(alloc, kind),
-    })
+    }
 }
 
 /// Takes a name out of a folder.

@@ -1,6 +1,6 @@
 //! What a transaction answers.
 
-use acl_core::Acl;
+use acl_core::Lists;
 use std::alloc::{AllocError, Global};
 use std::marker::Model;
 use std::mem;
@@ -22,7 +22,7 @@ pub enum Answer {
     /// To Drop.
     Dropped,
     /// To GetAcl: the list.
-    Acl(Acl),
+    Acl(Lists),
     /// To SetAcl and SetVotes.
     Set,
     /// To GetVotes: the votes.

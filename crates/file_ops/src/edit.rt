@@ -11,7 +11,7 @@ ghost use Rattle.file_ops.specs.code.Edits.{edited, number_at, put_name, drop_na
 ghost use Rattle.file_ops.specs.code.Restored.{Restores, Makes};
 
 use crate::stored::{StoredContent, StoredRow, StoredRows};
-use acl_core::Acl;
+use acl_core::Lists;
 use std::alloc::{AllocError, Global};
 use std::mem;
 use suite_content::{FolderNames, Name, NameList};
@@ -32,7 +32,7 @@ pub(crate) fn exchange_content(
 }
 
 /// Gives a suite another access list, where it has a row, and answers the list before.
-pub(crate) fn exchange_acl(rows: &mut StoredRows, suite: u64, acl: Acl) -> Option<Acl>
+pub(crate) fn exchange_acl(rows: &mut StoredRows, suite: u64, acl: Lists) -> Option<Lists>
     ensures before { result ≡ option_map (λ row. row.acl) (get nat_cmp rows.old suite) }
     ensures after { rows.new ≡ exchanged rows.old suite (with_stored_acl acl) }
     ensures ordered { IsOrdered nat_cmp rows.old }

@@ -27,7 +27,7 @@ mod walk;
 pub use answer::{Answer, Answers};
 pub use audit::AuditItem;
 pub use guarded::{Guarded, to_change};
-pub use operation::{Action, Init, MAX_OPERATIONS, Op, made_number};
+pub use operation::{Action, Init, MAX_OPERATIONS, Op, made_number, require_placed};
 pub use path::PathText;
 pub use refusal::{ApplyError, Denial, Refusal, Why};
 pub use service::Service;

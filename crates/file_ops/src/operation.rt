@@ -1,11 +1,14 @@
 //! What a transaction is made of.
 
 ghost use Rattle.std.specs.Prelude.{◌≡◌, ◌<◌, ◌^◌, IfOk};
-ghost use Rattle.file_ops.specs.Lists.{list_of};
+ghost use Rattle.file_ops.specs.Lists.{gives_default, is_misplaced, kept_default, lists_of, mode_list};
+ghost use Rattle.file_ops.specs.Operations.{refuse_if};
+ghost use Rattle.file_ops.specs.declared.refusal.Why.TheVariants as why;
 ghost use Rattle.file_ops.specs.Rows.{made_number};
 
 use crate::path::PathText;
-use acl_core::{Acl, Mode};
+use crate::refusal::Why;
+use acl_core::{Acl, Lists, Mode};
 use std::alloc::{AllocError, Global};
 use suite_content::{FileBytes, Kind};
 use vote_core::Votes;
@@ -13,24 +16,71 @@ use vote_core::Votes;
 /// The most operations of a transaction.
 pub const MAX_OPERATIONS: usize = 8;
 
-/// The access list that a new file or folder gets.
+/// The lists that a new file or folder gets.
 #[derive(Debug, Drop)]
 pub enum Init {
-    /// The list of a mode.
+    /// The list of a mode, cut from the default list of the folder where there is one.
     Mode(Mode),
-    /// This list.
-    List(Acl),
+    /// These lists.
+    Lists(Lists),
 }
 
 impl Init {
-    /// The list.
-    pub fn list(&self, alloc: Global) -> Result<Acl, AllocError>
-        ensures { IfOk result (λ acl. acl ≡ list_of self.now) }
+    /// The lists, in a folder that has this default list or has none.
+    pub fn lists(
+        &self,
+        alloc: Global,
+        kind: Kind,
+        default: &Option<Acl>,
+    ) -> Result<Lists, AllocError>
+        ensures { IfOk result (λ lists. lists ≡ lists_of kind default.now self.now) }
     {
         match self {
-            Init::Mode(mode) => Acl::from_mode(alloc, *mode),
-            Init::List(acl) => acl.clone(),
+            Init::Mode(mode) => {
+                let access = mode_list(alloc, *mode, default)?;
+                let default = kept_default(kind, default)?;
+                Ok(Lists { access, default })
+            }
+            Init::Lists(lists) => lists.clone(),
         }
+    }
+
+    /// Whether a default list is given.
+    pub fn gives_default(&self) -> bool
+        ensures { result ≡ gives_default self.now }
+    {
+        match self {
+            Init::Mode(_) => false,
+            Init::Lists(lists) => lists.default.is_some(),
+        }
+    }
+}
+
+fn mode_list(alloc: Global, mode: Mode, default: &Option<Acl>) -> Result<Acl, AllocError>
+    ensures { IfOk result (λ acl. acl ≡ mode_list default.now mode) }
+{
+    match default {
+        Some(default) => default.inherit(alloc, mode),
+        None => Acl::from_mode(alloc, mode),
+    }
+}
+
+fn kept_default(kind: Kind, default: &Option<Acl>) -> Result<Option<Acl>, AllocError>
+    ensures { IfOk result (λ kept. kept ≡ kept_default kind default.now) }
+{
+    match (kind, default) {
+        (Kind::Folder, Some(default)) => Ok(Some(default.clone()?)),
+        (Kind::Folder, None) | (Kind::File, _) => Ok(None),
+    }
+}
+
+/// A file can have no default list.
+pub fn require_placed(kind: Kind, given: bool) -> Result<(), Why>
+    ensures { result ≡ refuse_if (is_misplaced kind given) why.DefaultOnFile }
+{
+    match kind {
+        Kind::File if given => Err(Why::DefaultOnFile),
+        Kind::File | Kind::Folder => Ok(()),
     }
 }
 
@@ -51,7 +101,7 @@ pub enum Action {
     /// The access list is answered.
     GetAcl,
     /// A file or folder gets this access list.
-    SetAcl(Acl),
+    SetAcl(Lists),
     /// The votes are answered.
     GetVotes,
     /// A file or folder gets these votes.

@@ -40,6 +40,8 @@ pub enum Why {
     OpCount,
     /// The votes of what is made, or those that are set, list a server that there is not.
     UnknownServer,
+    /// A default list would come to a file.
+    DefaultOnFile,
 }
 
 /// A refusal: the operation, counted from 1, and why. Where the number of operations is refused, `op`

@@ -1,7 +1,7 @@
 //! Rows as the table stores them.
 
 ghost use Rattle.std.specs.Prelude.{◌≡◌, ℕ, ◌≤◌, Some, IfOk, OnOk, OnErr};
-ghost use Rattle.suite_content.specs.Contents.{empty_content};
+ghost use Rattle.suite_content.specs.Contents.{empty_content, kind_of};
 ghost use Rattle.suite_content.specs.Folders.{with_name, without_name};
 ghost use Rattle.file_ops.specs.Steps.{ok_map};
 ghost use Rattle.file_ops.specs.code.Stored.{listed_in, plain_content};
@@ -12,7 +12,7 @@ ghost use Rattle.file_ops.specs.code.Capacity.{capacity_in, has_room_for};
 
 use crate::refusal::Why;
 use crate::stored_names::StoredNames;
-use acl_core::Acl;
+use acl_core::Lists;
 use sorted_map::{RoomyMap, SortedMap};
 use std::alloc::{AllocError, Global};
 use suite_content::{FileBytes, FolderNames, Kind, Name, NameList};
@@ -26,7 +26,7 @@ pub(crate) type StoredRows = SortedMap<u64, StoredRow>;
 pub(crate) struct StoredRow {
     pub(crate) owner: u32,
     pub(crate) group: u32,
-    pub(crate) acl: Acl,
+    pub(crate) acl: Lists,
     pub(crate) votes: Votes,
     pub(crate) content: StoredContent,
 }
@@ -46,6 +46,16 @@ impl StoredContent {
         match kind {
             Kind::File => StoredContent::Bytes(FileBytes::empty()),
             Kind::Folder => StoredContent::Names(StoredNames::new(alloc)),
+        }
+    }
+
+    /// Whether it is a file's or a folder's.
+    pub(crate) fn kind(&self) -> Kind
+        ensures { result ≡ kind_of (plain_content self.now) }
+    {
+        match self {
+            StoredContent::Bytes(_) => Kind::File,
+            StoredContent::Names(_) => Kind::Folder,
         }
     }
 

@@ -16,7 +16,7 @@ use crate::edit::{
     drop_name, exchange_acl, exchange_content, exchange_votes, put_back_name, put_made, restore_row,
 };
 use crate::stored::{StoredContent, StoredRow, StoredRows};
-use acl_core::Acl;
+use acl_core::Lists;
 use std::alloc::AllocError;
 use suite_content::Name;
 use vote_core::Votes;
@@ -33,7 +33,7 @@ pub(crate) enum Undo {
     /// The access list of a suite before.
     Listed {
         suite: u64,
-        before: Acl,
+        before: Lists,
     },
     /// The votes of a suite before.
     Voted {
@@ -102,7 +102,7 @@ pub(crate) fn replace_content(rows: &mut StoredRows, suite: u64, content: Stored
 }
 
 /// Gives a suite another access list.
-pub(crate) fn replace_acl(rows: &mut StoredRows, suite: u64, acl: Acl) -> Undo
+pub(crate) fn replace_acl(rows: &mut StoredRows, suite: u64, acl: Lists) -> Undo
     ensures rows { plain rows.new ≡ edited (plain rows.old) suite (put_acl acl) }
     ensures back { TakesBack result rows.old rows.new }
 {

@@ -61,13 +61,13 @@ fn guarded(place: Place<'_>) -> Guarded<'_>
     ensures suite { result.suite ≡ (plain_place place.entry).suite }
     ensures owner { result.owner ≡ (plain_place place.entry).row.owner }
     ensures group { result.group ≡ (plain_place place.entry).row.group }
-    ensures acl { result.acl.now ≡ (plain_place place.entry).row.acl }
+    ensures acl { result.acl.now ≡ (plain_place place.entry).row.acl.access }
 {
     Guarded {
         suite: place.suite,
         owner: place.row.owner,
         group: place.row.group,
-        acl: &place.row.acl,
+        acl: &place.row.acl.access,
     }
 }
 

@@ -20,4 +20,4 @@ whole_again copy valid = ap shape_at (sym (append-nil (bytes_of copy))) ∙ shap
 pub none_begins_another : (a b : Replica) (rest : List ℕ) → IsCopy a → IsCopy b → bytes_of b ≡ bytes_of a ++ rest → a ≡ b
 none_begins_another a b rest a_valid b_valid begins =
     let first : shape_at (bytes_of b) ≡ Ok (shape_of a, rest) = ap shape_at begins ∙ shape_again a rest a_valid in
-    sym (copy_back a) ∙ ap (λ read. copy_of (shape_in (shape_of a) read)) (sym first ∙ whole_again b b_valid) ∙ copy_back b
+    sym (copy_back a a_valid.prefix.fits.acl.default) ∙ ap (λ read. copy_of (shape_in (shape_of a) read)) (sym first ∙ whole_again b b_valid) ∙ copy_back b b_valid.prefix.fits.acl.default

@@ -1,9 +1,12 @@
 -- What is read is a valid copy's, what a valid copy has is read, and faults tell apart.
 use Rattle.std.proofs.Common.{◌≡◌, ℕ, ◌<◌, true, ◌&&◌, get_or, length, List, [], ◌++◌, Result, Ok, Err, refl, sym, ap, subst, ◌∙◌, inl, inr, arith}
-use Rattle.std.specs.Prelude.{All, IfOk, IfErr, MatchResult}
+use Rattle.std.specs.Prelude.{All, IfOk, IfErr, IfSome, MatchResult, Option, None, Some}
 use Rattle.std.proofs.lemmas.Bool.{and_from, cases_Bool, cases_lt}
 use Rattle.std.proofs.lemmas.List.{append-nil, get_or_past}
 use Rattle.std.proofs.lemmas.List.Elements.{All-map}
+use Rattle.acl_core.specs.declared.entry.Entry.{Entry}
+use Rattle.acl_core.specs.AccessLists.{IsAcl, IsCanonical}
+use Rattle.suite_prefix.specs.TwoLists.{default_entries}
 use Rattle.suite_content.specs.declared.content.Content.{Content}
 use Rattle.suite_content.specs.declared.content.Content.TheVariants.{Bytes, Names}
 use Rattle.suite_prefix.specs.declared.copies.Replica.{Replica}
@@ -14,11 +17,11 @@ use Rattle.suite_prefix.specs.declared.faults.DecodeError.TheVariants as errors
 use Rattle.suite_prefix.specs.declared.shapes.EntryShape.{EntryShape}
 use Rattle.suite_prefix.specs.Bytes.{bytes_of}
 use Rattle.suite_prefix.specs.Copies.{IsCopy, IsContent}
-use Rattle.suite_prefix.specs.Faults.{SpellsCopy, IsFaultOf, IsFaultIn, IsOfValidCopy, Explains, FaultsTellApart, is_canonical, numbers_belong, entries_rise, content_rises}
+use Rattle.suite_prefix.specs.Faults.{SpellsCopy, IsFaultOf, IsFaultIn, IsOfValidCopy, Explains, FaultsTellApart, is_canonical, is_written, numbers_belong, entries_rise, content_rises}
 use Rattle.suite_prefix.specs.code.Judging.{IsWhole, Refuses}
 use Rattle.suite_prefix.specs.Reading.{Shape, copy_of, shape_at}
 use Rattle.suite_prefix.proofs.Back.{whole_again}
-use Rattle.suite_prefix.proofs.Judged.{belongs}
+use Rattle.suite_prefix.proofs.Judged.{canonical_parts}
 use Rattle.suite_prefix.proofs.Loop.{ok_is}
 use Rattle.suite_prefix.proofs.Orders.{numbers_of_entries, rise_if_canonical, rise_if_folder}
 use Rattle.suite_prefix.proofs.ShapeOf.{entry_shape, shape_of, copy_back}
@@ -30,17 +33,25 @@ content_is_canonical : (content : Content) → IsContent content → content_ris
 content_is_canonical (Bytes bytes) valid = refl
 content_is_canonical (Names names) valid = rise_if_folder names valid.rising
 
+default_canonical : (default : Option (List Entry)) → IfSome default IsAcl → IsCanonical (default_entries default)
+default_canonical None acl = λ i j d lt in_list. absurd (omega arith)
+default_canonical (Some list) acl = acl.canonical
+
 canonical_shape : (copy : Replica) → IsCopy copy → is_canonical (shape_of copy) ≡ true
 canonical_shape copy valid =
     let shape = shape_of copy in
-    and_from (numbers_belong shape.entries && entries_rise shape.entries) (content_rises shape.content)
-    (and_from (numbers_belong shape.entries) (entries_rise shape.entries) (numbers_of_entries copy.prefix.acl) (rise_if_canonical copy.prefix.acl valid.prefix.fits.acl.canonical))
+    let default = default_entries copy.prefix.acl.default in
+    and_from (is_written shape.entries && is_written shape.default) (content_rises shape.content)
+    (and_from (is_written shape.entries) (is_written shape.default)
+    (and_from (numbers_belong shape.entries) (entries_rise shape.entries) (numbers_of_entries copy.prefix.acl.access) (rise_if_canonical copy.prefix.acl.access valid.prefix.fits.acl.access.canonical))
+    (and_from (numbers_belong shape.default) (entries_rise shape.default) (numbers_of_entries default) (rise_if_canonical default (default_canonical copy.prefix.acl.default valid.prefix.fits.acl.default))))
     (content_is_canonical copy.content valid.content)
 
 spells_shape : (copy : Replica) → IsCopy copy → SpellsCopy (shape_of copy)
 spells_shape copy valid = record {
-  permissions_known = All-map (λ (entry : EntryShape). entry.permissions < 8) entry_shape copy.prefix.acl (λ k d in_list. (get_or copy.prefix.acl k d).known);
-  valid = subst IsCopy (sym (copy_back copy)) valid;
+  permissions_known = All-map (λ (entry : EntryShape). entry.permissions < 8) entry_shape copy.prefix.acl.access (λ k d in_list. (get_or copy.prefix.acl.access k d).known);
+  default_known = All-map (λ (entry : EntryShape). entry.permissions < 8) entry_shape (default_entries copy.prefix.acl.default) (λ k d in_list. (get_or (default_entries copy.prefix.acl.default) k d).known);
+  valid = subst IsCopy (sym (copy_back copy valid.prefix.fits.acl.default)) valid;
 }
 
 -- the shape of a valid copy with nothing behind it has no fault
@@ -62,7 +73,7 @@ never_fails bytes copy fault valid has e = let whole = read_whole bytes copy val
 
 pub spelled : (bytes : List ℕ) (shape : Shape) (rest : List ℕ) → IsBytes bytes → shape_at bytes ≡ Ok (shape, rest) → IsWhole shape rest → bytes ≡ bytes_of (copy_of shape)
 spelled bytes shape rest fits e whole =
-    (shape_takes bytes (shape, rest) fits e).whole ∙ ap (λ (t : List ℕ). t ++ rest) (same_text shape (belongs shape whole.canonical) whole.copy.permissions_known)
+    (shape_takes bytes (shape, rest) fits e).whole ∙ ap (λ (t : List ℕ). t ++ rest) (same_text shape (canonical_parts shape whole.canonical).belongs (canonical_parts shape whole.canonical).default_belongs whole.copy.permissions_known whole.copy.default_known)
     ∙ ap (λ (t : List ℕ). bytes_of (copy_of shape) ++ t) whole.ended ∙ append-nil (bytes_of (copy_of shape))
 
 pub is_read : (bytes : List ℕ) (shape : Shape) (rest : List ℕ) (r : Result Replica DecodeError) → IsBytes bytes → shape_at bytes ≡ Ok (shape, rest)
@@ -89,7 +100,7 @@ only_memory copy errors.Memory valid refused = refl
 
 only_this : (copy : Replica) (r : Result Replica DecodeError) → IsCopy copy → IfOk r (λ read. read ≡ copy_of (shape_of copy)) → IfErr r (Refuses (shape_of copy) [])
     → MatchResult r (λ read. read ≡ copy) (λ error. error ≡ errors.Memory)
-only_this copy (Ok read) valid value refused = value ∙ copy_back copy
+only_this copy (Ok read) valid value refused = value ∙ copy_back copy valid.prefix.fits.acl.default
 only_this copy (Err error) valid value refused = only_memory copy error valid refused
 
 abbrev Answered : Replica → Result Replica DecodeError → Shape × List ℕ → Type 0

@@ -1,12 +1,14 @@
 -- A shape spells a valid copy exactly where each of its parts does.
-use Rattle.std.proofs.Common.{◌≡◌, ◌<◌, ◌^◌, true, map, sym, ap, ◌∙◌}
-use Rattle.std.specs.Prelude.{IsTrue, ◌&&◌}
+use Rattle.std.proofs.Common.{◌≡◌, ◌<◌, ◌^◌, true, List, [], ◌∷◌, map, subst, sym, ap, ◌∙◌}
+use Rattle.std.specs.Prelude.{All, IfSome, IsTrue, ◌&&◌}
+use Rattle.suite_prefix.specs.TwoLists.{default_of}
+use Rattle.suite_prefix.proofs.Takes.{entries_again}
 use Rattle.std.proofs.lemmas.Bool.{and_parts}
 use Rattle.std.proofs.lemmas.List.Elements.{All-map}
 use Rattle.std.proofs.Math.Nat.{mod-eq_of_lt}
 use Rattle.acl_core.specs.declared.entry.Tag.{Tag}
 use Rattle.acl_core.specs.declared.entry.Entry.{Entry}
-use Rattle.acl_core.specs.AccessLists.{IsAccepted}
+use Rattle.acl_core.specs.AccessLists.{IsAcl, IsCanonical}
 use Rattle.acl_core.specs.Entries.{entry_of}
 use Rattle.acl_core.specs.Permissions.{number_of}
 use Rattle.acl_core.specs.Tags.{qualifier}
@@ -14,19 +16,38 @@ use Rattle.suite_content.specs.declared.content.Content.{Content}
 use Rattle.suite_content.specs.declared.content.Content.TheVariants.{Bytes, Names}
 use Rattle.suite_prefix.specs.declared.shapes.EntryShape.{EntryShape}
 use Rattle.suite_prefix.specs.Copies.{IsContent}
-use Rattle.suite_prefix.specs.Faults.{SpellsCopy, is_canonical, numbers_belong, entries_rise, content_rises}
-use Rattle.suite_prefix.specs.code.Judging.{FitsForm, ContentFits, IsWithin, IsSound}
+use Rattle.suite_prefix.specs.Faults.{SpellsCopy, is_canonical, is_written, numbers_belong, entries_rise, content_rises}
+use Rattle.suite_prefix.specs.code.Judging.{FitsForm, ContentFits, IsWithin, IsSound, MakeLists, MakesDefault}
 use Rattle.suite_prefix.specs.Reading.{Shape, entry_from}
 use Rattle.suite_prefix.proofs.Orders.{canonical_if_rise, folder_if_rise}
 
-pub rises : (shape : Shape) → IsTrue (is_canonical shape) → IsTrue (entries_rise shape.entries)
-rises shape canonical = (and_parts _ _ (and_parts (numbers_belong shape.entries && entries_rise shape.entries) (content_rises shape.content) canonical).0).1
+-- a canonical shape, part by part
+pub record Canonical (shape : Shape) : Type 0 where
+  pub belongs : IsTrue (numbers_belong shape.entries)
+  pub rises : IsTrue (entries_rise shape.entries)
+  pub default_belongs : IsTrue (numbers_belong shape.default)
+  pub default_rises : IsTrue (entries_rise shape.default)
+  pub content : IsTrue (content_rises shape.content)
 
-pub belongs : (shape : Shape) → IsTrue (is_canonical shape) → IsTrue (numbers_belong shape.entries)
-belongs shape canonical = (and_parts _ _ (and_parts (numbers_belong shape.entries && entries_rise shape.entries) (content_rises shape.content) canonical).0).0
+pub canonical_parts : (shape : Shape) → IsTrue (is_canonical shape) → Canonical shape
+canonical_parts shape canonical =
+    let all = and_parts (is_written shape.entries && is_written shape.default) (content_rises shape.content) canonical in
+    let lists = and_parts (is_written shape.entries) (is_written shape.default) all.0 in
+    let access = and_parts (numbers_belong shape.entries) (entries_rise shape.entries) lists.0 in
+    let default = and_parts (numbers_belong shape.default) (entries_rise shape.default) lists.1 in
+    record { belongs = access.0; rises = access.1; default_belongs = default.0; default_rises = default.1; content = all.1 }
 
 pub content_is_canonical : (shape : Shape) → IsTrue (is_canonical shape) → IsTrue (content_rises shape.content)
-content_is_canonical shape canonical = (and_parts (numbers_belong shape.entries && entries_rise shape.entries) (content_rises shape.content) canonical).1
+content_is_canonical shape canonical = (canonical_parts shape canonical).content
+
+-- the default list of some entries
+default_acl : (entries : List Entry) → MakesDefault entries → IsCanonical entries → IfSome (default_of entries) IsAcl
+default_acl [] makes canonical = tt
+default_acl (e ∷ es) makes canonical = record { accepted = makes; canonical = canonical }
+
+makes_default : (entries : List Entry) → IfSome (default_of entries) IsAcl → MakesDefault entries
+makes_default [] acl = tt
+makes_default (e ∷ es) acl = acl.accepted
 
 content_spelled : (content : Content) → ContentFits content → content_rises content ≡ true → IsWithin content → IsContent content
 content_spelled (Bytes bytes) fits rises within = record { few = within; bytes_fit = fits }
@@ -36,25 +57,33 @@ content_within : (content : Content) → IsContent content → IsWithin content
 content_within (Bytes bytes) valid = valid.few
 content_within (Names names) valid = record { few = valid.few; are_names = valid.are_names }
 
-pub spells : (shape : Shape) → FitsForm shape → IsTrue (is_canonical shape) → IsSound shape → IsAccepted (map entry_from shape.entries) → SpellsCopy shape
+pub spells : (shape : Shape) → FitsForm shape → IsTrue (is_canonical shape) → IsSound shape → MakeLists shape.entries shape.default → SpellsCopy shape
 spells shape fits canonical sound accepted = record {
   permissions_known = sound.permissions_known;
+  default_known = sound.default_known;
   valid = record {
     prefix = record {
       fits = record {
-        acl = record { accepted = accepted; canonical = canonical_if_rise shape.entries (rises shape canonical) };
+        acl = record {
+          access = record { accepted = accepted.access; canonical = canonical_if_rise shape.entries (canonical_parts shape canonical).rises };
+          default = default_acl (map entry_from shape.default) accepted.default (canonical_if_rise shape.default (canonical_parts shape canonical).default_rises);
+        };
         votes = sound.votes.valid;
         pver = fits.pver;
         owner = fits.owner;
         group = fits.group;
-        qualifiers = All-map (λ (entry : Entry). qualifier entry.tag < 2 ^ 32) entry_from shape.entries fits.numbers;
+        qualifiers = record {
+          access = All-map (λ (entry : Entry). qualifier entry.tag < 2 ^ 32) entry_from shape.entries fits.numbers;
+          default = subst (All (λ (entry : Entry). qualifier entry.tag < 2 ^ 32)) (sym (entries_again (map entry_from shape.default))) (All-map (λ (entry : Entry). qualifier entry.tag < 2 ^ 32) entry_from shape.default fits.default_numbers);
+        };
         r = fits.r;
         w = fits.w;
       };
       absent_is_version_0 = sound.rules.absent_is_version_0;
       nothing = sound.rules.nothing;
+      default_of_folder = sound.rules.default_of_folder;
     };
-    content = content_spelled shape.content fits.content (content_is_canonical shape canonical) sound.rules.within;
+    content = content_spelled shape.content fits.content (canonical_parts shape canonical).content sound.rules.within;
     kinds_agree = fits.kinds_agree;
     absent_holds_version_0 = sound.rules.absent_holds_version_0;
     version_0_is_empty = sound.rules.version_0_is_empty;
@@ -65,9 +94,11 @@ spells shape fits canonical sound accepted = record {
 pub is_sound : (shape : Shape) → SpellsCopy shape → IsSound shape
 is_sound shape spelled = record {
   permissions_known = spelled.permissions_known;
+  default_known = spelled.default_known;
   rules = record {
     absent_is_version_0 = spelled.valid.prefix.absent_is_version_0;
     nothing = spelled.valid.prefix.nothing;
+    default_of_folder = spelled.valid.prefix.default_of_folder;
     within = content_within shape.content spelled.valid.content;
     absent_holds_version_0 = spelled.valid.absent_holds_version_0;
     version_0_is_empty = spelled.valid.version_0_is_empty;
@@ -75,8 +106,8 @@ is_sound shape spelled = record {
   votes = record { known = spelled.valid.prefix.fits.votes.numbered; valid = spelled.valid.prefix.fits.votes };
 }
 
-pub is_accepted : (shape : Shape) → SpellsCopy shape → IsAccepted (map entry_from shape.entries)
-is_accepted shape spelled = spelled.valid.prefix.fits.acl.accepted
+pub is_accepted : (shape : Shape) → SpellsCopy shape → MakeLists shape.entries shape.default
+is_accepted shape spelled = record { access = spelled.valid.prefix.fits.acl.access.accepted; default = makes_default (map entry_from shape.default) spelled.valid.prefix.fits.acl.default }
 
 -- an entry of the list of mode 000
 pub grants_nothing_if : (e : EntryShape) (tag : Tag) → e.tag ≡ tag → e.permissions ≡ 0 → entry_from e ≡ entry_of tag 0

@@ -11,6 +11,7 @@ use Rattle.std.proofs.lemmas.Nat.{from_be_bytes-to_be_bytes_2, from_be_bytes-to_
 use Rattle.acl_core.specs.declared.entry.Entry.{Entry}
 use Rattle.acl_core.specs.declared.entry.Tag.{Tag}
 use Rattle.acl_core.specs.declared.entry.Tag.TheVariants.{UserObj, User, GroupObj, Group, Mask, Other}
+use Rattle.acl_core.specs.declared.lists.Lists.{Lists}
 use Rattle.acl_core.specs.Permissions.{number_of}
 use Rattle.acl_core.specs.Tags.{qualifier}
 use Rattle.vote_core.specs.Quorums.{Configuration, Representative}
@@ -21,13 +22,14 @@ use Rattle.suite_prefix.specs.declared.copies.PrefixKind.{PrefixKind}
 use Rattle.suite_prefix.specs.declared.copies.PrefixKind.TheVariants.{Absent, File, Folder}
 use Rattle.suite_prefix.specs.declared.copies.Prefix.{Prefix}
 use Rattle.suite_prefix.specs.declared.copies.Replica.{Replica}
-use Rattle.suite_prefix.specs.Bytes.{kind_code, tag_code, entry_bytes, list_bytes, representative_bytes, votes_bytes, identity_bytes, name_bytes, content_bytes, bytes_of}
+use Rattle.suite_prefix.specs.Bytes.{kind_code, tag_code, entry_bytes, list_bytes, lists_bytes, representative_bytes, votes_bytes, identity_bytes, name_bytes, content_bytes, bytes_of}
+use Rattle.suite_prefix.specs.TwoLists.{NumbersFit, default_entries}
 use Rattle.suite_prefix.specs.Copies.{IsCopy, PrefixFits, IsContent, held_by}
 use Rattle.suite_prefix.proofs.Joins.{five_pieces}
 use Rattle.suite_prefix.proofs.ShapeOf.{entry_shape, shape_of, tag_back}
 use Rattle.suite_prefix.specs.declared.faults.CopyFault.{CopyFault}
 use Rattle.suite_prefix.specs.declared.shapes.Identity.{Identity}
-use Rattle.suite_prefix.specs.Reading.{number_at, bytes_at, kind_of_code, identity_at, code_at, entry_at, representative_at, name_at, many_at, list_at, listed_at, votes_at, file_at, folder_at, content_at, shape_at}
+use Rattle.suite_prefix.specs.Reading.{number_at, bytes_at, kind_of_code, identity_at, code_at, entry_at, representative_at, name_at, many_at, list_at, lists_at, listed_at, votes_at, file_at, folder_at, content_at, shape_at}
 
 -- ---- numbers and bytes
 
@@ -101,6 +103,13 @@ list_again : (entries : List Entry) (rest : List ℕ) → All (λ entry. qualifi
 unfolding list_at
 list_again entries rest fits =
     many_again entry_at entry_bytes entry_shape (λ entry. qualifier entry.tag < 2 ^ 32) entry_again entries rest (recursion_from_All (λ entry. qualifier entry.tag < 2 ^ 32) entries fits)
+
+lists_again : (lists : Lists) (rest : List ℕ) → NumbersFit lists → lists_at (lists_bytes lists ++ rest) ≡ Ok ((map entry_shape lists.access, map entry_shape (default_entries lists.default)), rest)
+unfolding lists_at
+lists_again lists rest fits =
+    let default = list_bytes (default_entries lists.default) in
+    ap lists_at (append_assoc (list_bytes lists.access) default rest)
+    ∙ rw (list_again lists.access (default ++ rest) fits.access, list_again (default_entries lists.default) rest fits.default) refl
 
 all_units : {X : Type 0} (xs : List X) → AllByRecursion (λ x. Unit {0}) xs
 all_units [] = tt
@@ -180,19 +189,19 @@ unfolding shape_at identity_of
 shape_again copy rest valid =
     let p = copy.prefix in
     let identity = identity_bytes p in
-    let list = list_bytes p.acl in
+    let list = lists_bytes p.acl in
     let votes = votes_bytes p.votes in
     let dver = to_be_bytes w64 copy.dver in
     let content = content_bytes copy.content in
     let after_dver = content ++ rest in
     let after_votes = dver ++ after_dver in
     let after_list = votes ++ after_votes in
-    let regrouped : bytes_of copy ++ rest ≡ 1 ∷ (identity ++ (list ++ after_list)) =
-    ap (λ t. 1 ∷ t) (five_pieces identity list votes dver content rest) in
+    let regrouped : bytes_of copy ++ rest ≡ 2 ∷ (identity ++ (list ++ after_list)) =
+    ap (λ t. 2 ∷ t) (five_pieces identity list votes dver content rest) in
     ap shape_at regrouped
     ∙ rw (
       identity_again p (list ++ after_list) valid.prefix.fits,
-      list_again p.acl after_list valid.prefix.fits.qualifiers,
+      lists_again p.acl after_list valid.prefix.fits.qualifiers,
       votes_again p.votes after_votes valid.prefix.fits.r valid.prefix.fits.w,
       number_again w64 (2 ^ 64) wide64 copy.dver after_dver valid.dver_fits,
       content_again p.kind copy.content rest valid.kinds_agree valid.content,

@@ -1,7 +1,10 @@
 -- The shape in which a copy is written, and that it spells the copy.
-use Rattle.std.proofs.Common.{◌≡◌, ℕ, List, [], ◌∷◌, map, refl, ap, ◌∙◌}
+use Rattle.std.proofs.Common.{◌≡◌, ℕ, List, [], ◌∷◌, map, Option, None, Some, refl, ap, ◌∙◌}
+use Rattle.std.specs.Prelude.{IfSome}
 use Rattle.std.proofs.Math.Nat.{mod-eq_of_lt}
 use Rattle.acl_core.specs.declared.entry.Entry.{Entry}
+use Rattle.acl_core.specs.declared.lists.Lists.{Lists}
+use Rattle.acl_core.specs.AccessLists.{IsAcl}
 use Rattle.acl_core.specs.declared.perms.Perms.{Perms}
 use Rattle.acl_core.specs.declared.entry.Tag.{Tag}
 use Rattle.acl_core.specs.declared.entry.Tag.TheVariants.{UserObj, User, GroupObj, Group, Mask, Other}
@@ -10,6 +13,7 @@ use Rattle.acl_core.specs.Tags.{qualifier}
 use Rattle.acl_core.proofs.EntryEquality.{same_by_fields}
 use Rattle.suite_prefix.specs.declared.copies.Replica.{Replica}
 use Rattle.suite_prefix.specs.declared.shapes.EntryShape.{EntryShape}
+use Rattle.suite_prefix.specs.TwoLists.{default_entries, default_of}
 use Rattle.suite_prefix.specs.Bytes.{tag_code}
 use Rattle.suite_prefix.specs.Reading.{Shape, tag_of, entry_from, copy_of}
 
@@ -19,7 +23,8 @@ entry_shape entry = record { tag = entry.tag; number = qualifier entry.tag; perm
 abbrev pub shape_of : Replica → Shape
 shape_of copy = record {
   identity = record { pver = copy.prefix.pver; kind = copy.prefix.kind; owner = copy.prefix.owner; group = copy.prefix.group };
-  entries = map entry_shape copy.prefix.acl;
+  entries = map entry_shape copy.prefix.acl.access;
+  default = map entry_shape (default_entries copy.prefix.acl.default);
   votes = copy.prefix.votes;
   dver = copy.dver;
   content = copy.content;
@@ -44,9 +49,18 @@ pub entries_back : (entries : List Entry) → map entry_from (map entry_shape en
 entries_back [] = refl
 entries_back (entry ∷ entries) = ap (λ e. e ∷ map entry_from (map entry_shape entries)) (entry_back entry) ∙ ap (λ es. entry ∷ es) (entries_back entries)
 
-with_acl : Replica → List Entry → Replica
+-- a list with an entry is the default list of its entries
+some_of : (list : List Entry) → IsAcl list → default_of list ≡ Some list
+some_of [] acl = let none = acl.accepted.valid.one_user_obj in absurd cc
+some_of (entry ∷ entries) acl = refl
+
+default_back : (default : Option (List Entry)) → IfSome default IsAcl → default_of (map entry_from (map entry_shape (default_entries default))) ≡ default
+default_back None acl = refl
+default_back (Some list) acl = ap default_of (entries_back list) ∙ some_of list acl
+
+with_acl : Replica → Lists → Replica
 with_acl copy acl = record { prefix = record { pver = copy.prefix.pver; kind = copy.prefix.kind; owner = copy.prefix.owner; group = copy.prefix.group; acl = acl; votes = copy.prefix.votes }; dver = copy.dver; content = copy.content }
 
-pub copy_back : (copy : Replica) → copy_of (shape_of copy) ≡ copy
+pub copy_back : (copy : Replica) → IfSome copy.prefix.acl.default IsAcl → copy_of (shape_of copy) ≡ copy
 unfolding with_acl
-copy_back copy = ap (with_acl copy) (entries_back copy.prefix.acl)
+copy_back copy acl = ap (with_acl copy) (λ i. record { access = entries_back copy.prefix.acl.access i; default = default_back copy.prefix.acl.default acl i })

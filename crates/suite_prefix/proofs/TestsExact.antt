@@ -1,11 +1,12 @@
 -- The tests of valid prefixes and copies are true exactly of these, where the parts fit their types; and the parts of valid copies do.
-use Rattle.std.proofs.Common.{◌≡◌, ℕ, suc, zero, true, List, [], ◌∷◌, length, refl, ap, arith}
+use Rattle.std.proofs.Common.{◌≡◌, ℕ, suc, zero, true, List, [], ◌∷◌, Option, None, Some, is_some, length, refl, ap, arith}
 use Rattle.std.specs.Prelude.{◌==◌, nat_lt, IsTrue, ◌&&◌, not, if◌then◌else◌}
 use Rattle.std.specs.Cmp.{unsigned_Decides}
 use Rattle.std.proofs.lemmas.Bool.{and_parts, and_from, cond-true}
 use Rattle.std.proofs.lemmas.Bool.Decides.{nat_tests}
-use Rattle.acl_core.specs.Modes.{minimal_list}
-use Rattle.acl_core.proofs.EntryEquality.{same_list_decides}
+use Rattle.acl_core.specs.declared.entry.Entry.{Entry}
+use Rattle.acl_core.specs.declared.lists.Lists.{Lists}
+use Rattle.acl_core.proofs.ListsEquality.{same_lists_decides}
 use Rattle.suite_content.specs.Contents.{kind_of, empty_content}
 use Rattle.suite_content.specs.declared.content.Content.{Content}
 use Rattle.suite_content.specs.declared.content.Content.TheVariants.{Bytes, Names}
@@ -14,6 +15,7 @@ use Rattle.suite_prefix.specs.declared.copies.PrefixKind.TheVariants.{Absent, Fi
 use Rattle.suite_prefix.specs.declared.copies.Prefix.{Prefix}
 use Rattle.suite_prefix.specs.declared.copies.Replica.{Replica}
 use Rattle.suite_prefix.specs.Copies.{PrefixFits, IsPrefix, IsNothing, IsContent, IsCopy, held_by}
+use Rattle.suite_prefix.specs.TwoLists.{closed_lists}
 use Rattle.suite_prefix.specs.Tests.{is_closed, is_nothing, keeps_rules, is_valid_prefix, is_absent, holds, is_empty, is_within_limits, version_agrees, is_valid_copy}
 use Rattle.suite_prefix.specs.TestsExact.{ContentFits, CopyFits, TestsAreExact}
 
@@ -26,14 +28,14 @@ nothing_if prefix passes =
     record {
       no_owner = (unsigned_Decides prefix.owner 0).0 numbers.0;
       no_group = (unsigned_Decides prefix.group 0).0 numbers.1;
-      closed = (same_list_decides prefix.acl (minimal_list 0)).0 fronts.1;
+      closed = (same_lists_decides prefix.acl closed_lists).0 fronts.1;
     }
 
 if_nothing : (prefix : Prefix) → IsNothing prefix → IsTrue (is_nothing prefix)
 if_nothing prefix nothing =
     and_from ((prefix.owner == 0) && (prefix.group == 0)) (is_closed prefix.acl)
     (and_from (prefix.owner == 0) (prefix.group == 0) ((unsigned_Decides prefix.owner 0).1 nothing.no_owner) ((unsigned_Decides prefix.group 0).1 nothing.no_group))
-    ((same_list_decides prefix.acl (minimal_list 0)).1 nothing.closed)
+    ((same_lists_decides prefix.acl closed_lists).1 nothing.closed)
 
 above : (n : ℕ) → nat_lt 0 n ≡ true → n ≡ 0 → ⊥
 above n passes none = grind (arith, nat_tests)
@@ -45,6 +47,10 @@ if_above : (n : ℕ) → (n ≡ 0 → ⊥) → nat_lt 0 n ≡ true
 if_above zero some = absurd (some refl)
 if_above (suc n) some = some_above n
 
+no_list : (o : Option (List Entry)) → not (is_some o) ≡ true → o ≡ None
+no_list None passes = refl
+no_list (Some list) passes = absurd cc
+
 prefix_if : (kind : PrefixKind) (prefix : Prefix) → prefix.kind ≡ kind → PrefixFits prefix → IsTrue (keeps_rules kind prefix) → IsPrefix prefix
 prefix_if Absent prefix same fits keeps =
     let parts = and_parts (prefix.pver == 0) (is_nothing prefix) keeps in
@@ -52,22 +58,29 @@ prefix_if Absent prefix same fits keeps =
       fits = fits;
       absent_is_version_0 = (λ absent. (unsigned_Decides prefix.pver 0).0 parts.0, λ none. same);
       nothing = λ absent. nothing_if prefix parts.1;
+      default_of_folder = λ other. ap (λ (lists : Lists). lists.default) (nothing_if prefix parts.1).closed;
     }
-prefix_if File prefix same fits keeps = record {
-  fits = fits;
-  absent_is_version_0 = (λ absent. absurd cc, λ none. absurd (above prefix.pver keeps none));
-  nothing = λ absent. absurd cc;
-}
+prefix_if File prefix same fits keeps =
+    let parts = and_parts (nat_lt 0 prefix.pver) (not (is_some prefix.acl.default)) keeps in
+    record {
+      fits = fits;
+      absent_is_version_0 = (λ absent. absurd cc, λ none. absurd (above prefix.pver parts.0 none));
+      nothing = λ absent. absurd cc;
+      default_of_folder = λ other. no_list prefix.acl.default parts.1;
+    }
 prefix_if Folder prefix same fits keeps = record {
   fits = fits;
   absent_is_version_0 = (λ absent. absurd cc, λ none. absurd (above prefix.pver keeps none));
   nothing = λ absent. absurd cc;
+  default_of_folder = λ other. absurd (other same);
 }
 
 if_prefix : (kind : PrefixKind) (prefix : Prefix) → prefix.kind ≡ kind → IsPrefix prefix → IsTrue (keeps_rules kind prefix)
 if_prefix Absent prefix same valid =
     and_from (prefix.pver == 0) (is_nothing prefix) ((unsigned_Decides prefix.pver 0).1 (valid.absent_is_version_0.0 same)) (if_nothing prefix (valid.nothing same))
-if_prefix File prefix same valid = if_above prefix.pver (λ none. let absent = valid.absent_is_version_0.1 none in absurd cc)
+if_prefix File prefix same valid =
+    and_from (nat_lt 0 prefix.pver) (not (is_some prefix.acl.default)) (if_above prefix.pver (λ none. let absent = valid.absent_is_version_0.1 none in absurd cc))
+    (ap (λ o. not (is_some o)) (valid.default_of_folder (λ folder. absurd cc)))
 if_prefix Folder prefix same valid = if_above prefix.pver (λ none. let absent = valid.absent_is_version_0.1 none in absurd cc)
 
 -- a prefix that passes and fits is valid

@@ -1,10 +1,11 @@
--- The bytes of a copy, form 1. Numbers have their highest byte first.
+-- The bytes of a copy, form 2. Numbers have their highest byte first.
 use Rattle.std.specs.Prelude.{◌≡◌, ℕ, List, [], ◌∷◌, ◌++◌, length}
 use Rattle.std.specs.List.{flat_map}
 use Rattle.std.specs.Int.{w16, w32, w64, to_be_bytes}
 use Rattle.acl_core.specs.declared.entry.Tag.{Tag}
 use Rattle.acl_core.specs.declared.entry.Tag.TheVariants.{UserObj, User, GroupObj, Group, Mask, Other}
 use Rattle.acl_core.specs.declared.entry.Entry.{Entry}
+use Rattle.acl_core.specs.declared.lists.Lists.{Lists}
 use Rattle.acl_core.specs.Tags.{qualifier}
 use Rattle.acl_core.specs.Permissions.{number_of}
 use Rattle.vote_core.specs.Quorums.{Configuration, Representative}
@@ -15,6 +16,7 @@ use Rattle.suite_prefix.specs.declared.copies.PrefixKind.TheVariants.{Absent, Fi
 use Rattle.suite_prefix.specs.declared.copies.Prefix.{Prefix}
 use Rattle.suite_prefix.specs.declared.copies.Replica.{Replica}
 use Rattle.suite_prefix.specs.Copies.{IsCopy}
+use Rattle.suite_prefix.specs.TwoLists.{default_entries}
 
 -- one byte: the kind
 abbrev pub kind_code : PrefixKind → ℕ
@@ -39,6 +41,10 @@ entry_bytes entry = tag_code entry.tag ∷ to_be_bytes w32 (qualifier entry.tag)
 abbrev pub list_bytes : List Entry → List ℕ
 list_bytes entries = length entries ∷ flat_map entry_bytes entries
 
+-- those of the access list and those of the default list, of which there are none where there is no such list
+abbrev pub lists_bytes : Lists → List ℕ
+lists_bytes lists = list_bytes lists.access ++ list_bytes (default_entries lists.default)
+
 -- a byte for the server, and one for its votes
 abbrev pub representative_bytes : Representative → List ℕ
 representative_bytes rep = rep.0 ∷ rep.1 ∷ []
@@ -53,9 +59,9 @@ abbrev pub identity_bytes : Prefix → List ℕ
 identity_bytes prefix =
     to_be_bytes w64 prefix.pver ++ kind_code prefix.kind ∷ to_be_bytes w32 prefix.owner ++ to_be_bytes w32 prefix.group
 
--- these, the list, and the votes
+-- these, the lists, and the votes
 abbrev pub prefix_bytes : Prefix → List ℕ
-prefix_bytes prefix = identity_bytes prefix ++ list_bytes prefix.acl ++ votes_bytes prefix.votes
+prefix_bytes prefix = identity_bytes prefix ++ lists_bytes prefix.acl ++ votes_bytes prefix.votes
 
 -- a byte for the length of the name, the name, and eight bytes for the number of its suite
 abbrev pub name_bytes : List ℕ × ℕ → List ℕ
@@ -68,7 +74,7 @@ content_bytes (Names names) = to_be_bytes w16 (length names) ++ flat_map name_by
 
 -- the form, the prefix, the version of the content, and the content
 abbrev pub bytes_of : Replica → List ℕ
-bytes_of copy = 1 ∷ prefix_bytes copy.prefix ++ to_be_bytes w64 copy.dver ++ content_bytes copy.content
+bytes_of copy = 2 ∷ prefix_bytes copy.prefix ++ to_be_bytes w64 copy.dver ++ content_bytes copy.content
 
 -- no valid copy's bytes begin those of another
 abbrev pub NoneBeginsAnother : Type 0

@@ -1,9 +1,6 @@
 -- Valid copies. What a copy is follows Gifford, "Weighted Voting for Replicated Data" (SOSP 1979): a prefix with the configuration, a
 -- version number, and the content. The rules of versions and kinds, and the limits, are this project's.
-use Rattle.std.specs.Prelude.{◌≡◌, ℕ, ◌<◌, ◌≤◌, ◌^◌, ◌↔◌, List, length, All}
-use Rattle.acl_core.specs.AccessLists.{IsAcl}
-use Rattle.acl_core.specs.Tags.{qualifier}
-use Rattle.acl_core.specs.Modes.{minimal_list}
+use Rattle.std.specs.Prelude.{◌≡◌, ℕ, ◌<◌, ◌≤◌, ◌^◌, ◌↔◌, List, length, All, None}
 use Rattle.vote_core.specs.Validity.{IsValid}
 use Rattle.suite_content.specs.declared.content.Kind.{Kind}
 use Rattle.suite_content.specs.declared.content.Kind.TheVariants as holds
@@ -13,6 +10,7 @@ use Rattle.suite_content.specs.Limits.{max_names, max_content}
 use Rattle.suite_content.specs.Names.{IsName}
 use Rattle.suite_content.specs.Folders.{IsFolder}
 use Rattle.suite_content.specs.Contents.{kind_of, empty_content}
+use Rattle.suite_prefix.specs.TwoLists.{AreAcls, NumbersFit, closed_lists}
 use Rattle.suite_prefix.specs.declared.copies.PrefixKind.{PrefixKind}
 use Rattle.suite_prefix.specs.declared.copies.PrefixKind.TheVariants.{Absent, File, Folder}
 use Rattle.suite_prefix.specs.declared.copies.Prefix.{Prefix}
@@ -22,24 +20,25 @@ use Rattle.suite_prefix.specs.declared.copies.Replica.{Replica}
 pub record IsNothing (prefix : Prefix) : Type 0 where
   pub no_owner : prefix.owner ≡ 0
   pub no_group : prefix.group ≡ 0
-  pub closed : prefix.acl ≡ minimal_list 0
+  pub closed : prefix.acl ≡ closed_lists
 
--- its list and its votes are valid, and its numbers fit their bytes; so it is of each prefix by its types
+-- its lists and its votes are valid, and its numbers fit their bytes; so it is of each prefix by its types
 pub record PrefixFits (prefix : Prefix) : Type 0 where
-  pub acl : IsAcl prefix.acl
+  pub acl : AreAcls prefix.acl
   pub votes : IsValid prefix.votes
   pub pver : prefix.pver < 2 ^ 64
   pub owner : prefix.owner < 2 ^ 32
   pub group : prefix.group < 2 ^ 32
-  pub qualifiers : All (λ entry. qualifier entry.tag < 2 ^ 32) prefix.acl
+  pub qualifiers : NumbersFit prefix.acl
   pub r : prefix.votes.r < 2 ^ 16
   pub w : prefix.votes.w < 2 ^ 16
 
--- a valid prefix: version 0 is that of what was never made, and of nothing else
+-- a valid prefix: version 0 is that of what was never made, and of nothing else, and only folders have a default list
 pub record IsPrefix (prefix : Prefix) : Type 0 where
   pub fits : PrefixFits prefix
   pub absent_is_version_0 : (prefix.kind ≡ Absent) ↔ (prefix.pver ≡ 0)
   pub nothing : prefix.kind ≡ Absent → IsNothing prefix
+  pub default_of_folder : (prefix.kind ≡ Folder → ⊥) → prefix.acl.default ≡ None
 
 -- what a copy with a prefix of some kind holds; where nothing was made, no bytes
 abbrev pub held_by : PrefixKind → Kind

@@ -38,13 +38,18 @@ abbrev pub content_rises : Content → Bool
 content_rises (Bytes bytes) = true
 content_rises (Names names) = names_rise names
 
+-- a list is written in one way
+abbrev pub is_written : List EntryShape → Bool
+is_written entries = numbers_belong entries && entries_rise entries
+
 -- a copy with these parts is written in one way, and this is it
 abbrev pub is_canonical : Shape → Bool
-is_canonical shape = (numbers_belong shape.entries && entries_rise shape.entries) && content_rises shape.content
+is_canonical shape = (is_written shape.entries && is_written shape.default) && content_rises shape.content
 
 -- the parts are those of a valid copy
 pub record SpellsCopy (shape : Shape) : Type 0 where
   pub permissions_known : All (λ entry. entry.permissions < 8) shape.entries
+  pub default_known : All (λ entry. entry.permissions < 8) shape.default
   pub valid : IsCopy (copy_of shape)
 
 -- the fault of a whole shape with these bytes behind it

@@ -1,3 +1,4 @@
+pub mod TwoLists
 pub mod Copies
 pub mod Tests
 pub mod TestsExact

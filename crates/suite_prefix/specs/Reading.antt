@@ -9,6 +9,7 @@ use Rattle.acl_core.specs.Entries.{entry_of}
 use Rattle.vote_core.specs.Quorums.{Configuration, Representative}
 use Rattle.suite_content.specs.declared.content.Content.{Content}
 use Rattle.suite_content.specs.declared.content.Content.TheVariants.{Bytes, Names}
+use Rattle.suite_prefix.specs.TwoLists.{default_of}
 use Rattle.suite_prefix.specs.declared.copies.PrefixKind.{PrefixKind}
 use Rattle.suite_prefix.specs.declared.copies.PrefixKind.TheVariants.{Absent, File, Folder}
 use Rattle.suite_prefix.specs.declared.copies.Replica.{Replica}
@@ -31,6 +32,7 @@ Reads view (Err fault) read = read ≡ Err fault
 pub record Shape : Type 0 where
   pub identity : Identity
   pub entries : List EntryShape
+  pub default : List EntryShape
   pub votes : Configuration
   pub dver : ℕ
   pub content : Content
@@ -49,7 +51,7 @@ bytes_at n bytes = if nat_lt (length bytes) n then Err Short else Ok (take n byt
 
 abbrev pub form_at : List ℕ → Result (List ℕ) CopyFault
 form_at [] = Err Short
-form_at (suc zero ∷ rest) = Ok rest
+form_at (suc (suc zero) ∷ rest) = Ok rest
 form_at (other ∷ rest) = Err BadTag
 
 abbrev pub kind_of_code : ℕ → Result PrefixKind CopyFault
@@ -114,6 +116,13 @@ list_at bytes = do
   count ← byte_at bytes
   many_at entry_at count.0 count.1
 
+-- the entries of the access list, and those of the default list
+unfoldable pub lists_at : List ℕ → Result ((List EntryShape × List EntryShape) × List ℕ) CopyFault
+lists_at bytes = do
+  access ← list_at bytes
+  default ← list_at access.1
+  Ok ((access.0, default.0), default.1)
+
 unfoldable pub listed_at : List ℕ → Result (List Representative × List ℕ) CopyFault
 listed_at bytes = do
   count ← byte_at bytes
@@ -147,11 +156,11 @@ unfoldable pub shape_at : List ℕ → Result (Shape × List ℕ) CopyFault
 shape_at bytes = do
   rest ← form_at bytes
   identity ← identity_at rest
-  entries ← list_at identity.1
-  votes ← votes_at entries.1
+  lists ← lists_at identity.1
+  votes ← votes_at lists.1
   dver ← number_at w64 votes.1
   content ← content_at identity.0.kind dver.1
-  Ok (record { identity = identity.0; entries = entries.0; votes = votes.0; dver = dver.0; content = content.0 }, content.1)
+  Ok (record { identity = identity.0; entries = lists.0.0; default = lists.0.1; votes = votes.0; dver = dver.0; content = content.0 }, content.1)
 
 -- ---- the copy that a shape spells
 
@@ -165,7 +174,7 @@ copy_of shape = record {
     kind = shape.identity.kind;
     owner = shape.identity.owner;
     group = shape.identity.group;
-    acl = map entry_from shape.entries;
+    acl = record { access = map entry_from shape.entries; default = default_of (map entry_from shape.default) };
     votes = shape.votes;
   };
   dver = shape.dver;

@@ -1,7 +1,7 @@
 -- What a service is opened with, and what keeps it from being opened.
 use Rattle.std.specs.Prelude.{ℕ, ◌<◌, ◌≤◌, ◌==◌, nat_lt, nat_le, Bool, ◌||◌, List, [], ◌∷◌, All, Option}
 use Rattle.std.specs.List.{list_any, find}
-use Rattle.acl_core.specs.declared.entry.Entry.{Entry}
+use Rattle.acl_core.specs.declared.lists.Lists.{Lists}
 use Rattle.vote_core.specs.Quorums.{Configuration}
 use Rattle.suite_prefix.specs.declared.settings.SettingsFault.{SettingsFault}
 use Rattle.suite_prefix.specs.declared.settings.SettingsFault.TheVariants.{BadCount, UnknownServer, BadCache}
@@ -14,7 +14,7 @@ pub record Opening : Type 0 where
   pub c0 : Configuration
   pub root_owner : ℕ
   pub root_group : ℕ
-  pub root_acl : List Entry
+  pub root_acl : Lists
   pub budget : ℕ
   pub quota : ℕ
   pub slots : ℕ

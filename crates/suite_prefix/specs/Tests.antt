@@ -1,30 +1,29 @@
 -- The rules of valid prefixes and copies as tests. Lists, votes, names and numbers are right by their types; what is left to be tested
 -- stands here.
-use Rattle.std.specs.Prelude.{◌==◌, nat_lt, nat_le, Bool, true, false, ◌&&◌, not, if◌then◌else◌, List, length}
-use Rattle.std.specs.Cmp.Lexicographic.{pointwise}
-use Rattle.acl_core.specs.declared.entry.Entry.{Entry}
-use Rattle.acl_core.specs.Tags.{same_entry}
-use Rattle.acl_core.specs.Modes.{minimal_list}
+use Rattle.std.specs.Prelude.{◌==◌, nat_lt, nat_le, Bool, true, false, ◌&&◌, not, if◌then◌else◌, length, is_some}
+use Rattle.acl_core.specs.declared.lists.Lists.{Lists}
+use Rattle.acl_core.specs.Pairs.{same_lists}
 use Rattle.suite_content.specs.declared.content.Content.{Content}
 use Rattle.suite_content.specs.declared.content.Content.TheVariants.{Bytes, Names}
 use Rattle.suite_content.specs.Limits.{max_names, max_content}
+use Rattle.suite_prefix.specs.TwoLists.{closed_lists}
 use Rattle.suite_prefix.specs.declared.copies.PrefixKind.{PrefixKind}
 use Rattle.suite_prefix.specs.declared.copies.PrefixKind.TheVariants.{Absent, File, Folder}
 use Rattle.suite_prefix.specs.declared.copies.Prefix.{Prefix}
 use Rattle.suite_prefix.specs.declared.copies.Replica.{Replica}
 
--- the list of mode 000
-abbrev pub is_closed : List Entry → Bool
-is_closed acl = pointwise same_entry acl (minimal_list 0)
+-- the list of mode 000, and no default list
+abbrev pub is_closed : Lists → Bool
+is_closed acl = same_lists acl closed_lists
 
 -- nobody's, and granting nothing
 abbrev pub is_nothing : Prefix → Bool
 is_nothing prefix = (prefix.owner == 0) && (prefix.group == 0) && is_closed prefix.acl
 
--- version 0 is that of what was never made, and of nothing else
+-- version 0 is that of what was never made, and of nothing else, and only folders have a default list
 abbrev pub keeps_rules : PrefixKind → Prefix → Bool
 keeps_rules Absent prefix = (prefix.pver == 0) && is_nothing prefix
-keeps_rules File prefix = nat_lt 0 prefix.pver
+keeps_rules File prefix = nat_lt 0 prefix.pver && not (is_some prefix.acl.default)
 keeps_rules Folder prefix = nat_lt 0 prefix.pver
 
 abbrev pub is_valid_prefix : Prefix → Bool

@@ -7,7 +7,7 @@ ghost use Rattle.suite_prefix.specs.Copies as copies;
 ghost use Rattle.suite_prefix.specs.Tests as test;
 
 use crate::copies::{Prefix, PrefixKind};
-use acl_core::{Acl, Mode};
+use acl_core::{Acl, Lists, Mode};
 use std::alloc::{AllocError, Global};
 use suite_content::Kind;
 use vote_core::Votes;
@@ -17,7 +17,7 @@ impl Prefix {
     pub fn absent(alloc: Global, c0: Votes) -> Result<Prefix, AllocError>
         ensures { IfOk result (λ prefix. prefix ≡ absent_prefix c0) }
     {
-        let acl = closed_list(alloc)?;
+        let acl = Lists::from(closed_list(alloc)?);
         Ok(Prefix {
             pver: 0,
             kind: PrefixKind::Absent,

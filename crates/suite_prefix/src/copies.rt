@@ -1,6 +1,6 @@
 //! Prefixes and copies.
 
-use acl_core::Acl;
+use acl_core::Lists;
 use std::alloc::AllocError;
 use suite_content::Content;
 use vote_core::Votes;
@@ -17,14 +17,14 @@ pub enum PrefixKind {
 }
 
 /// What is kept with a file or a folder beside its content: the version of all this, its kind, whose it
-/// is, who may do what, and where its copies are.
+/// is, who may do what (and of a folder, what is made in it begins with), and where its copies are.
 #[derive(Debug, Drop)]
 pub struct Prefix {
     pub pver: u64,
     pub kind: PrefixKind,
     pub owner: u32,
     pub group: u32,
-    pub acl: Acl,
+    pub acl: Lists,
     pub votes: Votes,
 }
 

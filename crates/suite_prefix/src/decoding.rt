@@ -8,9 +8,10 @@ ghost use Rattle.acl_core.specs.Modes.{minimal_list};
 ghost use Rattle.suite_content.specs.Contents.{empty_content, kind_of};
 ghost use Rattle.suite_prefix.specs.Bytes.{bytes_of};
 ghost use Rattle.suite_prefix.specs.Copies.{IsCopy, IsNothing};
-ghost use Rattle.suite_prefix.specs.Faults.{Explains, FaultsTellApart, FrontsAreShort, content_rises, entries_rise, is_canonical, numbers_belong};
-ghost use Rattle.suite_prefix.specs.code.Judging.{FitsForm, IsSound, IsWhole, IsWithin, KeepsRules, Refuses, content_in};
+ghost use Rattle.suite_prefix.specs.Faults.{Explains, FaultsTellApart, FrontsAreShort, content_rises, entries_rise, is_canonical, is_written, numbers_belong};
+ghost use Rattle.suite_prefix.specs.code.Judging.{FitsForm, IsSound, IsWhole, MakeLists, MakesDefault, IsWithin, KeepsRules, Refuses, content_in};
 ghost use Rattle.suite_prefix.specs.Reading.{copy_of, entry_from};
+ghost use Rattle.suite_prefix.specs.TwoLists.{default_of};
 ghost use Rattle.suite_prefix.specs.declared.copies.Replica.{Replica};
 ghost use Rattle.suite_prefix.specs.declared.faults.CopyFault.TheVariants.{Invalid};
 ghost use Rattle.suite_prefix.specs.declared.faults.DecodeError.TheVariants.{Memory};
@@ -20,7 +21,7 @@ use crate::faults::{CopyFault, DecodeError};
 use crate::reading::shape_at;
 use crate::shapes::{ContentShape, EntryShape, Parts};
 use crate::writing::parts_of_tag;
-use acl_core::{Acl, AclError, Entry, MAX_ENTRIES, Tag};
+use acl_core::{Acl, AclError, Entry, Lists, MAX_ENTRIES, Tag};
 use std::alloc::{AllocError, Global};
 use suite_content::{Content, FileBytes, MAX_CONTENT, MAX_NAMES};
 use vote_core::{MAX_SERVERS, Votes};
@@ -45,8 +46,9 @@ pub fn decode(alloc: Global, bytes: &[u8]) -> Result<Replica, DecodeError>
     ensures error { IfErr result (Explains bytes.now) }
 {
     let mut entries = [NO_ENTRY; 255];
+    let mut default = [NO_ENTRY; 255];
     let mut reps = [(0, 0); 255];
-    let (parts, rest) = shape_at(bytes, &mut entries, &mut reps)?;
+    let (parts, rest) = shape_at(bytes, &mut entries, &mut default, &mut reps)?;
     copy_from(alloc, &parts, rest)
 }
 
@@ -89,11 +91,11 @@ fn prefix_from(alloc: Global, parts: &Parts, rest: &[u8]) -> Result<Prefix, Deco
     let Some(votes) = sound_votes(parts) else {
         return Err(DecodeError::Fault(CopyFault::Invalid));
     };
-    let list = list_from(alloc, parts.entries)?;
+    let lists = lists_from(alloc, parts.entries, parts.default)?;
     if !rest.is_empty() {
         return Err(DecodeError::Fault(CopyFault::TrailingBytes));
     }
-    let Some(acl) = list else {
+    let Some(acl) = lists else {
         return Err(DecodeError::Memory);
     };
     let identity = &parts.identity;
@@ -112,7 +114,8 @@ fn sound_votes(parts: &Parts) -> Option<Votes>
     ensures sound { IsSome result ↔ IsSound parts.now }
     ensures value { IfSome result (λ votes. votes ≡ parts.now.votes) }
 {
-    if !(permissions_known(parts.entries) && keeps_rules(parts)) {
+    let known = permissions_known(parts.entries) && permissions_known(parts.default);
+    if !(known && keeps_rules(parts)) {
         return None;
     }
     Votes::new(MAX_SERVERS, parts.reps, parts.r, parts.w).ok()
@@ -122,7 +125,14 @@ fn sound_votes(parts: &Parts) -> Option<Votes>
 fn is_canonical(parts: &Parts) -> bool
     ensures { result ≡ is_canonical parts.now }
 {
-    numbers_belong(parts.entries) && entries_rise(parts.entries) && content_rises(&parts.content)
+    is_written(parts.entries) && is_written(parts.default) && content_rises(&parts.content)
+}
+
+/// Whether entries are written as those of a list.
+fn is_written(entries: &[EntryShape]) -> bool
+    ensures { result ≡ is_written entries.now }
+{
+    numbers_belong(entries) && entries_rise(entries)
 }
 
 /// Whether the number behind each tag is its user or group, and 0 where there is none.
@@ -167,7 +177,8 @@ fn keeps_rules(parts: &Parts) -> bool
 {
     let kind_agrees = match parts.identity.kind {
         PrefixKind::Absent => parts.identity.pver == 0 && parts.dver == 0 && is_nothing(parts),
-        PrefixKind::File | PrefixKind::Folder => parts.identity.pver > 0,
+        PrefixKind::File => parts.identity.pver > 0 && parts.default.is_empty(),
+        PrefixKind::Folder => parts.identity.pver > 0,
     };
     let version_agrees = parts.dver > 0 || is_empty(&parts.content);
     kind_agrees && version_agrees && is_within(&parts.content)
@@ -178,7 +189,7 @@ fn is_nothing(parts: &Parts) -> bool
     requires known { All (λ entry. entry.permissions < 8) parts.now.entries }
     ensures { IsTrue result ↔ IsNothing (copy_of parts.now).prefix }
 {
-    parts.identity.owner == 0 && parts.identity.group == 0 && is_closed(parts.entries)
+    parts.identity.owner == 0 && parts.identity.group == 0 && is_closed(parts.entries) && parts.default.is_empty()
 }
 
 /// Whether entries spell the list of mode 000.
@@ -219,6 +230,45 @@ fn is_within(content: &ContentShape) -> bool
     match content {
         ContentShape::File(bytes) => bytes.len() <= MAX_CONTENT,
         ContentShape::Folder(names) => names.len() <= MAX_NAMES && names.are_names(),
+    }
+}
+
+/// The lists of these entries; none where memory for them was refused.
+fn lists_from(
+    alloc: Global,
+    entries: &[EntryShape],
+    default: &[EntryShape],
+) -> Result<Option<Lists>, CopyFault>
+    requires known { All (λ entry. entry.permissions < 8) entries.now }
+    requires default_known { All (λ entry. entry.permissions < 8) default.now }
+    requires rise { IsTrue (entries_rise entries.now) }
+    requires default_rises { IsTrue (entries_rise default.now) }
+    ensures value { IfOk result (λ lists. IfSome lists (λ made. made ≡ record { access = map entry_from entries.now; default = default_of (map entry_from default.now) })) }
+    ensures accepted { IsOk result ↔ MakeLists entries.now default.now }
+    ensures fault { IfErr result (λ fault. fault ≡ Invalid) }
+{
+    let access = list_from(alloc, entries)?;
+    let default = default_from(alloc, default)?;
+    let (Some(access), Some(default)) = (access, default) else {
+        return Ok(None);
+    };
+    Ok(Some(Lists { access, default }))
+}
+
+/// The default list of these entries, if there are some; none where memory for it was refused.
+fn default_from(alloc: Global, shapes: &[EntryShape]) -> Result<Option<Option<Acl>>, CopyFault>
+    requires known { All (λ entry. entry.permissions < 8) shapes.now }
+    requires rise { IsTrue (entries_rise shapes.now) }
+    ensures value { IfOk result (λ list. IfSome list (λ acl. acl ≡ default_of (map entry_from shapes.now))) }
+    ensures accepted { IsOk result ↔ MakesDefault (map entry_from shapes.now) }
+    ensures fault { IfErr result (λ fault. fault ≡ Invalid) }
+{
+    if shapes.is_empty() {
+        return Ok(Some(None));
+    }
+    match list_from(alloc, shapes)? {
+        Some(acl) => Ok(Some(Some(acl))),
+        None => Ok(None),
     }
 }
 

@@ -2,7 +2,7 @@
 
 ghost use Rattle.std.specs.Prelude.{◌≡◌, ◌≤◌, length};
 ghost use Rattle.std.specs.Int.{w16, w32, w64};
-ghost use Rattle.suite_prefix.specs.Reading.{Reads, byte_at, number_at, bytes_at, form_at, kind_of_code, identity_at, code_at, tag_of, entry_at, representative_at, name_at, many_at, list_at, listed_at, file_at, content_at, shape_at};
+ghost use Rattle.suite_prefix.specs.Reading.{Reads, byte_at, number_at, bytes_at, form_at, kind_of_code, identity_at, code_at, tag_of, entry_at, representative_at, name_at, many_at, list_at, lists_at, listed_at, file_at, content_at, shape_at};
 ghost use Rattle.suite_prefix.specs.code.Judging.{content_in};
 ghost use Rattle.suite_content.specs.declared.content.Content.TheVariants as content;
 
@@ -70,7 +70,7 @@ pub(crate) fn form_at(bytes: &[u8]) -> Result<&[u8], CopyFault>
 {
     match bytes {
         [] => Err(CopyFault::Short),
-        [1, rest @ ..] => Ok(rest),
+        [2, rest @ ..] => Ok(rest),
         [_, ..] => Err(CopyFault::BadTag),
     }
 }
@@ -208,6 +208,20 @@ fn list_at<'a>(
     Ok((entries, rest))
 }
 
+/// The entries of the access list and those of the default list, each put into the first places of its own.
+#[tactic(auto, unfolding(crate::specs::Reading::lists_at))]
+fn lists_at<'a>(
+    bytes: &'a [u8],
+    places: &'a mut [EntryShape; 255],
+    default_places: &'a mut [EntryShape; 255],
+) -> Result<((&'a [EntryShape], &'a [EntryShape]), &'a [u8]), CopyFault>
+    ensures { Reads (λ x. ((x.0.0.now, x.0.1.now), x.1.now)) result (lists_at bytes.now) }
+{
+    let (access, rest) = list_at(bytes, places)?;
+    let (default, rest) = list_at(rest, default_places)?;
+    Ok(((access, default), rest))
+}
+
 /// The representatives of votes, put into the first places.
 #[tactic(auto, unfolding(crate::specs::Reading::listed_at))]
 fn listed_at<'a>(
@@ -250,13 +264,14 @@ fn content_at(kind: PrefixKind, bytes: &[u8]) -> Result<(ContentShape, &[u8]), C
 pub(crate) fn shape_at<'a>(
     bytes: &'a [u8],
     entry_places: &'a mut [EntryShape; 255],
+    default_places: &'a mut [EntryShape; 255],
     places: &'a mut [(u8, u8); 255],
 ) -> Result<(Parts<'a>, &'a [u8]), CopyFault>
     ensures { Reads (λ x. (x.0, x.1.now)) result (shape_at bytes.now) }
 {
     let rest = form_at(bytes)?;
     let (identity, rest) = identity_at(rest)?;
-    let (entries, rest) = list_at(rest, entry_places)?;
+    let ((entries, default), rest) = lists_at(rest, entry_places, default_places)?;
     let (reps, rest) = listed_at(rest, places)?;
     let (r, rest) = u16_at(rest)?;
     let (w, rest) = u16_at(rest)?;
@@ -265,6 +280,7 @@ pub(crate) fn shape_at<'a>(
     let parts = Parts {
         identity,
         entries,
+        default,
         reps,
         r,
         w,

@@ -5,7 +5,7 @@ ghost use Rattle.std.specs.List.{list_any};
 ghost use Rattle.std.specs.Result.{result_err};
 ghost use Rattle.suite_prefix.specs.SettingsRules.{IsAccepted, first_fault};
 
-use acl_core::Acl;
+use acl_core::Lists;
 use std::alloc::AllocError;
 use std::marker::Model;
 use thiserror::Error;
@@ -43,7 +43,7 @@ pub struct Settings {
     c0: Votes,
     root_owner: u32,
     root_group: u32,
-    root_acl: Acl,
+    root_acl: Lists,
     budget: usize,
     quota: usize,
     slots: usize,
@@ -112,7 +112,7 @@ impl Settings {
         c0: Votes,
         root_owner: u32,
         root_group: u32,
-        root_acl: Acl,
+        root_acl: Lists,
         budget: usize,
         quota: usize,
         slots: usize,
@@ -180,8 +180,8 @@ impl Settings {
         self.root_group
     }
 
-    /// The root's list.
-    pub fn root_acl(&self) -> &Acl
+    /// The root's lists.
+    pub fn root_acl(&self) -> &Lists
         ensures { result.now ≡ self.now.root_acl }
     {
         &self.root_acl

@@ -44,6 +44,7 @@ pub(crate) enum ContentShape<'a> {
 pub(crate) struct Parts<'a> {
     pub(crate) identity: Identity,
     pub(crate) entries: &'a [EntryShape],
+    pub(crate) default: &'a [EntryShape],
     pub(crate) reps: &'a [(u8, u8)],
     pub(crate) r: u16,
     pub(crate) w: u16,
@@ -57,7 +58,7 @@ impl<'a> Model for Parts<'a> {
 
     ghost Value = { Shape };
 
-    ghost view = { λ parts. record { identity = parts.identity; entries = parts.entries.now; votes = record { reps = parts.reps.now; r = parts.r; w = parts.w }; dver = parts.dver; content = content_in parts.content } };
+    ghost view = { λ parts. record { identity = parts.identity; entries = parts.entries.now; default = parts.default.now; votes = record { reps = parts.reps.now; r = parts.r; w = parts.w }; dver = parts.dver; content = content_in parts.content } };
 }
 
 /// Names with their numbers: how many there are, and the bytes that begin with them.

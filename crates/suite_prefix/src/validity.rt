@@ -1,7 +1,7 @@
 //! Which prefixes and copies are valid. Neither test takes memory.
 
 ghost use Rattle.std.specs.Prelude.{◌≡◌, ◌<◌, ◌^◌, ◌↔◌, All, IsTrue, nat_le, length};
-ghost use Rattle.acl_core.specs.Modes.{minimal_list};
+ghost use Rattle.suite_prefix.specs.TwoLists.{AreAcls, NumbersFit, closed_lists};
 ghost use Rattle.acl_core.specs.Tags.{qualifier};
 ghost use Rattle.suite_content.specs.Limits.{max_names, max_content};
 ghost use Rattle.suite_content.specs.Names.{IsName};
@@ -15,7 +15,7 @@ ghost use Rattle.suite_prefix.specs.TestsExact.{ContentFits, CopyFits, TestsAreE
 
 use crate::copies::{Prefix, PrefixKind, Replica};
 use crate::settings::Settings;
-use acl_core::{Acl, Entry, Tag};
+use acl_core::{Entry, Lists, Tag};
 use suite_content::{Content, Kind, MAX_CONTENT, MAX_NAMES, Name};
 
 impl Prefix {
@@ -38,7 +38,7 @@ impl Prefix {
         fits_four(self.group);
         let _thresholds = (self.votes.r(), self.votes.w());
         let _reps = self.votes.reps();
-        qualifiers_fit(self.acl.entries());
+        lists_fit(&self.acl);
     }
 
     fn keeps_rules(&self) -> bool
@@ -48,7 +48,8 @@ impl Prefix {
     {
         match self.kind {
             PrefixKind::Absent => self.pver == 0 && is_nothing(self),
-            PrefixKind::File | PrefixKind::Folder => self.pver > 0,
+            PrefixKind::File => self.pver > 0 && self.acl.default.is_none(),
+            PrefixKind::Folder => self.pver > 0,
         }
     }
 }
@@ -72,7 +73,7 @@ impl Settings {
         let votes = self.c0();
         let _thresholds = (votes.r(), votes.w());
         let _reps = votes.reps();
-        qualifiers_fit(self.root_acl().entries());
+        lists_fit(self.root_acl());
     }
 }
 
@@ -94,6 +95,17 @@ fn fits_four(number: u32)
     ensures { number < 2 ^ 32 }
 {}
 
+/// A law: what the types of lists say of them. It does nothing.
+fn lists_fit(lists: &Lists)
+    ensures acls { AreAcls lists.now }
+    ensures numbers { NumbersFit lists.now }
+{
+    qualifiers_fit(lists.access.entries());
+    if let Some(default) = &lists.default {
+        qualifiers_fit(default.entries());
+    }
+}
+
 /// A law: the users and groups of entries fit four bytes. It does nothing.
 fn qualifiers_fit(entries: &[Entry])
     ensures { All (λ entry. qualifier entry.tag < 2 ^ 32) entries.now }
@@ -109,9 +121,9 @@ fn qualifier_fits(tag: Tag)
     if let Tag::User(_number) | Tag::Group(_number) = tag {}
 }
 
-/// Whether a list is that of mode 000.
-fn is_closed(acl: &Acl) -> bool
-    ensures closed { IsTrue result ↔ (acl.now ≡ minimal_list 0) }
+/// Whether a list is that of mode 000, without a default list.
+fn is_closed(acl: &Lists) -> bool
+    ensures closed { IsTrue result ↔ (acl.now ≡ closed_lists) }
     ensures test { result ≡ test.is_closed acl.now }
 {
     let nothing = [
@@ -119,7 +131,7 @@ fn is_closed(acl: &Acl) -> bool
         Entry::from_digit(Tag::GroupObj, 0),
         Entry::from_digit(Tag::Other, 0),
     ];
-    acl.entries() == nothing.as_slice()
+    acl.access.entries() == nothing.as_slice() && acl.default.is_none()
 }
 
 impl Replica {

@@ -3,18 +3,18 @@
 ghost use Rattle.std.specs.Prelude.{◌≡◌, ◌++◌, ◌<◌, ◌≤◌, length, OnOk, IfOk};
 ghost use Rattle.std.specs.List.{flat_map};
 ghost use Rattle.suite_prefix.specs.Copies.{IsCopy, IsContent};
-ghost use Rattle.suite_prefix.specs.Bytes.{NoneBeginsAnother, bytes_of, prefix_bytes, identity_bytes, list_bytes, entry_bytes, votes_bytes, representative_bytes, content_bytes, name_bytes, kind_code, tag_code};
+ghost use Rattle.suite_prefix.specs.Bytes.{NoneBeginsAnother, bytes_of, prefix_bytes, identity_bytes, list_bytes, lists_bytes, entry_bytes, votes_bytes, representative_bytes, content_bytes, name_bytes, kind_code, tag_code};
 ghost use Rattle.acl_core.specs.Tags.{qualifier};
 
 use crate::copies::{Prefix, PrefixKind, Replica};
-use acl_core::{Acl, Entry, Tag};
+use acl_core::{Acl, Entry, Lists, Tag};
 use bitflags::Flags;
 use std::alloc::{AllocError, Global};
 use suite_content::{Content, Name};
 use vote_core::Votes;
 
 /// The form of the bytes.
-const FORM: u8 = 1;
+const FORM: u8 = 2;
 
 /// The bytes of a valid copy.
 pub fn encode(alloc: Global, copy: &Replica) -> Result<Vec<u8>, AllocError>
@@ -30,14 +30,14 @@ pub fn encode(alloc: Global, copy: &Replica) -> Result<Vec<u8>, AllocError>
 }
 
 /// At least as many bytes as the bytes of a copy are, so that there is one growth: a prefix and the two
-/// versions take 448 bytes at most, and a name 73.
+/// versions take 833 bytes at most, and a name 73.
 fn room_for(content: &Content) -> usize
     requires { IsContent content.now }
     ensures { result ≤ 131072 }
 {
     match content {
-        Content::Bytes(bytes) => 512 + bytes.len(),
-        Content::Names(names) => 512 + 73 * names.len(),
+        Content::Bytes(bytes) => 1024 + bytes.len(),
+        Content::Names(names) => 1024 + 73 * names.len(),
     }
 }
 
@@ -50,7 +50,7 @@ fn put_prefix(out: &mut Vec<u8>, prefix: &Prefix) -> Result<(), AllocError>
     ensures { OnOk result (out.new.items ≡ out.old.items ++ prefix_bytes prefix.now) }
 {
     put_identity(out, prefix)?;
-    put_list(out, &prefix.acl)?;
+    put_lists(out, &prefix.acl)?;
     put_votes(out, &prefix.votes)
 }
 
@@ -71,6 +71,16 @@ fn code_of_kind(kind: PrefixKind) -> u8
         PrefixKind::Absent => 0,
         PrefixKind::File => 1,
         PrefixKind::Folder => 2,
+    }
+}
+
+fn put_lists(out: &mut Vec<u8>, lists: &Lists) -> Result<(), AllocError>
+    ensures { OnOk result (out.new.items ≡ out.old.items ++ lists_bytes lists.now) }
+{
+    put_list(out, &lists.access)?;
+    match &lists.default {
+        Some(default) => put_list(out, default),
+        None => out.push(0).map_err(AllocError::from),
     }
 }
 

@@ -6,8 +6,8 @@ use Rattle.std.specs.Cmp.Lexicographic.{pointwise, pointwise_decides}
 use Rattle.std.proofs.Common.{refl, ap}
 use Rattle.std.proofs.lemmas.Bool.Decides.{Decides-eqb, Decides-like}
 use Rattle.std.proofs.lemmas.Slice.Eq.{bytes_eq-Decides}
-use Rattle.acl_core.specs.Tags.{same_entry}
-use Rattle.acl_core.proofs.EntryEquality.{same_list_decides}
+use Rattle.acl_core.specs.Pairs.{same_lists}
+use Rattle.acl_core.proofs.ListsEquality.{same_lists_decides}
 use Rattle.vote_core.specs.code.SameVotes.{same_votes, same_votes_decides}
 use Rattle.suite_content.specs.Folders.{same_names}
 use Rattle.suite_content.specs.code.Equality.{same_names_decides}
@@ -20,7 +20,7 @@ same_answer answer.Wrote answer.Wrote = true
 same_answer (answer.List a) (answer.List b) = same_names a b
 same_answer (answer.Made a) (answer.Made b) = a == b
 same_answer answer.Dropped answer.Dropped = true
-same_answer (answer.Acl a) (answer.Acl b) = pointwise same_entry a b
+same_answer (answer.Acl a) (answer.Acl b) = same_lists a b
 same_answer answer.Set answer.Set = true
 same_answer (answer.Votes a) (answer.Votes b) = same_votes a b
 same_answer _ _ = false
@@ -34,7 +34,7 @@ same_answer_decides answer.Wrote answer.Wrote = (λ same. refl, λ same. refl)
 same_answer_decides (answer.List a) (answer.List b) = Decides-like _ (ap answer.List) (λ same. cc) (same_names_decides a b)
 same_answer_decides (answer.Made a) (answer.Made b) = Decides-like _ (ap answer.Made) (λ same. cc) (Decides-eqb a b)
 same_answer_decides answer.Dropped answer.Dropped = (λ same. refl, λ same. refl)
-same_answer_decides (answer.Acl a) (answer.Acl b) = Decides-like _ (ap answer.Acl) (λ same. cc) (same_list_decides a b)
+same_answer_decides (answer.Acl a) (answer.Acl b) = Decides-like _ (ap answer.Acl) (λ same. cc) (same_lists_decides a b)
 same_answer_decides answer.Set answer.Set = (λ same. refl, λ same. refl)
 same_answer_decides (answer.Votes a) (answer.Votes b) = Decides-like _ (ap answer.Votes) (λ same. cc) (same_votes_decides a b)
 same_answer_decides _ _ = (λ same. cc, λ same. cc)

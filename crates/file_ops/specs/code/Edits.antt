@@ -1,7 +1,7 @@
 -- Edits of one row.
 use Rattle.std.specs.Prelude.{ℕ, List, Option, None}
 use Rattle.std.specs.Option.{option_map_or}
-use Rattle.acl_core.specs.declared.entry.Entry.{Entry}
+use Rattle.acl_core.specs.declared.lists.Lists.{Lists}
 use Rattle.vote_core.specs.Quorums.{Configuration}
 use Rattle.suite_content.specs.declared.content.Content.{Content}
 use Rattle.suite_content.specs.declared.content.Content.TheVariants.{Bytes, Names}
@@ -25,7 +25,7 @@ abbrev pub put_content : Content → Row → Row
 put_content content row = with_content row content
 
 -- another list, other votes, another row
-abbrev pub put_acl : List Entry → Row → Row
+abbrev pub put_acl : Lists → Row → Row
 put_acl acl row = with_acl row acl
 
 abbrev pub put_votes : Configuration → Row → Row

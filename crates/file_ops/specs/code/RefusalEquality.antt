@@ -36,6 +36,7 @@ same_why why.TooLong why.TooLong = true
 same_why why.FolderFull why.FolderFull = true
 same_why why.OpCount why.OpCount = true
 same_why why.UnknownServer why.UnknownServer = true
+same_why why.DefaultOnFile why.DefaultOnFile = true
 same_why _ _ = false
 
 abbrev pub same_refusal : Refusal → Refusal → Bool
@@ -72,6 +73,7 @@ same_why_decides why.TooLong why.TooLong = (λ same. refl, λ same. refl)
 same_why_decides why.FolderFull why.FolderFull = (λ same. refl, λ same. refl)
 same_why_decides why.OpCount why.OpCount = (λ same. refl, λ same. refl)
 same_why_decides why.UnknownServer why.UnknownServer = (λ same. refl, λ same. refl)
+same_why_decides why.DefaultOnFile why.DefaultOnFile = (λ same. refl, λ same. refl)
 same_why_decides _ _ = (λ same. cc, λ same. cc)
 
 pub same_refusal_decides : (a b : Refusal) → Decides (same_refusal a b) (a ≡ b)

@@ -3,7 +3,7 @@ use Rattle.std.specs.Prelude.{ℕ, List, [], map, Option, Some, None}
 use Rattle.std.specs.Option.{option_map_or}
 use Rattle.std.specs.Ordering.{nat_cmp}
 use Rattle.sorted_map.specs.SortedMap.{get, replace, remove}
-use Rattle.acl_core.specs.declared.entry.Entry.{Entry}
+use Rattle.acl_core.specs.declared.lists.Lists.{Lists}
 use Rattle.vote_core.specs.Quorums.{Configuration}
 use Rattle.suite_content.specs.declared.content.Content.{Content}
 use Rattle.suite_content.specs.declared.content.Content.TheVariants as content
@@ -45,7 +45,7 @@ restored_row rows suite None = remove nat_cmp rows suite
 abbrev pub with_stored_content : StoredContent → StoredRow → StoredRow
 with_stored_content content row = record row { content = content }
 
-abbrev pub with_stored_acl : List Entry → StoredRow → StoredRow
+abbrev pub with_stored_acl : Lists → StoredRow → StoredRow
 with_stored_acl acl row = record row { acl = acl }
 
 abbrev pub with_stored_votes : Configuration → StoredRow → StoredRow

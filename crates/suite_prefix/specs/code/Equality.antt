@@ -2,11 +2,10 @@
 use Rattle.std.specs.Prelude.{◌≡◌, ◌==◌, Bool, ◌&&◌}
 use Rattle.std.specs.Bool.{Decides}
 use Rattle.std.specs.Cmp.{IsEquivalence, IsPartialEquivalence, partial_equiv_from_equiv, decided, unsigned_Decides}
-use Rattle.std.specs.Cmp.Lexicographic.{pointwise}
 use Rattle.std.proofs.Common.{ap, refl}
 use Rattle.std.proofs.lemmas.Bool.{and_parts, and_from}
-use Rattle.acl_core.specs.Tags.{same_entry}
-use Rattle.acl_core.proofs.EntryEquality.{same_list_decides}
+use Rattle.acl_core.specs.Pairs.{same_lists}
+use Rattle.acl_core.proofs.ListsEquality.{same_lists_decides}
 use Rattle.vote_core.specs.code.SameVotes.{same_votes, same_votes_decides}
 use Rattle.suite_content.specs.Contents.{same_content}
 use Rattle.suite_content.specs.code.ContentEquality.{same_content_decides}
@@ -18,7 +17,7 @@ use Rattle.suite_prefix.specs.Bytes.{kind_code}
 
 abbrev pub same_prefix : Prefix → Prefix → Bool
 same_prefix a b =
-    (a.pver == b.pver) && ((kind_code a.kind == kind_code b.kind) && ((a.owner == b.owner) && ((a.group == b.group) && (pointwise same_entry a.acl b.acl && same_votes a.votes b.votes))))
+    (a.pver == b.pver) && ((kind_code a.kind == kind_code b.kind) && ((a.owner == b.owner) && ((a.group == b.group) && (same_lists a.acl b.acl && same_votes a.votes b.votes))))
 
 abbrev pub same_replica : Replica → Replica → Bool
 same_replica a b = same_prefix a.prefix b.prefix && ((a.dver == b.dver) && same_content a.content b.content)
@@ -36,9 +35,9 @@ same_kind Folder File same = absurd cc
 
 pub same_prefix_decides : (a b : Prefix) → Decides (same_prefix a b) (a ≡ b)
 same_prefix_decides a b =
-    let list = same_list_decides a.acl b.acl in
+    let list = same_lists_decides a.acl b.acl in
     let votes = same_votes_decides a.votes b.votes in
-    let ends = pointwise same_entry a.acl b.acl && same_votes a.votes b.votes in
+    let ends = same_lists a.acl b.acl && same_votes a.votes b.votes in
     let groups = (a.group == b.group) && ends in
     let owners = (a.owner == b.owner) && groups in
     let kinds = (kind_code a.kind == kind_code b.kind) && owners in (
@@ -47,7 +46,7 @@ same_prefix_decides a b =
           let k = and_parts (kind_code a.kind == kind_code b.kind) owners p.1 in
           let o = and_parts (a.owner == b.owner) groups k.1 in
           let g = and_parts (a.group == b.group) ends o.1 in
-          let e = and_parts (pointwise same_entry a.acl b.acl) (same_votes a.votes b.votes) g.1 in
+          let e = and_parts (same_lists a.acl b.acl) (same_votes a.votes b.votes) g.1 in
           let kind = same_kind a.kind b.kind ((unsigned_Decides (kind_code a.kind) (kind_code b.kind)).0 k.0) in
           λ i. record {
             pver = (unsigned_Decides a.pver b.pver).0 p.0 i;
@@ -62,7 +61,7 @@ same_prefix_decides a b =
           (and_from (kind_code a.kind == kind_code b.kind) owners ((unsigned_Decides (kind_code a.kind) (kind_code b.kind)).1 (ap (λ p. kind_code p.kind) equal))
           (and_from (a.owner == b.owner) groups ((unsigned_Decides a.owner b.owner).1 (ap (λ p. p.owner) equal))
           (and_from (a.group == b.group) ends ((unsigned_Decides a.group b.group).1 (ap (λ p. p.group) equal))
-          (and_from (pointwise same_entry a.acl b.acl) (same_votes a.votes b.votes) (list.1 (ap (λ p. p.acl) equal)) (votes.1 (ap (λ p. p.votes) equal)))))),
+          (and_from (same_lists a.acl b.acl) (same_votes a.votes b.votes) (list.1 (ap (λ p. p.acl) equal)) (votes.1 (ap (λ p. p.votes) equal)))))),
     )
 
 pub same_replica_decides : (a b : Replica) → Decides (same_replica a b) (a ≡ b)

@@ -1,5 +1,7 @@
 -- A shape judged part by part: what its numbers are by the places that they stand in, what is asked of its list, and what of the rest.
-use Rattle.std.specs.Prelude.{◌≡◌, ℕ, ◌<◌, ◌≤◌, ◌^◌, ◌↔◌, IsTrue, List, [], length, All}
+use Rattle.std.specs.Prelude.{◌≡◌, ℕ, ◌<◌, ◌≤◌, ◌^◌, ◌↔◌, IsTrue, List, [], ◌∷◌, map, length, All, None}
+use Rattle.acl_core.specs.AccessLists.{IsAccepted}
+use Rattle.acl_core.specs.declared.entry.Entry.{Entry}
 use Rattle.acl_core.specs.Tags.{qualifier}
 use Rattle.vote_core.specs.Validity as votes
 use Rattle.suite_content.specs.declared.content.Content.{Content}
@@ -7,13 +9,14 @@ use Rattle.suite_content.specs.declared.content.Content.TheVariants.{Bytes, Name
 use Rattle.suite_content.specs.Contents.{kind_of, empty_content}
 use Rattle.suite_content.specs.Limits.{max_names, max_content}
 use Rattle.suite_content.specs.Names.{IsName}
-use Rattle.suite_prefix.specs.declared.copies.PrefixKind.TheVariants.{Absent}
+use Rattle.suite_prefix.specs.declared.copies.PrefixKind.TheVariants.{Absent, Folder}
+use Rattle.suite_prefix.specs.declared.shapes.EntryShape.{EntryShape}
 use Rattle.suite_prefix.specs.declared.faults.DecodeError.{DecodeError}
 use Rattle.suite_prefix.specs.declared.faults.DecodeError.TheVariants as errors
 use Rattle.suite_prefix.specs.declared.shapes.ContentShape.{ContentShape}
 use Rattle.suite_prefix.specs.declared.shapes.ContentShape.TheVariants as shapes
 use Rattle.suite_prefix.specs.Copies.{IsNothing, held_by}
-use Rattle.suite_prefix.specs.Reading.{Shape, copy_of}
+use Rattle.suite_prefix.specs.Reading.{Shape, copy_of, entry_from}
 use Rattle.suite_prefix.specs.Faults.{SpellsCopy, IsFaultOf, is_canonical}
 
 -- the content that was read
@@ -32,6 +35,7 @@ pub record FitsForm (shape : Shape) : Type 0 where
   pub owner : shape.identity.owner < 2 ^ 32
   pub group : shape.identity.group < 2 ^ 32
   pub numbers : All (λ entry. qualifier entry.tag < 2 ^ 32) shape.entries
+  pub default_numbers : All (λ entry. qualifier entry.tag < 2 ^ 32) shape.default
   pub r : shape.votes.r < 2 ^ 16
   pub w : shape.votes.w < 2 ^ 16
   pub dver : shape.dver < 2 ^ 64
@@ -51,13 +55,24 @@ IsWithin (Names names) = NamesWithin names
 pub record KeepsRules (shape : Shape) : Type 0 where
   pub absent_is_version_0 : (shape.identity.kind ≡ Absent) ↔ (shape.identity.pver ≡ 0)
   pub nothing : shape.identity.kind ≡ Absent → IsNothing (copy_of shape).prefix
+  pub default_of_folder : (shape.identity.kind ≡ Folder → ⊥) → (copy_of shape).prefix.acl.default ≡ None
   pub within : IsWithin shape.content
   pub absent_holds_version_0 : shape.identity.kind ≡ Absent → shape.dver ≡ 0
   pub version_0_is_empty : shape.dver ≡ 0 → shape.content ≡ empty_content (kind_of shape.content)
 
--- all of a shape beside its list is that of a valid copy
+-- the entries of each list make one; a default list without entries is none
+abbrev pub MakesDefault : List Entry → Type 0
+MakesDefault [] = Unit {0}
+MakesDefault (entry ∷ entries) = IsAccepted (entry ∷ entries)
+
+pub record MakeLists (of_access of_default : List EntryShape) : Type 0 where
+  pub access : IsAccepted (map entry_from of_access)
+  pub default : MakesDefault (map entry_from of_default)
+
+-- all of a shape beside its lists is that of a valid copy
 pub record IsSound (shape : Shape) : Type 0 where
   pub permissions_known : All (λ entry. entry.permissions < 8) shape.entries
+  pub default_known : All (λ entry. entry.permissions < 8) shape.default
   pub rules : KeepsRules shape
   pub votes : votes.IsAccepted votes.max_servers shape.votes
 

@@ -2,11 +2,10 @@
 use Rattle.std.specs.Prelude.{◌≡◌, ◌==◌, Bool, ◌&&◌}
 use Rattle.std.specs.Bool.{Decides}
 use Rattle.std.specs.Cmp.{IsEquivalence, IsPartialEquivalence, partial_equiv_from_equiv, decided, unsigned_Decides}
-use Rattle.std.specs.Cmp.Lexicographic.{pointwise}
 use Rattle.std.proofs.Common.{ap}
 use Rattle.std.proofs.lemmas.Bool.{and_parts, and_from}
-use Rattle.acl_core.specs.Tags.{same_entry}
-use Rattle.acl_core.proofs.EntryEquality.{same_list_decides}
+use Rattle.acl_core.specs.Pairs.{same_lists}
+use Rattle.acl_core.proofs.ListsEquality.{same_lists_decides}
 use Rattle.vote_core.specs.code.SameVotes.{same_votes, same_votes_decides}
 use Rattle.suite_prefix.specs.SettingsRules.{Opening}
 
@@ -17,7 +16,7 @@ same_counts a b = (a.servers == b.servers) && (a.agents == b.agents)
 -- whose the root is, and who may do what there
 abbrev pub same_root : Opening → Opening → Bool
 same_root a b =
-    (a.root_owner == b.root_owner) && ((a.root_group == b.root_group) && pointwise same_entry a.root_acl b.root_acl)
+    (a.root_owner == b.root_owner) && ((a.root_group == b.root_group) && same_lists a.root_acl b.root_acl)
 
 -- the limits of a cache
 abbrev pub same_cache : Opening → Opening → Bool
@@ -29,9 +28,9 @@ same_settings a b = same_counts a b && (same_votes a.c0 b.c0 && (same_root a b &
 pub same_settings_decides : (a b : Opening) → Decides (same_settings a b) (a ≡ b)
 same_settings_decides a b =
     let votes = same_votes_decides a.c0 b.c0 in
-    let list = same_list_decides a.root_acl b.root_acl in
+    let list = same_lists_decides a.root_acl b.root_acl in
     let ends = same_root a b && same_cache a b in
-    let behind = (a.root_group == b.root_group) && pointwise same_entry a.root_acl b.root_acl in
+    let behind = (a.root_group == b.root_group) && same_lists a.root_acl b.root_acl in
     let sizes = (a.quota == b.quota) && (a.slots == b.slots) in (
       λ same.
           let s = and_parts (same_counts a b) (same_votes a.c0 b.c0 && ends) same in
@@ -39,7 +38,7 @@ same_settings_decides a b =
           let v = and_parts (same_votes a.c0 b.c0) ends s.1 in
           let e = and_parts (same_root a b) (same_cache a b) v.1 in
           let owner = and_parts (a.root_owner == b.root_owner) behind e.0 in
-          let group = and_parts (a.root_group == b.root_group) (pointwise same_entry a.root_acl b.root_acl) owner.1 in
+          let group = and_parts (a.root_group == b.root_group) (same_lists a.root_acl b.root_acl) owner.1 in
           let budget = and_parts (a.budget == b.budget) sizes e.1 in
           let quota = and_parts (a.quota == b.quota) (a.slots == b.slots) budget.1 in
           λ i. record {
@@ -59,7 +58,7 @@ same_settings_decides a b =
           (and_from (same_votes a.c0 b.c0) ends (votes.1 (ap (λ s. s.c0) equal))
           (and_from (same_root a b) (same_cache a b)
           (and_from (a.root_owner == b.root_owner) behind ((unsigned_Decides a.root_owner b.root_owner).1 (ap (λ s. s.root_owner) equal))
-          (and_from (a.root_group == b.root_group) (pointwise same_entry a.root_acl b.root_acl) ((unsigned_Decides a.root_group b.root_group).1 (ap (λ s. s.root_group) equal)) (list.1 (ap (λ s. s.root_acl) equal))))
+          (and_from (a.root_group == b.root_group) (same_lists a.root_acl b.root_acl) ((unsigned_Decides a.root_group b.root_group).1 (ap (λ s. s.root_group) equal)) (list.1 (ap (λ s. s.root_acl) equal))))
           (and_from (a.budget == b.budget) sizes ((unsigned_Decides a.budget b.budget).1 (ap (λ s. s.budget) equal))
           (and_from (a.quota == b.quota) (a.slots == b.slots) ((unsigned_Decides a.quota b.quota).1 (ap (λ s. s.quota) equal)) ((unsigned_Decides a.slots b.slots).1 (ap (λ s. s.slots) equal)))))),
     )

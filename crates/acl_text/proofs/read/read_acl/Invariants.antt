@@ -1,10 +1,10 @@
 use Rattle.std.proofs.Common.{◌≡◌, ◌+◌, ◌≤◌, List, ◌++◌, length, map}
 use Rattle.std.specs.List.{filter_map}
-use Rattle.acl_core.specs.declared.entry.Entry.{Entry}
-use Rattle.acl_core.specs.Tallies.{IsTallyOf}
+use Rattle.acl_text.specs.declared.item.Said.{Said}
 use Rattle.acl_text.specs.Grammar.{reading}
 use Rattle.acl_text.specs.code.Remaining.{items_left}
-use Rattle.acl_text.specs.Texts.{readings, first_item_fault, entry_said}
+use Rattle.acl_text.specs.code.Tallied.{AreTallied}
+use Rattle.acl_text.specs.Texts.{readings, first_item_fault, entry_said, said_in}
 use Rattle.acl_text.proofs.read.read_acl.Given as goal
 
 -- The entries that were taken and those of the items left are all entries, and the first fault of the items left, by
@@ -13,6 +13,6 @@ abbrev pub invariant-loop-item : goal.invariant-loop-item
 invariant-loop-item l =
     (goal.iterator-loop-item).can_next l.item-iterator
     × (goal.iterator-loop-item).is_finite l.item-iterator
-    × ((taken : List Entry) × IsTallyOf l.tally taken × (taken ++ filter_map entry_said (map (reading l.names) (items_left l.item-iterator)) ≡ filter_map entry_said (readings l.text l.names)))
+    × ((taken : List Said) × AreTallied l.tallies taken × (taken ++ filter_map entry_said (map (reading l.names) (items_left l.item-iterator)) ≡ said_in l.text l.names))
     × (first_item_fault (l.number + 1) (map (reading l.names) (items_left l.item-iterator)) ≡ first_item_fault 1 (readings l.text l.names))
     × (l.number + length (items_left l.item-iterator) ≤ length l.text + 1)

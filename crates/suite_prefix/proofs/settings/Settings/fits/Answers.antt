@@ -1,19 +1,17 @@
-use Rattle.std.proofs.Common.{arith, ◌<◌, ◌^◌, All}
-use Rattle.acl_core.specs.Tags.{qualifier}
+use Rattle.std.proofs.Common.{arith, ◌<◌, ◌^◌}
 use Rattle.suite_prefix.proofs.settings.Settings.fits.Goals as goal
 
 pub returns-clause-root : goal.returns-clause-root
 returns-clause-root c =
     let r : c.c0-votes.result.now.r < 2 ^ 16 = omega arith in
     let w : c.c0-votes.result.now.w < 2 ^ 16 = omega arith in
-    let qualifiers : All (λ entry. qualifier entry.tag < 2 ^ 32) c.root_acl.result.now = rw c.entries.ensures.value at c.qualifiers_fit.ensures in
     record {
-      acl = rw c.root_acl.ensures at c.entries.ensures.acl;
+      acl = rw c.root_acl.ensures at c.lists_fit.ensures.acls;
       votes = rw c.c0-votes.ensures at c.reps-reps.ensures.valid;
       pver = omega arith;
       owner = rw c.root_owner.ensures at c.fits_four.ensures;
       group = rw c.root_group.ensures at c.fits_four-2.ensures;
-      qualifiers = rw c.root_acl.ensures at qualifiers;
+      qualifiers = rw c.root_acl.ensures at c.lists_fit.ensures.numbers;
       r = rw c.c0-votes.ensures at r;
       w = rw c.c0-votes.ensures at w;
     }

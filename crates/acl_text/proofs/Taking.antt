@@ -1,0 +1,81 @@
+-- Entries of two lists that are taken one at a time.
+use Rattle.std.proofs.Common.{◌≡◌, ℕ, List, [], ◌∷◌, ◌++◌, Option, None, Some, Result, Ok, Err, option_map, refl, ap, sym, subst, ◌∙◌, append-nil, IsPermutation}
+use Rattle.std.specs.List.{cons_option}
+use Rattle.std.specs.Option.{option_or}
+use Rattle.std.specs.Result.{IfErr, IfOk, IsErrAnd, OnOk}
+use Rattle.acl_core.specs.declared.entry.Entry.{Entry}
+use Rattle.acl_core.specs.declared.fault.AclError.{AclError}
+use Rattle.acl_core.specs.declared.fault.AclFault.{AclFault}
+use Rattle.acl_core.specs.declared.fault.AclError.TheVariants as acl
+use Rattle.acl_core.specs.declared.lists.Lists.{Lists}
+use Rattle.acl_core.specs.AccessLists.{fault_in, first_fault}
+use Rattle.acl_core.specs.Tallies.{IsTallyOf, Tallied}
+use Rattle.acl_text.specs.declared.item.Said.{Said}
+use Rattle.acl_text.specs.declared.item.Side.{Side}
+use Rattle.acl_text.specs.declared.item.Side.TheVariants.{Access, Default}
+use Rattle.acl_text.specs.declared.read.TextFault.TheVariants.{Invalid, Memory}
+use Rattle.acl_text.specs.declared.read.Tallies.{Tallies}
+use Rattle.acl_text.specs.code.Tallied.{AreTallied}
+use Rattle.acl_text.specs.Faults.{fault_of_list}
+use Rattle.acl_text.specs.Sides.{default_entries, entries_of, if_of}
+use Rattle.acl_text.specs.Tables.{Tables}
+use Rattle.acl_text.specs.Texts.{Spells, SpellsLists, default_fault, lists_fault}
+
+pub on_ok : {T E P Q : Type 0} (r : Result T E) → OnOk r P → (P → Q) → OnOk r Q
+on_ok (Ok x) done more = more done
+on_ok (Err e) done more = tt
+
+cons_more : (o : Option Entry) (entries more : List Entry) → cons_option o (entries ++ more) ≡ cons_option o entries ++ more
+cons_more None entries more = refl
+cons_more (Some e) entries more = refl
+
+-- one more entry
+entries_more : (side : Side) (taken : List Said) (said : Said) → entries_of side (taken ++ said ∷ []) ≡ entries_of side taken ++ entries_of side (said ∷ [])
+entries_more side [] said = refl
+entries_more side (first ∷ taken) said =
+    ap (cons_option (if_of side first.side first.entry)) (entries_more side taken said)
+    ∙ cons_more (if_of side first.side first.entry) (entries_of side taken) (entries_of side (said ∷ []))
+
+one_more : (side : Side) (taken : List Said) (said : Said) (entry : Entry) → if_of side said.side said.entry ≡ Some entry → entries_of side (taken ++ said ∷ []) ≡ entries_of side taken ++ entry ∷ []
+one_more side taken said entry is = entries_more side taken said ∙ ap (λ o. entries_of side taken ++ cons_option o []) is
+
+no_more : (side : Side) (taken : List Said) (said : Said) → if_of side said.side said.entry ≡ None → entries_of side (taken ++ said ∷ []) ≡ entries_of side taken
+no_more side taken said is = entries_more side taken said ∙ ap (λ o. entries_of side taken ++ cons_option o []) is ∙ append-nil (entries_of side taken)
+
+pub tally_more : (old new : Tallied) (side : Side) (taken : List Said) (said : Said) → said.side ≡ side → if_of side side said.entry ≡ Some said.entry → ((entries : List Entry) → IsTallyOf old entries → IsTallyOf new (entries ++ said.entry ∷ [])) → IsTallyOf old (entries_of side taken) → IsTallyOf new (entries_of side (taken ++ said ∷ []))
+tally_more old new side taken said of_side same more is =
+    subst (IsTallyOf new) (sym (one_more side taken said said.entry (ap (λ s. if_of side s said.entry) of_side ∙ same))) (more (entries_of side taken) is)
+
+pub tally_stays : (old : Tallied) (side other : Side) (taken : List Said) (said : Said) → said.side ≡ other → if_of side other said.entry ≡ None → IsTallyOf old (entries_of side taken) → IsTallyOf old (entries_of side (taken ++ said ∷ []))
+tally_stays old side other taken said of_other none is =
+    subst (IsTallyOf old) (sym (no_more side taken said (ap (λ s. if_of side s said.entry) of_other ∙ none))) is
+
+-- the fault of an access list is that of both
+refused_first : (a : AclError) (told : Option AclFault) (taken : List Said) → told ≡ fault_in {T = Unit {0}} (Err a) → told ≡ first_fault (entries_of Access taken) → (fault_of_list a ≡ Memory → ⊥) → lists_fault taken ≡ Some (fault_of_list a)
+refused_first (acl.Invalid fault) told taken named is other = ap (λ f. option_or (option_map Invalid f) (default_fault (entries_of Default taken))) (sym is ∙ named)
+refused_first acl.Memory told taken named is other = absurd (other refl)
+
+named_by : (T : Type 0) (a : AclError) → fault_in {T = T} (Err a) ≡ fault_in {T = Unit {0}} (Err a)
+named_by T (acl.Invalid fault) = refl
+named_by T acl.Memory = refl
+
+pub access_refused : (T : Type 0) (r : Result T AclError) (a : AclError) (taken : List Said) → r ≡ Err a → fault_in r ≡ first_fault (entries_of Access taken) → (fault_of_list a ≡ Memory → ⊥) → lists_fault taken ≡ Some (fault_of_list a)
+access_refused T r a taken failed is other = refused_first a (fault_in r) taken (ap fault_in failed ∙ named_by T a) is other
+
+pub err_told : {T E : Type 0} (Q : E → Type 0) (r : Result T E) (f : E) → IsErrAnd r (λ e. e ≡ f) → Q f → IfErr r Q
+err_told Q (Ok x) f is q = tt
+err_told Q (Err e) f is q = subst Q (sym is) q
+
+-- a text that spells entries spells the lists that they make
+pub lists_spelled : {E : Type 0} (r : Result Lists E) (tallies : Tallies) (text : List ℕ) (names : Tables) (said : List Said) → AreTallied tallies said → Spells text names (entries_of Access said) (entries_of Default said)
+    → IfOk r (λ lists. (taken : List Said) → AreTallied tallies taken → IsPermutation (entries_of Access taken) lists.access)
+    → IfOk r (λ lists. (taken : List Said) → AreTallied tallies taken → IsPermutation (entries_of Default taken) (default_entries lists.default))
+    → IfOk r (SpellsLists text names)
+lists_spelled (Ok lists) tallies text names said are spelled access default = record {
+  access = entries_of Access said;
+  default = entries_of Default said;
+  spells = spelled;
+  same_access = access said are;
+  same_default = default said are;
+}
+lists_spelled (Err e) tallies text names said are spelled access default = tt

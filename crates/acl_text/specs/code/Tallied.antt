@@ -1,0 +1,12 @@
+-- What is kept of the entries of both lists.
+use Rattle.std.specs.Prelude.{List}
+use Rattle.acl_core.specs.Tallies.{IsTallyOf}
+use Rattle.acl_text.specs.declared.item.Said.{Said}
+use Rattle.acl_text.specs.declared.item.Side.TheVariants.{Access, Default}
+use Rattle.acl_text.specs.declared.read.Tallies.{Tallies}
+use Rattle.acl_text.specs.Sides.{entries_of}
+
+-- the tallies of these entries
+pub record AreTallied (tallies : Tallies) (taken : List Said) : Type 0 where
+  pub access : IsTallyOf tallies.access (entries_of Access taken)
+  pub default : IsTallyOf tallies.default (entries_of Default taken)
