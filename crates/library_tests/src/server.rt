@@ -227,7 +227,7 @@ const DENIED: [Step; 5] = [
 /// What is answered to the same request by `answer` and by `serve` is the same.
 fn told_is_served(rt: &(impl Abort + AllocGlobal), server: &mut Server, ask: Ask) {
     let value = request(rt, ask);
-    let told = words(rt, &server.answer(Stamped { stamp: 0, value }));
+    let told = words(rt, &server.answer(&Stamped { stamp: 0, value }));
     let value = request(rt, ask);
     let served = words(rt, &server.serve(Stamped { stamp: 0, value }));
     same(rt, told.as_str(), served.as_str());

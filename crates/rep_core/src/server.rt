@@ -100,14 +100,14 @@ impl Server {
     }
 
     /// What would be answered to a request, but for the memory that serving it takes.
-    pub fn answer(&self, request: Stamped<Request>) -> Result<Stamped<Reply>, Lack>
-        ensures reply { IfOk result (λ reply. reply ≡ serving.answer_of self.now request) }
-        ensures full { (result ≡ Err Full) ↔ IsTrue (serving.is_full self.now request) }
-        ensures memory { IsTrue (serving.takes_no_memory request.value) → result ≢ Err Memory }
-        ensures bare { IsTrue (serving.is_bare (serving.answer_of self.now request).value) → result ≢ Err Memory }
-        ensures fits { IfOk result (λ reply. IsTrue (fits request.value reply.value)) }
+    pub fn answer(&self, request: &Stamped<Request>) -> Result<Stamped<Reply>, Lack>
+        ensures reply { IfOk result (λ reply. reply ≡ serving.answer_of self.now request.now) }
+        ensures full { (result ≡ Err Full) ↔ IsTrue (serving.is_full self.now request.now) }
+        ensures memory { IsTrue (serving.takes_no_memory request.now.value) → result ≢ Err Memory }
+        ensures bare { IsTrue (serving.is_bare (serving.answer_of self.now request.now).value) → result ≢ Err Memory }
+        ensures fits { IfOk result (λ reply. IsTrue (fits request.now.value reply.value)) }
     {
-        let plan = self.held.plan(&request)?;
+        let plan = self.held.plan(request)?;
         let mut reply = Stamped {
             stamp: plan.stamp,
             value: Reply::Down,
