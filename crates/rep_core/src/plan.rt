@@ -287,7 +287,7 @@ impl Holdings {
         ensures { OnOk result (reply.new ≡ Reply.Locked (state_of self.now).locks) }
     {
         let locks = Vec::from_slice(self.alloc, self.locks.as_slice())?;
-        *reply = Reply::Locked(LockList::from_vec(locks));
+        *reply = Reply::Locked(LockList::from_vec(locks)?);
         Ok(())
     }
 }

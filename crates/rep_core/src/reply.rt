@@ -4,6 +4,7 @@ use crate::lock::Lock;
 use file_ops::{Answers, Refusal};
 use std::alloc::AllocError;
 use std::marker::Model;
+use std::sync::ArcSlice;
 use suite_prefix::{Content, Prefix};
 
 /// How a transaction ended.
@@ -59,19 +60,20 @@ impl Eq for Verdict {
     ghost laws = { same_verdict_laws };
 }
 
-/// The locks of a server, by transaction, then suite.
+/// The locks of a server, by transaction, then suite. A clone shares them.
 #[derive(Debug, Drop)]
 pub struct LockList {
-    locks: Vec<Lock>,
+    locks: ArcSlice<Lock>,
 }
 
 impl Model for LockList {
     ghost use Rattle.std.specs.Prelude.{List};
+    ghost use Rattle.std.specs.Arc.{arc_slice_items};
     ghost use Rattle.rep_core.specs.declared.lock.Lock.{Lock};
 
     ghost Value = { List Lock };
 
-    ghost view = { λ list. list.locks.items };
+    ghost view = { λ list. arc_slice_items list.locks };
 }
 
 impl Clone for LockList {
@@ -80,8 +82,7 @@ impl Clone for LockList {
     ghost is_clone = { λ list copy. copy ≡ list };
 
     fn clone(&self) -> Result<LockList, AllocError> {
-        let alloc = *self.locks.allocator();
-        let locks = Vec::from_slice(alloc, &self.locks)?;
+        let locks = self.locks.clone()?;
         Ok(LockList { locks })
     }
 }
@@ -105,21 +106,14 @@ impl Eq for LockList {
 }
 
 impl LockList {
-    ghost use Rattle.std.specs.Prelude.{◌≡◌};
+    ghost use Rattle.std.specs.Prelude.{◌≡◌, IfOk};
 
     /// The locks of a vector, which are not copied.
-    pub fn from_vec(locks: Vec<Lock>) -> LockList
-        ensures { result ≡ locks.items }
+    pub fn from_vec(locks: Vec<Lock>) -> Result<LockList, AllocError>
+        ensures { IfOk result (λ list. list ≡ locks.items) }
     {
-        LockList { locks }
-    }
-
-    /// The vector.
-    pub fn into_vec(self) -> Vec<Lock>
-        ensures { result.items ≡ self }
-    {
-        let LockList { locks } = self;
-        locks
+        let locks = ArcSlice::from_vec(locks)?;
+        Ok(LockList { locks })
     }
 
     /// The locks.

@@ -45,7 +45,7 @@ fn locks(rt: &(impl Abort + AllocGlobal), text: &str) -> LockList {
     for word in text.split(' ') {
         locks.push(lock(rt, word)).ok().expect(rt, "memory");
     }
-    LockList::from_vec(locks)
+    LockList::from_vec(locks).ok().expect(rt, "memory")
 }
 
 /// A reply in a word, or locks.
