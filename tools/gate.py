@@ -1,6 +1,7 @@
 #!/usr/bin/env python3
-"""Looks with tools/shown.py whether all that README and examples/ show is played, and then runs `rt ci`, the gate;
-tells before its last line how long it took and which steps were the dearest.
+"""Looks with tools/shown.py whether all that README and examples/ show is played, and with tools/wrong_bodies.py
+whether the texts of all wrong bodies apply, and then runs `rt ci`, the gate; tells before its last line how long it
+took and which steps were the dearest.
 
 What passes and what fails is rt's alone: its output and its status are handed on as they are. The seconds of a
 step are the processor's, read now and then from the provers that run, so they lack up to a second each.
@@ -61,9 +62,10 @@ class Watch(threading.Thread):
 
 
 def main():
-    shown = subprocess.run([sys.executable, os.path.join(os.path.dirname(os.path.abspath(__file__)), "shown.py")])
-    if shown.returncode != 0:
-        return 1
+    tools = os.path.dirname(os.path.abspath(__file__))
+    for look in (["shown.py"], ["wrong_bodies.py", "--check"]):
+        if subprocess.run([sys.executable, os.path.join(tools, look[0]), *look[1:]]).returncode != 0:
+            return 1
     begun = time.monotonic()
     gate = subprocess.Popen(["rt", "ci"], stdout=subprocess.PIPE, stderr=subprocess.STDOUT, errors="replace")
     watch = Watch(gate.pid)
