@@ -3,13 +3,13 @@
 use Rattle.std.proofs.Common.{true, ◌<◌, List, [], ◌∷◌, ◌++◌, refl, inl, lit<, arith}
 use Rattle.std.specs.List.{IsDistinct}
 use Rattle.std.proofs.lemmas.List.Elements.{All-nil, All-cons}
-use Rattle.acl_core.specs.Modes.{minimal_list}
 use Rattle.vote_core.specs.Quorums.{Representative, Configuration}
 use Rattle.vote_core.specs.declared.TheConstants.{MAX_SERVERS}
 use Rattle.vote_core.specs.Validity.{IsValid}
 use Rattle.suite_prefix.specs.declared.copies.Prefix.{Prefix}
 use Rattle.suite_prefix.specs.declared.copies.PrefixKind.TheVariants.{Folder}
 use Rattle.suite_prefix.specs.Copies.{PrefixFits}
+use Rattle.suite_prefix.specs.TwoLists.{closed_lists}
 use Rattle.suite_prefix.specs.SettingsRules.{Opening}
 use Rattle.suite_prefix.specs.declared.lock_mode.LockMode.TheVariants.{Exclusive}
 use Rattle.rep_core.specs.declared.intention.Intention.{Intention}
@@ -23,7 +23,7 @@ use Rattle.rep_core.specs.declared.stamped.Stamped.{Stamped}
 use Rattle.rep_core.specs.Laws.{reached, SomeServerStands}
 use Rattle.rep_core.specs.ValidCopies.{TakeFits, RequestFits, OpeningFits, SomeCopyIsChanged}
 use Rattle.rep_core.proofs.Members.{contains_from}
-use Rattle.rep_core.proofs.Validity.{closed_acl, nobody}
+use Rattle.rep_core.proofs.Validity.{closed_acls, nobody}
 
 votes : Configuration
 votes = record { reps = (0, 1) ∷ []; r = 1; w = 1 }
@@ -36,7 +36,7 @@ settings = record {
   c0 = votes;
   root_owner = 0;
   root_group = 0;
-  root_acl = minimal_list 0;
+  root_acl = closed_lists;
   budget = 0;
   quota = 0;
   slots = 0;
@@ -63,11 +63,11 @@ valid_votes = record {
 
 next_prefix : Prefix
 unfolding votes
-next_prefix = record { pver = 2; kind = Folder; owner = 0; group = 0; acl = minimal_list 0; votes = votes }
+next_prefix = record { pver = 2; kind = Folder; owner = 0; group = 0; acl = closed_lists; votes = votes }
 
 next_fits : PrefixFits next_prefix
 unfolding next_prefix votes
-next_fits = record { acl = closed_acl; votes = valid_votes; pver = lit< tt; owner = lit< tt; group = lit< tt; qualifiers = nobody; r = lit< tt; w = lit< tt }
+next_fits = record { acl = closed_acls; votes = valid_votes; pver = lit< tt; owner = lit< tt; group = lit< tt; qualifiers = nobody; r = lit< tt; w = lit< tt }
 
 settings_fit : OpeningFits settings
 unfolding settings votes
@@ -80,7 +80,7 @@ settings_fit = record {
     quota_fits = omega arith;
     slots_fit = omega arith;
   };
-  root = record { acl = closed_acl; votes = valid_votes; pver = lit< tt; owner = lit< tt; group = lit< tt; qualifiers = nobody; r = lit< tt; w = lit< tt };
+  root = record { acl = closed_acls; votes = valid_votes; pver = lit< tt; owner = lit< tt; group = lit< tt; qualifiers = nobody; r = lit< tt; w = lit< tt };
 }
 
 new_part : Part

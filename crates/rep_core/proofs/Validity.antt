@@ -26,6 +26,7 @@ use Rattle.suite_prefix.specs.declared.copies.PrefixKind.{PrefixKind}
 use Rattle.suite_prefix.specs.declared.copies.PrefixKind.TheVariants.{Absent, File, Folder}
 use Rattle.suite_prefix.specs.declared.copies.Replica.{Replica}
 use Rattle.suite_prefix.specs.Absent.{absent_copy}
+use Rattle.suite_prefix.specs.TwoLists.{AreAcls, NumbersFit, closed_lists}
 use Rattle.suite_prefix.specs.Copies.{IsCopy, held_by}
 use Rattle.suite_prefix.specs.SettingsRules.{Opening}
 use Rattle.suite_prefix.specs.Tests.{is_absent, is_valid_copy}
@@ -74,7 +75,7 @@ closed_canonical =
     (All-cons (stands_ahead (entry_of UserObj 0)) of_group (of_others ∷ []) refl (All-cons (stands_ahead (entry_of UserObj 0)) of_others [] refl (All-nil (stands_ahead (entry_of UserObj 0)))))
     (AllPairs-cons stands_ahead of_group (of_others ∷ []) (All-cons (stands_ahead of_group) of_others [] refl (All-nil (stands_ahead of_group))) (AllPairs-cons stands_ahead of_others [] (All-nil (stands_ahead of_others)) (λ i j d below within. absurd (omega arith))))
 
-pub closed_acl : IsAcl (minimal_list 0)
+closed_acl : IsAcl (minimal_list 0)
 closed_acl = record {
   accepted = record {
     valid = record {
@@ -95,8 +96,14 @@ closed_acl = record {
 abbrev small : Entry → Type 0
 small entry = qualifier entry.tag < 2 ^ 32
 
-pub nobody : All (λ (entry : Entry). qualifier entry.tag < 2 ^ 32) (minimal_list 0)
-nobody = All-cons small (entry_of UserObj 0) (of_group ∷ of_others ∷ []) (lit< tt) (All-cons small of_group (of_others ∷ []) (lit< tt) (All-cons small of_others [] (lit< tt) (All-nil small)))
+names_nobody : All (λ (entry : Entry). qualifier entry.tag < 2 ^ 32) (minimal_list 0)
+names_nobody = All-cons small (entry_of UserObj 0) (of_group ∷ of_others ∷ []) (lit< tt) (All-cons small of_group (of_others ∷ []) (lit< tt) (All-cons small of_others [] (lit< tt) (All-nil small)))
+
+pub closed_acls : AreAcls closed_lists
+closed_acls = record { access = closed_acl; default = tt }
+
+pub nobody : NumbersFit closed_lists
+nobody = record { access = names_nobody; default = All-nil small }
 
 abbrev is_byte : ℕ → Type 0
 is_byte byte = byte < 256
@@ -109,7 +116,7 @@ is_named entry = IsName entry.0
 
 absent_fits : (c0 : Configuration) → IsValid c0 → c0.r < 2 ^ 16 → c0.w < 2 ^ 16 → CopyFits (absent_copy c0)
 absent_fits c0 valid r w = record {
-  prefix = record { acl = closed_acl; votes = valid; pver = lit< tt; owner = lit< tt; group = lit< tt; qualifiers = nobody; r = r; w = w };
+  prefix = record { acl = closed_acls; votes = valid; pver = lit< tt; owner = lit< tt; group = lit< tt; qualifiers = nobody; r = r; w = w };
   dver = lit< tt;
   content = All-nil is_byte;
 }
