@@ -1,0 +1,153 @@
+#!/usr/bin/env python3
+"""tests/defaults-on-linux.py [--rows] [PROGRAM]
+
+Measures on this Linux what a file and a folder get in a folder that has a default list, mode by mode, and what getfacl
+prints of such a folder; the lists that Linux gives are the ones wanted of the program. Without `--rows` it looks
+whether each row that comes of it stands in crates/rows/stdin and, where PROGRAM is there (crates/suites/out/suites if
+none is named), what that prints. With `--rows` it prints the rows.
+
+It needs Debian's package acl, and root on a file system with lists, here /dev/shm (tmpfs). It is no part of the gate.
+"""
+import os
+import re
+import subprocess
+import sys
+import tempfile
+
+TOP = os.path.join(os.path.dirname(os.path.abspath(__file__)), "..")
+ACCESS = "u::rwx,g::r-x,o::--x"
+# Without a mask, with named users and groups under wide and narrow masks, and with a mask alone.
+DEFAULTS = [
+    "u::rwx,g::r-x,o::r-x",
+    "u::rwx,u:1001:rw-,g::r-x,m::rwx,o::r--",
+    "u::rw-,u:1001:rwx,u:1002:-w-,g::rwx,g:200:r-x,m::r-x,o::--x",
+    "u::r-x,g::rwx,m::rw-,o::-w-",
+]
+MODES = [0o000, 0o400, 0o640, 0o664, 0o711, 0o750, 0o777, 0o123]
+UMASKS = [0o022, 0o077]
+# Folders for getfacl: what the two masks take away is told of each list by its own mask.
+SHOWN = [
+    "u::rwx,u:1001:rwx,g::r-x,m::r-x,o::---,d:u::rwx,d:u:1001:rw-,d:g::rwx,d:g:200:rwx,d:m::r--,d:o::r-x",
+    "u::rwx,g::rwx,o::---,d:u::rwx,d:u:1001:rwx,d:g::r-x,d:m::---,d:o::rwx",
+    "u::rwx,u:1001:rwx,g::rwx,m::--x,o::---,d:u::rwx,d:g::rwx,d:o::---",
+]
+
+
+def run(*words):
+    return subprocess.run(words, check=True, stdout=subprocess.PIPE, text=True).stdout
+
+
+def with_default(default):
+    return ACCESS + "".join(f",d:{entry}" for entry in default.split(","))
+
+
+def listed(path):
+    """The two lists of a path, as the short text of the service."""
+    return ",".join(run("getfacl", "-cnpE", path).split())
+
+
+def folder_in(place, lists):
+    """A new folder with these lists and no others."""
+    folder = tempfile.mkdtemp(dir=place)
+    run("setfacl", "-n", "--set", lists, folder)
+    return folder
+
+
+def created(folder, kind, mode, umask):
+    """The lists of what is made with a mode in a folder, under a umask."""
+    path = os.path.join(folder, f"{kind}{umask:03o}")
+    before = os.umask(umask)
+    if kind == "file":
+        os.close(os.open(path, os.O_CREAT | os.O_EXCL | os.O_WRONLY, mode))
+    else:
+        os.mkdir(path, mode)
+    os.umask(before)
+    found = listed(path)
+    (os.remove if kind == "file" else os.rmdir)(path)
+    return found
+
+
+def creation_row(place, default):
+    """A script that makes a file and a folder of each mode, and what Linux gives them whatever the umask is."""
+    lists = with_default(default)
+    folder = folder_in(place, lists)
+    script = ["root 1000 100 777", f"do 1000 100 folder /d {lists}"]
+    printed = ["0 answered made 1"]
+    for mode in MODES:
+        for kind in ("file", "folder"):
+            each = {created(folder, kind, mode, umask) for umask in UMASKS}
+            assert len(each) == 1, (default, kind, mode, each)
+            t, path = len(printed), f"/d/{kind}{mode:03o}"
+            script.append(f"do 1000 100 {kind} {path} {mode:03o} ; getacl {path}")
+            printed.append(f"{t} answered made {8 * t + 1}; acl {each.pop()}")
+    return "table", script, printed
+
+
+def misplaced_row(place):
+    """A file that is there gets no default list, and keeps the list that it has."""
+    defaults = ",".join(f"d:{entry}" for entry in DEFAULTS[0].split(","))
+    path = os.path.join(folder_in(place, ACCESS), "f")
+    os.close(os.open(path, os.O_CREAT | os.O_EXCL | os.O_WRONLY, 0o640))
+    before = listed(path)
+    assert subprocess.run(["setfacl", "-n", "-m", defaults, path], stderr=subprocess.DEVNULL).returncode != 0
+    assert listed(path) == before
+    script = ["root 1000 100 777", "do 1000 100 file /f 640",
+              f"do 1000 100 setacl /f u::rw-,g::r--,o::---,{defaults}", "do 1000 100 getacl /f"]
+    return "table", script, ["0 answered made 1", "1 refused F12 op 1", f"2 answered acl {before}"]
+
+
+def shown_row(place, lists):
+    """What getfacl prints of a folder, and the same without its head and with one tab before each remark."""
+    folder = folder_in(place, lists)
+    told = run("getfacl", "-np", folder).replace(folder, "shared").splitlines()
+    plain = [re.sub("\t+", "\t", line) for line in told if line and not line.startswith("#")]
+    return "acl", told, plain
+
+
+def measured():
+    os.umask(0o022)
+    with tempfile.TemporaryDirectory(dir="/dev/shm") as place:
+        yield "What Linux gives to what is made in a folder with a default list, mode by mode"
+        yield from (creation_row(place, default) for default in DEFAULTS)
+        yield "A file gets no default list, on Linux neither"
+        yield misplaced_row(place)
+        yield "What getfacl prints of a folder with a default list"
+        yield from (shown_row(place, lists) for lists in SHOWN)
+
+
+def told(found):
+    """A title or a row, as a row of crates/rows/stdin."""
+    if isinstance(found, str):
+        return f"= {found}\n"
+    words, given, printed = found
+    lines = [f"$ {words}", *given, "> 0", *printed]
+    return "".join(line.replace("\t", "\\t") + "\n" for line in lines)
+
+
+def main():
+    names = [word for word in sys.argv[1:] if word != "--rows"]
+    if "--rows" in sys.argv[1:]:
+        print("".join(told(found) for found in measured()), end="")
+        return
+    program = names[0] if names else os.path.join(TOP, "crates", "suites", "out", "suites")
+    with open(os.path.join(TOP, "crates", "rows", "stdin"), encoding="utf-8") as file:
+        kept = file.read()
+    rows = [found for found in measured() if not isinstance(found, str)]
+    absent = sum(told(row) not in kept for row in rows)
+    print(f"{len(rows)} rows measured, of which {absent} do not stand in crates/rows/stdin")
+    differ = differences(program, rows) if os.path.exists(program) else 0
+    sys.exit(1 if absent or differ else 0)
+
+
+def differences(program, rows):
+    """How many rows the program prints otherwise than Linux has it."""
+    count = 0
+    for words, given, printed in rows:
+        wanted, text = "".join(line + "\n" for line in printed), "".join(line + "\n" for line in given)
+        done = subprocess.run([program, words], input=text, stdout=subprocess.PIPE, text=True)
+        count += (done.returncode, done.stdout) != (0, wanted)
+    print(f"{program}: {count} of {len(rows)} rows differ")
+    return count
+
+
+main()
