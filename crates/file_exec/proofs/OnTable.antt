@@ -31,8 +31,10 @@ use Rattle.file_ops.specs.KnownVotes.{known_votes, votes_of_new}
 use Rattle.file_ops.specs.declared.service.Service.{Service}
 use Rattle.file_ops.specs.declared.operation.Init.{Init}
 use Rattle.vote_core.specs.Quorums.{Configuration}
-use Rattle.acl_core.specs.declared.entry.Entry.{Entry}
+use Rattle.acl_core.specs.declared.lists.Lists.{Lists}
 use Rattle.suite_content.specs.declared.content.Kind.{Kind}
+use Rattle.suite_content.specs.declared.content.Kind.TheVariants.{File, Folder}
+use Rattle.file_ops.specs.Lists.{gives_default, is_misplaced, lists_of}
 use Rattle.file_ops.specs.declared.answer.Answer.{Answer}
 use Rattle.file_ops.specs.declared.answer.Answer.TheVariants as answer
 use Rattle.file_exec.specs.declared.log.Edit.{Edit}
@@ -191,6 +193,14 @@ module _ {A Z : Type 0} (rows : Rows) (P : Result (Ended A) Why → Result Z Why
         | Names names ↦ λ _. err why.IsFolder
       ] refl
 
+  at_kind : (row : Row) (rule_of : Kind → Result (Unit {0}) Why) (next : Course A Why) (later : Result Z Why) → P (On rows next) later
+      → P (On rows (◌>>◌ (rule (rule_of (kind_of (emptied row).content))) next)) (steps.◌>>◌ (rule_of (kind_of row.content)) later)
+  at_kind row rule_of next later same =
+      elim (row.content) as (λ content. P (On rows (◌>>◌ (rule (rule_of (kind_of (empty_content (kind_of content))))) next)) (steps.◌>>◌ (rule_of (kind_of content)) later)) [
+        | Bytes bytes ↦ ruled_out (rule_of File) next later same
+        | Names names ↦ ruled_out (rule_of Folder) next later same
+      ]
+
 -- what is read of a row that is there
 on_names : {A : Type 0} (rows : Rows) (suite : ℕ) (row : Row) (names : List (List ℕ × ℕ)) (next : List (List ℕ × ℕ) → Course A Why) → row_of rows suite ≡ Some row → row.content ≡ Names names
     → On rows (◌>>=◌ (asked.names_at suite) next) ≡ On rows (next names)
@@ -336,8 +346,11 @@ module _ (rows : Rows) (caller : Identity) (names : List (List ℕ)) where
       at_file rows Does does_err place.row _ _ (λ before is.
       on_set place.suite place.row (SetContent (Bytes bytes)) answer.Wrote there))))
 
-  on_list_set : (acl : List Entry) → Does (On rows (asked.list_set caller names acl)) (plain_ops.list_set rows caller names acl)
-  on_list_set acl = at_owned _ _ (λ place there. on_set place.suite place.row (SetAcl acl) answer.Set there)
+  on_list_set : (acl : Lists) → Does (On rows (asked.list_set caller names acl)) (plain_ops.list_set rows caller names acl)
+  on_list_set acl =
+      at_owned _ _ (λ place there.
+      at_kind rows Does does_err place.row (λ kind. plain_ops.refuse_if (is_misplaced kind (is_some acl.default)) why.DefaultOnFile) _ _ (
+      on_set place.suite place.row (SetAcl acl) answer.Set there))
 
   on_votes_set : (service : Service) (given : Configuration) → Does (On rows (asked.votes_set service caller names given)) (plain_ops.votes_set service rows caller names given)
   on_votes_set service given =
@@ -390,15 +403,16 @@ module _ (rows : Rows) (caller : Identity) where
   on_made service number names kind init given =
       ruled rows (Does rows caller names) (does_err rows caller names) (plain_ops.last_name names) _ _ (λ path _.
       ruled rows (Does rows caller names) (does_err rows caller names) (votes_of_new service given) _ _ (λ votes _.
+      ruled_out rows (Does rows caller names) (does_err rows caller names) (plain_ops.refuse_if (is_misplaced kind (gives_default init)) why.DefaultOnFile) _ _ (
       at_parent path.folders _ _ (λ parent there.
       let full = plain_ops.refuse_if (nat_le max_names (length parent.names)) why.FolderFull in
       let named : Edit = SetContent (Names (folders.with_name parent.names path.name number)) in
-      let new = new_row kind init votes caller in
+      let new = new_row kind (lists_of kind parent.place.row.acl.default init) votes caller in
       let last : Course Answer Why = ◌>>◌ (look number Exclusive) (◌>>◌ (set parent.place.suite named) (◌>>◌ (set number (Make new)) (Give (answer.Made number)))) in
       let done : Result plain_ops.Done Why = Ok (record { answer = answer.Made number; rows = plain_ops.with_made rows parent path.name number new }) in
       ruled_out rows (Does rows caller names) (does_err rows caller names) (plain_ops.refuse_if (is_some (folders.number_of parent.names path.name)) why.Exists) (◌>>◌ (rule full) last) (steps.◌>>◌ full done) (
       ruled_out rows (Does rows caller names) (does_err rows caller names) full last done (
-      ap (λ found. Ok (answer.Made number, with_row (put parent.place.suite (changed named found) rows) number new)) there)))))
+      ap (λ found. Ok (answer.Made number, with_row (put parent.place.suite (changed named found) rows) number new)) there))))))
 
   -- a suite that is dropped is used where the table says so
   at_used : (names : List (List ℕ)) (suite : ℕ) (next : Course Answer Why) (later : Result plain_ops.Done Why) → Does rows caller names (On rows next) later

@@ -6,7 +6,7 @@ use Rattle.file_ops.specs.declared.refusal.Why.{Why}
 use Rattle.file_exec.specs.declared.stop.Stop.{Stop}
 use Rattle.file_exec.specs.declared.stop.Stop.TheVariants as stop
 use Rattle.file_exec.specs.declared.log.Edit.{Edit}
-use Rattle.file_exec.specs.Courses.{Course, Give, Set, ◌>>=◌, rule, set}
+use Rattle.file_exec.specs.Courses.{Course, Give, Set, ◌>>=◌, ◌>>◌, rule, set}
 use Rattle.suite_prefix.specs.declared.lock_mode.LockMode.TheVariants.{Exclusive}
 use Rattle.file_exec.specs.declared.need.Need.TheVariants.{Hold}
 use Rattle.file_exec.specs.Following.{Edits}
@@ -96,6 +96,13 @@ set_gives known before suite edit later holds given =
 pub same_set : {A : Type 0} {see : A → Unit {0}} {result : Result A Stop} {known : Known} {before after : Edits} {suite : ℕ} {edit other : Edit}
     → edit ≡ other → Runs see result known before after (set suite edit) → Runs see result known before after (set suite other)
 same_set {see = see} {result = result} {known = known} {before = before} {after = after} {suite = suite} same runs = subst (λ edit. Runs see result known before after (set suite edit)) same runs
+
+-- two edits in other words
+pub same_both : {A : Type 0} {see : A → Unit {0}} {result : Result A Stop} {known : Known} {before after : Edits} {suite suite' : ℕ} {edit other edit' other' : Edit}
+    → edit ≡ other → edit' ≡ other' → Runs see result known before after (◌>>◌ (set suite edit) (set suite' edit')) → Runs see result known before after (◌>>◌ (set suite other) (set suite' other'))
+same_both {see = see} {result = result} {known = known} {before = before} {after = after} {suite = suite} {suite' = suite'} {edit = edit} {other' = other'} same same' runs =
+    subst (λ edit. Runs see result known before after (◌>>◌ (set suite edit) (set suite' other'))) same
+    (subst (λ edit'. Runs see result known before after (◌>>◌ (set suite edit) (set suite' edit'))) same' runs)
 
 -- an edit, and what follows on it
 module _ {A C D : Type 0} {see : A → Unit {0}} {known : Known} {before middle : Edits} {suite : ℕ} {edit : Edit} {later : Course D Why} where

@@ -20,7 +20,9 @@ use Rattle.file_ops.specs.KnownVotes.{known_votes, votes_of_new}
 use Rattle.suite_content.specs.Limits.{max_content, max_names}
 use Rattle.file_ops.specs.Walks.{bytes_in, names_in, to_read, to_write, to_search, to_change, permit, permit_others, owner_only}
 use Rattle.file_ops.specs.Operations.{refuse_if, last_name, is_used}
+use Rattle.suite_content.specs.Contents.{kind_of}
 use Rattle.suite_content.specs.Folders as folders
+use Rattle.file_ops.specs.Lists.{gives_default, is_misplaced}
 use Rattle.file_ops.specs.Rows.{Row, root}
 use Rattle.file_ops.specs.Transactions.{is_miscounted}
 use Rattle.file_exec.specs.Changes.{sets_votes, some}
@@ -152,13 +154,15 @@ act service t at caller names (action.Write bytes) =
     ruled (refuse_if (nat_lt max_content (length bytes)) why.TooLong) _ (λ _.
     in_turn _ (reach caller names Exclusive) (λ place.
     ruled (permit caller place to_write) _ (λ _. ruled (bytes_in place.row.content) _ (λ _. record { first = (tt, tt) }))))
-act service t at caller names (action.SetAcl acl) = in_turn _ (owned caller names) (λ place. record { first = (tt, tt) })
+act service t at caller names (action.SetAcl acl) =
+    in_turn _ (owned caller names) (λ place. ruled (refuse_if (is_misplaced (kind_of place.row.content) (is_some acl.default)) why.DefaultOnFile) _ (λ _. record { first = (tt, tt) }))
 act service t at caller names (action.SetVotes votes) =
     ruled (known_votes service votes) _ (λ votes. in_turn _ (owned caller names) (λ place. record { first = λ content. (refl, tt) }))
 act service t at caller names (action.Make kind init given) =
     ruled (last_name names) _ (λ path. ruled (votes_of_new service given) _ (λ votes.
+    ruled (refuse_if (is_misplaced kind (gives_default init)) why.DefaultOnFile) _ (λ _.
     in_turn _ (parent_of caller path.folders) (λ parent.
-    ruled (refuse_if (is_some (folders.number_of parent.names path.name)) why.Exists) _ (λ _. ruled (refuse_if (nat_le max_names (length parent.names)) why.FolderFull) _ (λ _. record { first = λ row. (tt, (tt, tt)) })))))
+    ruled (refuse_if (is_some (folders.number_of parent.names path.name)) why.Exists) _ (λ _. ruled (refuse_if (nat_le max_names (length parent.names)) why.FolderFull) _ (λ _. record { first = λ row. (tt, (tt, tt)) }))))))
 act service t at caller names action.Drop =
     ruled (last_name names) _ (λ path.
     in_turn _ (parent_of caller path.folders) (λ parent.

@@ -8,7 +8,7 @@ use Rattle.suite_prefix.specs.LockModes.{serves}
 use Rattle.suite_content.specs.Contents.{kind_of}
 use Rattle.suite_content.specs.declared.content.Content.{Content}
 use Rattle.acl_core.specs.Identity.{Identity}
-use Rattle.acl_core.specs.declared.entry.Entry.{Entry}
+use Rattle.acl_core.specs.declared.lists.Lists.{Lists}
 use Rattle.vote_core.specs.Quorums.{Configuration}
 use Rattle.file_ops.specs.declared.answer.Answer.{Answer}
 use Rattle.file_ops.specs.declared.operation.Op.{Op}
@@ -56,8 +56,8 @@ UnsetVotesStay =
     → answered known (exec_of service known t caller ops) ≡ outcome.Done answers changes
     → get nat_cmp changes suite ≡ Some change → change.votes ≡ false → option_map (λ (row : Row). row.votes) (known_rows known suite) ≡ Some change.row.votes
 
--- the list and the votes of a row, where there is one
-abbrev pub acl_in : Option Row → Option (List Entry)
+-- the lists and the votes of a row, where there is one
+abbrev pub acl_in : Option Row → Option Lists
 acl_in row = option_map (λ row. row.acl) row
 
 abbrev pub votes_in : Option Row → Option Configuration

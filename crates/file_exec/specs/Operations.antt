@@ -1,11 +1,12 @@
 -- The operations of the plain table as courses: what each asks for, and when.
 use Rattle.std.specs.Prelude.{ℕ, ◌+◌, nat_lt, nat_le, if◌then◌else◌, List, [], ◌∷◌, ◌++◌, length, is_some, Option, Some, None}
 use Rattle.acl_core.specs.Identity.{Identity}
-use Rattle.acl_core.specs.declared.entry.Entry.{Entry}
+use Rattle.acl_core.specs.declared.lists.Lists.{Lists}
 use Rattle.vote_core.specs.Quorums.{Configuration}
 use Rattle.suite_content.specs.declared.content.Kind.{Kind}
 use Rattle.suite_content.specs.declared.content.Content.{Content}
 use Rattle.suite_content.specs.declared.content.Content.TheVariants.{Bytes, Names}
+use Rattle.suite_content.specs.Contents.{kind_of}
 use Rattle.suite_content.specs.Folders as folders
 use Rattle.suite_content.specs.Limits.{max_content, max_names}
 use Rattle.file_ops.specs.declared.answer.Answer.{Answer}
@@ -19,6 +20,7 @@ use Rattle.file_ops.specs.declared.refusal.Why.{Why}
 use Rattle.file_ops.specs.declared.refusal.Why.TheVariants as why
 use Rattle.file_ops.specs.declared.service.Service.{Service}
 use Rattle.file_ops.specs.Steps.{found_or}
+use Rattle.file_ops.specs.Lists.{gives_default, is_misplaced, lists_of}
 use Rattle.file_ops.specs.Paths.{names_of}
 use Rattle.file_ops.specs.Rows.{Row, root, made_number, new_row}
 use Rattle.file_ops.specs.Walks.{Place, bytes_in, names_in, to_read, to_write, to_search, to_change, permit, permit_others, owner_only}
@@ -123,9 +125,11 @@ bytes_written caller names bytes = do
   set place.suite (SetContent (Bytes bytes))
   Give answer.Wrote
 
-abbrev pub list_set : Identity → List (List ℕ) → List Entry → Course Answer Why
+-- other lists; the kind, which decides whether a default list may come to it, is known from the look
+abbrev pub list_set : Identity → List (List ℕ) → Lists → Course Answer Why
 list_set caller names acl = do
   place ← owned caller names
+  rule (refuse_if (is_misplaced (kind_of place.row.content) (is_some acl.default)) why.DefaultOnFile)
   set place.suite (SetAcl acl)
   Give answer.Set
 
@@ -152,12 +156,13 @@ abbrev pub made : Service → ℕ → Identity → List (List ℕ) → Kind → 
 made service number caller names kind init given = do
   path ← rule (last_name names)
   votes ← rule (votes_of_new service given)
+  rule (refuse_if (is_misplaced kind (gives_default init)) why.DefaultOnFile)
   parent ← parent_of caller path.folders
   rule (refuse_if (is_some (folders.number_of parent.names path.name)) why.Exists)
   rule (refuse_if (nat_le max_names (length parent.names)) why.FolderFull)
   look number Exclusive
   set parent.place.suite (SetContent (Names (folders.with_name parent.names path.name number)))
-  set number (Make (new_row kind init votes caller))
+  set number (Make (new_row kind (lists_of kind parent.place.row.acl.default init) votes caller))
   Give (answer.Made number)
 
 -- a folder must have no names; of anything else the content is not read

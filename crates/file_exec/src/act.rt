@@ -1,16 +1,18 @@
 //! The operations of a transaction on what is known.
 
-ghost use Rattle.std.specs.Prelude.{◌≡◌, ◌<◌, ◌^◌, nat_lt, nat_le, length, is_some, IfOk, OnErr};
+ghost use Rattle.std.specs.Prelude.{◌≡◌, ◌<◌, ◌^◌, true, nat_lt, nat_le, length, is_some, IfOk, OnErr};
 ghost use Rattle.suite_content.specs.Folders.{number_of, with_name, without_name};
 ghost use Rattle.suite_content.specs.Limits.{max_content, max_names};
 ghost use Rattle.file_ops.specs.declared.refusal.Why.TheVariants as why;
 ghost use Rattle.file_ops.specs.Operations.{refuse_if, last_name};
 ghost use Rattle.file_ops.specs.Steps.{found_or};
 ghost use Rattle.file_ops.specs.Rows.{new_row};
+ghost use Rattle.suite_prefix.specs.declared.lock_mode.LockMode.TheVariants.{Exclusive};
 ghost use Rattle.file_exec.specs.Courses.{set};
+ghost use Rattle.file_exec.specs.Known.{is_held, known_of};
 ghost use Rattle.file_exec.specs.Operations.{bytes_read, names_listed, list_shown, votes_shown, bytes_written, list_set, votes_set, made, refuse_used, dropped, operation};
 ghost use Rattle.file_exec.specs.code.Overlay.{seen_head, IsSeenAt};
-ghost use Rattle.file_exec.specs.code.Steps.{Answers, Runs, Sees};
+ghost use Rattle.file_exec.specs.code.Steps.{Answers, Runs, Sees, set_both};
 ghost use Rattle.file_exec.specs.code.Ways.{LeadsTo};
 ghost use Rattle.file_exec.specs.Reaching.{folders_in, walked};
 
@@ -22,8 +24,8 @@ use crate::row::KnownRow;
 use crate::seen::Seen;
 use crate::stop::Stop;
 use crate::view::View;
-use acl_core::{Acl, Caller, Perms};
-use file_ops::{Action, Answer, Init, Op, Why, last_name, made_number};
+use acl_core::{Caller, Lists, Perms};
+use file_ops::{Action, Answer, Init, Op, Why, last_name, made_number, require_placed};
 use std::alloc::{AllocError, Global};
 use suite_content::{Content, FileBytes, FolderNames, Kind, Name};
 use suite_prefix::LockMode;
@@ -124,7 +126,7 @@ fn list(view: View<'_, '_>, caller: &Caller, names: &[Name], way: &mut Way) -> R
     Ok(Answer::List(list))
 }
 
-/// The access list of a file or folder.
+/// The lists of a file or folder.
 fn get_acl(
     view: View<'_, '_>,
     caller: &Caller,
@@ -167,6 +169,28 @@ fn set(known: &Known<'_>, log: &mut Log, suite: u64, edit: Edit) -> Result<(), S
     Ok(())
 }
 
+/// Sets something of one suite and then something of another, or neither. Both are to be held exclusively, as the
+/// second one is.
+fn set_both(
+    known: &Known<'_>,
+    log: &mut Log,
+    first: (u64, Edit),
+    second: (u64, Edit),
+) -> Result<(), Stop>
+    requires { is_held Exclusive (known_of known.now.suites second.0) ≡ true }
+    ensures set { Runs (λ done. done) result known.now.suites log.old log.new (set_both first second) }
+    ensures kept { OnErr result (log.new ≡ log.old) }
+{
+    let (suite, edit) = first;
+    set(known, log, suite, edit)?;
+    let (suite, edit) = second;
+    if let Err(stop) = set(known, log, suite, edit) {
+        log.take_back();
+        return Err(stop);
+    }
+    Ok(())
+}
+
 /// Puts other bytes in a file.
 fn write(
     known: &Known<'_>,
@@ -191,13 +215,13 @@ fn write(
     Ok(Answer::Wrote)
 }
 
-/// Gives a file or folder another access list.
+/// Gives a file or folder other lists.
 fn set_acl(
     known: &Known<'_>,
     log: &mut Log,
     caller: &Caller,
     names: &[Name],
-    acl: &Acl,
+    acl: &Lists,
     way: &mut Way,
 ) -> Result<Answer, Stop>
     requires { LeadsTo known.now.suites log.old caller.now names.now way.old }
@@ -205,7 +229,9 @@ fn set_acl(
     ensures kept { OnErr result (log.new ≡ log.old) }
     ensures way { LeadsTo known.now.suites log.old caller.now names.now way.new }
 {
-    let suite = View { known, log }.owned(caller, names, way)?.suite;
+    let place = View { known, log }.owned(caller, names, way)?;
+    place.require_placed(acl.default.is_some())?;
+    let suite = place.suite;
     let acl = acl.clone()?;
     set(known, log, suite, Edit::SetAcl(acl))?;
     Ok(Answer::Set)
@@ -261,6 +287,7 @@ fn make(
     let (name, folders) = last_name(names)?;
     let service = known.service();
     let votes = service.votes_of_new(given)?;
+    require_placed(kind, init.gives_default())?;
     let view = View { known, log };
     let parent = view.parent_of(caller, folders, way)?;
     require_absent(parent.names, name)?;
@@ -268,38 +295,24 @@ fn make(
     view.look(number, LockMode::Exclusive)?;
     let folder = parent.place.suite;
     let entries = with_name(parent.names, name, number)?;
-    let row = new_row(alloc, kind, init, votes, caller)?;
-    set(
-        known,
-        log,
-        folder,
-        Edit::SetContent(Content::Names(entries)),
-    )?;
-    if let Err(stop) = set(known, log, number, Edit::Make(row)) {
-        log.take_back();
-        return Err(stop);
-    }
+    let lists = init.lists(alloc, kind, &parent.place.row.acl.default)?;
+    let row = new_row(alloc, kind, lists, votes, caller);
+    let named = Edit::SetContent(Content::Names(entries));
+    set_both(known, log, (folder, named), (number, Edit::Make(row)))?;
     Ok(Answer::Made(number))
 }
 
 /// The row of a new file or folder.
-fn new_row(
-    alloc: Global,
-    kind: Kind,
-    init: &Init,
-    votes: Votes,
-    caller: &Caller,
-) -> Result<KnownRow, AllocError>
-    ensures { IfOk result (λ row. row ≡ new_row kind init.now votes caller.now) }
+fn new_row(alloc: Global, kind: Kind, acl: Lists, votes: Votes, caller: &Caller) -> KnownRow
+    ensures { result ≡ new_row kind acl votes caller.now }
 {
-    let acl = init.list(alloc)?;
-    Ok(KnownRow {
+    KnownRow {
         owner: caller.uid(),
         group: caller.gid(),
         acl,
         votes,
         content: Content::empty(alloc, kind),
-    })
+    }
 }
 
 /// Refuses to drop a folder that has names. Of anything else the content is not read.

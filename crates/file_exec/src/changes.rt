@@ -11,8 +11,8 @@ use sorted_map::SortedMap;
 use std::alloc::{AllocError, Global};
 use std::marker::Model;
 
-/// What a transaction has set of a suite, also where it set an equal value: its access list, its votes,
-/// its content, or all of it, where it was made; and the row after it.
+/// What a transaction has set of a suite, also where it set an equal value: its lists, its votes, its
+/// content, or all of it, where it was made; and the row after it.
 #[derive(Drop)]
 pub struct Change {
     pub made: bool,

@@ -8,17 +8,17 @@ ghost use Rattle.file_exec.specs.code.Overlay.{seen_row, IsWholeIf};
 
 use crate::row::KnownRow;
 use crate::seen::{Seen, SeenContent};
-use acl_core::Acl;
+use acl_core::Lists;
 use std::alloc::{AllocError, Global};
 use std::marker::Model;
 use suite_content::Content;
 use vote_core::Votes;
 
-/// What an operation sets of a suite: its list, its votes, its content, or all of it, where it is made.
+/// What an operation sets of a suite: its lists, its votes, its content, or all of it, where it is made.
 #[derive(Drop)]
 pub enum Edit {
-    /// Its access list.
-    SetAcl(Acl),
+    /// Its lists.
+    SetAcl(Lists),
     /// Its votes.
     SetVotes(Votes),
     /// Its content, whole.
@@ -51,7 +51,7 @@ impl Edit {
         matches!(self, Edit::Make(_))
     }
 
-    /// Whether it sets the list.
+    /// Whether it sets the lists.
     pub(crate) fn sets_acl(&self) -> bool
         ensures { result ≡ sets_acl self.now }
     {
@@ -165,7 +165,7 @@ pub(crate) fn makes(edits: &[(u64, Edit)], suite: u64) -> bool
     edits.iter().any(|(of, edit)| *of == suite && edit.makes())
 }
 
-/// Whether the edits set the list of a suite.
+/// Whether the edits set the lists of a suite.
 pub(crate) fn sets_acl(edits: &[(u64, Edit)], suite: u64) -> bool
     ensures { result ≡ some sets_acl edits.now suite }
 {

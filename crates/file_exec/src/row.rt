@@ -2,19 +2,19 @@
 
 ghost use Rattle.std.specs.Prelude.{◌≡◌};
 
-use acl_core::Acl;
+use acl_core::Lists;
 use std::alloc::AllocError;
 use std::marker::Model;
 use suite_content::Content;
 use vote_core::Votes;
 
-/// The row of a file or folder. A clone shares its list and its content. A content that is not known
+/// The row of a file or folder. A clone shares its lists and its content. A content that is not known
 /// yet is the empty one of its kind.
 #[derive(Drop)]
 pub struct KnownRow {
     pub(crate) owner: u32,
     pub(crate) group: u32,
-    pub(crate) acl: Acl,
+    pub(crate) acl: Lists,
     pub(crate) votes: Votes,
     pub(crate) content: Content,
 }
@@ -58,8 +58,8 @@ impl KnownRow {
         self.group
     }
 
-    /// Its access list.
-    pub fn acl(&self) -> &Acl
+    /// Its lists.
+    pub fn acl(&self) -> &Lists
         ensures { result.now ≡ self.now.acl }
     {
         &self.acl

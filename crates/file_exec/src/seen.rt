@@ -5,7 +5,7 @@ ghost use Rattle.suite_content.specs.Contents.{kind_of};
 ghost use Rattle.file_exec.specs.code.Overlay.{content_seen, is_whole, seen_row};
 
 use crate::row::KnownRow;
-use acl_core::Acl;
+use acl_core::Lists;
 use std::alloc::{AllocError, Global};
 use suite_content::{Content, Kind};
 use vote_core::Votes;
@@ -47,7 +47,7 @@ impl<'a> SeenContent<'a> {
 pub(crate) struct Seen<'a> {
     pub(crate) owner: u32,
     pub(crate) group: u32,
-    pub(crate) acl: &'a Acl,
+    pub(crate) acl: &'a Lists,
     pub(crate) votes: &'a Votes,
     pub(crate) content: SeenContent<'a>,
 }
@@ -67,7 +67,7 @@ impl<'a> Seen<'a> {
         }
     }
 
-    /// A row of its own, which shares the list and the content.
+    /// A row of its own, which shares the lists and the content.
     pub(crate) fn own(self, alloc: Global) -> Result<KnownRow, AllocError>
         ensures { IfOk result (λ row. row ≡ seen_row self.entry) }
     {

@@ -1,6 +1,10 @@
 //! The way to a file or a folder on what is known, and what a caller may do there.
 
 ghost use Rattle.std.specs.Prelude.{◌≡◌, [], Some, IfOk};
+ghost use Rattle.suite_content.specs.Contents.{kind_of};
+ghost use Rattle.file_ops.specs.declared.refusal.Why.TheVariants as why;
+ghost use Rattle.file_ops.specs.Lists.{is_misplaced};
+ghost use Rattle.file_ops.specs.Operations.{refuse_if};
 ghost use Rattle.file_ops.specs.Rows.{root};
 ghost use Rattle.file_ops.specs.Steps.{ok_map};
 ghost use Rattle.file_ops.specs.Walks.{bytes_in, names_in, permit, permit_others, owner_only};
@@ -17,7 +21,7 @@ use crate::progress::Way;
 use crate::seen::{Seen, SeenContent};
 use crate::stop::Stop;
 use acl_core::{Caller, Perms};
-use file_ops::{Guarded, Why, to_change};
+use file_ops::{Guarded, Why, require_placed, to_change};
 use suite_content::{Content, FileBytes, FolderNames, Kind, Name};
 use suite_prefix::LockMode;
 
@@ -48,13 +52,13 @@ impl<'a> Place<'a> {
         ensures suite { result.suite ≡ self.entry.suite }
         ensures owner { result.owner ≡ self.entry.row.owner }
         ensures group { result.group ≡ self.entry.row.group }
-        ensures acl { result.acl.now ≡ self.entry.row.acl.now }
+        ensures acl { result.acl.now ≡ self.entry.row.acl.now.access }
     {
         Guarded {
             suite: self.suite,
             owner: self.row.owner,
             group: self.row.group,
-            acl: self.row.acl,
+            acl: &self.row.acl.access,
         }
     }
 
@@ -97,6 +101,14 @@ impl<'a> Place<'a> {
             Kind::Folder => Ok(()),
             Kind::File => Err(Why::NotFolder),
         }
+    }
+
+    /// Refuses a default list that would come to a file.
+    #[tactic(auto, using(crate::proofs::KindsStay::kind_stays))]
+    pub(crate) fn require_placed(self, given: bool) -> Result<(), Why>
+        ensures { result ≡ refuse_if (is_misplaced (kind_of (seen_place self.entry).row.content) given) why.DefaultOnFile }
+    {
+        require_placed(self.row.content.kind(), given)
     }
 }
 

@@ -1,10 +1,11 @@
 -- What the code answers for a part of a course.
-use Rattle.std.specs.Prelude.{◌≡◌, true, false, Result, Ok, Err}
+use Rattle.std.specs.Prelude.{◌≡◌, ℕ, true, false, Result, Ok, Err}
 use Rattle.file_ops.specs.declared.refusal.Why.{Why}
 use Rattle.file_exec.specs.declared.stop.Stop.{Stop}
 use Rattle.file_exec.specs.declared.stop.Stop.TheVariants as stop
 use Rattle.file_exec.specs.declared.view.View.{View}
-use Rattle.file_exec.specs.Courses.{Course}
+use Rattle.file_exec.specs.declared.log.Edit.{Edit}
+use Rattle.file_exec.specs.Courses.{Course, ◌>>=◌, ◌>>◌, set}
 use Rattle.file_exec.specs.Following.{Edits}
 use Rattle.file_exec.specs.Known.{Known, Heard, Needs, Done, is_given}
 use Rattle.file_exec.specs.Runs.{run}
@@ -32,3 +33,9 @@ Answers see result view course = Runs see result view.known.now.suites view.log.
 -- the same of a part that sets nothing and takes no memory
 abbrev pub Sees : {A B : Type 0} → (A → B) → Result A Stop → View → Course B Why → Type 0
 Sees see result view course = RunsOr (λ heard. true ≡ false) see result view.known.now.suites view.log.now view.log.now course
+
+-- two edits one after the other
+abbrev pub set_both : ℕ × Edit → ℕ × Edit → Course (Unit {0}) Why
+set_both first second = do
+  set first.0 first.1
+  set second.0 second.1
