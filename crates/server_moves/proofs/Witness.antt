@@ -3,10 +3,10 @@ use Rattle.std.proofs.Common.{◌≡◌, ℕ, ◌<◌, true, [], ◌∷◌, None
 use Rattle.std.specs.List.{IsDistinct}
 use Rattle.std.proofs.lemmas.Option.{same_Some}
 use Rattle.std.proofs.lemmas.List.Elements.{All-nil, All-cons}
-use Rattle.acl_core.specs.Modes.{minimal_list}
 use Rattle.vote_core.specs.Quorums.{Representative, Configuration}
 use Rattle.vote_core.specs.declared.TheConstants.{MAX_SERVERS}
 use Rattle.vote_core.specs.Validity.{IsValid}
+use Rattle.suite_prefix.specs.TwoLists.{closed_lists}
 use Rattle.suite_prefix.specs.declared.copies.Prefix.{Prefix}
 use Rattle.suite_prefix.specs.declared.copies.PrefixKind.TheVariants.{Folder}
 use Rattle.suite_prefix.specs.SettingsRules.{Opening}
@@ -40,7 +40,7 @@ settings = record {
   c0 = votes;
   root_owner = 0;
   root_group = 0;
-  root_acl = minimal_list 0;
+  root_acl = closed_lists;
   budget = 0;
   quota = 0;
   slots = 0;
@@ -72,7 +72,7 @@ polled = record { stamp = 0; value = request.Poll 5 0 Exclusive }
 
 next_prefix : Prefix
 unfolding votes
-next_prefix = record { pver = 2; kind = Folder; owner = 0; group = 0; acl = minimal_list 0; votes = votes }
+next_prefix = record { pver = 2; kind = Folder; owner = 0; group = 0; acl = closed_lists; votes = votes }
 
 new_part : Part
 new_part = record { suite = 0; mode = Exclusive; take = take.Prefix next_prefix }
