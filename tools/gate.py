@@ -1,74 +1,98 @@
 #!/usr/bin/env python3
 """Looks with tools/shown.py whether all that README and examples/ show is played, and with tools/wrong_bodies.py
 whether the texts of all wrong bodies apply, and then runs `rt ci`, the gate; tells before its last line how long it
-took and which steps were the dearest.
+took and what each step cost.
 
-What passes and what fails is rt's alone: its output and its status are handed on as they are. The seconds of a
-step are the processor's, read now and then from the provers that run, so they lack up to a second each.
+What passes and what fails is rt's alone: its output and its status are handed on as they are. The environment
+variable SUITES_GATE_TIMES names a file that is to keep the times (tools/gate_times.py makes a table of it), and
+RT_JOBS fixes how many checks rt runs side by side.
 """
-import os, subprocess, sys, threading, time
+import os, re, resource, subprocess, sys, time
 
-EVERY = 1.0
-SHOWN = 5
-TICKS = os.sysconf("SC_CLK_TCK")
+sys.dont_write_bytecode = True
+import gate_times
+
+TOOLS = os.path.dirname(os.path.abspath(__file__))
+FIRST = (["shown.py"], ["wrong_bodies.py", "--check"])
+# The most memory that a check was seen to take, in bytes, and how much of what is free may be taken.
+LANE, SHARE = 2_800_000_000, 0.95
+# Where a control group sets a limit of memory and what it holds of that, and a quota of processor time.
+LIMITS = (
+    ("/sys/fs/cgroup/memory.max", "/sys/fs/cgroup/memory.stat", r"^anon (\d+)"),
+    ("/sys/fs/cgroup/memory/memory.limit_in_bytes", "/sys/fs/cgroup/memory/memory.stat", r"^total_rss (\d+)"),
+)
+QUOTAS = (
+    ("/sys/fs/cgroup/cpu.max", "/sys/fs/cgroup/cpu.max", r" (\d+)"),
+    ("/sys/fs/cgroup/cpu/cpu.cfs_quota_us", "/sys/fs/cgroup/cpu/cpu.cfs_period_us", r"^(\d+)"),
+)
 
 
-def step_of(words, folder):
-    """The crate that a prover works on, and at what."""
-    crate = words[words.index("--crate-name") + 1]
-    if os.path.basename(folder).startswith("rt-edit"):
-        return f"{crate}: wrong bodies"
-    return f"{crate}: tests" if "--test" in words else f"{crate}: proof"
+def number_in(path, pattern=r"^(\d+)"):
+    try:
+        with open(path, encoding="utf-8") as file:
+            found = re.search(pattern, file.read(), re.M)
+    except OSError:
+        return None
+    return int(found[1]) if found else None
 
 
-class Watch(threading.Thread):
-    """Reads the processor time of the provers below a process."""
+def processors():
+    """How many processors there are to use, under the quota of a control group too."""
+    quotas = [(number_in(quota), number_in(period, pattern)) for quota, period, pattern in QUOTAS]
+    return min([len(os.sched_getaffinity(0)), *(max(quota // period, 1) for quota, period in quotas if quota and period)])
 
-    def __init__(self, above):
-        super().__init__(daemon=True)
-        self.above, self.ended, self.spent = above, threading.Event(), {}
 
-    def run(self):
-        while not self.ended.wait(EVERY):
-            for number in filter(str.isdigit, os.listdir("/proc")):
-                try:
-                    self.look_at(int(number))
-                except (OSError, ValueError, IndexError):
-                    pass
+def free():
+    """The bytes of memory that are free, under the limit of a control group too."""
+    limits = [(number_in(limit), number_in(held, pattern)) for limit, held, pattern in LIMITS]
+    return min([1024 * (number_in("/proc/meminfo", r"^MemAvailable:\s+(\d+)") or 0), *(limit - held for limit, held in limits if limit and held is not None)])
 
-    def look_at(self, number):
-        with open(f"/proc/{number}/cmdline", "rb") as file:
-            words = file.read().decode("utf-8", "replace").split("\0")
-        if os.path.basename(words[0]) != "rattle" or not self.is_below(number):
-            return
-        with open(f"/proc/{number}/stat") as file:
-            fields = file.read().rpartition(")")[2].split()
-        step = step_of(words, os.readlink(f"/proc/{number}/cwd"))
-        self.spent[number, fields[19]] = step, (int(fields[11]) + int(fields[12])) / TICKS
 
-    def is_below(self, number):
-        while number > 1:
-            if number == self.above:
-                return True
-            with open(f"/proc/{number}/stat") as file:
-                number = int(file.read().rpartition(")")[2].split()[1])
-        return False
+def lanes():
+    """How many checks are to run side by side, or none, where that is left to rt.
 
-    def dearest(self):
-        steps = {}
-        for step, seconds in self.spent.values():
-            steps[step] = steps.get(step, 0.0) + seconds
-        return sorted(steps.items(), key=lambda pair: -pair[1])
+    By itself rt begins a check only where as much memory is free as it reckons from the lines of the crate and of those
+    below: 8.3 GB for txn_core, 7.8 for library_tests, 3 to 5 for most others. No check was seen to take more than 2.7,
+    so processors stand idle for nothing: two with 8 GB free work as one and a quarter, and four with 20 GB as three.
+    RT_JOBS fixes the lanes, whatever is reckoned. A proof then keeps to one process, where it else may take an idle
+    processor for a second one; but with a lane for each processor, none is idle before the last of the chain of crates.
+    """
+    if os.environ.get("RT_JOBS"):
+        return None
+    found = min(processors(), int(SHARE * free() / LANE))
+    return found if found > 1 else None
+
+
+def keep(times):
+    """Keeps the times where that was asked for."""
+    path = os.environ.get("SUITES_GATE_TIMES")
+    try:
+        if path:
+            gate_times.write(times, path)
+    except OSError as error:
+        print(f"warning: the times were not kept in {path}: {error.strerror}")
+
+
+def tell(times, begun, number):
+    """Tells what each step cost. Nothing fails where it costs too much."""
+    keep(times)
+    spent = resource.getrusage(resource.RUSAGE_CHILDREN)
+    whole, provers = spent.ru_utime + spent.ru_stime, sum(sum(row.values()) for row in times.values())
+    side = f" with {number} checks side by side" if number else ""
+    print(f"the gate took {(time.monotonic() - begun) / 60:.1f} minutes{side}, and of processor time {provers / 60:.0f} minutes for proofs", end="")
+    print(f" and {max(whole - provers, 0) / 60:.0f} for all else:")
+    for line in gate_times.lines(times, gate_times.bounds()) if times else ["  nothing had to be proved"]:
+        print(line)
 
 
 def main():
-    tools = os.path.dirname(os.path.abspath(__file__))
-    for look in (["shown.py"], ["wrong_bodies.py", "--check"]):
-        if subprocess.run([sys.executable, os.path.join(tools, look[0]), *look[1:]]).returncode != 0:
+    for words in FIRST:
+        if subprocess.run([sys.executable, os.path.join(TOOLS, words[0]), *words[1:]]).returncode != 0:
             return 1
-    begun = time.monotonic()
-    gate = subprocess.Popen(["rt", "ci"], stdout=subprocess.PIPE, stderr=subprocess.STDOUT, errors="replace")
-    watch = Watch(gate.pid)
+    begun, number = time.monotonic(), lanes()
+    given = {**os.environ, **({"RT_JOBS": str(number)} if number else {})}
+    gate = subprocess.Popen(["rt", "ci"], env=given, stdout=subprocess.PIPE, stderr=subprocess.STDOUT, errors="replace")
+    watch = gate_times.Watch(gate.pid)
     watch.start()
     last = ""
     for line in gate.stdout:
@@ -76,14 +100,14 @@ def main():
         last = line
     status = gate.wait()
     watch.ended.set()
-    steps = watch.dearest()
-    whole = sum(seconds for _, seconds in steps)
-    print(f"the gate took {(time.monotonic() - begun) / 60:.1f} minutes, {whole / 60:.0f} of provers' time; the dearest steps:")
-    for step, seconds in steps[:SHOWN]:
-        print(f"  {seconds:6.0f} s  {step}")
+    watch.join()
+    tell(watch.times(), begun, number)
     print(last, end="", flush=True)
     return status
 
 
 if __name__ == "__main__":
-    sys.exit(main())
+    try:
+        sys.exit(main())
+    except KeyboardInterrupt:
+        sys.exit(130)

@@ -1,0 +1,165 @@
+#!/usr/bin/env python3
+"""What the steps of the gate cost: processor seconds by crate and kind of step.
+
+    SUITES_GATE_TIMES=times.csv .ci/run        the gate, which keeps its times in a file
+    tools/gate_times.py times.csv              the same as a table for docs/PERFORMANCE.md
+    tools/gate_times.py --bounds times.csv     a quarter more for each crate, for docs/gate-bounds.csv
+
+tools/gate.py reads the times from the provers that run. The kinds: `proof` is a crate's own proof, with the builds of
+a program; `seed` its proof from nothing for its wrong bodies, with the look whether it still stands after them;
+`edits` the wrong bodies themselves, and `tests` the proof of the crate with its tests.
+"""
+import argparse, csv, os, threading
+
+KINDS = ("proof", "seed", "edits", "tests")
+BOUNDS = os.path.join(os.path.dirname(os.path.abspath(__file__)), "..", "docs", "gate-bounds.csv")
+ALL = "all"
+EVERY = 0.5
+TICKS = os.sysconf("SC_CLK_TCK")
+
+
+def step_of(words, folder):
+    """The crate that a prover works on, and the kind of step, from its words and the folder that it works in.
+
+    rt tries an edit on a copy of the crate in a folder rt-edit-*. What it may begin with is given by --incremental: a
+    folder `seed`, while that is made or looked at, and a copy of it with a number for each edit."""
+    crate = words[words.index("--crate-name") + 1]
+    if "--test" in words:
+        return crate, "tests"
+    if not os.path.basename(folder).startswith("rt-edit"):
+        return crate, "proof"
+    kept = words[words.index("--incremental") + 1] if "--incremental" in words else ""
+    return crate, "seed" if os.path.basename(kept) == "seed" else "edits"
+
+
+class Watch(threading.Thread):
+    """Reads the processor time of the provers below a process, now and then: up to half a second of each is lost."""
+
+    def __init__(self, above):
+        super().__init__(daemon=True)
+        self.above, self.ended, self.provers = above, threading.Event(), {}
+
+    def run(self):
+        while not self.ended.wait(EVERY):
+            self.look()
+
+    def look(self):
+        found = {}
+        for number in filter(str.isdigit, os.listdir("/proc")):
+            try:
+                found[int(number)] = prover(int(number))
+            except (OSError, ValueError, IndexError):
+                pass
+        for number, (words, folder, _, _, _) in found.items():
+            first, copy = number, number
+            while copy in found:
+                # (a prover with more than one job forks copies of itself)
+                first, copy = copy, found[copy][2]
+            if is_below(copy, self.above):
+                self.note(found, first, number)
+
+    def note(self, found, first, number):
+        words, folder, _, began, (own, ended) = found[number]
+        key = first, found[first][3]
+        step, seconds, most = self.provers.get(key) or (step_of(words, folder), {}, 0.0)
+        seconds[number, began] = own
+        self.provers[key] = step, seconds, max(most, own + ended) if number == first else most
+
+    def times(self):
+        """Seconds by crate and kind."""
+        found = {}
+        for (crate, kind), seconds, most in self.provers.values():
+            row = found.setdefault(crate, dict.fromkeys(KINDS, 0.0))
+            # (copies that ended unseen count with what the first one waited for)
+            row[kind] += max(sum(seconds.values()), most)
+        return found
+
+
+def prover(number):
+    """Of a prover its words, folder, parent and begin, with its own seconds and those of its copies that have ended."""
+    with open(f"/proc/{number}/cmdline", "rb") as file:
+        words = file.read().decode("utf-8", "replace").split("\0")
+    if os.path.basename(words[0]) != "rattle" or "--crate-name" not in words:
+        raise ValueError
+    with open(f"/proc/{number}/stat") as file:
+        fields = file.read().rpartition(")")[2].split()
+    own, ended = (sum(int(it) for it in fields[at : at + 2]) / TICKS for at in (11, 13))
+    return words, os.readlink(f"/proc/{number}/cwd"), int(fields[1]), fields[19], (own, ended)
+
+
+def is_below(number, above):
+    try:
+        while number > 1:
+            if number == above:
+                return True
+            with open(f"/proc/{number}/stat") as file:
+                number = int(file.read().rpartition(")")[2].split()[1])
+    except (OSError, ValueError, IndexError):
+        pass
+    return False
+
+
+def rows_of(times):
+    """A row for each crate, the dearest first, and one for all: its name, the seconds of each kind, and their sum."""
+    rows = [(crate, *(row[kind] for kind in KINDS), sum(row.values())) for crate, row in times.items()]
+    rows.sort(key=lambda row: (-row[-1], row[0]))
+    return [*rows, (ALL, *(sum(column) for column in list(zip(*rows))[1:]))] if rows else []
+
+
+def write(times, path):
+    """Keeps the times in a file, for a table."""
+    with open(path, "w", newline="", encoding="utf-8") as file:
+        table = csv.writer(file, lineterminator="\n")
+        table.writerow(["crate", *KINDS, ALL])
+        table.writerows([row[0], *(f"{seconds:.0f}" for seconds in row[1:])] for row in rows_of(times))
+
+
+def read(path):
+    """The times in a file."""
+    with open(path, newline="", encoding="utf-8") as file:
+        return {row["crate"]: {kind: float(row[kind]) for kind in KINDS} for row in csv.DictReader(file) if row["crate"] != ALL}
+
+
+def bounds():
+    """The most seconds that each crate is to cost, and all of them."""
+    try:
+        with open(BOUNDS, newline="", encoding="utf-8") as file:
+            return {row["crate"]: float(row["seconds"]) for row in csv.DictReader(file)}
+    except FileNotFoundError:
+        return {}
+
+
+def lines(times, most):
+    """The table as lines, and a warning for each crate above its bound or without one."""
+    rows = rows_of(times)
+    wide = max([len(row[0]) for row in rows], default=0)
+    yield f"  {'seconds':{wide}} " + "".join(f"{word:>8}" for word in (*KINDS, ALL, "bound"))
+    for name, *seconds in rows:
+        bound = f"{most[name]:8.0f}" if name in most else ""
+        yield f"  {name:{wide}} " + "".join(f"{it:8.0f}" if it >= 0.5 else f"{'-':>8}" for it in seconds) + bound
+    for name, *_, spent in rows:
+        if spent > most.get(name, spent):
+            yield f"warning: {name} took {spent:.0f} s of processor time, and its bound in docs/gate-bounds.csv is {most[name]:.0f}"
+        elif name not in most:
+            yield f"warning: {name} has no bound in docs/gate-bounds.csv; it took {spent:.0f} s of processor time"
+
+
+def main():
+    head, _, more = __doc__.partition("\n\n")
+    given = argparse.ArgumentParser(description=head, epilog=more, formatter_class=argparse.RawDescriptionHelpFormatter)
+    given.add_argument("times", help="what the gate kept")
+    given.add_argument("--bounds", action="store_true", help="bounds in place of a table")
+    given = given.parse_args()
+    rows = rows_of(read(given.times))
+    if given.bounds:
+        print("crate,seconds")
+        for row in sorted(rows[:-1]) + rows[-1:]:
+            print(f"{row[0]},{-(-row[-1] * 5 // 40) * 10:.0f}")
+        return
+    print(f"| Crate | {' | '.join((*KINDS, ALL))} |\n|---|{'---:|' * (len(KINDS) + 1)}")
+    for name, *seconds in rows:
+        print(f"| {name if name == ALL else f'`{name}`'} | {' | '.join(f'{it:.0f}' if it else '' for it in seconds)} |")
+
+
+if __name__ == "__main__":
+    main()
