@@ -392,13 +392,8 @@ impl Collect {
             self.due = due_of(&widening.votes, &widening.all, LockMode::Exclusive);
             return;
         }
-        let newest = self.newest().pver;
         self.told.add(&last);
-        if let Said::Held { prefix, .. } = last.said {
-            if prefix.pver > newest {
-                self.newer = Some(prefix);
-            }
-        }
+        show(&mut self.newer, &self.start, last.said);
         let votes = votes_of(&self.newer, &self.start);
         self.due = due_of(votes, &self.told, self.mode);
     }
@@ -484,6 +479,28 @@ fn votes_of<'a>(newer: &'a Option<Prefix>, start: &'a Prefix) -> &'a Votes
     match newer {
         Some(prefix) => &prefix.votes,
         None => &start.votes,
+    }
+}
+
+/// The newest prefix.
+fn newest_of<'a>(newer: &'a Option<Prefix>, start: &'a Prefix) -> &'a Prefix
+    ensures { result.now ≡ unwrap_or newer.now start.now }
+{
+    match newer {
+        Some(prefix) => prefix,
+        None => start,
+    }
+}
+
+/// Keeps the prefix that a server showed, where it is newer than the newest so far.
+fn show(newer: &mut Option<Prefix>, start: &Prefix, said: Said)
+    ensures { unwrap_or newer.new start.now ≡ telling.newer (unwrap_or newer.old start.now) said }
+{
+    let newest = newest_of(newer, start).pver;
+    if let Said::Held { prefix, .. } = said {
+        if prefix.pver > newest {
+            *newer = Some(prefix);
+        }
     }
 }
 

@@ -11,8 +11,8 @@ pub returns : goal.returns
 returns c =
     let was = c.args.self.now in
     let is : due_of was.collector ≡ due.Ask c.in-Ask.server = ap (λ (c : Collecting). due_of c.collector) (sym c.self.view_is) ∙ sym c.self.invariant.due ∙ ap due_in c.in-Ask.is in
-    let said : c.match-reply-5.said ≡ said_by c.args.reply =
-    elim c.match-reply-5.branch [
+    let said : c.match-reply-6.said ≡ said_by c.args.reply =
+    elim c.match-reply-6.branch [
       | in-Held w ↦ search rules
       | in-Busy w ↦ search rules
       | in_default-reply w ↦ search rules

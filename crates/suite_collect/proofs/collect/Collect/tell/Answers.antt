@@ -1,10 +1,10 @@
 use Rattle.std.proofs.Common.{◌≡◌, ◌∷◌, ◌++◌, ap, sym, ◌∙◌, subst, refl, rules, None, Some}
 use Rattle.std.specs.Prelude.{unwrap_or, IfSome, Option}
 use Rattle.suite_prefix.specs.declared.copies.Prefix.{Prefix}
-use Rattle.suite_collect.specs.Telling.{newest}
+use Rattle.suite_collect.specs.Telling.{newer, newest}
+use Rattle.suite_collect.specs.declared.collect.Collect.TheInside.{Inside}
 use Rattle.suite_collect.specs.declared.widening.Widening.{Widening}
 use Rattle.suite_collect.proofs.Dues.{summed_narrow, summed_wide}
-use Rattle.suite_collect.proofs.collect.Collect.tell.Goals.{in-Held+then-prefix-newest+in-Some-1, in-Held+then-prefix-newest+in-None-1, in-Held+else-prefix-newest, in_default-said}
 use Rattle.suite_collect.proofs.collect.Collect.tell.Goals as goal
 
 pub invariant_of-self : goal.invariant_of-self
@@ -15,22 +15,11 @@ invariant_of-self c =
     let all : c.add.new.self ≡ c.and-widening.result.items ++ was.told = c.add.ensures ∙ ap (λ told. c.args.last ∷ told) before ∙ ap (λ told. told ++ was.told) (sym c.and-widening.ensures) in
     summed_wide (record was { widening = Some wide }) c.due_of-self-inside.result c.in-Some.widening.votes wide c.add.new.self refl c.self.invariant.newest all refl refl c.due_of-self-inside.ensures.value c.due_of-self-inside.ensures.placed
 
-pub invariant_of-self-3 : goal.invariant_of-self-3
-invariant_of-self-3 c =
-    let now = c.match-last-2.self-inside in
-    let narrow : now.widening ≡ None =
-    elim c.match-last-2.branch [
-      | in-Held+then-prefix-newest+in-Some-1 w ↦ search rules
-      | in-Held+then-prefix-newest+in-None-1 w ↦ search rules
-      | in-Held+else-prefix-newest w ↦ search rules
-      | in_default-said w ↦ search rules
-    ] in
-    let newest' : unwrap_or now.newer now.start ≡ newest now.start now.told =
-    elim c.match-last-2.branch [
-      | in-Held+then-prefix-newest+in-Some-1 w ↦ search rules
-      | in-Held+then-prefix-newest+in-None-1 w ↦ search rules
-      | in-Held+else-prefix-newest w ↦ search rules
-      | in_default-said w ↦ search rules
-    ] in
+pub invariant_of-self-2 : goal.invariant_of-self-2
+invariant_of-self-2 c =
+    let was = c.self.inside in
+    let now : Inside = record was { newer = c.show.new.newer; told = c.add-2.new.self; due = c.due_of-self-inside-2.result } in
+    let narrow : now.widening ≡ None = search rules in
+    let newest' : unwrap_or now.newer now.start ≡ newest now.start now.told = c.show.ensures ∙ ap (λ prefix. newer prefix c.args.last.said) c.self.invariant.newest ∙ ap (newest was.start) (sym c.add-2.ensures) in
     summed_narrow now c.due_of-self-inside-2.result c.votes_of-votes.result.now now.mode now.newer now.told narrow newest' (c.votes_of-votes.ensures ∙ ap (λ (prefix : Prefix). prefix.votes) newest')
     c.due_of-self-inside-2.ensures.value c.due_of-self-inside-2.ensures.placed
