@@ -3,6 +3,7 @@ use Rattle.std.specs.Prelude.{◌≡◌, ℕ, ◌-◌, List, [], ◌∷◌, None
 use Rattle.suite_prefix.specs.SettingsRules.{Opening}
 use Rattle.acl_core.specs.Modes.{minimal_list}
 use Rattle.acl_core.specs.Identity.{Identity}
+use Rattle.acl_core.specs.declared.lists.Lists.{Lists}
 use Rattle.suite_content.specs.declared.content.Kind.TheVariants.{File}
 use Rattle.file_ops.specs.declared.answer.Answer.TheVariants as answer
 use Rattle.file_ops.specs.declared.operation.Action.{Action}
@@ -19,6 +20,10 @@ use Rattle.txn_core.specs.declared.ending.Cause.TheVariants.{Unavailable, Lost, 
 use Rattle.txn_core.specs.Agents.{opening, fixed_of}
 use Rattle.txn_core.specs.Worlds.{World, open_world, job, run, crash, restart}
 
+-- the list of a mode, and no default list
+abbrev pub mode_lists : ℕ → Lists
+mode_lists mode = record { access = minimal_list mode; default = None }
+
 -- so many servers, room for caches, and votes: one each for the first three, with these quorums
 abbrev pub settings : ℕ → ℕ → ℕ → ℕ → Opening
 settings servers room r w = record {
@@ -27,7 +32,7 @@ settings servers room r w = record {
   c0 = record { reps = (0, 1) ∷ (1, 1) ∷ (2, 1) ∷ []; r = r; w = w };
   root_owner = 1000;
   root_group = 100;
-  root_acl = minimal_list 511;
+  root_acl = mode_lists 511;
   budget = room;
   quota = room;
   slots = room;
@@ -80,7 +85,7 @@ abbrev pub revoked : World
 revoked =
     let fixed = fixed_of (settings 3 4096 2 2) in
     let read = job fixed (job fixed (job fixed (open_world (settings 3 4096 2 2)) make_a 10) read_a 11) read_a 9 in
-    let set = job fixed (crash read 1) (Transaction owner 0 (op a (action.SetAcl (minimal_list 416)) ∷ [])) 12 in
+    let set = job fixed (crash read 1) (Transaction owner 0 (op a (action.SetAcl (mode_lists 416)) ∷ [])) 12 in
     job fixed (restart set 1) read_a 9
 
 -- a content that was written since at another site is read anew
@@ -108,7 +113,7 @@ abbrev pub lost_lock : World
 lost_lock =
     let fixed = fixed_of (settings 3 0 2 2) in
     let half = job fixed (job fixed (open_world (settings 3 0 2 2)) make_a 10) (Transaction owner 0 (op a action.Read ∷ op a (action.Write (0 ∷ [])) ∷ [])) 6 in
-    let other = job fixed (record (restart (crash half 0) 0) { agent = opening 1 }) (Transaction owner 0 (op a (action.SetAcl (minimal_list 292)) ∷ [])) 13 in
+    let other = job fixed (record (restart (crash half 0) 0) { agent = opening 1 }) (Transaction owner 0 (op a (action.SetAcl (mode_lists 292)) ∷ [])) 13 in
     run fixed (record other { agent = half.agent; steps = 6 }) 3
 
 -- how these runs end, with how many steps each job took

@@ -34,7 +34,7 @@ gets_votes None = false
 abbrev pub sets_votes : Changes → ℕ → Bool
 sets_votes changes suite = gets_votes (change_of changes suite)
 
--- list and votes stand in the prefix
+-- lists and votes stand in the prefix
 abbrev pub sets_prefix : Change → Bool
 sets_prefix change = change.acl || change.votes
 
