@@ -1,6 +1,6 @@
 //! How a request is taken, found before anything is changed.
 
-ghost use Rattle.std.specs.Prelude.{◌≡◌, ◌≢◌, ◌↔◌, ◌&&◌, ◌==◌, false, if◌then◌else◌, is_some, IfOk, IsOk, OnOk, IsTrue, Err};
+ghost use Rattle.std.specs.Prelude.{◌≡◌, ◌≢◌, ◌↔◌, ◌&&◌, ◌==◌, false, if◌then◌else◌, is_some, IfOk, IsOk, OnOk, OnErr, IsTrue, Err};
 ghost use Rattle.std.specs.List.{list_all, list_any};
 ghost use Rattle.suite_prefix.specs.declared.lock_mode.LockMode.TheVariants.{Exclusive};
 ghost use Rattle.rep_core.specs.declared.stamped.Lack.TheVariants.{Full, Memory};
@@ -65,6 +65,33 @@ impl Holdings {
         let stamp = self.stamp.max(request.stamp) + 1;
         let way = self.way(&request.value)?;
         Ok(Plan { stamp, way })
+    }
+
+    /// Plans a request, writes its reply, and begins it: what takes memory is done then. Where that cannot be,
+    /// nothing of the server has changed.
+    #[inline(always)]
+    pub(crate) fn open(
+        &mut self,
+        request: &Stamped<Request>,
+        reply: &mut Stamped<Reply>,
+    ) -> Result<Way, Lack>
+        ensures reply { OnOk result (reply.new ≡ serving.answer_of (state_of self.old) request.now) }
+        ensures begun { IfOk result (λ way. state_of self.new ≡ changing.begun way request.now.value (state_of self.old)) }
+        ensures room { IfOk result (λ way. changing.HasRoom way request.now.value self.new) }
+        ensures change { IfOk result (λ way. changing.completed way request.now.value (state_of self.new) ≡ service.after (state_of self.old) request.now.value) }
+        ensures sound { IfOk result (λ way. changing.IsSoundChange way request.now.value (state_of self.old)) }
+        ensures first { IfOk result (λ way. changing.IsFirstRecord way request.now.value (state_of self.old)) }
+        ensures full { (result ≡ Err Full) ↔ IsTrue (serving.is_full (state_of self.old) request.now) }
+        ensures err { OnErr result (state_of self.new ≡ state_of self.old) }
+        ensures memory { IsTrue (serving.takes_no_memory request.now.value) → result ≢ Err Memory }
+        ensures bare { IsTrue (serving.is_bare (serving.answer_of (state_of self.old) request.now).value) → result ≢ Err Memory }
+        ensures fits { IsTrue (fits request.now.value (serving.answer_of (state_of self.old) request.now).value) }
+    {
+        let plan = self.plan(request)?;
+        reply.stamp = plan.stamp;
+        self.answer(plan.way, &request.value, &mut reply.value)?;
+        self.begin(plan.way, &request.value)?;
+        Ok(plan.way)
     }
 
     fn way(&self, request: &Request) -> Result<Way, Lack>

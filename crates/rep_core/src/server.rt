@@ -81,21 +81,19 @@ impl Server {
         ensures bare { IsTrue (serving.is_bare (serving.answer_of self.old request).value) → result ≢ Err Memory }
         ensures fits { IsTrue (fits request.value (serving.answer_of self.old request).value) }
     {
-        let plan = self.held.plan(&request)?;
         let mut reply = Stamped {
-            stamp: plan.stamp,
+            stamp: 0,
             value: Reply::Down,
         };
-        self.held
-            .answer(plan.way, &request.value, &mut reply.value)?;
-        self.held.begin(plan.way, &request.value)?;
+        let way = self.held.open(&request, &mut reply)?;
+        let stamp = reply.stamp;
         let told = take(taker, reply);
         if told.is_err() {
-            self.held.take_back(plan.way, &request.value);
+            self.held.take_back(way, &request.value);
             return Ok(told);
         }
-        self.held.complete(plan.way, request.value);
-        self.held.stamp = plan.stamp;
+        self.held.complete(way, request.value);
+        self.held.stamp = stamp;
         Ok(told)
     }
 

@@ -1,4 +1,4 @@
-use Rattle.std.proofs.Common.{◌≡◌, ℕ, Ok, Err, refl, sym, ap, subst, ◌∙◌}
+use Rattle.std.proofs.Common.{◌≡◌, Ok, Err, refl, sym, ap, subst, ◌∙◌}
 use Rattle.std.specs.Prelude.{Result, OnErr}
 use Rattle.std.specs.Borrow.{MutBor}
 use Rattle.std.specs.Fn.{Once}
@@ -12,39 +12,33 @@ use Rattle.rep_core.specs.State.{State}
 use Rattle.rep_core.proofs.Changes.{taken_back-begun}
 use Rattle.rep_core.proofs.server.Server.serve_then.Goals as goal
 
-abbrev with_stamp : ℕ → Reply → Stamped Reply
-with_stamp stamp reply = record { stamp = stamp; value = reply }
-
 on_err : {T E : Type 0} (result : Result T E) (P : Type 0) → P → OnErr result P
 on_err (Ok value) P holds = tt
 on_err (Err why) P holds = holds
-
-told : {stamp next : ℕ} {value reply : Reply} → stamp ≡ next → value ≡ reply → with_stamp stamp value ≡ with_stamp next reply
-told at says i = record { stamp = at i; value = says i }
 
 given_as : {F A R : Type 0} (once : Once F (MutBor A × (Stamped Reply × Unit {0})) (R × (MutBor A × Unit {0}))) (f : F) (value : A) (x y : Stamped Reply) → x ≡ y → MayBeGiven once f value y → MayBeGiven once f value x
 given_as once f value x y is may = λ lent shows. subst (λ (reply : Stamped Reply). once.pre f (lent, (reply, tt))) (sym is) (may lent shows)
 
 pub returns-then-is_err-clause-refused : goal.returns-then-is_err-clause-refused
 returns-then-is_err-clause-refused g c =
-    let way = c.in_ok-plan.plan.way in
+    let way = c.in_ok-way.way in
     let asked = c.args.request.value in
-    on_err c.take-told.result _ (c.take_back.ensures ∙ ap (taken_back way asked) c.in_ok-begin.ensures.ok ∙ taken_back-begun way asked (state_of c.self.inside.held) c.in_ok-plan.ensures.first ∙ c.self.view_is)
+    on_err c.take-told.result _ (c.take_back.ensures ∙ ap (taken_back way asked) c.in_ok-way.ensures.begun ∙ taken_back-begun way asked (state_of c.self.inside.held) c.in_ok-way.ensures.first ∙ c.self.view_is)
 
 pub returns-then-is_err-clause-given : goal.returns-then-is_err-clause-given
 returns-then-is_err-clause-given g c =
     subst (λ (reply : Stamped Reply). Gives g.F.FnOnce c.args.take c.args.taker.now reply c.take-told.result c.take-told.new.arg2)
-    (told c.in_ok-plan.ensures.stamp (c.in_ok-answer.ensures.reply ∙ c.in_ok-plan.ensures.reply) ∙ ap (λ (st : State). answer_of st c.args.request) c.self.view_is)
+    (c.in_ok-way.ensures.reply ∙ ap (λ (st : State). answer_of st c.args.request) c.self.view_is)
     (record { lent = _; shows = refl; back = _; met = c.take-told.ensures; leaves = refl })
 
 pub returns-clause-given : goal.returns-clause-given
 returns-clause-given g c =
     subst (λ (reply : Stamped Reply). Gives g.F.FnOnce c.args.take c.args.taker.now reply c.take-told.result c.take-told.new.arg2)
-    (told c.in_ok-plan.ensures.stamp (c.in_ok-answer.ensures.reply ∙ c.in_ok-plan.ensures.reply) ∙ ap (λ (st : State). answer_of st c.args.request) c.self.view_is)
+    (c.in_ok-way.ensures.reply ∙ ap (λ (st : State). answer_of st c.args.request) c.self.view_is)
     (record { lent = _; shows = refl; back = _; met = c.take-told.ensures; leaves = refl })
 
 pub take-told-requires : goal.take-told-requires
 take-told-requires g c =
     given_as g.F.FnOnce c.args.take c.args.taker.now _ _
-    (told c.in_ok-plan.ensures.stamp (c.in_ok-answer.ensures.reply ∙ c.in_ok-plan.ensures.reply) ∙ ap (λ (st : State). answer_of st c.args.request) c.self.view_is)
+    (c.in_ok-way.ensures.reply ∙ ap (λ (st : State). answer_of st c.args.request) c.self.view_is)
     c.requires _ refl
