@@ -118,20 +118,6 @@ outcome_on rows new edits (Read suite later) =
     ∙ ap (λ row. outcome (with_edits rows edits) (ending (row_of (with_edits rows edits)) new (later (content_in row)))) (seen_on rows new edits suite)
 outcome_on rows new edits (Set suite edit later) = outcome_on rows ((suite, edit) ∷ new) edits later
 
--- ---- cases
-
-by_found : {A P : Type 0} (found : Option A) → (found ≡ None → P) → ((x : A) → found ≡ Some x → P) → P
-by_found None absent there = absent refl
-by_found (Some x) absent there = there x refl
-
-by_result : {A E P : Type 0} (result : Result A E) → ((x : A) → result ≡ Ok x → P) → ((e : E) → result ≡ Err e → P) → P
-by_result (Ok x) ok err = ok x refl
-by_result (Err e) ok err = err e refl
-
-by_content : {P : Type 0} (content : Content) → ((bytes : List ℕ) → content ≡ Bytes bytes → P) → ((names : List (List ℕ × ℕ)) → content ≡ Names names → P) → P
-by_content (Bytes bytes) file folder = file bytes refl
-by_content (Names names) file folder = folder names refl
-
 -- ---- courses that set nothing
 
 abbrev pub unedited : {A E : Type 0} → Result A E → Result (Ended A) E

@@ -5,7 +5,7 @@ use Rattle.file_exec.specs.declared.stop.Stop.{Stop}
 use Rattle.file_exec.specs.declared.stop.Stop.TheVariants as stop
 use Rattle.file_exec.specs.declared.view.View.{View}
 use Rattle.file_exec.specs.declared.log.Edit.{Edit}
-use Rattle.file_exec.specs.Courses.{Course, ◌>>=◌, ◌>>◌, set}
+use Rattle.file_exec.specs.Courses.{Course, ◌>>◌, set}
 use Rattle.file_exec.specs.Following.{Edits}
 use Rattle.file_exec.specs.Known.{Known, Heard, Needs, Done, is_given}
 use Rattle.file_exec.specs.Runs.{run}
