@@ -21,7 +21,7 @@ with open(sys.argv[1], "w") as figures:
 def run(words, data):
     """The status, the output, the seconds and the peak memory (MiB) of a run of these words, on these bytes."""
     if not os.path.exists(words[0]):
-        sys.exit(f"{words[0]} is not there: run ./suites --help first, which builds it")
+        sys.exit(f"{words[0]} is not there: run ./suites --prove first, which builds it")
     with tempfile.TemporaryFile() as source, tempfile.TemporaryFile() as target, tempfile.NamedTemporaryFile() as told:
         source.write(data)
         source.seek(0)

@@ -1,0 +1,111 @@
+#!/usr/bin/env python3
+"""Chooses the program that `./suites` runs, and prints of what kind it is and where.
+
+`proved`: it was proved and built of these sources (`tools/build.py`). `checked`: it was compiled of the same code without a
+proof, with its checks at run time, which is done here where it is wanting. `trial`: the kit gives no such build, so
+`rt try` is run each time. The choice is kept in out/choice.sh with all files that it was made from, so that
+`./suites` makes it again only where one of them has changed. With the word --is-fresh: status 0 where the proved
+program is that of these sources.
+"""
+import json
+import os
+import shlex
+import sys
+
+import console
+import sources
+import trial
+
+KEPT = sources.KEPT
+CHOICE = os.path.join(KEPT, "choice.sh")
+PROGRAMS = {
+    "proved": f"crates/{sources.PROGRAM}/out/{sources.PROGRAM}",
+    "checked": f"out/{sources.PROGRAM}",
+    "trial": "tools/trial.py",
+}
+STOPPED = "stopped; there is no checked build yet"
+
+
+def path_of(kind):
+    return os.path.join(sources.TOP, PROGRAMS[kind])
+
+
+def record_of(kind, now, kit):
+    """What is kept of a build: the sources and the kit that it was made with, and the program's own sum."""
+    return {
+        "sources": now.all if kind == "proved" else now.code,
+        "kit": kit.name,
+        "program": None if kind == "trial" else sources.sum_of(path_of(kind)),
+    }
+
+
+def keep_record(kind, now, kit):
+    sources.write_whole(os.path.join(KEPT, f"{kind}.json"), json.dumps(record_of(kind, now, kit)))
+
+
+def is_fresh(kind, now, kit):
+    """Whether a build of this kind is there, and is that of these sources. With no kit at hand it may be of any."""
+    kept = sources.read_json(os.path.join(KEPT, f"{kind}.json"))
+    wanted = record_of(kind, now, kit)
+    if not kit.name:
+        wanted["kit"] = kept.get("kit")
+    return kept == wanted and os.path.exists(path_of(kind))
+
+
+def fresh_kind(now, kit):
+    return next((kind for kind in PROGRAMS if is_fresh(kind, now, kit)), None)
+
+
+def keep_choice(kind, now, kit, begun):
+    """Keeps the choice, as if written when the files began to be read. Where it cannot be kept it is made anew each time."""
+    looked = [sources.LIST, *now.folders(), *now.files, PROGRAMS[kind]]
+    if kit.command:
+        looked.append(os.path.realpath(kit.command))
+    kept = {"kind": kind, "program": PROGRAMS[kind], "rt": kit.command, "searched": os.environ.get("PATH", ""), "files": "\n".join(looked)}
+    sources.write_whole(CHOICE, "".join(f"{name}={shlex.quote(value)}\n" for name, value in kept.items()), begun)
+
+
+def choose():
+    """The kind of build that these sources have; keeps the choice."""
+    begun = sources.time_of_files()
+    now, kit = sources.Sources(), sources.Kit()
+    kind = fresh_kind(now, kit)
+    if kind and begun:
+        keep_choice(kind, now, kit, begun)
+    return kind
+
+
+def build():
+    """Makes the checked build, or finds that this kit gives none."""
+    teller = console.Teller()
+    sources.Kit().wanted()
+    sources.make_folder()
+    with console.alone(os.path.join(KEPT, "checked.lock"), teller) as has_waited:
+        if has_waited and choose():
+            return
+        teller = console.Teller()
+        now, kit = sources.Sources(), sources.Kit()
+        teller.say("nothing is built of these sources yet: making a checked build, some two minutes")
+        kind, part = "checked", f"{path_of('checked')}.part"
+        try:
+            trial.build(part, lambda: teller.say(f"checked build, {teller.seconds()} s", False))
+            os.replace(part, path_of(kind))
+            teller.say(f"built in {teller.seconds()} s")
+        except trial.Hidden:
+            kind = "trial"
+        keep_record(kind, now, kit)
+
+
+def main():
+    if sys.argv[1:] == ["--is-fresh"]:
+        return 0 if is_fresh("proved", sources.Sources(), sources.Kit()) else 1
+    kind = choose()
+    while not kind:
+        build()
+        kind = choose()
+    print(kind, PROGRAMS[kind])
+    return 0
+
+
+if __name__ == "__main__":
+    console.run(main, STOPPED)

@@ -1,0 +1,86 @@
+"""What the tools that build the program say on standard error, how two builds wait for each other, and how a build is stopped."""
+import contextlib
+import fcntl
+import os
+import signal
+import subprocess
+import sys
+import time
+
+STOPPED = 130
+
+
+class Stop(Exception):
+    """Ends a tool with a sentence."""
+
+
+class Teller:
+    """Says how far a build is: one line that changes in a terminal, else a line a step."""
+
+    def __init__(self):
+        self.begun = time.monotonic()
+        self.changes = sys.stderr.isatty()
+
+    def seconds(self):
+        return int(time.monotonic() - self.begun)
+
+    def say(self, text, stays=True):
+        text = f"suites: {text}"
+        if self.changes:
+            sys.stderr.write("\r\033[K" + text + ("\n" if stays else ""))
+        elif stays:
+            sys.stderr.write(text + "\n")
+        sys.stderr.flush()
+
+
+@contextlib.contextmanager
+def alone(path, teller):
+    """Keeps other builds that lock this file out. Answers whether it waited for one."""
+    with open(path, "a", encoding="utf-8") as lock:
+        has_waited = False
+        try:
+            fcntl.flock(lock, fcntl.LOCK_EX | fcntl.LOCK_NB)
+        except BlockingIOError:
+            has_waited = True
+            teller.say("waiting for another build")
+            fcntl.flock(lock, fcntl.LOCK_EX)
+        yield has_waited
+
+
+def start(words, folder, log, **how):
+    """Starts a command in a group of its own, so that it can be stopped whole."""
+    how = {"stdin": subprocess.DEVNULL, "stdout": log, "stderr": subprocess.STDOUT, "start_new_session": True, **how}
+    return subprocess.Popen(words, cwd=folder, **how)
+
+
+def stop(process):
+    """Stops a command, if it has not ended, and what it started."""
+    for number in (signal.SIGTERM, signal.SIGKILL):
+        if process.poll() is not None:
+            return
+        with contextlib.suppress(ProcessLookupError):
+            os.killpg(process.pid, number)
+        with contextlib.suppress(subprocess.TimeoutExpired):
+            process.wait(10)
+
+
+def tail(text, lines=20):
+    return "".join(text.splitlines(True)[-lines:])
+
+
+def run(main, when_stopped):
+    """Runs a tool: status 0, or what `main` answers; 1 with a sentence where it cannot do its work; 130 where it is stopped."""
+    for number in (signal.SIGTERM, signal.SIGHUP):
+        signal.signal(number, signal.default_int_handler)
+    try:
+        status = main()
+    except Stop as why:
+        Teller().say(str(why))
+        status = 1
+    except OSError as error:
+        Teller().say(f"{error.strerror}: {error.filename}" if error.filename else str(error))
+        status = 1
+    except KeyboardInterrupt:
+        Teller().say(when_stopped)
+        status = STOPPED
+    sys.exit(status)
