@@ -1,7 +1,6 @@
 -- Runs whose ends are known from outside.
 use Rattle.std.specs.Prelude.{◌≡◌, ℕ, List, [], ◌∷◌, ◌++◌, replicate, Some, None, Ok}
 use Rattle.suite_prefix.specs.SettingsRules.{Opening}
-use Rattle.acl_core.specs.Modes.{minimal_list}
 use Rattle.acl_core.specs.declared.check.Decider.TheVariants.{UserObj}
 use Rattle.suite_content.specs.declared.content.Content.TheVariants.{Bytes}
 use Rattle.file_ops.specs.declared.answer.Answer.TheVariants as answer
@@ -19,7 +18,7 @@ use Rattle.txn_core.specs.declared.ending.Ending.TheVariants.{Answered, Refused,
 use Rattle.txn_core.specs.declared.ending.Cause.TheVariants as cause
 use Rattle.txn_core.specs.declared.job.Job.{Job}
 use Rattle.txn_core.specs.declared.job.Job.TheVariants.{Transaction}
-use Rattle.txn_core.specs.Runs.{settings, owner, a, op}
+use Rattle.txn_core.specs.Runs.{settings, owner, a, op, mode_lists}
 use Rattle.run_core.specs.declared.event.Event.{Event}
 use Rattle.run_core.specs.declared.event.Event.TheVariants.{Begin, Step, Crash, Return, Lack}
 use Rattle.run_core.specs.Worlds.{opening, audit_of}
@@ -48,11 +47,11 @@ write_a = op a action.Read ∷ op a (action.Write (0 ∷ [])) ∷ []
 
 -- setacl /a u::r,g::r,o::r
 abbrev pub close_a : List Op
-close_a = op a (action.SetAcl (minimal_list 292)) ∷ []
+close_a = op a (action.SetAcl (mode_lists 292)) ∷ []
 
 -- setacl /a u::-,g::r,o::r ; read /a
 abbrev pub lock_out : List Op
-lock_out = op a (action.SetAcl (minimal_list 36)) ∷ op a action.Read ∷ []
+lock_out = op a (action.SetAcl (mode_lists 36)) ∷ op a action.Read ∷ []
 
 -- getacl /a
 abbrev pub show_list : List Op
@@ -87,11 +86,11 @@ pub record WorkedRuns : Type 0 where
       record { t = 0; caller = owner; ops = make_a; answer = Ok (answer.Made 1 ∷ answer.Wrote ∷ []) }
       ∷ record { t = 1; caller = owner; ops = close_a; answer = Ok (answer.Set ∷ []) } ∷ []
   pub lost_lock_row : row_of (table_of two_agents lost_lock).rows 1 ≡
-      Some (record { owner = 1000; group = 100; acl = minimal_list 292; votes = two_agents.c0; content = Bytes (104 ∷ 105 ∷ []) })
+      Some (record { owner = 1000; group = 100; acl = mode_lists 292; votes = two_agents.c0; content = Bytes (104 ∷ 105 ∷ []) })
   pub locked_out_ends : outcomes (done_in two_agents locked_out) ≡
       record { agent = 0; count = 0; steps = 10; ending = Answered (answer.Made 1 ∷ answer.Wrote ∷ []) }
       ∷ record { agent = 0; count = 1; steps = 10; ending = Refused (record { op = 2; why = Denied denied.denial }) }
-      ∷ record { agent = 0; count = 2; steps = 10; ending = Answered (answer.Acl (minimal_list 420) ∷ []) } ∷ []
+      ∷ record { agent = 0; count = 2; steps = 10; ending = Answered (answer.Acl (mode_lists 420) ∷ []) } ∷ []
   pub locked_out_answers : AnswersAreTheTables (rows.opening two_agents) (decisions two_agents locked_out)
   -- at the home of the second transaction, and in the table of the run
   pub locked_out_audit : audit_of (run two_agents locked_out) 1 ≡ denied ∷ []
