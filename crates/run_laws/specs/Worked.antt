@@ -1,7 +1,6 @@
 -- A run in which the laws say something.
 use Rattle.std.specs.Prelude.{◌≡◌, ℕ, List, [], ◌∷◌, ◌++◌, replicate, map, None, Ok, Err}
 use Rattle.suite_prefix.specs.SettingsRules.{Opening, IsAccepted}
-use Rattle.acl_core.specs.Modes.{minimal_list}
 use Rattle.acl_core.specs.declared.check.Decider.TheVariants.{Other}
 use Rattle.suite_content.specs.declared.content.Kind.TheVariants.{File}
 use Rattle.file_ops.specs.declared.answer.Answer.TheVariants as answer
@@ -17,7 +16,7 @@ use Rattle.txn_core.specs.declared.ending.Ending.{Ending}
 use Rattle.txn_core.specs.declared.ending.Ending.TheVariants.{Answered, Refused, Swept, Undecided}
 use Rattle.txn_core.specs.declared.ending.Cause.TheVariants.{Overruled}
 use Rattle.txn_core.specs.declared.job.Job.TheVariants.{Transaction, Sweep}
-use Rattle.txn_core.specs.Runs.{settings, owner, other, a, op}
+use Rattle.txn_core.specs.Runs.{settings, owner, other, a, op, mode_lists}
 use Rattle.run_core.specs.declared.event.Event.{Event}
 use Rattle.run_core.specs.declared.event.Event.TheVariants.{Begin, Step, Crash, Return}
 use Rattle.run_core.specs.declared.done.Outcome.{Outcome}
@@ -45,7 +44,7 @@ write_a = op a (action.Write (0 ∷ [])) ∷ []
 
 -- setacl /a u::rw,g::-,o::-
 abbrev pub close_a : List Op
-close_a = op a (action.SetAcl (minimal_list 384)) ∷ []
+close_a = op a (action.SetAcl (mode_lists 384)) ∷ []
 
 abbrev pub read_a : List Op
 read_a = op a action.Read ∷ []
