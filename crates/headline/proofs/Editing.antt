@@ -22,6 +22,7 @@ use Rattle.file_ops.specs.declared.refusal.Why.{Why}
 use Rattle.file_ops.specs.declared.refusal.Why.TheVariants as why
 use Rattle.file_ops.specs.declared.service.Service.{Service}
 use Rattle.file_ops.specs.Steps.{found_or}
+use Rattle.file_ops.specs.Lists.{gives_default, is_misplaced}
 use Rattle.file_ops.specs.Paths.{names_of}
 use Rattle.file_ops.specs.KnownVotes.{lists_unknown, known_votes, votes_of_new}
 use Rattle.file_ops.specs.Walks.{Place, bytes_in, names_in, to_read, to_write, to_search, to_change, permit, permit_others, owner_only}
@@ -214,14 +215,17 @@ module _ (rows : ℕ → Option Row) where
       in_turn _ (reach edits caller names Exclusive) (λ now place at.
       ruled (permit caller place to_write) _ (λ _ _. ruled (bytes_in place.row.content) _ (λ before is.
       record { goes = (has_kind holds.File now place at (of_bytes place.row.content before is), tt) }))))
-  act edits service t at caller names (action.SetAcl acl) c0 valid = in_turn _ (owned edits caller names) (λ now place _. record { goes = (tt, tt) })
+  act edits service t at caller names (action.SetAcl acl) c0 valid =
+      in_turn _ (owned edits caller names) (λ now place _.
+      ruled (refuse_if (is_misplaced (kind_of place.row.content) (is_some acl.default)) why.DefaultOnFile) _ (λ _ _. record { goes = (tt, tt) }))
   act edits service t at caller names (action.SetVotes given) c0 valid =
       ruled (known_votes service given) _ (λ votes is. in_turn _ (owned edits caller names) (λ now place _. record { goes = (valid_known service given votes valid is, tt) }))
   act edits service t at caller names (action.Make kind init given) c0 valid =
       ruled (last_name names) _ (λ path _. ruled (votes_of_new service given) _ (λ votes is.
+      ruled (refuse_if (is_misplaced kind (gives_default init)) why.DefaultOnFile) _ (λ _ _.
       in_turn _ (parent_of edits caller path.folders) (λ now parent folder.
       ruled (refuse_if (is_some (folders.number_of parent.names path.name)) why.Exists) _ (λ _ _. ruled (refuse_if (nat_le max_names (length parent.names)) why.FolderFull) _ (λ _ _.
-      record { goes = (folder, (valid_new service given votes c0 valid is, tt)) })))))
+      record { goes = (folder, (valid_new service given votes c0 valid is, tt)) }))))))
   act edits service t at caller names action.Drop c0 valid =
       ruled (last_name names) _ (λ path _.
       in_turn _ (parent_of edits caller path.folders) (λ now parent folder.

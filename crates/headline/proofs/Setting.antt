@@ -3,7 +3,7 @@ use Rattle.std.proofs.Common.{◌≡◌, ℕ, ◌+◌, Bool, true, false, cond, 
 use Rattle.std.specs.Prelude.{◌==◌, ◌&&◌, ◌||◌, option_map, unwrap_or}
 use Rattle.std.proofs.lemmas.Bool.{false≢true, eqb-true}
 use Rattle.std.proofs.lemmas.Option.{none-some, same_Some}
-use Rattle.acl_core.specs.declared.entry.Entry.{Entry}
+use Rattle.acl_core.specs.declared.lists.Lists.{Lists}
 use Rattle.vote_core.specs.Quorums.{Configuration}
 use Rattle.vote_core.specs.Validity.{IsValid}
 use Rattle.suite_content.specs.declared.content.Content.{Content}
@@ -192,7 +192,7 @@ head_of kind.Absent prefix content row fits is = absurd (none-some (emptied row)
 head_of kind.File prefix content row fits is = head_shown holds.File prefix (unwrap_or content (empty_content holds.File)) row (kind_held holds.File content fits) (same_Some _ _ is)
 head_of kind.Folder prefix content row fits is = head_shown holds.Folder prefix (unwrap_or content (empty_content holds.Folder)) row (kind_held holds.Folder content fits) (same_Some _ _ is)
 
-same_prefix : (p : Prefix) (v : ℕ) (k : PrefixKind) (o g : ℕ) (a : List Entry) (c : Configuration) → v ≡ p.pver → k ≡ p.kind → o ≡ p.owner → g ≡ p.group → a ≡ p.acl → c ≡ p.votes
+same_prefix : (p : Prefix) (v : ℕ) (k : PrefixKind) (o g : ℕ) (a : Lists) (c : Configuration) → v ≡ p.pver → k ≡ p.kind → o ≡ p.owner → g ≡ p.group → a ≡ p.acl → c ≡ p.votes
     → record { pver = v; kind = k; owner = o; group = g; acl = a; votes = c } ≡ p
 same_prefix p v k o g a c v_is k_is o_is g_is a_is c_is =
     ap (λ v. record { pver = v; kind = k; owner = o; group = g; acl = a; votes = c }) v_is

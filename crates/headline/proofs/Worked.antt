@@ -5,7 +5,6 @@ use Rattle.std.specs.List.{AllByRecursion, list_all}
 use Rattle.std.proofs.lemmas.Bool.{and_parts, false≢true}
 use Rattle.std.proofs.lemmas.Bool.Decides.{nat_tests}
 use Rattle.std.proofs.lemmas.List.Elements.{All-from_recursion}
-use Rattle.acl_core.specs.Modes.{minimal_list}
 use Rattle.vote_core.specs.declared.fault.VotesFault.{VotesFault}
 use Rattle.vote_core.specs.Quorums.{Configuration, Representative}
 use Rattle.vote_core.specs.Validity.{IsValid, first_fault}
@@ -22,6 +21,7 @@ use Rattle.file_ops.specs.declared.operation.Op.{Op}
 use Rattle.file_ops.specs.Rows as rows
 use Rattle.file_ops.specs.Rows.{row_of}
 use Rattle.txn_core.specs.declared.job.Job.TheVariants.{Transaction, Sweep}
+use Rattle.txn_core.specs.Runs.{mode_lists}
 use Rattle.run_core.specs.declared.event.Event.{Event}
 use Rattle.run_core.specs.declared.event.Event.TheVariants.{Begin, Step, Crash, Return, Forget, Lack}
 use Rattle.run_core.specs.Decisions.{decisions}
@@ -151,7 +151,7 @@ some_run_moves_votes = record {
 -- ---- locks
 
 held_a : Prefix
-held_a = record { pver = 1; kind = File; owner = 1000; group = 100; acl = minimal_list 420; votes = six_servers.c0 }
+held_a = record { pver = 1; kind = File; owner = 1000; group = 100; acl = mode_lists 420; votes = six_servers.c0 }
 
 pub some_run_holds_locks : SomeRunHoldsLocks
 unfolding held_a

@@ -1,8 +1,7 @@
 -- Runs in which the promise says something.
 use Rattle.std.specs.Prelude.{◌≡◌, ℕ, List, [], ◌∷◌, ◌++◌, map, option_map, Option, Some, None, Ok, Err}
-use Rattle.acl_core.specs.declared.entry.Entry.{Entry}
+use Rattle.acl_core.specs.declared.lists.Lists.{Lists}
 use Rattle.acl_core.specs.declared.check.Decider.TheVariants.{Other}
-use Rattle.acl_core.specs.Modes.{minimal_list}
 use Rattle.vote_core.specs.Quorums.{Configuration}
 use Rattle.suite_content.specs.declared.content.Content.{Content}
 use Rattle.suite_content.specs.declared.content.Content.TheVariants.{Bytes}
@@ -22,7 +21,7 @@ use Rattle.weak_cache.specs.Entries.{Entry as Kept, entry_of}
 use Rattle.txn_core.specs.declared.ending.Ending.TheVariants.{Answered}
 use Rattle.txn_core.specs.declared.job.Job.TheVariants.{Transaction}
 use Rattle.txn_core.specs.Agents.{fixed_of}
-use Rattle.txn_core.specs.Runs.{settings, owner, other, a, op}
+use Rattle.txn_core.specs.Runs.{settings, owner, other, a, op, mode_lists}
 use Rattle.run_core.specs.declared.event.Event.{Event}
 use Rattle.run_core.specs.declared.event.Event.TheVariants.{Begin, Step, Crash, Return}
 use Rattle.run_core.specs.Worlds.{Actor, actor_at, audit_of}
@@ -44,7 +43,7 @@ with_caches = record (settings 3 4096 2 2) { agents = 2 }
 
 -- write /a 00 ; setacl /a u::rw,g::r,o::-
 abbrev pub close_a : List Op
-close_a = op a (action.Write (0 ∷ [])) ∷ op a (action.SetAcl (minimal_list 416)) ∷ []
+close_a = op a (action.Write (0 ∷ [])) ∷ op a (action.SetAcl (mode_lists 416)) ∷ []
 
 -- A file that everyone may read is made, and read twice at another agent, whose cache then has its list and its bytes. While a server is down the owner
 -- writes other bytes, and takes reading away from all others. Then the server is back, with the old list and the old bytes.
@@ -63,20 +62,20 @@ revoked =
     ++ Begin 1 (Transaction other 0 read_a) ∷ so_many 9 1
     ++ Begin 1 (Transaction owner 0 read_a) ∷ so_many 10 1
 
--- the list and the content of a copy
-abbrev pub list_and_content : Replica → List Entry × Content
-list_and_content copy = (copy.prefix.acl, copy.content)
+-- the lists and the content of a copy
+abbrev pub lists_and_content : Replica → Lists × Content
+lists_and_content copy = (copy.prefix.acl, copy.content)
 
--- the list and the content of the file that an agent's cache keeps for its site 0
-abbrev pub cached : Option Actor → Option (List Entry × Content)
+-- the lists and the content of the file that an agent's cache keeps for its site 0
+abbrev pub cached : Option Actor → Option (Lists × Content)
 cached (Some actor) = option_map (λ (kept : Kept). (kept.prefix.acl, kept.content)) (entry_of actor.agent.cache 0 1)
 cached None = None
 
-abbrev pub old : List Entry × Content
-old = (minimal_list 420, Bytes (104 ∷ 105 ∷ []))
+abbrev pub old : Lists × Content
+old = (mode_lists 420, Bytes (104 ∷ 105 ∷ []))
 
-abbrev pub new : List Entry × Content
-new = (minimal_list 416, Bytes (0 ∷ []))
+abbrev pub new : Lists × Content
+new = (mode_lists 416, Bytes (0 ∷ []))
 
 abbrev pub denial : Refusal
 denial = record { op = 1; why = Denied (record { suite = 1; wanted = to_read; decider = Other }) }
@@ -101,12 +100,12 @@ pub record SomeRunRevokes : Type 0 where
   pub ends : map ending_in (ended with_caches closed) ≡
       (0, Answered (answer.Made 1 ∷ answer.Wrote ∷ [])) ∷ (1, Answered (answer.Read (104 ∷ 105 ∷ []) ∷ [])) ∷ (65, Answered (answer.Read (104 ∷ 105 ∷ []) ∷ [])) ∷ (64, Answered (answer.Wrote ∷ answer.Set ∷ [])) ∷ []
   pub begins : begins_at with_caches (run with_caches closed) (Begin 1 (Transaction other 0 read_a)) ≡ Some 129
-  pub stale_copy : list_and_content (copy_at with_caches closed 1 0) ≡ old
+  pub stale_copy : lists_and_content (copy_at with_caches closed 1 0) ≡ old
   pub stale_hint_and_content : cached (actor_at (run with_caches closed) 1) ≡ Some old
   pub in_order : decisions with_caches revoked ≡ revoked_decisions
   pub answers : AnswersAreTheTables (rows.opening with_caches) (decisions with_caches revoked)
-  pub row : row_of (table_of with_caches revoked).rows 1 ≡ Some (record { owner = 1000; group = 100; acl = minimal_list 416; votes = with_caches.c0; content = Bytes (0 ∷ []) })
-  pub copies : (list_and_content (copy_at with_caches revoked 1 0) ≡ old) × (list_and_content (copy_at with_caches revoked 1 1) ≡ new) × (list_and_content (copy_at with_caches revoked 1 2) ≡ new)
+  pub row : row_of (table_of with_caches revoked).rows 1 ≡ Some (record { owner = 1000; group = 100; acl = mode_lists 416; votes = with_caches.c0; content = Bytes (0 ∷ []) })
+  pub copies : (lists_and_content (copy_at with_caches revoked 1 0) ≡ old) × (lists_and_content (copy_at with_caches revoked 1 1) ≡ new) × (lists_and_content (copy_at with_caches revoked 1 2) ≡ new)
   pub audit : audit_of (run with_caches revoked) 0 ≡ item ∷ []
   pub tables_audit : (table_of with_caches revoked).audit ≡ item ∷ []
 
@@ -153,7 +152,7 @@ pub record SomeRunMovesVotes : Type 0 where
   pub new_servers : (copy_at six_servers moved 1 3 ≡ copy_at six_servers moved 1 4) × (version_and_votes (copy_at six_servers moved 1 3) ≡ (2, new_votes)) × ((copy_at six_servers moved 1 3).content ≡ Bytes (104 ∷ 105 ∷ []))
   pub in_order : decisions six_servers moved ≡ moved_decisions
   pub answers : AnswersAreTheTables (rows.opening six_servers) (decisions six_servers moved)
-  pub row : row_of (table_of six_servers moved).rows 1 ≡ Some (record { owner = 1000; group = 100; acl = minimal_list 420; votes = new_votes; content = Bytes (104 ∷ 105 ∷ []) })
+  pub row : row_of (table_of six_servers moved).rows 1 ≡ Some (record { owner = 1000; group = 100; acl = mode_lists 420; votes = new_votes; content = Bytes (104 ∷ 105 ∷ []) })
 
 -- ---- locks are told of, and stand
 
