@@ -14,7 +14,7 @@ mod sweeps;
 
 use self::crowd::crowd;
 use self::read::{caller, ops, small, votes};
-use acl_core::{Acl, Mode};
+use acl_core::{Acl, Lists, Mode};
 use rep_core::{Lack, Request, Server, Stamped};
 use std::process::Abort;
 use suite_prefix::Settings;
@@ -46,7 +46,7 @@ fn settings(rt: &(impl Abort + AllocGlobal), text: &str) -> Settings {
     let room = room.ok().expect(rt, "room");
     let c0 = votes(rt, parts.next().unwrap_or_default());
     let mode = Mode::new(511).expect(rt, "a mode");
-    let acl = Acl::from_mode(rt.alloc(), mode).expect(rt, "memory");
+    let acl = Lists::from(Acl::from_mode(rt.alloc(), mode).expect(rt, "memory"));
     let slots = room.min(64);
     Settings::new(servers.into(), 2, c0, 1000, 100, acl, room, room, slots)
         .ok()

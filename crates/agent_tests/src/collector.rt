@@ -2,7 +2,7 @@
 //! what a server is asked; the prefix, its content's version, the members and the first source of a
 //! Current; or the votes of a Short, with the first Busy.
 
-use acl_core::{Acl, Mode};
+use acl_core::{Acl, Lists, Mode};
 use rep_core::{Reply, Request};
 use std::alloc::AllocError;
 use std::process::Abort;
@@ -63,7 +63,7 @@ fn prefix(rt: &(impl Abort + AllocGlobal), pver: u64, place: Where) -> Prefix {
         kind: PrefixKind::File,
         owner: 1000,
         group: 100,
-        acl: Acl::from_mode(rt.alloc(), mode).expect(rt, "memory"),
+        acl: Lists::from(Acl::from_mode(rt.alloc(), mode).expect(rt, "memory")),
         votes: votes(rt, place),
     }
 }

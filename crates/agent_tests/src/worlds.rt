@@ -4,7 +4,7 @@
 //! What memory was refused to is done again, so that each allocation can be refused in turn. What a test
 //! itself lacks stops it.
 
-use acl_core::{Acl, Caller, Mode};
+use acl_core::{Acl, Caller, Lists, Mode};
 use file_ops::{Action, Init, Op, PathText};
 use rep_core::Lack;
 use run_core::{Event, Outcome, World, runs_go_on, worked_runs};
@@ -29,16 +29,16 @@ fn same(rt: &impl Abort, got: &str, want: &str) {
     assert_eq!(rt; got, want);
 }
 
-fn list(rt: &(impl Abort + AllocGlobal), bits: u16) -> Acl {
+fn lists(rt: &(impl Abort + AllocGlobal), bits: u16) -> Lists {
     let mode = Mode::new(bits).expect(rt, "a mode");
-    Acl::from_mode(rt.alloc(), mode).expect(rt, "memory")
+    Lists::from(Acl::from_mode(rt.alloc(), mode).expect(rt, "memory"))
 }
 
 /// Three servers with a vote each, two of them a quorum; two agents; no room for caches.
 fn settings(rt: &(impl Abort + AllocGlobal)) -> Settings {
     let votes = Votes::new(3, &[(0, 1), (1, 1), (2, 1)], 2, 2);
     let votes = votes.ok().expect(rt, "votes");
-    let settings = Settings::new(3, 2, votes, 1000, 100, list(rt, 0o777), 0, 0, 0);
+    let settings = Settings::new(3, 2, votes, 1000, 100, lists(rt, 0o777), 0, 0, 0);
     settings.ok().expect(rt, "settings")
 }
 
@@ -54,7 +54,7 @@ fn operation(rt: &(impl Abort + AllocGlobal), word: &str) -> Op {
     let action = match word {
         "file" => Action::Make(Kind::File, Init::Mode(mode), None),
         "write" => Action::Write(FileBytes::from_slice(alloc, b"hi").expect(rt, "memory")),
-        "close" => Action::SetAcl(list(rt, 0o044)),
+        "close" => Action::SetAcl(lists(rt, 0o044)),
         _ => Action::Read,
     };
     let path = PathText::new(alloc, b"/a").expect(rt, "memory");

@@ -1,6 +1,6 @@
 //! Callers and operations as text.
 
-use acl_core::{Acl, Caller, Mode};
+use acl_core::{Acl, Caller, Lists, Mode};
 use file_ops::{Action, Init, Op, PathText};
 use std::process::Abort;
 use suite_content::{FileBytes, Kind};
@@ -71,7 +71,7 @@ fn action(rt: &(impl Abort + AllocGlobal), word: &str, rest: &str) -> Action {
         "write" => Action::Write(bytes(rt, rest)),
         "setacl" => {
             let acl = Acl::from_mode(rt.alloc(), mode(rt, rest));
-            Action::SetAcl(acl.expect(rt, "memory"))
+            Action::SetAcl(Lists::from(acl.expect(rt, "memory")))
         }
         "setvotes" => Action::SetVotes(votes(rt, rest)),
         "file" => made(rt, Kind::File, rest),
