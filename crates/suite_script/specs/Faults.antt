@@ -3,7 +3,7 @@ use Rattle.std.specs.Prelude.{ℕ, List, [], ◌∷◌, ◌++◌, codes, decimal
 use Rattle.acl_core.specs.declared.fault.AclFault.{AclFault}
 use Rattle.acl_core.specs.declared.fault.AclFault.TheVariants.{NoUserObj, NoGroupObj, NoOther, TwiceSingle, UserTwice, GroupTwice, MaskMissing, TooMany}
 use Rattle.acl_text.specs.declared.read.TextFault.{TextFault}
-use Rattle.acl_text.specs.declared.read.TextFault.TheVariants.{Syntax, UnknownName, NumberTooBig, DefaultEntry, Invalid, Memory}
+use Rattle.acl_text.specs.declared.read.TextFault.TheVariants.{Syntax, UnknownName, NumberTooBig, Invalid, DefaultInvalid, Memory}
 use Rattle.suite_prefix.specs.declared.settings.SettingsFault.{SettingsFault}
 use Rattle.suite_prefix.specs.declared.settings.SettingsFault.TheVariants.{BadCount, BadCache}
 use Rattle.suite_prefix.specs.declared.settings.SettingsFault.TheVariants as settings
@@ -33,8 +33,8 @@ abbrev pub text_code : TextFault → List ℕ
 text_code (Syntax item) = item_code (codes "A9") item
 text_code (UnknownName item) = item_code (codes "A10") item
 text_code (NumberTooBig item) = item_code (codes "A11") item
-text_code (DefaultEntry item) = item_code (codes "A12") item
 text_code (Invalid fault) = list_code fault
+text_code (DefaultInvalid fault) = codes "A13 " ++ list_code fault
 text_code Memory = []
 
 -- the codes of what can be wrong with votes

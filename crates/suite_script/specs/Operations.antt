@@ -69,12 +69,12 @@ votes_or_none (next ∷ words) = do
   given ← votes_in MAX_SERVERS next
   Ok (record { value = Some given; rest = words })
 
--- what a new file or folder gets: its list, and perhaps votes
+-- what a new file or folder gets: its lists, and perhaps votes
 abbrev pub make : Tables → Kind → List Word → Result (Taken Action) LineFault
 make names kind words = do
-  list ← init names words
-  votes ← votes_or_none list.rest
-  Ok (record { value = action.Make kind list.value votes.value; rest = votes.rest })
+  lists ← init names words
+  votes ← votes_or_none lists.rest
+  Ok (record { value = action.Make kind lists.value votes.value; rest = votes.rest })
 
 -- what a verb does, with what it wants besides the path
 abbrev pub act : Tables → Verb → List Word → Result (Taken Action) LineFault

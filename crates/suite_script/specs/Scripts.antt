@@ -6,8 +6,9 @@ use Rattle.std.specs.Str.Lines.{lines}
 use Rattle.acl_text.specs.Tables.{Tables, name_fault}
 use Rattle.acl_text.specs.declared.names.NameError.{NameError}
 use Rattle.acl_text.specs.declared.names.NameError.TheVariants as name
-use Rattle.file_ops.specs.Lists.{list_of}
+use Rattle.file_ops.specs.Lists.{lists_of}
 use Rattle.file_ops.specs.Steps.{◌>>=◌, ◌>>◌}
+use Rattle.suite_content.specs.declared.content.Kind.TheVariants.{Folder}
 use Rattle.script_text.specs.Words.{words}
 use Rattle.suite_script.specs.declared.fault.LineFault.{LineFault}
 use Rattle.suite_script.specs.declared.fault.ScriptFault.{ScriptFault}
@@ -110,14 +111,14 @@ headed is_known begins reading script = do
   value ← said_at line.value.number (reading line.value.words)
   Ok (record { value = value; rest = line.rest })
 
--- what follows the word `root`: the root folder's owner, group and list
+-- what follows the word `root`: the root folder's owner, group and lists; a mode gives no default list
 abbrev pub root_in : List Word → Result Root LineFault
 root_in words = do
   owner ← id words
   group ← id owner.rest
   given ← init no_names group.rest
   at_end given.rest
-  Ok (record { owner = owner.value; group = group.value; acl = list_of given.value })
+  Ok (record { owner = owner.value; group = group.value; acl = lists_of Folder None given.value })
 
 -- ---- the lines after a header
 

@@ -31,7 +31,7 @@ reply_text answer.Wrote = codes "wrote"
 reply_text (answer.List names) = codes "list " ++ names_text names
 reply_text (answer.Made suite) = codes "made " ++ decimal suite
 reply_text answer.Dropped = codes "dropped"
-reply_text (answer.Acl list) = codes "acl " ++ short_text list
+reply_text (answer.Acl lists) = codes "acl " ++ short_text lists
 reply_text (answer.Votes votes) = codes "votes " ++ votes_text votes
 reply_text answer.Set = codes "set"
 
@@ -75,6 +75,7 @@ why_text op why.TooLong = refused_text op (codes "F8")
 why_text op why.FolderFull = refused_text op (codes "F9")
 why_text op why.OpCount = refused_text op (codes "F10")
 why_text op why.UnknownServer = refused_text op (codes "F11")
+why_text op why.DefaultOnFile = refused_text op (codes "F12")
 
 -- a transaction that was answered, and one that was refused
 abbrev pub answered_text : List Answer → List ℕ

@@ -44,8 +44,11 @@ pub fn push_text_code(text: &mut Vec<u8>, fault: TextFault) -> Result<(), AllocE
         TextFault::Syntax(item) => push_item_code(text, b"A9", item),
         TextFault::UnknownName(item) => push_item_code(text, b"A10", item),
         TextFault::NumberTooBig(item) => push_item_code(text, b"A11", item),
-        TextFault::DefaultEntry(item) => push_item_code(text, b"A12", item),
         TextFault::Invalid(fault) => push_list_code(text, fault),
+        TextFault::DefaultInvalid(fault) => {
+            text.extend_from_slice(b"A13 ")?;
+            push_list_code(text, fault)
+        }
         TextFault::Memory => Ok(()),
     }
 }

@@ -25,7 +25,7 @@ pub enum LineFault {
     /// A user or a group has that name already.
     #[error("the name has a number already")]
     NameTwice,
-    /// A list is none.
+    /// A text spells no lists.
     #[error(transparent)]
     List(TextFault),
     /// Votes are of the right form, and not valid.

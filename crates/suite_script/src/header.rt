@@ -1,7 +1,6 @@
 //! Lines of headers.
 
-ghost use Rattle.std.specs.Prelude.{◌≡◌, ◌≤◌, IfOk, codes, length};
-ghost use Rattle.file_ops.specs.Lists.{list_of};
+ghost use Rattle.std.specs.Prelude.{◌≡◌, ◌≤◌, codes, length};
 ghost use Rattle.suite_script.specs.Progress.{Heads};
 ghost use Rattle.suite_script.specs.Readings.{Gives};
 ghost use Rattle.suite_script.specs.Scripts.{headed, no_names, root_in};
@@ -11,11 +10,10 @@ use crate::language::Language;
 use crate::root::Root;
 use crate::script::ScriptReader;
 use crate::word::{at_end, next_word, read_id, read_init};
-use acl_core::Acl;
 use acl_text::Names;
-use file_ops::Init;
 use script_text::Words;
-use std::alloc::{AllocError, Global};
+use std::alloc::Global;
+use suite_content::Kind;
 
 /// The next line, which has to begin with the word `root`.
 pub fn read_root<L: Language>(
@@ -33,7 +31,7 @@ pub fn read_root<L: Language>(
     }
 }
 
-/// What follows the word `root`: the root folder's owner, group and list, for which no names are known.
+/// What follows the word `root`: the root folder's owner, group and lists, for which no names are known.
 fn root_of(alloc: Global, names: &Names, words: &mut Words<'_>) -> Result<Root, LineError>
     requires { names.now ≡ no_names }
     ensures { Gives result (root_in words.old) }
@@ -42,16 +40,6 @@ fn root_of(alloc: Global, names: &Names, words: &mut Words<'_>) -> Result<Root, 
     let group = read_id(next_word(words)?)?;
     let init = read_init(alloc, names, next_word(words)?)?;
     at_end(words)?;
-    let acl = list_of(alloc, init)?;
+    let acl = init.lists(alloc, Kind::Folder, &None)?;
     Ok(Root { owner, group, acl })
-}
-
-/// The list of a mode, or the list that is given.
-fn list_of(alloc: Global, init: Init) -> Result<Acl, AllocError>
-    ensures { IfOk result (λ acl. acl ≡ list_of init) }
-{
-    match init {
-        Init::Mode(mode) => Acl::from_mode(alloc, mode),
-        Init::List(acl) => Ok(acl),
-    }
 }

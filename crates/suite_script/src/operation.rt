@@ -11,7 +11,7 @@ ghost use Rattle.suite_script.specs.code.Kept.{kept};
 
 use crate::fault::{LineError, LineFault};
 use crate::votes::read_votes;
-use crate::word::{read_bytes, read_init, read_list};
+use crate::word::{read_bytes, read_init, read_lists};
 use acl_text::Names;
 use file_ops::{Action, MAX_OPERATIONS, Op, PathText};
 use script_text::{Phrases, Words};
@@ -127,15 +127,15 @@ fn read_action(
         Verb::Drop => Ok(Action::Drop),
         Verb::GetAcl => Ok(Action::GetAcl),
         Verb::SetAcl => {
-            let acl = read_list(alloc, names, phrase_word(phrases)?)?;
-            Ok(Action::SetAcl(acl))
+            let lists = read_lists(alloc, names, phrase_word(phrases)?)?;
+            Ok(Action::SetAcl(lists))
         }
         Verb::GetVotes => Ok(Action::GetVotes),
         Verb::SetVotes => Ok(Action::SetVotes(read_votes(MAX_SERVERS, phrase_word(phrases)?)?)),
     }
 }
 
-/// What a new file or folder gets: its list, and perhaps votes.
+/// What a new file or folder gets: its lists, and perhaps votes.
 fn read_make(
     alloc: Global,
     names: &Names,

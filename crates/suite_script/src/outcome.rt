@@ -74,9 +74,9 @@ fn push_reply(alloc: Global, text: &mut Vec<u8>, reply: &Answer) -> Result<(), A
             push_number(text, *suite)
         }
         Answer::Dropped => text.extend_from_slice(b"dropped"),
-        Answer::Acl(acl) => {
+        Answer::Acl(lists) => {
             text.extend_from_slice(b"acl ")?;
-            append_short(text, acl)
+            append_short(text, lists)
         }
         Answer::Votes(votes) => {
             text.extend_from_slice(b"votes ")?;
@@ -130,6 +130,7 @@ fn push_why(text: &mut Vec<u8>, op: u8, why: Why) -> Result<(), AllocError>
         Why::FolderFull => push_code(text, op, b"F9"),
         Why::OpCount => push_code(text, op, b"F10"),
         Why::UnknownServer => push_code(text, op, b"F11"),
+        Why::DefaultOnFile => push_code(text, op, b"F12"),
     }
 }
 

@@ -6,12 +6,12 @@ ghost use Rattle.acl_text.specs.Layout.{is_white};
 ghost use Rattle.file_ops.specs.Steps.{found_or};
 ghost use Rattle.script_text.specs.Numbers.{number_up_to};
 ghost use Rattle.suite_script.specs.Words.{max_id, at_end, caller_in, caller_with};
-ghost use Rattle.suite_script.specs.Lists.{list_in, init_in, is_mode, mode_of};
+ghost use Rattle.suite_script.specs.Lists.{lists_in, init_in, is_mode, mode_of};
 ghost use Rattle.suite_script.specs.Operations.{bytes_in};
 ghost use Rattle.suite_script.specs.Readings.{Gives};
 
 use crate::fault::{LineError, LineFault};
-use acl_core::{Acl, Caller, MAX_GROUPS, Mode};
+use acl_core::{Caller, Lists, MAX_GROUPS, Mode};
 use acl_text::{Names, read_acl};
 use file_ops::Init;
 use hex::FromHexError;
@@ -93,9 +93,9 @@ fn has_white(word: &[u8]) -> bool
     word.iter().any(|byte| is_white(*byte))
 }
 
-/// A list as a word.
-pub(crate) fn read_list(alloc: Global, names: &Names, word: &[u8]) -> Result<Acl, LineError>
-    ensures { Gives result (list_in names.now word.now) }
+/// Lists as a word.
+pub(crate) fn read_lists(alloc: Global, names: &Names, word: &[u8]) -> Result<Lists, LineError>
+    ensures { Gives result (lists_in names.now word.now) }
 {
     if has_white(word) {
         return Err(LineError::Faulty(LineFault::Form));
@@ -124,13 +124,13 @@ fn read_mode(word: &[u8]) -> Option<Mode>
     }
 }
 
-/// The list that a new file or folder gets: a mode, or a list.
+/// The lists that a new file or folder gets: those of a mode, or lists that are given.
 pub(crate) fn read_init(alloc: Global, names: &Names, word: &[u8]) -> Result<Init, LineError>
     ensures { Gives result (init_in names.now word.now) }
 {
     match read_mode(word) {
         Some(mode) => Ok(Init::Mode(mode)),
-        None => Ok(Init::List(read_list(alloc, names, word)?)),
+        None => Ok(Init::Lists(read_lists(alloc, names, word)?)),
     }
 }
 
