@@ -1,169 +1,175 @@
-//! A cache as its users meet it: a table of calls with the entries that each leaves, memory that is
+//! A cache as its users meet it: lines of calls with the entries that each leaves, memory that is
 //! refused, and the most entries that there may be, turned over.
 
 mod uses;
 
-use acl_core::{Acl, Mode};
-use std::alloc::{AllocError, Global};
+use crate::checks::{case, had, holds, number, push, small, tells};
+use crate::fixtures::{content, prefix};
 use std::process::Abort;
-use std::test::Fail;
-use suite_content::{Content, FileBytes};
-use suite_prefix::{Prefix, PrefixKind};
-use vote_core::Votes;
+use suite_prefix::PrefixKind;
 use weak_cache::{
     MAX_SITES, NewEntry, WeakCache, a_search_keeps_all, entries_come_from_puts, found_was_put,
     oldest_go, site_lists,
 };
 
-/// The prefix of a file with this version.
-fn prefix(rt: &impl Abort, alloc: Global, pver: u64) -> Result<Prefix, AllocError> {
-    let mode = Mode::new(0o644).expect(rt, "a mode");
-    let votes = Votes::new(1, &[(0, 1)], 1, 1).ok().expect(rt, "votes");
-    let acl = Acl::from_mode(alloc, mode)?;
-    Ok(Prefix {
-        pver,
-        kind: PrefixKind::File,
-        owner: 1000,
-        group: 100,
-        acl,
-        votes,
-    })
-}
-
-/// A file of so many bytes.
-fn file(alloc: Global, length: usize) -> Result<Content, AllocError> {
-    let bytes = vec![in alloc; 7u8; length]?;
-    Ok(Content::Bytes(FileBytes::from_vec(bytes)?))
-}
-
-/// Puts a file of so many bytes. Its prefix and its content have the version.
+/// Puts a file of so many bytes, and says whether there was memory. Its prefix and its content have version 1.
 fn put(
-    rt: &impl Abort,
-    alloc: Global,
+    rt: &(impl Abort + AllocGlobal),
     cache: &mut WeakCache,
-    key: (u8, u64),
-    version: u64,
+    site: u8,
+    suite: u64,
     length: usize,
-) -> Result<(), AllocError> {
-    assert!(rt; key.0 < MAX_SITES);
-    let content = file(alloc, length)?;
-    let prefix = prefix(rt, alloc, version)?;
-    cache.put(key.0, key.1, prefix, version, content)
+) -> bool {
+    assert!(rt; site < MAX_SITES);
+    let bytes = vec![in rt.alloc(); 7u8; length].expect(rt, "memory");
+    let content = content(rt, &bytes);
+    let prefix = prefix(rt, 1, PrefixKind::File);
+    cache.put(site, suite, prefix, 1, content).is_ok()
 }
 
 /// The entries as a text: sites and suites, the newest first.
-fn entries(alloc: Global, cache: &WeakCache) -> Result<String, Fail> {
-    let mut text = String::new(alloc);
+fn entries(rt: &(impl Abort + AllocGlobal), cache: &WeakCache) -> String {
+    let mut text = String::new(rt.alloc());
     for (site, suite) in cache.entries() {
-        let key = format!(in alloc; "({site},{suite})")?;
-        text.push_str(key.as_str())?;
+        let key = had(rt, format!(in rt.alloc(); "({site},{suite})"));
+        push(rt, &mut text, key.as_str());
     }
-    Ok(text)
+    text
 }
 
-fn stand(rt: &impl Abort, alloc: Global, cache: &WeakCache, want: &str) -> Result<(), Fail> {
-    let text = entries(alloc, cache)?;
-    assert!(rt; text.as_str() == want, "{text} and not {want}");
-    Ok(())
+fn stand(rt: &(impl Abort + AllocGlobal), cache: &WeakCache, want: &str) {
+    tells(rt, &entries(rt, cache), want, want);
 }
 
-/// A put of a file in the table: its key, how many bytes it has, and the entries after it.
-struct Row {
-    key: (u8, u64),
+/// Puts a file, and once more where memory was refused to it, which leaves the entries as they stood.
+fn put_again(
+    rt: &(impl Abort + AllocGlobal),
+    cache: &mut WeakCache,
+    site: u8,
+    suite: u64,
     length: usize,
-    want: &'static str,
-}
-
-const BEFORE_USE: [Row; 3] = [
-    Row {
-        key: (0, 1),
-        length: 4,
-        want: "(0,1)",
-    },
-    Row {
-        key: (0, 2),
-        length: 4,
-        want: "(0,2)",
-    },
-    Row {
-        key: (1, 1),
-        length: 6,
-        want: "(1,1)(0,2)",
-    },
-];
-
-const AFTER_USE: [Row; 3] = [
-    Row {
-        key: (2, 5),
-        length: 1,
-        want: "(2,5)(0,2)",
-    },
-    Row {
-        key: (0, 3),
-        length: 7,
-        want: "(2,5)(0,2)",
-    },
-    Row {
-        key: (0, 2),
-        length: 7,
-        want: "(2,5)",
-    },
-];
-
-fn puts(rt: &impl Abort, alloc: Global, cache: &mut WeakCache, rows: &[Row]) -> Result<(), Fail> {
-    for row in rows {
-        let before = entries(alloc, cache)?;
-        if put(rt, alloc, cache, row.key, 1, row.length).is_err() {
-            stand(rt, alloc, cache, before.as_str())?;
-            put(rt, alloc, cache, row.key, 1, row.length)?;
-        }
-        stand(rt, alloc, cache, row.want)?;
+) {
+    let before = entries(rt, cache);
+    if !put(rt, cache, site, suite, length) {
+        stand(rt, cache, before.as_str());
+        holds(rt, put(rt, cache, site, suite, length), "a put");
     }
-    Ok(())
 }
 
-#[test]
-fn the_least_recently_used_goes_first(rt: HostRuntime) -> Result<(), Fail> {
-    let alloc = rt.alloc();
-    let mut cache = WeakCache::new(alloc, 10, 6, 4)?;
-    puts(&rt, alloc, &mut cache, &BEFORE_USE)?;
-    assert!(rt; cache.content(0, 2, 1).is_some() && cache.content(0, 2, 2).is_none());
-    stand(&rt, alloc, &cache, "(1,1)(0,2)")?;
-    assert!(rt; cache.content_at(0, 2, 1).is_some());
-    stand(&rt, alloc, &cache, "(0,2)(1,1)")?;
-    puts(&rt, alloc, &mut cache, &AFTER_USE)?;
-    assert!(rt; cache.content_at(2, 5, 2).is_none());
-    stand(&rt, alloc, &cache, "(2,5)")?;
-    cache.forget(2);
+/// Puts a file for each line: its site, its suite, how many bytes it has, and the entries after it.
+fn puts(rt: &(impl Abort + AllocGlobal), cache: &mut WeakCache, text: &str) {
+    for line in text.lines().skip(1) {
+        let (given, want) = case(rt, line);
+        let mut words = given.split(' ');
+        let site = small(rt, words.next().unwrap_or_default());
+        let suite = number(rt, words.next().unwrap_or_default());
+        let length = small(rt, words.next().unwrap_or_default());
+        put_again(rt, cache, site, suite, usize::from(length));
+        stand(rt, cache, want);
+    }
+}
+
+static BEFORE_USE: &str = "
+0 1 4 = (0,1)
+0 2 4 = (0,2)
+1 1 6 = (1,1)(0,2)";
+
+static AFTER_USE: &str = "
+2 5 1 = (2,5)(0,2)
+0 3 7 = (2,5)(0,2)
+0 2 7 = (2,5)";
+
+/// A cache of 10 bytes, of which a site has at most 6, and of 4 entries.
+fn small_cache(rt: &(impl Abort + AllocGlobal)) -> WeakCache {
+    had(rt, WeakCache::new(rt.alloc(), 10, 6, 4))
+}
+
+/// A content is kept at this version, or none is.
+fn keeps(rt: &impl Abort, cache: &WeakCache, dver: u64, is_kept: bool) {
+    let content = cache.content(0, 2, dver);
+    assert!(rt; content.is_some() == is_kept, "version {dver}");
+}
+
+/// The laws can be called.
+fn laws() {
     found_was_put();
     oldest_go();
     site_lists();
     a_search_keeps_all();
     entries_come_from_puts();
-    stand(&rt, alloc, &cache, "")
 }
 
 #[test]
-fn a_full_cache_is_turned_over(rt: HostRuntime) -> Result<(), Fail> {
-    let alloc = rt.alloc();
-    let mut cache = WeakCache::new(alloc, 4096, 4096, 4096)?;
+fn the_least_recently_used_goes_first(rt: HostRuntime) {
+    let mut cache = small_cache(&rt);
+    puts(&rt, &mut cache, BEFORE_USE);
+    keeps(&rt, &cache, 1, true);
+    keeps(&rt, &cache, 2, false);
+    stand(&rt, &cache, "(1,1)(0,2)");
+    holds(&rt, cache.content_at(0, 2, 1).is_some(), "a look");
+    stand(&rt, &cache, "(0,2)(1,1)");
+    puts(&rt, &mut cache, AFTER_USE);
+    holds(&rt, cache.content_at(2, 5, 2).is_none(), "a look in vain");
+    stand(&rt, &cache, "(2,5)");
+    cache.forget(2);
+    stand(&rt, &cache, "");
+    laws();
+}
+
+/// Whether a prefix is kept for site 3.
+fn hints(rt: &impl Abort, cache: &WeakCache, suite: u64, is_kept: bool) {
+    let hint = cache.hint(3, suite);
+    assert!(rt; hint.is_some() == is_kept, "suite {suite}");
+}
+
+#[test]
+fn a_full_cache_is_turned_over(rt: HostRuntime) {
+    let mut cache = had(&rt, WeakCache::new(rt.alloc(), 4096, 4096, 4096));
     for suite in 0..8192 {
-        put(&rt, alloc, &mut cache, (3, suite), 1, 1)?;
+        holds(&rt, put(&rt, &mut cache, 3, suite, 1), "a put");
     }
-    assert!(rt; cache.entries().count() == 4096);
-    assert!(rt; cache.entries().next() == Some((3, 8191)));
-    assert!(rt; cache.hint(3, 4095).is_none() && cache.hint(3, 4096).is_some());
-    Ok(())
+    holds(&rt, cache.entries().count() == 4096, "how many");
+    holds(&rt, cache.entries().next() == Some((3, 8191)), "the newest");
+    hints(&rt, &cache, 4095, false);
+    hints(&rt, &cache, 4096, true);
+}
+
+/// The version of the prefix that there is beside a new entry.
+fn hint_beside(cache: &WeakCache, new: NewEntry<'_>, site: u8, suite: u64) -> Option<u64> {
+    match cache.hint_beside(new, site, suite) {
+        Some(prefix) => Some(prefix.pver),
+        None => None,
+    }
+}
+
+fn hints_beside(rt: &impl Abort, cache: &WeakCache, new: NewEntry<'_>) {
+    holds(rt, hint_beside(cache, new, 0, 3) == Some(3), "the new one");
+    holds(rt, hint_beside(cache, new, 0, 2).is_none(), "one that goes");
+    holds(
+        rt,
+        hint_beside(cache, new, 1, 1) == Some(1),
+        "one that stays",
+    );
+}
+
+/// Whether there is a content beside a new entry at a version.
+fn has_beside(cache: &WeakCache, new: NewEntry<'_>, site: u8, suite: u64, dver: u64) -> bool {
+    cache.content_beside(new, site, suite, dver).is_some()
+}
+
+fn contents_beside(rt: &impl Abort, cache: &WeakCache, new: NewEntry<'_>) {
+    holds(rt, has_beside(cache, new, 0, 3, 3), "the new one");
+    holds(rt, !has_beside(cache, new, 0, 3, 2), "another version");
+    holds(rt, has_beside(cache, new, 1, 1, 1), "one that stays");
 }
 
 #[test]
-fn a_put_is_seen_before(rt: HostRuntime) -> Result<(), Fail> {
-    let alloc = rt.alloc();
-    let mut cache = WeakCache::new(alloc, 10, 6, 4)?;
-    put(&rt, alloc, &mut cache, (0, 2), 1, 4)?;
-    put(&rt, alloc, &mut cache, (1, 1), 1, 4)?;
-    let prefix = prefix(&rt, alloc, 3)?;
-    let content = file(alloc, 5)?;
+fn a_put_is_seen_before(rt: HostRuntime) {
+    let mut cache = small_cache(&rt);
+    put_again(&rt, &mut cache, 0, 2, 4);
+    put_again(&rt, &mut cache, 1, 1, 4);
+    let prefix = prefix(&rt, 3, PrefixKind::File);
+    let content = content(&rt, &[7, 7, 7, 7, 7]);
     let new = NewEntry {
         site: 0,
         suite: 3,
@@ -171,15 +177,8 @@ fn a_put_is_seen_before(rt: HostRuntime) -> Result<(), Fail> {
         dver: 3,
         content: &content,
     };
-    assert!(rt;
-        cache
-            .hint_beside(new, 0, 3)
-            .is_some_and(|prefix| prefix.pver == 3)
-    );
-    assert!(rt; cache.hint_beside(new, 0, 2).is_none() && cache.hint_beside(new, 1, 1).is_some());
-    assert!(rt; cache.content_beside(new, 0, 3, 3).is_some());
-    assert!(rt; cache.content_beside(new, 0, 3, 2).is_none());
-    assert!(rt; cache.content_beside(new, 1, 1, 1).is_some());
-    assert!(rt; cache.content(0, 2, 1).is_some());
-    stand(&rt, alloc, &cache, "(1,1)(0,2)")
+    hints_beside(&rt, &cache, new);
+    contents_beside(&rt, &cache, new);
+    keeps(&rt, &cache, 1, true);
+    stand(&rt, &cache, "(1,1)(0,2)");
 }

@@ -3,6 +3,7 @@
 mod uses;
 
 use self::uses::{Row, change_and_back, has, lengths, link, put_and_take, take_and_put, unlink};
+use crate::checks::{had, holds, tells};
 use sorted_map::RoomyMap;
 use std::process::Abort;
 use suite_content::{
@@ -32,37 +33,30 @@ fn folder(rt: &(impl Abort + AllocGlobal), names: &str) -> FolderNames {
 
 /// The names and numbers of a folder, in words.
 fn same_folder(rt: &(impl Abort + AllocGlobal), folder: &FolderNames, want: &str) {
-    let text = format!(in rt.alloc(); "{folder:?}").expect(rt, "memory");
-    assert_eq!(rt; text.as_str(), want);
+    let text = had(rt, format!(in rt.alloc(); "{folder:?}"));
+    tells(rt, &text, want, "a folder");
 }
 
 fn copy_of(rt: &impl Abort, folder: &FolderNames) -> FolderNames {
-    folder.clone().ok().expect(rt, "memory")
+    had(rt, folder.clone())
 }
 
 fn list_of(rt: &impl Abort, folder: &FolderNames) -> NameList {
-    folder.names().ok().expect(rt, "memory")
-}
-
-/// What a change answers, where memory sufficed.
-fn done<T, E: Drop>(rt: &impl Abort, outcome: Result<T, E>) -> T {
-    outcome.ok().expect(rt, "memory")
-}
-
-/// A number is this one, or there is none.
-fn same_number(rt: &impl Abort, got: Option<u64>, want: Option<u64>) {
-    assert!(rt; got == want);
+    had(rt, folder.names())
 }
 
 /// These bytes are a name's.
 fn is_name(rt: &impl Abort, text: &str) {
-    assert!(rt; name(rt, text).as_bytes() == text.as_bytes());
+    holds(rt, name(rt, text).as_bytes() == text.as_bytes(), text);
 }
 
 /// These bytes are no name's.
-fn is_no_name(rt: &impl Abort, bytes: &[u8]) {
-    assert!(rt; Name::new(bytes).is_none());
+fn is_no_name(rt: &impl Abort, text: &str) {
+    holds(rt, Name::new(text.as_bytes()).is_none(), text);
 }
+
+/// 65 bytes.
+static TOO_LONG: &str = "xxxxxxxxxxxxxxxxxxxxxxxxxxxxxxxxxxxxxxxxxxxxxxxxxxxxxxxxxxxxxxxxx";
 
 #[test]
 fn names_are_1_to_64_portable_bytes(rt: HostRuntime) {
@@ -70,11 +64,21 @@ fn names_are_1_to_64_portable_bytes(rt: HostRuntime) {
         is_name(&rt, good);
     }
     for bad in "|.|..|a b|a/b|a,b|a:b|caf\u{e9}|a\0".split('|') {
-        is_no_name(&rt, bad.as_bytes());
+        is_no_name(&rt, bad);
     }
-    let longest = [b'x'; 65];
-    assert!(rt; Name::new(&longest[..MAX_NAME]).is_some());
-    is_no_name(&rt, &longest);
+    is_name(&rt, TOO_LONG.get(..MAX_NAME).unwrap_or_default());
+    is_no_name(&rt, TOO_LONG);
+}
+
+/// A name has this number in a folder, or none.
+fn numbers(rt: &impl Abort, folder: &FolderNames, text: &str, want: Option<u64>) {
+    holds(rt, folder.get(&name(rt, text)) == want, text);
+}
+
+fn numbers_all(rt: &impl Abort, folder: &FolderNames) {
+    for (name, number) in folder.as_slice() {
+        assert!(rt; folder.get(name) == Some(*number));
+    }
 }
 
 #[test]
@@ -82,22 +86,34 @@ fn names_stand_in_byte_order(rt: HostRuntime) {
     let mut folder = folder(&rt, "b aa a Z a.b");
     put(&rt, &mut folder, "b", 6);
     same_folder(&rt, &folder, "[(Z, 4), (a, 3), (a.b, 5), (aa, 2), (b, 6)]");
-    assert!(rt; folder.len() == 5 && folder.as_slice().len() == 5);
-    for (name, number) in folder.as_slice() {
-        same_number(&rt, folder.get(name), Some(*number));
-    }
-    same_number(&rt, folder.get(&name(&rt, "ab")), None);
-    assert!(rt; !folder.is_empty() && !folder.is_full());
+    holds(&rt, folder.len() == 5, "how many");
+    holds(&rt, folder.as_slice().len() == 5, "how many");
+    numbers_all(&rt, &folder);
+    numbers(&rt, &folder, "ab", None);
+    holds(&rt, !folder.is_empty(), "names");
+    holds(&rt, !folder.is_full(), "room");
+}
+
+/// Takes a name out, which has a number.
+fn takes(rt: &impl Abort, folder: &mut FolderNames, text: &str, number: u64) {
+    let taken = had(rt, folder.remove(&name(rt, text)));
+    holds(rt, taken == Some(number), text);
+}
+
+/// Puts a new name in.
+fn adds(rt: &impl Abort, folder: &mut FolderNames, text: &str, number: u64) {
+    let before = had(rt, folder.insert(name(rt, text), number));
+    holds(rt, before.is_none(), text);
 }
 
 #[test]
 fn what_shares_a_folder_keeps_its_names(rt: HostRuntime) {
     let mut folder = folder(&rt, "a b c");
-    let b = name(&rt, "b");
     let (list, copy) = (list_of(&rt, &folder), copy_of(&rt, &folder));
-    same_number(&rt, done(&rt, folder.remove(&b)), Some(2));
-    assert!(rt; copy != folder && has(&list, &b));
-    same_number(&rt, done(&rt, folder.insert(b, 7)), None);
+    takes(&rt, &mut folder, "b", 2);
+    holds(&rt, copy != folder, "a copy");
+    holds(&rt, has(&list, &name(&rt, "b")), "a list");
+    adds(&rt, &mut folder, "b", 7);
     same_folder(&rt, &copy, "[(a, 1), (b, 2), (c, 3)]");
     same_folder(&rt, &folder, "[(a, 1), (b, 7), (c, 3)]");
 }
@@ -107,70 +123,95 @@ fn other_list(rt: &(impl Abort + AllocGlobal)) -> NameList {
     let mut map = RoomyMap::new(rt.alloc());
     assert!(rt; map.insert(name(rt, "bb"), 8).is_ok());
     assert!(rt; map.insert(name(rt, "a"), 9).is_ok());
-    NameList::from(done(rt, FolderNames::from_map(rt.alloc(), map)))
+    NameList::from(had(rt, FolderNames::from_map(rt.alloc(), map)))
+}
+
+/// The names of a list have these lengths.
+fn has_lengths(rt: &(impl Abort + AllocGlobal), list: &NameList, want: &[usize]) {
+    let lengths = had(rt, lengths(rt.alloc(), list));
+    assert!(rt; lengths.as_slice() == want);
 }
 
 #[test]
 fn a_list_has_the_names_alone(rt: HostRuntime) {
     let list = list_of(&rt, &folder(&rt, "bb a"));
-    assert!(rt; list == other_list(&rt));
-    assert!(rt; done(&rt, list.clone()) == list);
-    let lengths = done(&rt, lengths(rt.alloc(), &list));
-    assert!(rt; lengths.as_slice() == [1, 2].as_slice());
-    assert!(rt; list.len() == 2 && !list.is_empty());
+    holds(&rt, list == other_list(&rt), "the numbers");
+    holds(&rt, had(&rt, list.clone()) == list, "a clone");
+    has_lengths(&rt, &list, &[1, 2]);
+    holds(&rt, list.len() == 2, "how many");
+    holds(&rt, !list.is_empty(), "names");
+}
+
+/// Puts a name in and takes it out again, where it is new.
+fn puts_and_takes(rt: &impl Abort, folder: &mut FolderNames, name: Name) {
+    if folder.get(&name).is_none() {
+        had(rt, put_and_take(folder, name, 5));
+    }
 }
 
 #[test]
 fn edits_undo_others(rt: HostRuntime) {
     let mut folder = folder(&rt, "a c");
-    let before = copy_of(&rt, &folder);
     let (a, b) = (name(&rt, "a"), name(&rt, "b"));
-    if folder.get(&b).is_none() {
-        done(&rt, put_and_take(&mut folder, b, 5));
+    puts_and_takes(&rt, &mut folder, b);
+    had(&rt, change_and_back(&mut folder, a, 6));
+    had(&rt, take_and_put(&mut folder, &a));
+    had(&rt, take_and_put(&mut folder, &b));
+    had(&rt, link(&mut folder, b, 2));
+    had(&rt, unlink(&mut folder, &b));
+    same_folder(&rt, &folder, "[(a, 1), (c, 2)]");
+}
+
+/// Puts as many names as a folder has at most.
+fn fill(rt: &(impl Abort + AllocGlobal), folder: &mut FolderNames) {
+    for number in 0..MAX_NAMES as u64 {
+        holds(rt, !folder.is_full(), "room");
+        let text = had(rt, format!(in rt.alloc(); "n{number}"));
+        put(rt, folder, text.as_str(), number);
     }
-    done(&rt, change_and_back(&mut folder, a, 6));
-    done(&rt, take_and_put(&mut folder, &a));
-    done(&rt, take_and_put(&mut folder, &b));
-    done(&rt, link(&mut folder, b, 2));
-    done(&rt, unlink(&mut folder, &b));
-    assert!(rt; folder == before);
 }
 
 #[test]
 fn a_folder_is_full_with_1024_names(rt: HostRuntime) {
     let mut folder = FolderNames::new(rt.alloc());
-    for number in 0..MAX_NAMES as u64 {
-        assert!(rt; !folder.is_full());
-        let text = format!(in rt.alloc(); "n{number}").expect(&rt, "memory");
-        put(&rt, &mut folder, text.as_str(), number);
-    }
-    assert!(rt; folder.is_full());
+    fill(&rt, &mut folder);
+    holds(&rt, folder.is_full(), "no room");
 }
 
-fn file(rt: &(impl Abort + AllocGlobal), bytes: &[u8]) -> FileBytes {
-    done(rt, FileBytes::from_slice(rt.alloc(), bytes))
+/// A file of so many bytes.
+fn file(rt: &(impl Abort + AllocGlobal), length: usize) -> FileBytes {
+    let bytes = had(rt, [7u8].as_slice().repeat(rt.alloc(), length));
+    had(rt, FileBytes::from_vec(bytes))
 }
 
 #[test]
 fn a_file_has_at_most_65536_bytes(rt: HostRuntime) {
-    let long = done(&rt, [7u8].as_slice().repeat(rt.alloc(), MAX_CONTENT + 1));
-    let fits = file(&rt, long.get(1..).unwrap_or_default());
-    assert!(rt; !fits.is_too_long());
-    assert!(rt; done(&rt, fits.clone()).len() == MAX_CONTENT);
-    assert!(rt; done(&rt, FileBytes::from_vec(long)).is_too_long());
+    let fits = file(&rt, MAX_CONTENT);
+    holds(&rt, !fits.is_too_long(), "room");
+    holds(&rt, had(&rt, fits.clone()).len() == 65_536, "a clone");
+    holds(&rt, file(&rt, MAX_CONTENT + 1).is_too_long(), "no room");
+}
+
+/// The bytes `hi`.
+fn hi(rt: &(impl Abort + AllocGlobal)) -> FileBytes {
+    had(rt, FileBytes::from_slice(rt.alloc(), b"hi"))
+}
+
+/// A row holds these bytes, and so does a clone of its content.
+fn row_holds(rt: &impl Abort, row: &Row, bytes: FileBytes) {
+    let written = Content::Bytes(bytes);
+    holds(rt, row.holds(&written), "what was written");
+    holds(rt, had(rt, row.content.clone()) == written, "a clone");
 }
 
 #[test]
 fn a_row_is_written(rt: HostRuntime) {
-    let bytes = file(&rt, b"hi");
     let mut row = Row::new(rt.alloc(), 1000, Kind::File);
-    assert!(rt; row.holds(&Content::Bytes(FileBytes::empty())));
-    done(&rt, row.write(&bytes));
-    let written = Content::Bytes(bytes);
-    assert!(rt; row.holds(&written));
-    assert!(rt; done(&rt, row.content.clone()) == written);
+    row_holds(&rt, &row, FileBytes::empty());
+    had(&rt, row.write(&hi(&rt)));
+    row_holds(&rt, &row, hi(&rt));
+    holds(&rt, row.content.kind() == Kind::File, "its kind");
     let folder = Content::empty(rt.alloc(), Kind::Folder);
-    assert!(rt; !row.holds(&folder));
-    assert!(rt; row.content.kind() == Kind::File);
-    assert!(rt; folder.kind() == Kind::Folder);
+    holds(&rt, !row.holds(&folder), "a folder");
+    holds(&rt, folder.kind() == Kind::Folder, "its kind");
 }

@@ -2,9 +2,11 @@
 
 ghost use Rattle.std.specs.Prelude.{◌<◌};
 
-use acl_core::{Acl, Entry, Mode, Tag};
+use crate::checks::{bytes, case, had, holds, push, small, tells};
+use crate::fixtures::{content, file, lists, prefix, votes};
+use acl_core::{Acl, Entry, Lists, Tag};
 use std::process::Abort;
-use suite_content::{FileBytes, FolderNames, Kind, Name};
+use suite_content::{FolderNames, Kind, Name};
 use suite_prefix::{
     Content, CopyFault, DecodeError, LockMode, Prefix, PrefixKind, Replica, Settings,
     SettingsFault, decode, encode, faults_tell_apart, fronts_are_short, no_bytes_begin_others,
@@ -13,72 +15,36 @@ use suite_prefix::{
 use vote_core::Votes;
 
 /// A file of version 1 of user 1000 and group 100, list of mode 644, three votes, content `hi`.
-const WORKED: [u8; 62] = [
-    1, 0, 0, 0, 0, 0, 0, 0, 1, 1, 0, 0, 3, 0xe8, 0, 0, 0, 0x64, 3, 1, 0, 0, 0, 0, 6, 3, 0, 0, 0, 0,
-    4, 6, 0, 0, 0, 0, 4, 3, 0, 1, 1, 1, 2, 1, 0, 2, 0, 2, 0, 0, 0, 0, 0, 0, 0, 1, 0, 0, 0, 2, 0x68,
-    0x69,
-];
+static WORKED: &str = "02 00 00 00 00 00 00 00 01 01 00 00 03 e8 00 00 00 64
+03 01 00 00 00 00 06 03 00 00 00 00 04 06 00 00 00 00 04 00
+03 00 01 01 01 02 01 00 02 00 02
+00 00 00 00 00 00 00 01 00 00 00 02 68 69";
 
 /// A folder of version 256, with an entry for user 1001, nine votes at server 5, and two names.
-const FOLDER: [u8; 86] = [
-    1, 0, 0, 0, 0, 0, 0, 1, 0, 2, 0, 0, 3, 0xe8, 0, 0, 0, 0x64, 5, 1, 0, 0, 0, 0, 7, 2, 0, 0, 3,
-    0xe9, 6, 3, 0, 0, 0, 0, 5, 5, 0, 0, 0, 0, 4, 6, 0, 0, 0, 0, 0, 1, 5, 9, 0, 1, 0, 9, 0, 0, 0, 0,
-    0, 0, 0, 3, 0, 2, 1, 0x42, 0, 0, 0, 0, 0, 0, 2, 9, 1, 0x61, 0, 0, 0, 0, 0, 0, 0, 7,
-];
+static FOLDER: &str = "02 00 00 00 00 00 00 01 00 02 00 00 03 e8 00 00 00 64
+05 01 00 00 00 00 07 02 00 00 03 e9 06 03 00 00 00 00 05 05 00 00 00 00 04 06 00 00 00 00 00 00
+01 05 09 00 01 00 09
+00 00 00 00 00 00 00 03 00 02
+01 42 00 00 00 00 00 00 02 09 01 61 00 00 00 00 00 00 00 07";
 
-/// One vote each for servers 0 to 2.
-fn three_votes(rt: &impl Abort) -> Votes {
-    let votes = Votes::new(16, &[(0, 1), (1, 1), (2, 1)], 2, 2);
-    votes.ok().expect(rt, "votes")
-}
-
-fn list_of_mode(rt: &(impl Abort + AllocGlobal), bits: u16) -> Acl {
-    let mode = Mode::new(bits).expect(rt, "a mode");
-    Acl::from_mode(rt.alloc(), mode).expect(rt, "memory")
-}
-
-fn list_of(rt: &(impl Abort + AllocGlobal), entries: &[Entry]) -> Acl {
-    let list = Acl::from_entries(rt.alloc(), entries);
-    list.ok().expect(rt, "a list")
-}
-
-/// A prefix of version 1 of user 1000 and group 100.
-fn prefix(rt: &(impl Abort + AllocGlobal), kind: PrefixKind) -> Prefix {
-    Prefix {
-        pver: 1,
-        kind,
-        owner: 1000,
-        group: 100,
-        acl: list_of_mode(rt, 0o644),
-        votes: three_votes(rt),
-    }
-}
-
-/// A file of version 1 with these bytes.
-fn file(rt: &(impl Abort + AllocGlobal), bytes: &[u8]) -> Replica {
-    let bytes = FileBytes::from_slice(rt.alloc(), bytes).expect(rt, "memory");
-    Replica {
-        prefix: prefix(rt, PrefixKind::File),
-        dver: 1,
-        content: Content::Bytes(bytes),
-    }
-}
-
-fn sevens(rt: &(impl Abort + AllocGlobal), len: usize) -> Vec<u8> {
-    vec![in rt.alloc(); 7; len].expect(rt, "memory")
-}
+/// A folder of version 1 with a default list of five entries, and no names.
+static DEFAULT: &str = "02 00 00 00 00 00 00 00 01 02 00 00 03 e8 00 00 00 64
+03 01 00 00 00 00 07 03 00 00 00 00 05 06 00 00 00 00 01
+05 01 00 00 00 00 07 02 00 00 03 e9 06 03 00 00 00 00 05 05 00 00 00 00 07 06 00 00 00 00 04
+03 00 01 01 01 02 01 00 02 00 02
+00 00 00 00 00 00 00 01 00 00";
 
 /// The bytes of a copy, which is valid.
 fn written(rt: &(impl Abort + AllocGlobal), copy: &Replica) -> Vec<u8> {
     assert!(rt; copy.is_valid());
-    encode(rt.alloc(), copy).expect(rt, "memory")
+    had(rt, encode(rt.alloc(), copy))
 }
 
 /// A copy is valid, is written in these bytes, and is read from them.
 fn is_spelled(rt: &(impl Abort + AllocGlobal), copy: &Replica, bytes: &[u8]) {
-    assert_eq!(rt; written(rt, copy).as_slice(), bytes);
-    let read = decode(rt.alloc(), bytes).ok().expect(rt, "a copy");
-    assert!(rt; read == *copy);
+    holds(rt, written(rt, copy).as_slice() == bytes, "the bytes");
+    let read = had(rt, decode(rt.alloc(), bytes));
+    holds(rt, read == *copy, "the copy");
 }
 
 /// The laws can be called: what the tests of a copy are to the definition, with what it says of this one.
@@ -94,54 +60,16 @@ fn laws(copy: &Replica) {
 /// A copy is valid, is written in so many bytes, and is read from them.
 fn is_spelled_in(rt: &(impl Abort + AllocGlobal), copy: &Replica, len: usize) {
     let bytes = written(rt, copy);
-    assert_eq!(rt; bytes.len(), len);
+    assert!(rt; bytes.len() == len, "{len} bytes");
     is_spelled(rt, copy, &bytes);
 }
 
-/// Bytes are refused for this fault.
-fn is_refused(rt: &(impl Abort + AllocGlobal), bytes: &[u8], fault: CopyFault) {
-    let refusal = decode(rt.alloc(), bytes).err().expect(rt, "a refusal");
-    let len = bytes.len();
-    assert_eq!(rt; refusal, DecodeError::Fault(fault), "{len} bytes");
-}
-
 #[test]
-fn the_worked_copy_has_its_62_bytes(rt: HostRuntime) {
-    let copy = file(&rt, b"hi");
-    is_spelled(&rt, &copy, &WORKED);
+fn the_worked_copy_has_its_63_bytes(rt: HostRuntime) {
+    let copy = file(&rt, 1, 1, b"hi");
+    is_spelled(&rt, &copy, &bytes(&rt, WORKED));
+    is_spelled_in(&rt, &copy, 63);
     laws(&copy);
-}
-
-/// The worked copy with another byte at a place, and its fault.
-const DAMAGED: [(usize, u8, CopyFault); 11] = [
-    (0, 7, CopyFault::BadTag),
-    (9, 3, CopyFault::BadTag),
-    (19, 0, CopyFault::BadTag),
-    (31, 7, CopyFault::BadTag),
-    (29, 1, CopyFault::NotCanonical),
-    (25, 1, CopyFault::NotCanonical),
-    (36, 8, CopyFault::Invalid),
-    (8, 0, CopyFault::Invalid),
-    (55, 0, CopyFault::Invalid),
-    (38, 16, CopyFault::Invalid),
-    (47, 0, CopyFault::Invalid),
-];
-
-#[test]
-fn damaged_copies_are_refused_by_their_fault(rt: HostRuntime) {
-    let mut longer = [0; 63];
-    longer[..62].copy_from_slice(&WORKED);
-    is_refused(&rt, &longer, CopyFault::TrailingBytes);
-    for end in 0..62 {
-        is_refused(&rt, &WORKED[..end], CopyFault::Short);
-    }
-    for (place, byte, fault) in DAMAGED {
-        let mut bytes = WORKED;
-        if let Some(changed) = bytes.get_mut(place) {
-            *changed = byte;
-        }
-        is_refused(&rt, &bytes, fault);
-    }
 }
 
 /// The place in a count of what was read: a copy, a fault, or want of memory. A copy is written in
@@ -163,105 +91,195 @@ fn outcome_of(rt: &(impl Abort + AllocGlobal), bytes: &[u8]) -> usize
     }
 }
 
+/// What may be read, in the order of the count.
+static OUTCOMES: &str = "copy Short BadTag NotCanonical Invalid TrailingBytes memory";
+
+/// Bytes are read so.
+fn are_read(rt: &(impl Abort + AllocGlobal), bytes: &[u8], want: &str) {
+    let outcome = outcome_of(rt, bytes);
+    let told = OUTCOMES.split(' ').nth(outcome).unwrap_or_default();
+    holds(rt, told == want, want);
+}
+
+/// Places of the worked copy with another byte there, and what that makes.
+static DAMAGED: &str = "
+0 7 = BadTag
+0 1 = BadTag
+9 3 = BadTag
+19 0 = BadTag
+31 7 = BadTag
+29 1 = NotCanonical
+25 1 = NotCanonical
+36 8 = Invalid
+8 0 = Invalid
+56 0 = Invalid
+39 16 = Invalid
+48 0 = Invalid
+61 105 = copy";
+
+/// The worked copy with another byte at a place is read so.
+fn changed(rt: &(impl Abort + AllocGlobal), line: &str) {
+    let (given, want) = case(rt, line);
+    let (place, byte) = given.split_once(' ').expect(rt, "a byte");
+    let mut bytes = bytes(rt, WORKED);
+    let place = usize::from(small(rt, place));
+    if let Some(at) = bytes.get_mut(place) {
+        *at = small(rt, byte);
+    }
+    are_read(rt, &bytes, want);
+}
+
+/// Each beginning of bytes is refused, and so are they with more behind them.
+fn no_more_and_no_less(rt: &(impl Abort + AllocGlobal), hex: &str) {
+    let mut bytes = bytes(rt, hex);
+    for end in 0..bytes.len() {
+        are_read(rt, bytes.get(..end).unwrap_or_default(), "Short");
+    }
+    assert!(rt; bytes.push(0).is_ok());
+    are_read(rt, &bytes, "TrailingBytes");
+}
+
+#[test]
+fn damaged_copies_are_refused_by_their_fault(rt: HostRuntime) {
+    for line in DAMAGED.lines().skip(1) {
+        changed(&rt, line);
+    }
+    no_more_and_no_less(&rt, WORKED);
+    no_more_and_no_less(&rt, DEFAULT);
+}
+
+/// Bytes that are read or refused: the worked copy in the form without default lists, a default list of a
+/// file, and of a folder one without its last entry, one out of order, one with another permission, and one that
+/// is as it should be.
+static READ: &str = "
+01 00 00 00 00 00 00 00 01 01 00 00 03 e8 00 00 00 64 03 01 00 00 00 00 06 03 00 00 00 00 04 06 00 00 00 00 04 03 00 01 01 01 02 01 00 02 00 02 00 00 00 00 00 00 00 01 00 00 00 02 68 69 = BadTag
+02 00 00 00 00 00 00 00 01 01 00 00 03 e8 00 00 00 64 03 01 00 00 00 00 06 03 00 00 00 00 04 06 00 00 00 00 04 03 01 00 00 00 00 06 03 00 00 00 00 04 06 00 00 00 00 04 03 00 01 01 01 02 01 00 02 00 02 00 00 00 00 00 00 00 01 00 00 00 02 68 69 = Invalid
+02 00 00 00 00 00 00 00 01 02 00 00 03 e8 00 00 00 64 03 01 00 00 00 00 06 03 00 00 00 00 04 06 00 00 00 00 04 02 01 00 00 00 00 06 03 00 00 00 00 04 03 00 01 01 01 02 01 00 02 00 02 00 00 00 00 00 00 00 01 00 00 = Invalid
+02 00 00 00 00 00 00 00 01 02 00 00 03 e8 00 00 00 64 03 01 00 00 00 00 06 03 00 00 00 00 04 06 00 00 00 00 04 03 03 00 00 00 00 06 01 00 00 00 00 04 06 00 00 00 00 04 03 00 01 01 01 02 01 00 02 00 02 00 00 00 00 00 00 00 01 00 00 = NotCanonical
+02 00 00 00 00 00 00 00 01 02 00 00 03 e8 00 00 00 64 03 01 00 00 00 00 06 03 00 00 00 00 04 06 00 00 00 00 04 03 01 00 00 00 00 09 03 00 00 00 00 04 06 00 00 00 00 04 03 00 01 01 01 02 01 00 02 00 02 00 00 00 00 00 00 00 01 00 00 = Invalid
+02 00 00 00 00 00 00 00 01 02 00 00 03 e8 00 00 00 64 03 01 00 00 00 00 06 03 00 00 00 00 04 06 00 00 00 00 04 03 01 00 00 00 00 06 03 00 00 00 00 04 06 00 00 00 00 04 03 00 01 01 01 02 01 00 02 00 02 00 00 00 00 00 00 00 01 00 00 = copy";
+
+#[test]
+fn default_lists_are_read_or_refused(rt: HostRuntime) {
+    for line in READ.lines().skip(1) {
+        let (hex, want) = case(&rt, line);
+        are_read(&rt, &bytes(&rt, hex), want);
+    }
+}
+
+/// Counts what the worked copy is with each other byte at a place.
+fn count_at(rt: &(impl Abort + AllocGlobal), place: usize, counts: &mut [u32; 7]) {
+    for byte in 0..=255 {
+        let mut bytes = bytes(rt, WORKED);
+        if let Some(at) = bytes.get_mut(place) {
+            *at = byte;
+        }
+        let outcome = outcome_of(rt, &bytes);
+        counts[outcome] = counts[outcome].wrapping_add(1);
+    }
+}
+
 #[test]
 fn with_a_byte_changed_it_is_refused_or_another_copy(rt: HostRuntime) {
     let mut counts = [0u32; 7];
-    for place in 0..62 {
-        for byte in 0..=255 {
-            let mut bytes = WORKED;
-            bytes[place] = byte;
-            let outcome = outcome_of(&rt, &bytes);
-            counts[outcome] = counts[outcome].wrapping_add(1);
-        }
+    for place in 0..63 {
+        count_at(&rt, place, &mut counts);
     }
-    assert_eq!(rt; counts, [6755, 1275, 1508, 3069, 3262, 3, 0]);
+    let told = had(&rt, format!(in rt.alloc(); "{counts:?}"));
+    tells(&rt, &told, "[6756, 1273, 1766, 3069, 3261, 3, 0]", OUTCOMES);
+}
+
+/// Adds an entry.
+fn add(rt: &impl Abort, entries: &mut Vec<Entry>, tag: Tag, digit: u8) {
+    assert!(rt; entries.push(Entry::from_digit(tag, digit % 8)).is_ok());
 }
 
 /// The list of 64 entries: 30 users, 30 groups, and the four others.
 fn longest_list(rt: &(impl Abort + AllocGlobal)) -> Acl {
-    let mut entries = [Entry::from_digit(Tag::Other, 0); 64];
-    entries[0] = Entry::from_digit(Tag::UserObj, 6);
-    entries[1] = Entry::from_digit(Tag::GroupObj, 4);
-    entries[2] = Entry::from_digit(Tag::Mask, 7);
+    let mut entries = Vec::new(rt.alloc());
+    add(rt, &mut entries, Tag::UserObj, 6);
+    add(rt, &mut entries, Tag::GroupObj, 4);
+    add(rt, &mut entries, Tag::Mask, 7);
+    add(rt, &mut entries, Tag::Other, 0);
     for number in 0..30 {
-        entries[number + 4] = Entry::from_digit(Tag::User(number as u32), 7);
-        entries[number + 34] = Entry::from_digit(Tag::Group(number as u32), 5);
+        add(rt, &mut entries, Tag::User(number), 7);
+        add(rt, &mut entries, Tag::Group(number), 5);
     }
-    list_of(rt, &entries)
+    had(rt, Acl::from_vec(entries))
 }
 
-/// A folder's name of 64 bytes.
-fn long_name(rt: &impl Abort, number: u16) -> Name {
-    let mut bytes = [b'n'; 64];
-    bytes[61] = b'A' + (number / 256 % 16) as u8;
-    bytes[62] = b'A' + (number / 16 % 16) as u8;
-    bytes[63] = b'A' + (number % 16) as u8;
-    Name::new(&bytes).expect(rt, "a name")
+fn put(rt: &impl Abort, names: &mut FolderNames, name: &str, suite: u64) {
+    let name = Name::new(name.as_bytes()).expect(rt, "a name");
+    let before = had(rt, names.insert(name, suite));
+    holds(rt, before.is_none(), "a new name");
 }
+
+/// 60 of the bytes of a name.
+static LONG: &str = "nnnnnnnnnnnnnnnnnnnnnnnnnnnnnnnnnnnnnnnnnnnnnnnnnnnnnnnnnnnn";
 
 /// 1,024 names of 64 bytes.
 fn max_names(rt: &(impl Abort + AllocGlobal)) -> FolderNames {
     let mut names = FolderNames::new(rt.alloc());
-    for number in 0..1024 {
-        put(rt, &mut names, long_name(rt, number), u64::from(number));
+    for number in 1000..2024 {
+        let name = had(rt, format!(in rt.alloc(); "{LONG}{number}"));
+        put(rt, &mut names, name.as_str(), number);
     }
     names
 }
 
-fn put(rt: &impl Abort, names: &mut FolderNames, name: Name, suite: u64) {
-    let before = names.insert(name, suite).expect(rt, "memory");
-    assert!(rt; before.is_none());
+/// 255 votes at each of 16 servers.
+fn max_votes(rt: &(impl Abort + AllocGlobal)) -> Votes {
+    let mut reps = Vec::new(rt.alloc());
+    for server in 0..16u8 {
+        assert!(rt; reps.push((server, 255)).is_ok());
+    }
+    had(rt, Votes::new(16, &reps, 1, 4080))
 }
 
-/// 255 votes at each of 16 servers.
-const MAX_VOTES: [(u8, u8); 16] = [
-    (0, 255),
-    (1, 255),
-    (2, 255),
-    (3, 255),
-    (4, 255),
-    (5, 255),
-    (6, 255),
-    (7, 255),
-    (8, 255),
-    (9, 255),
-    (10, 255),
-    (11, 255),
-    (12, 255),
-    (13, 255),
-    (14, 255),
-    (15, 255),
-];
+/// A file of so many bytes.
+fn long_file(rt: &(impl Abort + AllocGlobal), len: usize) -> Replica {
+    let bytes = had(rt, vec![in rt.alloc(); 7u8; len]);
+    file(rt, 1, 1, &bytes)
+}
 
 #[test]
 fn the_largest_copies_are_read_again(rt: HostRuntime) {
-    let mut copy = file(&rt, &sevens(&rt, 65_536));
-    copy.prefix.acl = longest_list(&rt);
-    copy.prefix.votes = Votes::new(16, &MAX_VOTES, 1, 4080)
-        .ok()
-        .expect(&rt, "votes");
-    is_spelled_in(&rt, &copy, 65_988);
+    let mut copy = long_file(&rt, 65_536);
+    copy.prefix.acl = Lists::from(longest_list(&rt));
+    copy.prefix.votes = max_votes(&rt);
+    is_spelled_in(&rt, &copy, 65_989);
     copy.prefix.kind = PrefixKind::Folder;
     copy.content = Content::Names(max_names(&rt));
-    is_spelled_in(&rt, &copy, 75_202);
+    is_spelled_in(&rt, &copy, 75_203);
+    copy.prefix.acl.default = Some(longest_list(&rt));
+    is_spelled_in(&rt, &copy, 75_587);
 }
 
-/// The folder of the bytes above; its names and its entries are put in out of order.
+#[test]
+fn the_largest_file_is_written(rt: HostRuntime) {
+    is_spelled_in(&rt, &long_file(&rt, 65_536), 65_597);
+    holds(&rt, !long_file(&rt, 65_537).is_valid(), "65,537 bytes");
+}
+
+/// The entries of the folder of the bytes above, out of order.
+fn folder_list(rt: &(impl Abort + AllocGlobal)) -> Acl {
+    let mut entries = Vec::new(rt.alloc());
+    add(rt, &mut entries, Tag::Other, 0);
+    add(rt, &mut entries, Tag::Mask, 4);
+    add(rt, &mut entries, Tag::User(1001), 6);
+    add(rt, &mut entries, Tag::UserObj, 7);
+    add(rt, &mut entries, Tag::GroupObj, 5);
+    had(rt, Acl::from_vec(entries))
+}
+
+/// The folder of the bytes above; its names too are put in out of order.
 fn folder(rt: &(impl Abort + AllocGlobal)) -> Replica {
     let mut names = FolderNames::new(rt.alloc());
-    put(rt, &mut names, Name::new(b"a").expect(rt, "a name"), 7);
-    put(rt, &mut names, Name::new(b"B").expect(rt, "a name"), 521);
-    let entries = [
-        Entry::from_digit(Tag::Other, 0),
-        Entry::from_digit(Tag::Mask, 4),
-        Entry::from_digit(Tag::User(1001), 6),
-        Entry::from_digit(Tag::UserObj, 7),
-        Entry::from_digit(Tag::GroupObj, 5),
-    ];
-    let mut prefix = prefix(rt, PrefixKind::Folder);
-    prefix.pver = 256;
-    prefix.acl = list_of(rt, &entries);
-    prefix.votes = Votes::new(16, &[(5, 9)], 1, 9).ok().expect(rt, "votes");
+    put(rt, &mut names, "a", 7);
+    put(rt, &mut names, "B", 521);
+    let mut prefix = prefix(rt, 256, PrefixKind::Folder);
+    prefix.acl = Lists::from(folder_list(rt));
+    prefix.votes = votes(rt, "-,-,-,-,-,9/1/9");
     Replica {
         prefix,
         dver: 3,
@@ -271,33 +289,50 @@ fn folder(rt: &(impl Abort + AllocGlobal)) -> Replica {
 
 #[test]
 fn a_folder_has_its_names_in_byte_order(rt: HostRuntime) {
-    is_spelled(&rt, &folder(&rt), &FOLDER);
+    is_spelled(&rt, &folder(&rt), &bytes(&rt, FOLDER));
+}
+
+#[test]
+fn a_default_list_stands_behind_the_access_list(rt: HostRuntime) {
+    let bytes = bytes(&rt, DEFAULT);
+    let copy = had(&rt, decode(rt.alloc(), &bytes));
+    is_spelled_in(&rt, &copy, 89);
+    let default = copy.prefix.acl.default.expect(&rt, "a default list");
+    holds(&rt, default.entries().len() == 5, "its entries");
 }
 
 #[test]
 fn a_clone_is_the_same_until_it_is_changed(rt: HostRuntime) {
     let copy = folder(&rt);
-    let mut again = copy.clone().expect(&rt, "memory");
-    assert!(rt; again == copy && again.prefix == copy.prefix);
+    let mut again = had(&rt, copy.clone());
+    holds(&rt, again == copy, "a clone");
+    holds(&rt, again.prefix == copy.prefix, "its prefix");
     again.prefix.owner = 1001;
-    assert!(rt; again != copy && again.content == copy.content);
+    holds(&rt, again != copy, "another owner");
+    holds(&rt, again.content == copy.content, "its content");
 }
 
 /// Whether a prefix and its copy are valid.
 fn are_valid(rt: &impl Abort, copy: &Replica, prefix_is: bool, copy_is: bool) {
-    assert!(rt; copy.prefix.is_valid() == prefix_is);
-    assert!(rt; copy.is_valid() == copy_is);
+    holds(rt, copy.prefix.is_valid() == prefix_is, "the prefix");
+    holds(rt, copy.is_valid() == copy_is, "the copy");
+}
+
+/// What was never made, with its content's version.
+fn absent(rt: &(impl Abort + AllocGlobal), dver: u64) -> Replica {
+    let votes = votes(rt, "1,1,1/2/2");
+    Replica {
+        prefix: had(rt, Prefix::absent(rt.alloc(), votes)),
+        dver,
+        content: content(rt, b""),
+    }
 }
 
 #[test]
 fn what_was_never_made_has_one_form(rt: HostRuntime) {
-    let mut copy = file(&rt, b"");
-    copy.prefix = Prefix::absent(rt.alloc(), three_votes(&rt)).expect(&rt, "memory");
-    copy.dver = 0;
+    are_valid(&rt, &absent(&rt, 1), true, false);
+    let mut copy = absent(&rt, 0);
     are_valid(&rt, &copy, true, true);
-    copy.dver = 1;
-    are_valid(&rt, &copy, true, false);
-    copy.dver = 0;
     copy.prefix.pver = 1;
     are_valid(&rt, &copy, false, false);
     copy.prefix.kind = PrefixKind::File;
@@ -307,79 +342,115 @@ fn what_was_never_made_has_one_form(rt: HostRuntime) {
 }
 
 #[test]
-fn kinds_and_modes(rt: HostRuntime) {
-    assert!(rt; PrefixKind::Absent.is_absent() && !PrefixKind::Folder.is_absent());
-    assert!(rt; PrefixKind::Absent.held() == Kind::File);
-    assert!(rt; PrefixKind::Folder.held() == Kind::Folder);
-    assert!(rt; LockMode::Exclusive.serves(LockMode::Shared));
-    assert!(rt; !LockMode::Shared.serves(LockMode::Exclusive));
-    assert!(rt; LockMode::Shared.stronger(LockMode::Exclusive) == LockMode::Exclusive);
+fn a_default_list_is_a_folders(rt: HostRuntime) {
+    let mut copy = file(&rt, 1, 1, b"hi");
+    copy.prefix.acl.default = Some(folder_list(&rt));
+    are_valid(&rt, &copy, false, false);
+    copy.prefix.kind = PrefixKind::Folder;
+    are_valid(&rt, &copy, true, false);
+    copy.content = Content::empty(rt.alloc(), Kind::Folder);
+    are_valid(&rt, &copy, true, true);
 }
 
 #[test]
-fn the_largest_file_is_written(rt: HostRuntime) {
-    let largest = file(&rt, &sevens(&rt, 65_536));
-    is_spelled_in(&rt, &largest, 65_596);
-    let longer = file(&rt, &sevens(&rt, 65_537));
-    assert!(rt; !longer.is_valid());
+fn kinds_and_modes(rt: HostRuntime) {
+    holds(&rt, PrefixKind::Absent.is_absent(), "never made");
+    holds(&rt, !PrefixKind::Folder.is_absent(), "made");
+    holds(&rt, PrefixKind::Absent.held() == Kind::File, "no bytes");
+    holds(&rt, PrefixKind::Folder.held() == Kind::Folder, "names");
+    let (shared, exclusive) = (LockMode::Shared, LockMode::Exclusive);
+    holds(&rt, exclusive.serves(shared), "more than is wanted");
+    holds(&rt, !shared.serves(exclusive), "less than is wanted");
+    holds(&rt, shared.stronger(exclusive) == exclusive, "stronger");
 }
-
-const LARGEST: usize = 268_435_456;
 
 /// How many servers and agents, a cache's budget, quota and slots; and the fault, where the opening
 /// votes list servers 0 to 2.
-const GIVEN: [([usize; 5], Option<SettingsFault>); 11] = [
-    ([3, 1, 0, 0, 0], None),
-    ([16, 64, LARGEST, LARGEST, 4096], None),
-    ([0, 1, 0, 0, 0], Some(SettingsFault::BadCount)),
-    ([17, 1, 0, 0, 0], Some(SettingsFault::BadCount)),
-    ([3, 0, 0, 0, 0], Some(SettingsFault::BadCount)),
-    ([2, 65, 0, 0, 4097], Some(SettingsFault::BadCount)),
-    ([2, 1, 0, 0, 0], Some(SettingsFault::UnknownServer)),
-    ([2, 1, 0, 0, 4097], Some(SettingsFault::UnknownServer)),
-    ([3, 1, LARGEST + 1, 0, 0], Some(SettingsFault::BadCache)),
-    ([3, 1, 0, LARGEST + 1, 0], Some(SettingsFault::BadCache)),
-    ([3, 1, 0, 0, 4097], Some(SettingsFault::BadCache)),
-];
+static GIVEN: &str = "
+3 1 0 0 0 = None
+16 64 268435456 268435456 4096 = None
+0 1 0 0 0 = Some(BadCount)
+17 1 0 0 0 = Some(BadCount)
+3 0 0 0 0 = Some(BadCount)
+2 65 0 0 4097 = Some(BadCount)
+2 1 0 0 0 = Some(UnknownServer)
+2 1 0 0 4097 = Some(UnknownServer)
+3 1 268435457 0 0 = Some(BadCache)
+3 1 0 268435457 0 = Some(BadCache)
+3 1 0 0 4097 = Some(BadCache)";
+
+/// The numbers of a text.
+fn numbers(rt: &impl Abort, text: &str) -> [usize; 5] {
+    let mut numbers = [0; 5];
+    let mut at = 0;
+    for word in text.split(' ') {
+        if at < 5 {
+            numbers[at] = word.parse::<usize>().ok().expect(rt, "a number");
+            at += 1;
+        }
+    }
+    numbers
+}
 
 /// Settings of these numbers. The root is of user 1000 and group 100, and open to all.
-fn settings(
-    rt: &(impl Abort + AllocGlobal),
-    numbers: [usize; 5],
-) -> Result<Settings, SettingsFault> {
-    let [servers, agents, budget, quota, slots] = numbers;
-    let (votes, acl) = (three_votes(rt), list_of_mode(rt, 0o777));
+fn settings(rt: &(impl Abort + AllocGlobal), text: &str) -> Result<Settings, SettingsFault> {
+    let [servers, agents, budget, quota, slots] = numbers(rt, text);
+    let (votes, acl) = (votes(rt, "1,1,1/2/2"), lists(rt, "777"));
     Settings::new(servers, agents, votes, 1000, 100, acl, budget, quota, slots)
+}
+
+/// Settings of these numbers have this fault, or none.
+fn are_judged(rt: &(impl Abort + AllocGlobal), line: &str) {
+    let (text, want) = case(rt, line);
+    let fault = settings(rt, text).err();
+    let told = had(rt, format!(in rt.alloc(); "{fault:?}"));
+    tells(rt, &told, want, line);
 }
 
 #[test]
 fn settings_are_judged_by_their_first_fault(rt: HostRuntime) {
-    for (numbers, fault) in GIVEN {
-        assert_eq!(rt; settings(&rt, numbers).err(), fault);
+    for line in GIVEN.lines().skip(1) {
+        are_judged(&rt, line);
     }
+}
+
+/// The numbers of settings, in words.
+fn words(rt: &(impl Abort + AllocGlobal), settings: &Settings) -> String {
+    let (servers, agents) = (settings.servers(), settings.agents());
+    let (owner, group) = (settings.root_owner(), settings.root_group());
+    let (budget, quota, slots) = (settings.budget(), settings.quota(), settings.slots());
+    let mut text = had(
+        rt,
+        format!(in rt.alloc(); "{servers} {agents} {owner} {group}"),
+    );
+    let cache = had(rt, format!(in rt.alloc(); " {budget} {quota} {slots}"));
+    push(rt, &mut text, cache.as_str());
+    text
 }
 
 #[test]
 fn settings_are_kept(rt: HostRuntime) {
-    let made = settings(&rt, [3, 2, 4096, 2048, 16])
-        .ok()
-        .expect(&rt, "settings");
-    let kept = made.clone().expect(&rt, "memory");
+    let made = had(&rt, settings(&rt, "3 2 4096 2048 16"));
+    let kept = had(&rt, made.clone());
     kept.fits();
-    assert!(rt; kept == made);
-    assert!(rt; kept.servers() == 3 && kept.agents() == 2);
-    assert!(rt; kept.root_owner() == 1000 && kept.root_group() == 100);
-    assert!(rt; kept.budget() == 4096 && kept.quota() == 2048 && kept.slots() == 16);
-    assert!(rt; kept.root_acl().entries().len() == 3 && kept.c0().reps().len() == 3);
+    holds(&rt, kept == made, "a clone");
+    tells(
+        &rt,
+        &words(&rt, &kept),
+        "3 2 1000 100 4096 2048 16",
+        "numbers",
+    );
+    holds(
+        &rt,
+        *kept.root_acl() == lists(&rt, "777"),
+        "the root's lists",
+    );
+    holds(&rt, kept.c0().reps().len() == 3, "the opening votes");
 }
 
 #[test]
 fn settings_that_differ_are_not_the_same(rt: HostRuntime) {
-    let made = settings(&rt, [3, 2, 4096, 2048, 16])
-        .ok()
-        .expect(&rt, "settings");
-    let other = settings(&rt, [3, 2, 4096, 2048, 17])
-        .ok()
-        .expect(&rt, "settings");
-    assert!(rt; made != other);
+    let made = had(&rt, settings(&rt, "3 2 4096 2048 16"));
+    let other = had(&rt, settings(&rt, "3 2 4096 2048 17"));
+    holds(&rt, made != other, "slots");
 }

@@ -31,6 +31,9 @@ static FORM: &str =
 static ORDER: &str =
     "line 3: a line of the header is missing, doubled or out of its place, or a name stands below the first transaction or event";
 
+static DEFAULT: &str =
+    "line 3: the entries of the default list are no valid list: there is no entry for all others";
+
 #[test]
 fn faults_of_lines_are_told(rt: HostRuntime) {
     let (item, entries) = (TextFault::Syntax(2), TextFault::Invalid(AclFault::NoOther));
@@ -42,6 +45,8 @@ fn faults_of_lines_are_told(rt: HostRuntime) {
     at_line_3(&rt, LineFault::NameTwice, twice);
     at_line_3(&rt, LineFault::List(item), "line 3: item 2 is no entry");
     at_line_3(&rt, LineFault::List(entries), list);
+    let default = TextFault::DefaultInvalid(AclFault::NoOther);
+    at_line_3(&rt, LineFault::List(default), DEFAULT);
 }
 
 /// Votes with this fault print this behind what stands before all of them.

@@ -7,6 +7,8 @@
 #[cfg(test)]
 mod caches;
 #[cfg(test)]
+mod checks;
+#[cfg(test)]
 mod contents;
 #[cfg(test)]
 mod copies;
@@ -15,11 +17,17 @@ mod executor;
 #[cfg(test)]
 mod faults;
 #[cfg(test)]
+mod fixtures;
+#[cfg(test)]
 mod list_text;
 #[cfg(test)]
 mod lists;
 #[cfg(test)]
 mod maps;
+#[cfg(test)]
+mod operations;
+#[cfg(test)]
+mod outcomes;
 #[cfg(test)]
 mod scripts;
 #[cfg(test)]

@@ -1,9 +1,11 @@
 //! Worked examples, and each public call once.
 
-use acl_core::{Acl, AclFault, Mode, Perms, Tag};
+use crate::checks::{case, had, holds, push, same, tells};
+use crate::fixtures::{lists, mode};
+use acl_core::{Lists, Perms, Tag};
 use acl_text::{
-    NameError, Names, TextFault, append_acl, append_short, append_tag, permission_text, read_acl,
-    write_acl, write_short,
+    NameError, Names, append_acl, append_short, append_tag, permission_text, read_acl, write_acl,
+    write_short,
 };
 use std::process::Abort;
 
@@ -13,18 +15,14 @@ static LONGEST: &str = "nnnnnnnnnnnnnnnnnnnnnnnnnnnnnnnnnnnnnnnnnnnnnnnnnnnnnnnn
 /// The user lisa, the group toolies and one with the longest name.
 fn known(rt: &(impl Abort + AllocGlobal)) -> Names {
     let mut names = Names::new(rt.alloc());
-    assert!(rt; names.add_user(b"lisa", 1001).is_ok());
-    assert!(rt; names.add_group(b"toolies", 200).is_ok());
-    assert!(rt; names.add_group(LONGEST.as_bytes(), 8).is_ok());
+    holds(rt, names.add_user(b"lisa", 1001).is_ok(), "lisa");
+    holds(rt, names.add_group(b"toolies", 200).is_ok(), "toolies");
+    let longest = names.add_group(LONGEST.as_bytes(), 8);
+    holds(rt, longest.is_ok(), "the longest");
     names
 }
 
-/// Compares two texts.
-fn same(rt: &impl Abort, got: &[u8], want: &str, about: &str) {
-    assert!(rt; got == want.as_bytes(), "{about}");
-}
-
-/// Texts, each with its list or its fault.
+/// Texts, each with its lists or its fault.
 static TEXTS: &str = "
  = the entries are no valid list: there is no entry for the owner
 u::rw,u:1001:r,g::r,o::- = the entries are no valid list: there is an entry for a user or a group, and no mask
@@ -34,10 +32,6 @@ u::rw,u:lisa:r,g::r,o:,m:r = user::rw-,user:1001:r--,group::r--,mask::r--,other:
 u::rw,g::r,x::r = item 3 is no entry
 u::rw,,g:zoe:r = item 3 has an unknown name
 u:4294967296:r = item 1 has a number that is too big
-d:u::r = item 1 is of a default list
-u::rw, default :u::r = item 2 is of a default list
-d = item 1 is of a default list
-d#x = item 1 is of a default list
 u:4294967296:z = item 1 is no entry
 u:zoe:z = item 1 is no entry
 u:toolies:r = item 1 has an unknown name
@@ -59,34 +53,66 @@ u::,u:1:,g::,g:nnnnnnnnnnnnnnnnnnnnnnnnnnnnnnnnnnnnnnnnnnnnnnnnnnnnnnnnnnnnnnnn:
 u:nnnnnnnnnnnnnnnnnnnnnnnnnnnnnnnnnnnnnnnnnnnnnnnnnnnnnnnnnnnnnnnn:r = item 1 has an unknown name
 u::r,u:00004294967295:,g::,m::---,o: = user::r--,user:4294967295:---,group::---,mask::---,other::---";
 
-/// The list that a text spells.
-fn spelled(rt: &(impl Abort + AllocGlobal), text: &[u8], names: &Names) -> Acl {
-    read_acl(rt.alloc(), text, names).ok().expect(rt, "a list")
+/// The same of texts with items of a default list.
+static DEFAULTS: &str = "
+u::rwx,g::r-x,o::--x,d:u::rwx,d:u:1001:rw,d:g::r-x,d:m::rwx,d:o::r = user::rwx,group::r-x,other::--x,default:user::rwx,default:user:1001:rw-,default:group::r-x,default:mask::rwx,default:other::r--
+u::rw,g::r,o::-,d:u::rw,d:g::r,d:o::- = user::rw-,group::r--,other::---,default:user::rw-,default:group::r--,default:other::---
+d:o:r,default : u : : rw , o:, d:g::,g::,u::r = user::r--,group::---,other::---,default:user::rw-,default:group::---,default:other::r--
+u::r,g::r,o::r,d:u:lisa:r,d:u::r,d:g::r,d:m:r,d:o::r = user::r--,group::r--,other::r--,default:user::r--,default:user:1001:r--,default:group::r--,default:mask::r--,default:other::r--
+u::r,g::r,o::r = user::r--,group::r--,other::r--
+u::r,g::r,o::r,d:u:7:r,d:u::r,d:g::r,d:o::r = the entries of the default list are no valid list: there is an entry for a user or a group, and no mask
+u::r,g::r,o::r,d:o::r = the entries of the default list are no valid list: there is no entry for the owner
+u::r,g::r,o::r,d:u::r,d:g::r,d:o::r,d:m:r,d:m:r = the entries of the default list are no valid list: an entry that can stand only once stands twice
+d:u::r,d:g::r,d:o::r = the entries are no valid list: there is no entry for the owner
+d:u::r,d:u::r,u::r = the entries are no valid list: there is no entry for the file's group
+d:u:7:r,u::r,g::r,o::r,u:7:r = the entries are no valid list: there is an entry for a user or a group, and no mask
+d:u::r = the entries are no valid list: there is no entry for the owner
+u::rw, default :u::r = the entries are no valid list: there is no entry for the file's group
+d = item 1 is no entry
+d#x = item 1 is no entry
+u::r,d: = item 2 is no entry
+d:d:u::r = item 1 is no entry
+default:u:r = item 1 is no entry
+de:u::r = item 1 is no entry
+D:u::r = item 1 is no entry
+d:u:::r = item 1 is no entry
+d:u:zoe:r = item 1 has an unknown name
+d:u:4294967296:r = item 1 has a number that is too big";
+
+/// The lists that a text spells.
+fn spelled(rt: &(impl Abort + AllocGlobal), text: &[u8]) -> Lists {
+    had(rt, read_acl(rt.alloc(), text, &known(rt)))
 }
 
-/// The short text of a list.
-fn short(rt: &(impl Abort + AllocGlobal), acl: &Acl) -> Vec<u8> {
-    write_short(rt.alloc(), acl).expect(rt, "memory")
+/// Lists have this short text, which spells them.
+fn has_short(rt: &(impl Abort + AllocGlobal), lists: &Lists, want: &str) {
+    let written = had(rt, write_short(rt.alloc(), lists));
+    same(rt, &written, want, want);
+    holds(rt, spelled(rt, &written) == *lists, want);
 }
 
-/// A text spells a list with this short text, or has this fault.
-fn tells(rt: &(impl Abort + AllocGlobal), text: &str, names: &Names, want: &str) {
-    match read_acl(rt.alloc(), text.as_bytes(), names) {
-        Ok(acl) => same(rt, &short(rt, &acl), want, text),
+/// A text spells lists with this short text, or has this fault.
+fn means(rt: &(impl Abort + AllocGlobal), text: &str, want: &str) {
+    match read_acl(rt.alloc(), text.as_bytes(), &known(rt)) {
+        Ok(lists) => has_short(rt, &lists, want),
         Err(fault) => {
-            let told = format!(in rt.alloc(); "{fault}").expect(rt, "memory");
-            same(rt, told.as_bytes(), want, text);
+            let told = had(rt, format!(in rt.alloc(); "{fault}"));
+            tells(rt, &told, want, text);
         }
+    }
+}
+
+fn mean(rt: &(impl Abort + AllocGlobal), cases: &str) {
+    for line in cases.lines().skip(1) {
+        let (text, want) = case(rt, line);
+        means(rt, text, want);
     }
 }
 
 #[test]
 fn texts_are_read_or_refused(rt: HostRuntime) {
-    let names = known(&rt);
-    for line in TEXTS.lines().skip(1) {
-        let (text, want) = line.split_once(" = ").expect(&rt, "a case");
-        tells(&rt, text, &names, want);
-    }
+    mean(&rt, TEXTS);
+    mean(&rt, DEFAULTS);
 }
 
 /// A list with a mask, and its long text.
@@ -110,20 +136,32 @@ mask::---
 other::rwx
 ";
 
-/// A text spells a list with this long text, which spells it again.
+/// What getfacl writes of a folder with a default list, whose mask is not that of the access list.
+static FOLDER_LONG: &str = "user::rwx
+user:1001:rw-\t#effective:r--
+group::rwx\t#effective:r-x
+mask::r-x
+other::---
+default:user::rwx
+default:user:1001:rw-\t#effective:-w-
+default:group::r-x\t#effective:---
+default:mask::-w-
+default:other::r-x
+";
+
+/// A text spells lists with this long text, which spells them again.
 fn remarks(rt: &(impl Abort + AllocGlobal), text: &str, long: &str) {
-    let names = known(rt);
-    let acl = spelled(rt, text.as_bytes(), &names);
-    let written = write_acl(rt.alloc(), &acl).expect(rt, "memory");
+    let lists = spelled(rt, text.as_bytes());
+    let written = had(rt, write_acl(rt.alloc(), &lists));
     same(rt, &written, long, text);
-    let again = spelled(rt, &written, &names);
-    assert!(rt; again.entries() == acl.entries());
+    holds(rt, spelled(rt, &written) == lists, long);
 }
 
 #[test]
 fn what_the_mask_takes_away_is_remarked(rt: HostRuntime) {
     remarks(&rt, MASKED, MASKED_LONG);
     remarks(&rt, CLOSED, CLOSED_LONG);
+    remarks(&rt, FOLDER_LONG, FOLDER_LONG);
 }
 
 /// What getfacl writes, and a line as an administrator might change it.
@@ -144,65 +182,53 @@ static GETFACL_SHORT: &str =
 
 #[test]
 fn the_output_of_getfacl_is_read(rt: HostRuntime) {
-    tells(&rt, GETFACL, &known(&rt), GETFACL_SHORT);
+    means(&rt, GETFACL, GETFACL_SHORT);
 }
 
 static APPENDED: &str =
     "user::rw-,group::r--,other::---user:4294967295:user::rw-\ngroup::r--\nother::---\n-w-";
 
+/// Appends all that can be appended of lists.
+fn append_all(rt: &(impl Abort + AllocGlobal), lists: &Lists) -> Vec<u8> {
+    let mut text = Vec::new(rt.alloc());
+    holds(rt, append_short(&mut text, lists).is_ok(), "short text");
+    let user = Tag::User(4294967295);
+    holds(rt, append_tag(&mut text, user).is_ok(), "a tag");
+    holds(rt, append_acl(&mut text, lists).is_ok(), "long text");
+    let last = text.extend_from_slice(&permission_text(Perms::WRITE));
+    holds(rt, last.is_ok(), "permissions");
+    text
+}
+
 #[test]
 fn texts_are_appended(rt: HostRuntime) {
-    let mode = Mode::new(0o640).expect(&rt, "a mode");
-    let acl = Acl::from_mode(rt.alloc(), mode).expect(&rt, "memory");
-    let mut text = Vec::new(rt.alloc());
-    assert!(rt; append_short(&mut text, &acl).is_ok());
-    assert!(rt; append_tag(&mut text, Tag::User(4294967295)).is_ok());
-    assert!(rt; append_acl(&mut text, &acl).is_ok());
-    let last = permission_text(Perms::WRITE);
-    assert!(rt; text.extend_from_slice(&last).is_ok());
+    let text = append_all(&rt, &lists(&rt, "640"));
     same(&rt, &text, APPENDED, "appended");
 }
 
 /// A text with a byte put into it.
 fn text_with(rt: &(impl Abort + AllocGlobal), before: &str, byte: u8, after: &str) -> Vec<u8> {
-    let mut text = Vec::from_slice(rt.alloc(), before.as_bytes()).expect(rt, "memory");
+    let mut text = had(rt, Vec::from_slice(rt.alloc(), before.as_bytes()));
     assert!(rt; text.push(byte).is_ok());
     assert!(rt; text.extend_from_slice(after.as_bytes()).is_ok());
     text
 }
 
-/// What a text is: a list, or the kind of its fault.
-fn kind(rt: &(impl Abort + AllocGlobal), text: &[u8], names: &Names) -> &'static str {
-    match read_acl(rt.alloc(), text, names) {
-        Ok(_) => "list",
-        Err(TextFault::Syntax(_)) => "syntax",
-        Err(TextFault::UnknownName(_)) => "unknown",
-        Err(TextFault::Invalid(AclFault::NoUserObj)) => "no user",
-        Err(TextFault::Invalid(AclFault::NoGroupObj)) => "no group",
-        Err(TextFault::Invalid(AclFault::TwiceSingle)) => "twice",
-        Err(_) => "other",
-    }
-}
-
-/// A text with a byte put into it is this.
-fn means(
-    rt: &(impl Abort + AllocGlobal),
-    names: &Names,
-    before: &str,
-    byte: u8,
-    after: &str,
-    want: &str,
-) {
-    let text = text_with(rt, before, byte, after);
-    same(rt, kind(rt, &text, names).as_bytes(), want, before);
+/// What a text is, in words: lists, or its fault.
+fn told(rt: &(impl Abort + AllocGlobal), text: &[u8]) -> String {
+    let made = match read_acl(rt.alloc(), text, &known(rt)).err() {
+        None => format!(in rt.alloc(); "list"),
+        Some(fault) => format!(in rt.alloc(); "{fault:?}"),
+    };
+    had(rt, made)
 }
 
 /// What a byte makes of a text at whose start it stands.
 fn at_the_start(byte: u8) -> &'static str {
     match byte {
         b' ' | b'\t' | b'\r' | b'\n' | b',' => "list",
-        b'#' => "no user",
-        _ => "syntax",
+        b'#' => "Invalid(NoUserObj)",
+        _ => "Syntax(1)",
     }
 }
 
@@ -210,9 +236,9 @@ fn at_the_start(byte: u8) -> &'static str {
 fn as_a_qualifier(byte: u8) -> &'static str {
     match byte {
         b'0'..=b'9' => "list",
-        b' ' | b'\t' | b'\r' => "twice",
-        b':' | b',' | b'\n' | b'#' | b'\\' | 0..=32 | 127..=255 => "syntax",
-        _ => "unknown",
+        b' ' | b'\t' | b'\r' => "Invalid(TwiceSingle)",
+        b':' | b',' | b'\n' | b'#' | b'\\' | 0..=32 | 127..=255 => "Syntax(1)",
+        _ => "UnknownName(1)",
     }
 }
 
@@ -220,46 +246,50 @@ fn as_a_qualifier(byte: u8) -> &'static str {
 fn as_permissions(byte: u8) -> &'static str {
     match byte {
         b'r' | b'w' | b'x' | b'-' | b' ' | b'\t' | b'\r' | b'\n' | b',' => "list",
-        b'#' => "no group",
-        _ => "syntax",
+        b'#' => "Invalid(NoGroupObj)",
+        _ => "Syntax(1)",
     }
+}
+
+/// Compares what was told of a text with a byte put into it.
+fn is_told(rt: &impl Abort, got: &String, byte: u8, want: &str) {
+    assert!(rt; got.as_str() == want, "byte {byte}: {got}");
 }
 
 #[test]
 fn each_byte_has_its_meaning(rt: HostRuntime) {
-    let names = known(&rt);
     for byte in 0..=255u8 {
-        let want = at_the_start(byte);
-        means(&rt, &names, "", byte, "u::rw,g::r,o::-", want);
-        let want = as_a_qualifier(byte);
-        means(&rt, &names, "u:", byte, ":r,u::rw,g::r,m::r,o::-", want);
-        let want = as_permissions(byte);
-        means(&rt, &names, "u::", byte, ",g::r,o::-", want);
+        let text = text_with(&rt, "", byte, "u::rw,g::r,o::-");
+        is_told(&rt, &told(&rt, &text), byte, at_the_start(byte));
+        let text = text_with(&rt, "u:", byte, ":r,u::rw,g::r,m::r,o::-");
+        is_told(&rt, &told(&rt, &text), byte, as_a_qualifier(byte));
+        let text = text_with(&rt, "u::", byte, ",g::r,o::-");
+        is_told(&rt, &told(&rt, &text), byte, as_permissions(byte));
     }
 }
 
 /// Names, each with what becomes of it as a user's.
 static NAMES: &str = "
- = bad
-7 = bad
-a:b = bad
-a,b = bad
-a# = bad
-a b = bad
-a\\ = bad
-nnnnnnnnnnnnnnnnnnnnnnnnnnnnnnnnnnnnnnnnnnnnnnnnnnnnnnnnnnnnnnnnn = bad
+ = BadName
+7 = BadName
+a:b = BadName
+a,b = BadName
+a# = BadName
+a b = BadName
+a\\ = BadName
+nnnnnnnnnnnnnnnnnnnnnnnnnnnnnnnnnnnnnnnnnnnnnnnnnnnnnnnnnnnnnnnnn = BadName
 7a = taken
-lisa = twice
+lisa = NameTwice
 toolies = taken
-toolies = twice";
+toolies = NameTwice";
 
 /// What becomes of a name as a user's.
 fn added(names: &mut Names, name: &str) -> &'static str {
     match names.add_user(name.as_bytes(), 7) {
         Ok(()) => "taken",
-        Err(NameError::BadName) => "bad",
-        Err(NameError::NameTwice) => "twice",
-        Err(NameError::Memory) => "memory",
+        Err(NameError::BadName) => "BadName",
+        Err(NameError::NameTwice) => "NameTwice",
+        Err(NameError::Memory) => "Memory",
     }
 }
 
@@ -267,27 +297,73 @@ fn added(names: &mut Names, name: &str) -> &'static str {
 fn names_are_taken_once(rt: HostRuntime) {
     let mut names = known(&rt);
     for line in NAMES.lines().skip(1) {
-        let (name, want) = line.split_once(" = ").expect(&rt, "a case");
-        same(&rt, added(&mut names, name).as_bytes(), want, name);
+        let (name, want) = case(&rt, line);
+        holds(&rt, added(&mut names, name) == want, line);
     }
 }
 
-/// A text of 64 entries.
-fn many_entries(rt: &(impl Abort + AllocGlobal)) -> Vec<u8> {
-    let mut text = Vec::from_slice(rt.alloc(), b"m::,o::,g::,u::").expect(rt, "memory");
-    for id in 0..60u32 {
-        let item = format!(in rt.alloc(); "\nu:{id}:r").expect(rt, "memory");
-        assert!(rt; text.extend_from_slice(item.as_bytes()).is_ok());
+/// Appends so many entries of users to a text.
+fn push_users(rt: &(impl Abort + AllocGlobal), text: &mut String, front: &str, count: u32) {
+    for id in 0..count {
+        let item = had(rt, format!(in rt.alloc(); "\n{front}u:{id}:r"));
+        push(rt, text, item.as_str());
     }
+}
+
+/// A text of 64 entries of the access list and as many of the default list.
+fn many_entries(rt: &(impl Abort + AllocGlobal)) -> String {
+    let mut text = String::new(rt.alloc());
+    push(rt, &mut text, "m::,o::,g::,u::,d:m::,d:o::,d:g::,d:u::");
+    push_users(rt, &mut text, "", 60);
+    push_users(rt, &mut text, "d:", 60);
     text
 }
 
+/// A text has this fault.
+fn is_refused(rt: &(impl Abort + AllocGlobal), text: &String, want: &str) {
+    tells(rt, &told(rt, text.as_bytes()), want, want);
+}
+
 #[test]
-fn a_text_has_at_most_64_entries(rt: HostRuntime) {
-    let names = Names::new(rt.alloc());
+fn a_list_in_text_has_at_most_64_entries(rt: HostRuntime) {
     let mut text = many_entries(&rt);
-    assert!(rt; spelled(&rt, &text, &names).entries().len() == 64);
-    assert!(rt; text.extend_from_slice(b",g:1:").is_ok());
-    let fault = read_acl(rt.alloc(), &text, &names).err();
-    assert!(rt; fault == Some(TextFault::Invalid(AclFault::TooMany)));
+    let lists = spelled(&rt, text.as_bytes());
+    holds(&rt, lists.access.entries().len() == 64, "64 entries");
+    push(&rt, &mut text, ",d:g:1:");
+    is_refused(&rt, &text, "DefaultInvalid(TooMany)");
+    push(&rt, &mut text, ",g:1:");
+    is_refused(&rt, &text, "Invalid(TooMany)");
+}
+
+/// Default lists, modes, and the lists that Linux gives to what is made with them.
+static MADE: &str = "
+d:u::rwx,d:u:1001:rw,d:g::rx,d:m::rwx,d:o::r 640 = user::rw-,user:1001:rw-,group::r-x,mask::r--,other::---
+d:u::rwx,d:u:1001:rw,d:g::rx,d:m::rwx,d:o::r 600 = user::rw-,user:1001:rw-,group::r-x,mask::---,other::---
+d:u::rwx,d:u:1001:rw,d:g::rx,d:m::rwx,d:o::r 777 = user::rwx,user:1001:rw-,group::r-x,mask::rwx,other::r--
+d:u::rwx,d:u:1001:rw,d:g::rx,d:m::rwx,d:o::r 666 = user::rw-,user:1001:rw-,group::r-x,mask::rw-,other::r--
+d:u::rwx,d:u:1001:rw,d:g::rx,d:m::rwx,d:o::r 000 = user::---,user:1001:rw-,group::r-x,mask::---,other::---
+d:u::rwx,d:u:1001:rw,d:g::rx,d:m::rwx,d:o::r 070 = user::---,user:1001:rw-,group::r-x,mask::rwx,other::---
+d:u::rwx,d:u:1001:rw,d:g::rx,d:m::rwx,d:o::r 444 = user::r--,user:1001:rw-,group::r-x,mask::r--,other::r--
+d:u::rwx,d:u:1001:rw,d:g::rx,d:m::rwx,d:o::r 750 = user::rwx,user:1001:rw-,group::r-x,mask::r-x,other::---
+d:u::rwx,d:g::rwx,d:o::rx 640 = user::rw-,group::r--,other::---
+d:u::rwx,d:g::rwx,d:o::rx 750 = user::rwx,group::r-x,other::---
+d:u::rwx,d:g::rwx,d:m::rx,d:o::rx 660 = user::rw-,group::rwx,mask::r--,other::---
+d:u::rwx,d:g::rwx,d:m::rx,d:o::rx 770 = user::rwx,group::rwx,mask::r-x,other::---";
+
+/// What is made with a mode in a folder with a default list gets this list.
+fn makes(rt: &(impl Abort + AllocGlobal), given: &str, want: &str) {
+    let (default, digits) = given.split_once(' ').expect(rt, "a mode");
+    let text = had(rt, format!(in rt.alloc(); "u::,g::,o:,{default}"));
+    let folder = spelled(rt, text.as_bytes());
+    let default = folder.default.expect(rt, "a default list");
+    let access = default.inherit(rt.alloc(), mode(rt, digits));
+    has_short(rt, &Lists::from(had(rt, access)), want);
+}
+
+#[test]
+fn what_is_made_inherits(rt: HostRuntime) {
+    for line in MADE.lines().skip(1) {
+        let (given, want) = case(&rt, line);
+        makes(&rt, given, want);
+    }
 }

@@ -1,269 +1,200 @@
 //! What no row of `crates/rows` can say: the denials that a table keeps, paths of no byte, transactions
-//! of no operation, the limits, servers that are not there, and that replies are shared.
+//! of no operation, the limits, servers that are not there, and that replies are shared. Each line has the
+//! caller, the operations and what is answered.
 
 mod uses;
 
-use acl_core::{Acl, Caller, Decider, Mode, Perms};
-use file_ops::{
-    Action, Answer, Answers, ApplyError, AuditItem, Denial, Init, Op, PathText, Refusal, Table, Why,
-};
+use crate::checks::{had, holds, tells};
+use crate::fixtures::{lists, votes};
+use crate::operations::{Asked, asked};
+use crate::outcomes::{answers_words, refusal_words};
+use file_ops::{Answer, Answers, ApplyError, Table};
 use std::process::Abort;
-use suite_content::{FileBytes, Kind};
+use suite_content::FileBytes;
 use suite_prefix::Settings;
-use vote_core::{MAX_SERVERS, Votes};
-
-/// A mode of these octal digits.
-fn mode(rt: &impl Abort, digits: &str) -> Mode {
-    let bits = u16::from_str_radix(digits, 8).ok().expect(rt, "digits");
-    Mode::new(bits).expect(rt, "a mode")
-}
-
-/// Votes of these servers, of which one is enough.
-fn votes(rt: &impl Abort, reps: &[(u8, u8)]) -> Votes {
-    Votes::new(MAX_SERVERS, reps, 1, 1).ok().expect(rt, "votes")
-}
+use vote_core::MAX_SERVERS;
 
 /// A table of this many servers whose root folder has a mode.
 fn table(rt: &(impl Abort + AllocGlobal), servers: usize, digits: &str) -> Table {
-    let acl = Acl::from_mode(rt.alloc(), mode(rt, digits)).expect(rt, "memory");
-    let settings = Settings::new(servers, 1, votes(rt, &[(0, 1)]), 1000, 100, acl, 0, 0, 0);
-    let settings = settings.ok().expect(rt, "settings");
-    let table = Table::opening(rt.alloc(), &settings);
-    table.ok().expect(rt, "memory")
+    let (votes, acl) = (votes(rt, "1/1/1"), lists(rt, digits));
+    let settings = Settings::new(servers, 1, votes, 1000, 100, acl, 0, 0, 0);
+    had(rt, Table::opening(rt.alloc(), &had(rt, settings)))
 }
 
-/// An operation.
-fn op(rt: &(impl Abort + AllocGlobal), path: &str, action: Action) -> Op {
-    let path = PathText::new(rt.alloc(), path.as_bytes()).expect(rt, "memory");
-    Op { path, action }
-}
-
-/// A file made, for its owner alone.
-fn file(rt: &impl Abort, given: Option<Votes>) -> Action {
-    Action::Make(Kind::File, Init::Mode(mode(rt, "600")), given)
-}
-
-/// Plays a transaction of a user in a group of its own, and once more where memory was refused to it.
-fn played(
-    rt: &impl Abort,
-    table: &mut Table,
-    t: u16,
-    uid: u32,
-    ops: &[Op],
-) -> Result<Answers, ApplyError> {
-    let caller = Caller::new(uid, uid, &[]).ok().expect(rt, "a caller");
-    match table.apply(u64::from(t), &caller, ops) {
-        Err(ApplyError::Memory) => table.apply(u64::from(t), &caller, ops),
+/// Plays a transaction, and once more where memory was refused to it.
+fn played(table: &mut Table, t: u16, asked: &Asked) -> Result<Answers, ApplyError> {
+    match table.apply(u64::from(t), &asked.caller, &asked.ops) {
+        Err(ApplyError::Memory) => table.apply(u64::from(t), &asked.caller, &asked.ops),
         outcome => outcome,
     }
 }
 
-/// It is refused, at this operation and so.
-fn refuses(rt: &impl Abort, table: &mut Table, t: u16, uid: u32, ops: &[Op], at: u8, why: Why) {
-    let refusal = match played(rt, table, t, uid, ops) {
-        Err(ApplyError::Refused(refusal)) => Some(refusal),
-        _ => None,
-    };
-    let is_told = refusal == Some(Refusal { op: at, why });
-    assert!(rt; is_told, "transaction {t}: {refusal:?}, wanted {why:?}");
+fn words(rt: &(impl Abort + AllocGlobal), outcome: &Result<Answers, ApplyError>) -> String {
+    match outcome {
+        Ok(answers) => answers_words(rt, answers),
+        Err(ApplyError::Refused(refusal)) => refusal_words(rt, *refusal),
+        Err(ApplyError::Memory) => String::new(rt.alloc()),
+    }
 }
 
-/// It is answered, its last operation by this reply.
-fn answers(rt: &impl Abort, table: &mut Table, t: u16, uid: u32, ops: &[Op], last: &Answer) {
-    let outcome = played(rt, table, t, uid, ops);
-    let is_told = match &outcome {
-        Ok(replies) => replies.as_slice().len() == ops.len()
-            && replies.as_slice().last() == Some(last),
-        Err(_) => false,
-    };
-    assert!(rt; is_told, "transaction {t}: {outcome:?}, wanted {last:?}");
+/// Plays a line.
+fn line(rt: &(impl Abort + AllocGlobal), table: &mut Table, t: u16, text: &str) {
+    let mut parts = text.split('|');
+    let who = parts.next().unwrap_or_default();
+    let what = parts.next().unwrap_or_default();
+    let outcome = played(table, t, &asked(rt, who, what));
+    let want = parts.next().unwrap_or_default().trim();
+    tells(rt, &words(rt, &outcome), want, text);
 }
 
-/// A denial of read permission on the first suite that is made, by the entry for all others.
-fn read_denied(t: u64, uid: u32, op: u8) -> AuditItem {
-    let denial = Denial {
-        suite: 1,
-        wanted: Perms::READ,
-        decider: Decider::Other,
-    };
-    AuditItem { t, uid, op, denial }
+/// Plays each line as the transaction of its number.
+fn play(rt: &(impl Abort + AllocGlobal), table: &mut Table, text: &str) {
+    let mut t = 0u16;
+    for it in text.lines().skip(1) {
+        line(rt, table, t, it);
+        t = t.wrapping_add(1);
+    }
 }
+
+static DENIED: &str = "
+1000 1000 | file '/a' 600 | made 1
+1000 1000 | read '' | refused BadPath op 1
+2000 2000 | list '/'; read '/a' | denied op 2 suite 1 wants Perms(4) by Other
+3000 3000 | getvotes '/a' | denied op 1 suite 1 wants Perms(4) by Other
+1000 1000 | read '/b' | refused NoName op 1";
+
+static KEPT: &str =
+    "[AuditItem { t: 2, uid: 2000, op: 2, denial: Denial { suite: 1, wanted: Perms(4), decider: Other } }, AuditItem { t: 3, uid: 3000, op: 1, denial: Denial { suite: 1, wanted: Perms(4), decider: Other } }]";
 
 #[test]
 fn denials_are_kept(rt: HostRuntime) {
     let mut table = table(&rt, MAX_SERVERS, "755");
-    let make = op(&rt, "/a", file(&rt, None));
-    answers(&rt, &mut table, 0, 1000, &[make], &Answer::Made(1));
-    let no_path = op(&rt, "", Action::Read);
-    refuses(&rt, &mut table, 1, 1000, &[no_path], 1, Why::BadPath);
-    let read = read_denied(2, 2000, 2);
-    let ops = [op(&rt, "/", Action::List), op(&rt, "/a", Action::Read)];
-    refuses(&rt, &mut table, 2, 2000, &ops, 2, Why::Denied(read.denial));
-    let shown = read_denied(3, 3000, 1);
-    let votes = op(&rt, "/a", Action::GetVotes);
-    refuses(
-        &rt,
-        &mut table,
-        3,
-        3000,
-        &[votes],
-        1,
-        Why::Denied(shown.denial),
-    );
-    let absent = op(&rt, "/b", Action::Read);
-    refuses(&rt, &mut table, 4, 1000, &[absent], 1, Why::NoName);
-    assert!(rt; table.audit() == [read, shown].as_slice());
+    play(&rt, &mut table, DENIED);
+    let audit = table.audit();
+    let told = had(&rt, format!(in rt.alloc(); "{audit:?}"));
+    tells(&rt, &told, KEPT, "the audit");
 }
 
-/// So many lists of the root folder.
-fn lists(rt: &(impl Abort + AllocGlobal), count: u8) -> Vec<Op> {
-    let mut ops = Vec::new(rt.alloc());
-    for _ in 0..count {
-        ops.push(op(rt, "/", Action::List))
-            .ok()
-            .expect(rt, "memory");
-    }
-    ops
-}
+static COUNTED: &str = "
+1 1 | | refused OpCount op 0
+1 1 | list '/'; list '/'; list '/'; list '/'; list '/'; list '/'; list '/'; list '/' | list; list; list; list; list; list; list; list
+1 1 | list '/'; list '/'; list '/'; list '/'; list '/'; list '/'; list '/'; list '/'; list '/' | refused OpCount op 0";
 
 #[test]
 fn a_transaction_has_1_to_8_operations(rt: HostRuntime) {
-    let mut table = table(&rt, MAX_SERVERS, "755");
-    refuses(&rt, &mut table, 0, 1, &[], 0, Why::OpCount);
-    let ops = lists(&rt, 8);
-    let outcome = played(&rt, &mut table, 1, 1, &ops)
-        .ok()
-        .expect(&rt, "replies");
-    assert!(rt; outcome.as_slice().len() == 8);
-    let ops = lists(&rt, 9);
-    refuses(&rt, &mut table, 2, 1, &ops, 0, Why::OpCount);
+    play(&rt, &mut table(&rt, MAX_SERVERS, "755"), COUNTED);
 }
 
-/// Bytes to be written.
-fn write(rt: &(impl Abort + AllocGlobal), length: usize) -> Op {
-    let bytes = vec![in rt.alloc(); 7u8; length].expect(rt, "memory");
-    let bytes = FileBytes::from_slice(rt.alloc(), &bytes).expect(rt, "memory");
-    op(rt, "/a", Action::Write(bytes))
-}
+static LENGTHS: &str = "
+1000 1000 | file '/a' 600 | made 1
+1000 1000 | fill '/a' 65537 | refused TooLong op 1
+1000 1000 | fill '/a' 65536 | wrote
+1000 1000 | fill '/a' 0; read '/a' | wrote; read []";
 
 #[test]
 fn a_file_has_65536_bytes(rt: HostRuntime) {
-    let mut table = table(&rt, MAX_SERVERS, "777");
-    let make = op(&rt, "/a", file(&rt, None));
-    answers(&rt, &mut table, 0, 1000, &[make], &Answer::Made(1));
-    let long = write(&rt, 65_537);
-    refuses(&rt, &mut table, 1, 1000, &[long], 1, Why::TooLong);
-    let longest = write(&rt, 65_536);
-    answers(&rt, &mut table, 2, 1000, &[longest], &Answer::Wrote);
-    let shortest = [write(&rt, 0), op(&rt, "/a", Action::Read)];
-    let nothing = Answer::Read(FileBytes::empty());
-    answers(&rt, &mut table, 3, 1000, &shortest, &nothing);
+    play(&rt, &mut table(&rt, MAX_SERVERS, "777"), LENGTHS);
+}
+
+/// Makes a file in the root folder.
+fn make(rt: &(impl Abort + AllocGlobal), table: &mut Table, t: u16) {
+    let number = 8 * u64::from(t) + 1;
+    let text = had(
+        rt,
+        format!(in rt.alloc(); "7 7 | file '/{t}' 600 | made {number}"),
+    );
+    line(rt, table, t, text.as_str());
 }
 
 #[test]
 fn a_folder_has_1024_names(rt: HostRuntime) {
     let mut table = table(&rt, MAX_SERVERS, "777");
     for t in 0..1024u16 {
-        let path = format!(in rt.alloc(); "/{t}").expect(&rt, "memory");
-        let make = op(&rt, path.as_str(), file(&rt, None));
-        let made = Answer::Made(8 * u64::from(t) + 1);
-        answers(&rt, &mut table, t, 7, &[make], &made);
+        make(&rt, &mut table, t);
     }
-    let more = op(&rt, "/more", file(&rt, None));
-    refuses(&rt, &mut table, 1024, 7, &[more], 1, Why::FolderFull);
+    let more = "7 7 | file '/more' 600 | refused FolderFull op 1";
+    line(&rt, &mut table, 1024, more);
 }
 
-/// A path, and why the votes of a server that is not there are refused.
-#[derive(Clone, Copy)]
-struct Case {
-    path: &'static str,
-    why: Why,
-}
-
-const MADE: [Case; 6] = [
-    Case {
-        path: "/a",
-        why: Why::UnknownServer,
-    },
-    Case {
-        path: "/x/y",
-        why: Why::UnknownServer,
-    },
-    Case {
-        path: "/1/2/3/4/5/6/7/8",
-        why: Why::UnknownServer,
-    },
-    Case {
-        path: "/",
-        why: Why::BadPath,
-    },
-    Case {
-        path: "a",
-        why: Why::BadPath,
-    },
-    Case {
-        path: "/a/",
-        why: Why::BadPath,
-    },
-];
-
-const SET: [Case; 3] = [
-    Case {
-        path: "/",
-        why: Why::UnknownServer,
-    },
-    Case {
-        path: "/x/y",
-        why: Why::UnknownServer,
-    },
-    Case {
-        path: "a",
-        why: Why::BadPath,
-    },
-];
+/// Votes of a server that is not there are refused before the path is walked, and behind a bad path.
+static UNKNOWN: &str = "
+1000 1000 | file '/a' 600 1,-,-,0/1/1 | refused UnknownServer op 1
+1000 1000 | file '/x/y' 600 1,-,-,0/1/1 | refused UnknownServer op 1
+1000 1000 | file '/1/2/3/4/5/6/7/8' 600 1,-,-,0/1/1 | refused UnknownServer op 1
+1000 1000 | file '/' 600 1,-,-,0/1/1 | refused BadPath op 1
+1000 1000 | file 'a' 600 1,-,-,0/1/1 | refused BadPath op 1
+1000 1000 | file '/a/' 600 1,-,-,0/1/1 | refused BadPath op 1
+2000 2000 | setvotes '/' 1,-,-,0/1/1 | refused UnknownServer op 1
+2000 2000 | setvotes '/x/y' 1,-,-,0/1/1 | refused UnknownServer op 1
+2000 2000 | setvotes 'a' 1,-,-,0/1/1 | refused BadPath op 1
+1000 1000 | file '/a' 600 -,-,1/1/1 | made 73
+1000 1000 | setvotes '/x/y' -,-,1/1/1 | refused NoName op 1";
 
 #[test]
 fn servers_that_are_not_there(rt: HostRuntime) {
-    let mut table = table(&rt, 3, "777");
-    let unknown = votes(&rt, &[(0, 1), (3, 0)]);
-    for case in MADE {
-        let make = op(&rt, case.path, file(&rt, Some(unknown)));
-        refuses(&rt, &mut table, 0, 1000, &[make], 1, case.why);
-    }
-    for case in SET {
-        let set = op(&rt, case.path, Action::SetVotes(unknown));
-        refuses(&rt, &mut table, 1, 2000, &[set], 1, case.why);
-    }
-    let known = votes(&rt, &[(2, 1)]);
-    let make = op(&rt, "/a", file(&rt, Some(known)));
-    answers(&rt, &mut table, 4, 1000, &[make], &Answer::Made(33));
-    let set = op(&rt, "/x/y", Action::SetVotes(known));
-    refuses(&rt, &mut table, 5, 1000, &[set], 1, Why::NoName);
+    play(&rt, &mut table(&rt, 3, "777"), UNKNOWN);
+}
+
+/// A default list of a file is refused behind the votes and before the path is walked where it is made, and
+/// behind the owner's rule where it is set.
+static MISPLACED: &str = "
+1000 1000 | file '/a' 600; folder '/d' 700 | made 1; made 2
+1000 1000 | file '/x/y' u::r,g::r,o::r,d:u::r,d:g::r,d:o::r | refused DefaultOnFile op 1
+1000 1000 | file '/b' u::r,g::r,o::r,d:u::r,d:g::r,d:o::r 1,-,-,0/1/1 | refused UnknownServer op 1
+1000 1000 | file 'b' u::r,g::r,o::r,d:u::r,d:g::r,d:o::r | refused BadPath op 1
+2000 2000 | setacl '/a' u::r,g::r,o::r,d:u::r,d:g::r,d:o::r | denied op 1 suite 1 wants Perms(0) by OwnerRule
+1000 1000 | setacl '/a' u::r,g::r,o::r,d:u::r,d:g::r,d:o::r | refused DefaultOnFile op 1
+1000 1000 | setacl '/d' u::rwx,g::r,o::r,d:u::r,d:g::r,d:o::r; getacl '/d' | set; acl user::rwx,group::r--,other::r--,default:user::r--,default:group::r--,default:other::r--
+1000 1000 | file '/d/f' 777; getacl '/d/f' | made 57; acl user::r--,group::r--,other::r--
+1000 1000 | file '/d/g' u::rwx,g::-,o::-; getacl '/d/g' | made 65; acl user::rwx,group::---,other::---
+1000 1000 | folder '/d/e' 770; getacl '/d/e' | made 73; acl user::r--,group::r--,other::---,default:user::r--,default:group::r--,default:other::r--
+1000 1000 | folder '/d/o' u::rwx,g::-,o::-; getacl '/d/o' | made 81; acl user::rwx,group::---,other::---";
+
+#[test]
+fn default_lists_are_of_folders(rt: HostRuntime) {
+    play(&rt, &mut table(&rt, 3, "777"), MISPLACED);
 }
 
 /// The reply of two bytes.
 fn read(rt: &(impl Abort + AllocGlobal)) -> Answer {
-    Answer::Read(FileBytes::from_slice(rt.alloc(), &[7, 8]).expect(rt, "memory"))
+    Answer::Read(had(rt, FileBytes::from_slice(rt.alloc(), &[7, 8])))
 }
 
-/// These replies.
-fn all(rt: &impl Abort, replies: Vec<Answer>) -> Answers {
-    Answers::from_vec(replies).expect(rt, "memory")
+/// The reply of votes.
+fn voted(rt: &(impl Abort + AllocGlobal)) -> Answer {
+    Answer::Votes(votes(rt, "1/1/1"))
+}
+
+fn add(rt: &impl Abort, replies: &mut Vec<Answer>, reply: Answer) {
+    assert!(rt; replies.push(reply).is_ok());
+}
+
+/// The reply of two bytes, and that of votes where it is wanted.
+fn replies(rt: &(impl Abort + AllocGlobal), is_voted: bool) -> Answers {
+    let mut replies = Vec::new(rt.alloc());
+    add(rt, &mut replies, read(rt));
+    if is_voted {
+        add(rt, &mut replies, voted(rt));
+    }
+    had(rt, Answers::from_vec(replies))
+}
+
+/// A reply is the same as its clone.
+fn is_cloned(rt: &impl Abort, reply: &Answer) {
+    holds(rt, had(rt, reply.clone()) == *reply, "a clone");
+}
+
+/// Replies are the same as their clone.
+fn are_cloned(rt: &impl Abort, replies: &Answers) {
+    holds(rt, had(rt, replies.clone()) == *replies, "a clone");
 }
 
 #[test]
 fn replies_are_shared(rt: HostRuntime) {
-    let (bytes, votes) = (read(&rt), Answer::Votes(votes(&rt, &[(0, 1)])));
-    let other = bytes.clone().expect(&rt, "memory");
-    assert!(rt; other == bytes);
-    assert!(rt; other != votes);
-    let mut replies = Vec::new(rt.alloc());
-    replies.push(bytes).ok().expect(&rt, "memory");
-    replies.push(votes).ok().expect(&rt, "memory");
-    let both = all(&rt, replies);
-    let copy = both.clone().expect(&rt, "memory");
-    assert!(rt; copy == both);
-    let mut fewer = Vec::new(rt.alloc());
-    fewer.push(other).ok().expect(&rt, "memory");
-    assert!(rt; copy != all(&rt, fewer));
+    is_cloned(&rt, &read(&rt));
+    is_cloned(&rt, &voted(&rt));
+    holds(&rt, read(&rt) != voted(&rt), "another reply");
+    are_cloned(&rt, &replies(&rt, true));
+    let are_same = replies(&rt, true) == replies(&rt, false);
+    holds(&rt, !are_same, "fewer replies");
 }

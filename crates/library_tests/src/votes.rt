@@ -1,122 +1,173 @@
 //! Worked examples, and each public call once.
 
+use crate::checks::{case, had, holds, small, tells};
 use std::process::Abort;
 use vote_core::{MAX_SERVERS, ServerSet, Votes, VotesFault};
 
-/// The set of these servers.
-fn set_of(servers: &[u8]) -> ServerSet {
+fn quorum(rt: &impl Abort, digits: &str) -> u16 {
+    digits.parse::<u16>().ok().expect(rt, "a quorum")
+}
+
+/// Servers with their votes, as `0:2 1:1`.
+fn reps(rt: &(impl Abort + AllocGlobal), text: &str) -> Vec<(u8, u8)> {
+    let mut reps = Vec::new(rt.alloc());
+    for word in text.split_whitespace() {
+        let (server, own) = word.split_once(':').expect(rt, "votes");
+        assert!(rt; reps.push((small(rt, server), small(rt, own))).is_ok());
+    }
+    reps
+}
+
+/// Votes at so many servers, as `0:2 1:1 2:1/2/3`.
+fn made(rt: &(impl Abort + AllocGlobal), servers: usize, text: &str) -> Result<Votes, VotesFault> {
+    let mut parts = text.split('/');
+    let reps = reps(rt, parts.next().unwrap_or_default());
+    let r = quorum(rt, parts.next().unwrap_or_default());
+    let w = quorum(rt, parts.next().unwrap_or_default());
+    Votes::new(servers, &reps, r, w)
+}
+
+/// How many servers there are, the votes, and their first fault.
+static JUDGED: &str = "
+4, 0:2 1:1 2:1/2/3 = None
+4, 0:2 1:1 2:1/2/2 = Some(ReadMissesWrite)
+4, 0:1 1:1 2:1 3:1/3/2 = Some(WritesDisjoint)
+4, 0:1 1:0 2:0/1/1 = None
+4, 0:0 1:0 2:0/1/1 = Some(NoVotes)
+4, 0:1 1:1 2:1/0/3 = Some(ThresholdOutOfRange)
+4, 0:1 1:1 2:1/3/0 = Some(ThresholdOutOfRange)
+4, 0:1 1:1 2:1/4/3 = Some(ThresholdOutOfRange)
+4, 0:1 1:1 2:1/1/4 = Some(ThresholdOutOfRange)
+4, /0/0 = Some(Empty)
+4, 0:1 0:1/1/1 = Some(ListedTwice)
+4, 4:1/1/1 = Some(UnknownServer)
+4, 1:0 1:0 4:0/0/0 = Some(UnknownServer)
+99, 15:1/1/1 = None
+99, 16:1/1/1 = Some(UnknownServer)";
+
+/// Votes have this fault, or none.
+fn are_judged(rt: &(impl Abort + AllocGlobal), line: &str) {
+    let (given, want) = case(rt, line);
+    let (servers, text) = given.split_once(", ").expect(rt, "votes");
+    let fault = made(rt, usize::from(small(rt, servers)), text).err();
+    let told = had(rt, format!(in rt.alloc(); "{fault:?}"));
+    tells(rt, &told, want, line);
+}
+
+#[test]
+fn votes_are_judged_by_their_first_fault(rt: HostRuntime) {
+    for line in JUDGED.lines().skip(1) {
+        are_judged(&rt, line);
+    }
+}
+
+/// 255 votes at each of 16 servers.
+static MOST: &str =
+    "0:255 1:255 2:255 3:255 4:255 5:255 6:255 7:255 8:255 9:255 10:255 11:255 12:255 13:255 14:255 15:255";
+
+/// The most votes, of which a write collects so many.
+fn most(rt: &(impl Abort + AllocGlobal), w: u16) -> Result<Votes, VotesFault> {
+    Votes::new(16, &reps(rt, MOST), 1, w)
+}
+
+/// The set of all servers below this one.
+fn below(end: u8) -> ServerSet {
     let mut set = ServerSet::empty();
-    for server in servers {
-        if usize::from(*server) < MAX_SERVERS {
-            set.insert(*server);
+    for server in 0..end {
+        if usize::from(server) < MAX_SERVERS {
+            set.insert(server);
         }
     }
     set
 }
 
-/// Votes at four servers at most.
-fn votes(rt: &impl Abort, reps: &[(u8, u8)], r: u16, w: u16) -> Votes {
-    Votes::new(4, reps, r, w).ok().expect(rt, "votes")
-}
-
-/// Votes at so many servers have this fault, or none.
-fn judges(
-    rt: &impl Abort,
-    servers: usize,
-    reps: &[(u8, u8)],
-    r: u16,
-    w: u16,
-    fault: Option<VotesFault>,
-) {
-    let made = Votes::new(servers, reps, r, w).err();
-    assert!(rt; made == fault, "{reps:?}/{r}/{w}: {made:?}");
-}
-
-const ONE_EACH: [(u8, u8); 3] = [(0, 1), (1, 1), (2, 1)];
-
-const TWO_AT_0: [(u8, u8); 3] = [(0, 2), (1, 1), (2, 1)];
-
-#[test]
-fn votes_are_judged_by_their_first_fault(rt: HostRuntime) {
-    let (no_votes, range) = (VotesFault::NoVotes, VotesFault::ThresholdOutOfRange);
-    let (apart, unknown) = (VotesFault::WritesDisjoint, VotesFault::UnknownServer);
-    let missed = VotesFault::ReadMissesWrite;
-    let four = [(0, 1), (1, 1), (2, 1), (3, 1)];
-    judges(&rt, 4, &TWO_AT_0, 2, 3, None);
-    judges(&rt, 4, &TWO_AT_0, 2, 2, Some(missed));
-    judges(&rt, 4, &four, 3, 2, Some(apart));
-    judges(&rt, 4, &[(0, 1), (1, 0), (2, 0)], 1, 1, None);
-    judges(&rt, 4, &[(0, 0), (1, 0), (2, 0)], 1, 1, Some(no_votes));
-    judges(&rt, 4, &ONE_EACH, 0, 3, Some(range));
-    judges(&rt, 4, &ONE_EACH, 3, 0, Some(range));
-    judges(&rt, 4, &ONE_EACH, 4, 3, Some(range));
-    judges(&rt, 4, &ONE_EACH, 1, 4, Some(range));
-    judges(&rt, 4, &[], 0, 0, Some(VotesFault::Empty));
-    let twice = [(0, 1), (0, 1)];
-    judges(&rt, 4, &twice, 1, 1, Some(VotesFault::ListedTwice));
-    judges(&rt, 4, &[(4, 1)], 1, 1, Some(unknown));
-    judges(&rt, 4, &[(1, 0), (1, 0), (4, 0)], 0, 0, Some(unknown));
-    judges(&rt, 99, &[(15, 1)], 1, 1, None);
-    judges(&rt, 99, &[(16, 1)], 1, 1, Some(unknown));
-}
-
 #[test]
 fn sixteen_servers_may_have_255_votes_each(rt: HostRuntime) {
-    let mut reps = [(0, 255); 16];
-    let mut everyone = ServerSet::empty();
-    for server in 0..16u8 {
-        reps[usize::from(server)].0 = server;
-        everyone.insert(server);
-    }
-    let votes = Votes::new(16, &reps, 1, 4080).ok().expect(&rt, "votes");
-    assert!(rt; votes.reps() == reps.as_slice());
-    assert!(rt; votes.r() == 1 && votes.w() == 4080);
-    assert!(rt; votes.votes_of(&everyone) == 4080);
-    assert!(rt; votes.is_write(&everyone));
-    assert!(rt; votes.clone().ok() == Some(votes));
+    let votes = had(&rt, most(&rt, 4080));
+    holds(
+        &rt,
+        votes.reps() == reps(&rt, MOST).as_slice(),
+        "who is listed",
+    );
+    holds(&rt, votes.r() == 1 && votes.w() == 4080, "the quorums");
+    holds(&rt, votes.votes_of(&below(16)) == 4080, "all votes");
+    holds(&rt, votes.is_write(&below(16)), "all may write");
+    holds(&rt, !votes.is_write(&below(15)), "one is missing");
+    holds(&rt, votes.clone().ok() == Some(votes), "a clone");
     let range = Some(VotesFault::ThresholdOutOfRange);
-    judges(&rt, 16, &reps, 1, 4081, range);
+    holds(&rt, most(&rt, 4081).err() == range, "more than all");
 }
 
 #[test]
 fn a_list_of_any_length_is_judged_in_one_pass(rt: HostRuntime) {
-    let many = [(15, 1)].as_slice().repeat(rt.alloc(), 4_000_000);
-    let many = many.expect(&rt, "memory");
-    let made = Votes::new(16, &many, 1, 1).err();
-    assert!(rt; made == Some(VotesFault::ListedTwice));
+    let many = had(&rt, [(15, 1)].as_slice().repeat(rt.alloc(), 4_000_000));
+    let fault = Votes::new(16, &many, 1, 1).err();
+    holds(&rt, fault == Some(VotesFault::ListedTwice), "twice");
 }
 
-/// Servers have this many votes, and make a read and a write quorum or not.
-fn collects(rt: &impl Abort, votes: &Votes, servers: &[u8], has: u32, read: bool, write: bool) {
-    let set = set_of(servers);
-    let same = votes.votes_of(&set) == has && votes.is_read(&set) == read;
-    assert!(rt; same && votes.is_write(&set) == write, "{servers:?}");
+/// Servers, how many votes they have, and what quorums they make.
+static COLLECTED: &str = "
+ = 0 false false
+3 9 = 0 false false
+1 = 1 false false
+1 3 = 1 false false
+0 = 2 true false
+1 2 = 2 true false
+0 2 = 3 true true
+1 2 3 = 2 true false
+0 1 2 3 15 = 4 true true";
+
+/// The set of these servers.
+fn set_of(rt: &impl Abort, text: &str) -> ServerSet {
+    let mut set = ServerSet::empty();
+    for word in text.split_whitespace() {
+        let server = small(rt, word);
+        if usize::from(server) < MAX_SERVERS {
+            set.insert(server);
+        }
+    }
+    set
 }
+
+/// Servers have this many votes, and make these quorums.
+fn collects(rt: &(impl Abort + AllocGlobal), votes: &Votes, line: &str) {
+    let (servers, want) = case(rt, line);
+    let set = set_of(rt, servers);
+    let (own, read, write) = (
+        votes.votes_of(&set),
+        votes.is_read(&set),
+        votes.is_write(&set),
+    );
+    let told = had(rt, format!(in rt.alloc(); "{own} {read} {write}"));
+    tells(rt, &told, want, line);
+}
+
+/// Servers, and how many votes each has.
+static OWN: &str = "
+0 = 2
+1 = 1
+2 = 1
+3 = 0
+4 = 0
+200 = 0";
 
 /// A server has this many votes.
-fn has_votes(rt: &impl Abort, votes: &Votes, server: u8, own: u8) {
-    assert!(rt; votes.votes_at(server) == own, "{server}");
-    assert!(rt; votes.is_voting_member(server) == (own > 0), "{server}");
+fn has_votes(rt: &impl Abort, votes: &Votes, line: &str) {
+    let (server, own) = case(rt, line);
+    let (server, own) = (small(rt, server), small(rt, own));
+    holds(rt, votes.votes_at(server) == own, line);
+    holds(rt, votes.is_voting_member(server) == (own > 0), line);
 }
 
 #[test]
 fn a_quorum_is_by_votes_and_not_by_members(rt: HostRuntime) {
-    let votes = votes(&rt, &[(3, 0), (0, 2), (1, 1), (2, 1)], 2, 3);
-    collects(&rt, &votes, &[], 0, false, false);
-    collects(&rt, &votes, &[3, 9], 0, false, false);
-    collects(&rt, &votes, &[1], 1, false, false);
-    collects(&rt, &votes, &[1, 3], 1, false, false);
-    collects(&rt, &votes, &[0], 2, true, false);
-    collects(&rt, &votes, &[1, 2], 2, true, false);
-    collects(&rt, &votes, &[0, 2], 3, true, true);
-    collects(&rt, &votes, &[1, 2, 3], 2, true, false);
-    collects(&rt, &votes, &[0, 1, 2, 3, 15], 4, true, true);
-    has_votes(&rt, &votes, 0, 2);
-    has_votes(&rt, &votes, 1, 1);
-    has_votes(&rt, &votes, 2, 1);
-    has_votes(&rt, &votes, 3, 0);
-    has_votes(&rt, &votes, 4, 0);
-    has_votes(&rt, &votes, 200, 0);
+    let votes = had(&rt, made(&rt, 4, "3:0 0:2 1:1 2:1/2/3"));
+    for line in COLLECTED.lines().skip(1) {
+        collects(&rt, &votes, line);
+    }
+    for line in OWN.lines().skip(1) {
+        has_votes(&rt, &votes, line);
+    }
 }
 
 /// The set of the servers below 4 whose bits are set.
@@ -139,10 +190,8 @@ fn share(votes: &Votes, a: &ServerSet, b: &ServerSet) -> bool {
 fn meet_in(rt: &impl Abort, votes: &Votes, first: u8, second: u8) {
     let (a, b) = (set_of_bits(first), set_of_bits(second));
     let quorums = votes.is_write(&b) && (votes.is_read(&a) || votes.is_write(&a));
-    assert!(rt;
-        share(votes, &a, &b) || !quorums,
-        "{first:04b} and {second:04b}"
-    );
+    let meet = share(votes, &a, &b);
+    assert!(rt; meet || !quorums, "{first:04b} and {second:04b}");
 }
 
 /// All quorums of these votes meet, by the two laws and by trying all.
@@ -156,11 +205,16 @@ fn all_meet(rt: &impl Abort, votes: &Votes) {
     }
 }
 
+/// Votes whose quorums are all tried.
+static TRIED: &str = "
+0:2 1:1 2:1/2/3
+0:1 1:0 2:0/1/1
+0:1 1:1 2:1 3:1/2/3
+3:0 2:5 1:3 0:3/4/8";
+
 #[test]
 fn quorums_meet_in_a_voting_member(rt: HostRuntime) {
-    let four = [(0, 1), (1, 1), (2, 1), (3, 1)];
-    all_meet(&rt, &votes(&rt, &TWO_AT_0, 2, 3));
-    all_meet(&rt, &votes(&rt, &[(0, 1), (1, 0), (2, 0)], 1, 1));
-    all_meet(&rt, &votes(&rt, &four, 2, 3));
-    all_meet(&rt, &votes(&rt, &[(3, 0), (2, 5), (1, 3), (0, 3)], 4, 8));
+    for text in TRIED.lines().skip(1) {
+        all_meet(&rt, &had(&rt, made(&rt, 4, text)));
+    }
 }

@@ -9,8 +9,6 @@
 mod line;
 mod report;
 mod row;
-#[cfg(test)]
-mod tests;
 
 use byte_streams::{MemoryIn, MemoryOut, SystemIn, SystemOut, read_all, write_all};
 use line::Unread;

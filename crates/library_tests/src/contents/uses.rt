@@ -11,7 +11,7 @@ use std::alloc::{AllocError, Global};
 use suite_content::{Content, FileBytes, FolderNames, Kind, Name, NameList};
 
 /// A file or a folder with its owner. In a contract it is plain data.
-#[derive(Debug, Drop)]
+#[derive(Drop)]
 pub struct Row {
     pub owner: u32,
     pub content: Content,

@@ -10,7 +10,7 @@ use sorted_map::{RoomyMap, SortedMap};
 use std::alloc::{AllocError, Global};
 use std::marker::Model;
 
-#[derive(Clone, Copy, Debug, PartialEq, Eq)]
+#[derive(Clone, Copy)]
 pub struct Row {
     pub owner: u32,
     pub size: u64,

@@ -216,33 +216,6 @@ fn tells_each_stream_that_fails(rt: HostRuntime) {
     tells_failures_of(&rt, "--version", "", 2, "fault command line\n", 0);
 }
 
-/// A list of so many entries: the single ones, the mask and users.
-fn list_of(rt: &(impl Abort + AllocGlobal), entries: u64) -> Vec<u8> {
-    let mut text = Vec::new(rt.alloc());
-    add(rt, &mut text, b"u::r,g::r,m::r,o::r");
-    for user in 4..entries {
-        let item = format!(in rt.alloc(); ",u:{user}:r").expect(rt, "memory");
-        add(rt, &mut text, item.as_bytes());
-    }
-    text
-}
-
-/// A list of so many entries has this status, and a line that ends so.
-fn takes_entries(rt: &(impl Abort + AllocGlobal), entries: u64, status: u8, line: &str) {
-    let input = list_of(rt, entries);
-    let writer = MemoryOut::new(rt.alloc());
-    let (given, writer) = played(rt, &["acl"], MemoryIn::new(&input), writer);
-    holds(rt, given == status, "entries", entries);
-    let text = std::str::from_utf8(writer.bytes()).ok().expect(rt, "text");
-    holds(rt, text.contains(line), "entries", entries);
-}
-
-#[test]
-fn takes_64_entries(rt: HostRuntime) {
-    takes_entries(&rt, 64, 0, "user:63:r--\n");
-    takes_entries(&rt, 65, 3, "fault A8\n");
-}
-
 /// Comments of this length give this status and output.
 fn reads_comment(
     rt: &(impl Abort + AllocGlobal),
