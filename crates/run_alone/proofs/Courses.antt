@@ -1,4 +1,5 @@
--- What the edits of a transaction are: rows are made at its own numbers alone, and contents are within limits where those are that it meets.
+-- What the edits of a transaction are: rows are made at its own numbers alone, lists fit the rows that they are set of, and contents are within
+-- limits where those are that it meets.
 use Rattle.std.proofs.Common.{◌≡◌, ℕ, suc, ◌+◌, ◌≤◌, ◌<◌, Bool, true, false, cond, List, [], ◌∷◌, ◌++◌, Option, Some, None, Result, Ok, Err, refl, sym, ap, subst, ◌∙◌, arith}
 use Rattle.std.specs.Prelude.{◌==◌, ◌&&◌, ◌||◌, nat_lt, nat_le, length, is_some}
 use Rattle.std.specs.declared.cmp.Ordering.TheVariants.{Less, Equal, Greater}
@@ -11,7 +12,7 @@ use Rattle.suite_content.specs.declared.content.Content.{Content}
 use Rattle.suite_content.specs.declared.content.Content.TheVariants.{Bytes, Names}
 use Rattle.suite_content.specs.declared.content.Kind.{Kind}
 use Rattle.suite_content.specs.declared.content.Kind.TheVariants as holds
-use Rattle.suite_content.specs.Contents.{empty_content}
+use Rattle.suite_content.specs.Contents.{kind_of, empty_content}
 use Rattle.suite_content.specs.Limits.{max_content, max_names}
 use Rattle.suite_content.specs.Folders as folders
 use Rattle.suite_content.specs.FolderLaws.{length-without_name}
@@ -26,10 +27,11 @@ use Rattle.file_ops.specs.declared.refusal.Why.{Why}
 use Rattle.file_ops.specs.declared.refusal.Why.TheVariants as why
 use Rattle.file_ops.specs.declared.service.Service.{Service}
 use Rattle.file_ops.specs.Steps.{found_or}
+use Rattle.file_ops.specs.Lists.{gives_default, is_misplaced, lists_of}
 use Rattle.file_ops.specs.Paths.{names_of}
 use Rattle.file_ops.specs.KnownVotes.{known_votes, votes_of_new}
 use Rattle.file_ops.specs.Limits.{max_operations}
-use Rattle.file_ops.specs.Walks.{bytes_in, names_in, to_read, to_write, to_search, to_change, permit, permit_others, owner_only}
+use Rattle.file_ops.specs.Walks.{Place, bytes_in, names_in, to_read, to_write, to_search, to_change, permit, permit_others, owner_only}
 use Rattle.file_ops.specs.Operations.{Parent, refuse_if, last_name, is_used}
 use Rattle.file_ops.specs.Rows.{Row, root, made_number, new_row}
 use Rattle.file_ops.specs.Transactions.{is_miscounted}
@@ -42,6 +44,7 @@ use Rattle.file_exec.specs.Known.{Known, AgreesWith, Done, exec_of, first_unmet}
 use Rattle.file_exec.specs.Operations as asked
 use Rattle.file_exec.proofs.Unmet.{done_unmet}
 use Rattle.file_exec.proofs.Alike.{goes_alike}
+use Rattle.run_alone.proofs.FittingLists.{SetsFitting, AllSetFitting, looked_fit, made_fit}
 
 -- the number of something that the transaction makes
 abbrev pub IsNumber : ℕ → ℕ → Type 0
@@ -190,15 +193,20 @@ empty_small holds.Folder = refl
 -- ---- a transaction
 
 module _ (t : ℕ) (rows : ℕ → Option Row) where
-  -- what is made has its own numbers; and contents are within limits where those of the rows are
+  -- what is made has its own numbers; contents are within limits where those of the rows are; and lists fit
   abbrev pub IsWell : Edits → Type 0
-  IsWell edits = AllNumbered t edits × (AreSmall rows → AllSmall edits)
+  IsWell edits = AllNumbered t edits × (AreSmall rows → AllSmall edits) × AllSetFitting rows edits
 
   abbrev Well : {A : Type 0} → Edits → A → Type 0
   Well edits x = IsWell edits
 
-  one_more : (edits : Edits) (suite : ℕ) (edit : Edit) → IsWell edits → (makes edit ≡ true → IsNumber t suite) → (AreSmall rows → IsSmall edit) → IsWell ((suite, edit) ∷ edits)
-  one_more edits suite edit well numbered small = ((numbered, well.0), λ all. (small all, well.1 all))
+  one_more : (edits : Edits) (suite : ℕ) (edit : Edit) → IsWell edits → (makes edit ≡ true → IsNumber t suite) → (AreSmall rows → IsSmall edit) → SetsFitting edit (seen edits suite (rows suite))
+      → IsWell ((suite, edit) ∷ edits)
+  one_more edits suite edit well numbered small fitting = ((numbered, well.0), λ all. (small all, well.1 all), (fitting, well.2))
+
+  -- the row of a place is the one that was looked at
+  abbrev IsPlace : Edits → Place → Type 0
+  IsPlace edits place = IsWell edits × (looked rows edits place.suite ≡ Some place.row)
 
   -- so many names
   abbrev AreFew : List (List ℕ × ℕ) → Type 0
@@ -214,12 +222,12 @@ module _ (t : ℕ) (rows : ℕ → Option Row) where
   gives edits well (Ok given) = record { goes = well }
   gives edits well (Err why) = record { goes = tt }
 
-  place : (edits : Edits) → IsWell edits → (suite : ℕ) (row : Option Row) → Goes rows Well edits (asked.place_at suite row)
-  place edits well suite (Some row) = well
-  place edits well suite None = tt
+  place : (edits : Edits) → IsWell edits → (suite : ℕ) (row : Option Row) → looked rows edits suite ≡ row → Goes rows IsPlace edits (asked.place_at suite row)
+  place edits well suite (Some row) is = (well, is)
+  place edits well suite None is = tt
 
-  held : (edits : Edits) → IsWell edits → (suite : ℕ) (mode : LockMode) → Does rows Well edits (asked.held suite mode)
-  held edits well suite mode = record { goes = place edits well suite (looked rows edits suite) }
+  held : (edits : Edits) → IsWell edits → (suite : ℕ) (mode : LockMode) → Does rows IsPlace edits (asked.held suite mode)
+  held edits well suite mode = record { goes = place edits well suite (looked rows edits suite) refl }
 
   names_at : (edits : Edits) → IsWell edits → (suite : ℕ) → Does rows NamesFew edits (asked.names_at suite)
   names_at edits well suite = record { goes = of (names_in (content_read rows edits suite)) refl }
@@ -233,28 +241,28 @@ module _ (t : ℕ) (rows : ℕ → Option Row) where
 
   step : (edits : Edits) → IsWell edits → (caller : Identity) (suite : ℕ) (name : List ℕ) → Does rows Well edits (asked.step caller suite name)
   step edits well caller suite name =
-      in_turn {P = Well} _ (held edits well suite Shared) (λ now folder well.
+      in_turn {P = IsPlace} _ (held edits well suite Shared) (λ now folder at.
       ruled (names_in folder.row.content) _ (λ _ _. ruled (permit caller folder to_search) _ (λ _ _.
-      in_turn {P = NamesFew} _ (names_at now well suite) (λ later names few. gives later few.0 (found_or (folders.number_of names name) why.NoName)))))
+      in_turn {P = NamesFew} _ (names_at now at.0 suite) (λ later names few. gives later few.0 (found_or (folders.number_of names name) why.NoName)))))
 
   walk : (edits : Edits) → IsWell edits → (caller : Identity) (suite : ℕ) (names : List (List ℕ)) → Does rows Well edits (asked.walk caller suite names)
   walk edits well caller suite [] = record { goes = well }
   walk edits well caller suite (name ∷ names) = in_turn {P = Well} _ (step edits well caller suite name) (λ now next well. walk now well caller next names)
 
-  reach : (edits : Edits) → IsWell edits → (caller : Identity) (names : List (List ℕ)) (mode : LockMode) → Does rows Well edits (asked.reach caller names mode)
+  reach : (edits : Edits) → IsWell edits → (caller : Identity) (names : List (List ℕ)) (mode : LockMode) → Does rows IsPlace edits (asked.reach caller names mode)
   reach edits well caller names mode = in_turn {P = Well} _ (walk edits well caller root names) (λ now suite well. held now well suite mode)
 
   shown : (edits : Edits) → IsWell edits → (caller : Identity) (names : List (List ℕ)) → Does rows Well edits (asked.shown caller names)
-  shown edits well caller names = in_turn {P = Well} _ (reach edits well caller names Shared) (λ now place well. ruled (permit_others caller place to_read) _ (λ _ _. record { goes = well }))
+  shown edits well caller names = in_turn {P = IsPlace} _ (reach edits well caller names Shared) (λ now place at. ruled (permit_others caller place to_read) _ (λ _ _. record { goes = at.0 }))
 
-  owned : (edits : Edits) → IsWell edits → (caller : Identity) (names : List (List ℕ)) → Does rows Well edits (asked.owned caller names)
-  owned edits well caller names = in_turn {P = Well} _ (reach edits well caller names Exclusive) (λ now place well. ruled (owner_only caller place) _ (λ _ _. record { goes = well }))
+  owned : (edits : Edits) → IsWell edits → (caller : Identity) (names : List (List ℕ)) → Does rows IsPlace edits (asked.owned caller names)
+  owned edits well caller names = in_turn {P = IsPlace} _ (reach edits well caller names Exclusive) (λ now place at. ruled (owner_only caller place) _ (λ _ _. record { goes = at }))
 
   parent_of : (edits : Edits) → IsWell edits → (caller : Identity) (names : List (List ℕ)) → Does rows IsParent edits (asked.parent_of caller names)
   parent_of edits well caller names =
-      in_turn {P = Well} _ (reach edits well caller names Exclusive) (λ now place well.
+      in_turn {P = IsPlace} _ (reach edits well caller names Exclusive) (λ now place at.
       ruled (names_in place.row.content) _ (λ _ _. ruled (permit caller place to_change) _ (λ _ _.
-      in_turn {P = NamesFew} _ (names_at now well place.suite) (λ later names few. record { goes = few }))))
+      in_turn {P = NamesFew} _ (names_at now at.0 place.suite) (λ later names few. record { goes = few }))))
 
   used_content : (P : Edits → Unit {0} → Type 0) (edits : Edits) → P edits tt → (suite : ℕ) (row : Row) (content : Content) → Goes rows P edits (asked.refuse_used suite (Some (record row { content = content })))
   used_content P edits is suite row (Bytes bytes) = is
@@ -270,35 +278,42 @@ module _ (t : ℕ) (rows : ℕ → Option Row) where
 
   act : (edits : Edits) → IsWell edits → (service : Service) (at : ℕ) → at < max_operations → (caller : Identity) (names : List (List ℕ)) (action : Action) → Does rows Well edits (asked.act service t at caller names action)
   act edits well service at small caller names action.Read =
-      in_turn {P = Well} _ (reach edits well caller names Shared) (λ now place well.
+      in_turn {P = IsPlace} _ (reach edits well caller names Shared) (λ now place is.
       ruled (permit caller place to_read) _ (λ _ _. ruled (bytes_in place.row.content) _ (λ _ _.
-      in_turn {P = Well} _ (bytes_at now well place.suite) (λ later bytes well. record { goes = well }))))
+      in_turn {P = Well} _ (bytes_at now is.0 place.suite) (λ later bytes well. record { goes = well }))))
   act edits well service at small caller names action.List =
-      in_turn {P = Well} _ (reach edits well caller names Shared) (λ now place well.
+      in_turn {P = IsPlace} _ (reach edits well caller names Shared) (λ now place is.
       ruled (permit caller place to_read) _ (λ _ _. ruled (names_in place.row.content) _ (λ _ _.
-      in_turn {P = NamesFew} _ (names_at now well place.suite) (λ later entries few. record { goes = few.0 }))))
+      in_turn {P = NamesFew} _ (names_at now is.0 place.suite) (λ later entries few. record { goes = few.0 }))))
   act edits well service at small caller names action.GetAcl = in_turn {P = Well} _ (shown edits well caller names) (λ now place well. record { goes = well })
   act edits well service at small caller names action.GetVotes = in_turn {P = Well} _ (shown edits well caller names) (λ now place well. record { goes = well })
   act edits well service at small caller names (action.Write bytes) =
       ruled (refuse_if (nat_lt max_content (length bytes)) why.TooLong) _ (λ x fits.
-      in_turn {P = Well} _ (reach edits well caller names Exclusive) (λ now place well.
+      in_turn {P = IsPlace} _ (reach edits well caller names Exclusive) (λ now place is.
       ruled (permit caller place to_write) _ (λ _ _. ruled (bytes_in place.row.content) _ (λ _ _.
-      record { goes = one_more now place.suite (SetContent (Bytes bytes)) well (λ is. absurd (false≢true is)) (λ _. short bytes (not_refused (nat_lt max_content (length bytes)) why.TooLong x fits)) }))))
+      record { goes = one_more now place.suite (SetContent (Bytes bytes)) is.0 (λ made. absurd (false≢true made)) (λ _. short bytes (not_refused (nat_lt max_content (length bytes)) why.TooLong x fits)) tt }))))
   act edits well service at small caller names (action.SetAcl acl) =
-      in_turn {P = Well} _ (owned edits well caller names) (λ now place well. record { goes = one_more now place.suite (SetAcl acl) well (λ is. absurd (false≢true is)) (λ _. tt) })
+      in_turn {P = IsPlace} _ (owned edits well caller names) (λ now place is.
+      ruled (refuse_if (is_misplaced (kind_of place.row.content) (is_some acl.default)) why.DefaultOnFile) _ (λ x fits.
+      record {
+        goes = one_more now place.suite (SetAcl acl) is.0 (λ made. absurd (false≢true made)) (λ _. tt)
+            (looked_fit rows now place.suite place.row acl is.1 (not_refused (is_misplaced (kind_of place.row.content) (is_some acl.default)) why.DefaultOnFile x fits));
+      }))
   act edits well service at small caller names (action.SetVotes given) =
-      ruled (known_votes service given) _ (λ votes _. in_turn {P = Well} _ (owned edits well caller names) (λ now place well.
-      record { goes = one_more now place.suite (SetVotes votes) well (λ is. absurd (false≢true is)) (λ _. tt) }))
+      ruled (known_votes service given) _ (λ votes _. in_turn {P = IsPlace} _ (owned edits well caller names) (λ now place is.
+      record { goes = one_more now place.suite (SetVotes votes) is.0 (λ made. absurd (false≢true made)) (λ _. tt) tt }))
   act edits well service at small caller names (action.Make kind init given) =
       ruled (last_name names) _ (λ path _. ruled (votes_of_new service given) _ (λ votes _.
+      ruled (refuse_if (is_misplaced kind (gives_default init)) why.DefaultOnFile) _ (λ y fits.
       in_turn {P = IsParent} _ (parent_of edits well caller path.folders) (λ now parent few.
       ruled (refuse_if (is_some (folders.number_of parent.names path.name)) why.Exists) _ (λ _ _. ruled (refuse_if (nat_le max_names (length parent.names)) why.FolderFull) _ (λ x room.
       record {
-        goes = one_more ((parent.place.suite, SetContent (Names (folders.with_name parent.names path.name (made_number t at)))) ∷ now) (made_number t at) (Make (new_row kind init votes caller))
+        goes = one_more ((parent.place.suite, SetContent (Names (folders.with_name parent.names path.name (made_number t at)))) ∷ now) (made_number t at) (Make (new_row kind (lists_of kind parent.place.row.acl.default init) votes caller))
             (one_more now parent.place.suite (SetContent (Names (folders.with_name parent.names path.name (made_number t at)))) few.0 (λ is. absurd (false≢true is))
-            (λ _. with_name_small parent.names path.name (made_number t at) (not_refused (nat_le max_names (length parent.names)) why.FolderFull x room)))
-            (λ _. (at, refl, small)) (λ _. empty_small kind);
-      })))))
+            (λ _. with_name_small parent.names path.name (made_number t at) (not_refused (nat_le max_names (length parent.names)) why.FolderFull x room)) tt)
+            (λ _. (at, refl, small)) (λ _. empty_small kind)
+            (made_fit kind parent.place.row.acl.default init votes caller (not_refused (is_misplaced kind (gives_default init)) why.DefaultOnFile y fits));
+      }))))))
   act edits well service at small caller names action.Drop =
       ruled (last_name names) _ (λ path _.
       in_turn {P = IsParent} _ (parent_of edits well caller path.folders) (λ now parent few.
@@ -306,7 +321,7 @@ module _ (t : ℕ) (rows : ℕ → Option Row) where
       record {
         goes = turned rows (λ later _. IsWell later × AreFew parent.names) Well now (asked.refuse_used number (looked rows now number)) _
             (refuse_used (λ later _. IsWell later × AreFew parent.names) now few number (looked rows now number))
-            (λ later _ is. one_more later parent.place.suite (SetContent (Names (folders.without_name parent.names path.name))) is.0 (λ made. absurd (false≢true made)) (λ small. without_name_small parent.names path.name (is.1 small)));
+            (λ later _ is. one_more later parent.place.suite (SetContent (Names (folders.without_name parent.names path.name))) is.0 (λ made. absurd (false≢true made)) (λ small. without_name_small parent.names path.name (is.1 small)) tt);
       })))
 
   operation : (edits : Edits) → IsWell edits → (service : Service) (at : ℕ) → at < max_operations → (caller : Identity) (op : Op) → Does rows Well edits (asked.operation service t at caller op)
@@ -328,7 +343,7 @@ module _ (t : ℕ) (rows : ℕ → Option Row) where
   transaction service caller ops =
       elim (is_miscounted ops) as (λ b. is_miscounted ops ≡ b → Goes rows Well [] (cond b (Refuse (record { op = 0; why = why.OpCount })) (asked.play service [] t 0 caller ops))) [
         | true ↦ λ _. tt
-        | false ↦ λ counted. (play [] (tt, λ _. tt) service [] 0 caller ops (few (length ops) counted)).goes
+        | false ↦ λ counted. (play [] (tt, λ _. tt, tt) service [] 0 caller ops (few (length ops) counted)).goes
       ] refl
     where
       few : (n : ℕ) → ((n == 0) || nat_lt max_operations n) ≡ false → 0 + n ≤ max_operations

@@ -1,6 +1,6 @@
 -- A part of a Prepare fits the copy that a server has, where its locks stand and the register is known.
 use Rattle.std.proofs.Common.{◌≡◌, inl, inr, ℕ, ◌+◌, ◌<◌, Bool, true, false, cond, List, map, Option, Some, None, refl, sym, ap, ◌∙◌, arith}
-use Rattle.std.specs.Prelude.{◌&&◌, ◌||◌, not, nat_lt}
+use Rattle.std.specs.Prelude.{◌&&◌, ◌||◌, not, nat_lt, is_some}
 use Rattle.std.proofs.lemmas.Bool.{and_parts, and_from, false≢true}
 use Rattle.std.proofs.lemmas.Bool.Decides.{nat_tests}
 use Rattle.suite_content.specs.declared.content.Content.{Content}
@@ -20,6 +20,7 @@ use Rattle.suite_prefix.specs.declared.copies.Replica.{Replica}
 use Rattle.rep_core.specs.declared.request.Take.TheVariants as take
 use Rattle.rep_core.specs.Store.{is_keep, may_become, goes_with}
 use Rattle.rep_core.proofs.Members.{Has}
+use Rattle.file_ops.specs.Lists.{is_misplaced}
 use Rattle.file_exec.specs.declared.changes.Change as executor
 use Rattle.file_exec.specs.Known.{known_rows}
 use Rattle.txn_core.specs.Suites.{First, Suite, Suites, holds_exclusively, lock_mode, known_of}
@@ -34,9 +35,9 @@ use Rattle.run_alone.proofs.Known.{IsOfValid}
 
 -- ---- kinds
 
-kind_rules : (k : Kind) (prefix : Prefix) → nat_lt 0 prefix.pver ≡ true → keeps_rules (prefix_kind k) prefix ≡ true
-kind_rules holds.File prefix some = some
-kind_rules holds.Folder prefix some = some
+kind_rules : (k : Kind) (prefix : Prefix) → nat_lt 0 prefix.pver ≡ true → is_misplaced k (is_some prefix.acl.default) ≡ false → keeps_rules (prefix_kind k) prefix ≡ true
+kind_rules holds.File prefix some fit = and_from (nat_lt 0 prefix.pver) (not (is_some prefix.acl.default)) some (ap not fit)
+kind_rules holds.Folder prefix some fit = some
 
 not_absent : (k : Kind) → not (is_absent (prefix_kind k)) ≡ true
 not_absent holds.File = refl
@@ -79,7 +80,7 @@ module _ (start : Beginning) (log : List Entry) (t z : ℕ) (suites : Suites) (s
   -- ---- a prefix
 
   rules_kept : sets_prefix change ≡ true → is_valid_prefix (new_prefix first change) ≡ true
-  rules_kept sets = kind_rules (kind_of change.row.content) (new_prefix first change) (above first.prefix.pver (sets_prefix change) sets)
+  rules_kept sets = kind_rules (kind_of change.row.content) (new_prefix first change) (above first.prefix.pver (sets_prefix change) sets) (own.lists (ap is_valid_prefix knows.prefix ∙ valid.prefix))
 
   valid_prefix : (b : Bool) → sets_prefix change ≡ b → is_valid_prefix (new_prefix first change) ≡ true
   valid_prefix true sets = rules_kept sets

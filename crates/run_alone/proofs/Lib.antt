@@ -19,6 +19,7 @@ pub mod Reached
 pub mod Standing
 pub mod Holding
 pub mod Known
+pub mod FittingLists
 pub mod Courses
 pub mod Sets
 pub mod Grown

@@ -7,7 +7,7 @@ use Rattle.std.proofs.lemmas.Option.{none-some, same_Some}
 use Rattle.std.proofs.lemmas.Map.Keys.{IsDistinct-head, IsDistinct-tail}
 use Rattle.suite_prefix.specs.SettingsRules.{Opening, IsAccepted}
 use Rattle.file_ops.specs.Rows as rows
-use Rattle.acl_core.specs.declared.entry.Entry.{Entry}
+use Rattle.acl_core.specs.declared.lists.Lists.{Lists}
 use Rattle.vote_core.specs.Quorums.{Configuration}
 use Rattle.suite_content.specs.declared.content.Kind.TheVariants.{Folder}
 use Rattle.suite_content.specs.Contents.{empty_content}
@@ -276,7 +276,7 @@ same_answers table (a ∷ ds) (b ∷ es) more others apart apart' answers answer
     ]
 
 -- a table as it opens
-abbrev opened : ℕ → Configuration → ℕ → ℕ → List Entry → PlainTable
+abbrev opened : ℕ → Configuration → ℕ → ℕ → Lists → PlainTable
 opened servers c0 owner group acl = record {
   service = record { servers = servers; c0 = c0 };
   rows = (root, record { owner = owner; group = group; acl = acl; votes = c0; content = empty_content Folder }) ∷ [];

@@ -1,4 +1,5 @@
--- What a transaction sets of a suite: it makes it only at a number of its own, and else leaves its kind; and a content that it sets is within limits.
+-- What a transaction sets of a suite: it makes it only at a number of its own, and else leaves its kind; a content that it sets is within limits; and
+-- its lists fit.
 use Rattle.std.proofs.Common.{◌≡◌, ℕ, Bool, true, false, cond, List, [], ◌∷◌, Option, Some, None, Ok, Err, refl, sym, ap, subst, ◌∙◌}
 use Rattle.std.specs.Prelude.{◌==◌, ◌||◌, ◌&&◌, is_some, option_map, unwrap_or, Result}
 use Rattle.std.specs.Ordering.{nat_cmp}
@@ -9,7 +10,7 @@ use Rattle.vote_core.specs.Validity.{IsValid}
 use Rattle.suite_content.specs.declared.content.Content.{Content}
 use Rattle.suite_content.specs.declared.content.Kind.TheVariants as holds
 use Rattle.suite_content.specs.Contents.{kind_of, empty_content}
-use Rattle.suite_prefix.specs.Tests.{is_within_limits}
+use Rattle.suite_prefix.specs.Tests.{is_valid_prefix, is_within_limits}
 use Rattle.suite_prefix.specs.declared.copies.Prefix.{Prefix}
 use Rattle.suite_prefix.specs.declared.copies.PrefixKind.{PrefixKind}
 use Rattle.suite_prefix.specs.declared.copies.PrefixKind.TheVariants as kind
@@ -38,6 +39,7 @@ use Rattle.one_table.proofs.Shown.{FitsAs, told_as}
 use Rattle.headline.specs.Premises.{AllGiveValidVotes}
 use Rattle.headline.proofs.Editing.{edits_fit}
 use Rattle.headline.proofs.Setting.{same_kind}
+use Rattle.run_alone.proofs.FittingLists.{ListsFit, seen_fit, shown_fit}
 use Rattle.run_alone.proofs.Courses.{IsNumber, AllNumbered, AreSmall, set_small, edits_well}
 
 -- of a suite that is changed
@@ -45,6 +47,7 @@ pub record IsOwn (t z : ℕ) (suites : Suites) (first : First) (change : executo
   pub made : change.made ≡ true → IsNumber t z
   pub kept : change.made ≡ false → prefix_kind (kind_of change.row.content) ≡ first.prefix.kind
   pub small : AreSmall (known_rows (known_of suites)) → change.content ≡ true → is_within_limits change.row.content ≡ true
+  pub lists : is_valid_prefix first.prefix ≡ true → ListsFit change.row
 
 -- ---- what is known agrees with its own rows
 
@@ -105,10 +108,12 @@ module _ (fixed : Fixed) (task : Task) (suites : Suites) (outcome : Outcome) (z 
       let heads = head_before Exclusive (known.known_of before z) (rows z) (now z) held ∙ ap head shown in
       let fit = edits_fit fixed.service before task.t task.caller task.ops ended c0 valid done in
       let well = edits_well task.t rows fixed.service before task.caller task.ops ended now done in
+      let met = edits_well task.t (known_rows before) fixed.service before task.caller task.ops ended (agrees_itself before) done in
       subst (IsOwn task.t z suites first) from.told (record {
         made = λ is. number_of_made task.t ended.edits z well.0 is;
         kept = λ none. same_kind suite first (known_rows before) z ended.edits from.row fit from.is fits heads none;
         small = λ small content. set_small ended.edits z (known_rows before z) from.row (well.1 small) content from.is;
+        lists = λ valid. seen_fit (known_rows before) ended.edits z fit met.2 (shown_fit suite first (known_rows before z) fits heads valid) from.row from.is;
       })
 
   by_result : (before : Known) → ((rows : ℕ → Option Row) → AgreesWith (known_of suites) rows → AgreesWith before rows) → (result : Result (Ended (List Answer)) Refusal) → exec_of fixed.service before task.t task.caller task.ops ≡ Done result
