@@ -4,11 +4,12 @@
 //! A call that memory was refused to is made again, so that each allocation can be refused in turn. What a
 //! test itself lacks stops it.
 
+ghost use Rattle.file_exec.specs.Reaching.{IsReached};
+
 use crate::checks::{had, holds, number, push, tells};
 use crate::fixtures::{content, lists, prefix, votes};
-use crate::operations::{Asked, asked};
+use crate::operations::{Asked, read_asked};
 use crate::outcomes::{answers_words, refusal_words};
-use acl_core::Caller;
 use file_exec::{
     Change, Known, Need, Outcome, Progress, a_met_need_is_progress, changes_are_held,
     changes_by_suite, changes_lead_on, done_is_the_tables, exec, exec_on, exec_runs,
@@ -16,21 +17,11 @@ use file_exec::{
     needs_what_is_unmet, opening_meets, reached_stays, sets_what_is_held, taking_tells_more,
     unbegun_is_reached, unset_votes_stay,
 };
-use file_ops::{Op, Service};
+use file_ops::Service;
 use std::process::Abort;
 use suite_content::{Content, FolderNames, Kind, Name};
 use suite_prefix::{LockMode, Prefix, PrefixKind};
 use vote_core::{MAX_SERVERS, Votes};
-
-/// What a growth gives, which is tried once more where memory was refused.
-macro_rules! grown {
-    ($rt:expr, $growth:expr) => {
-        match $growth {
-            Ok(value) => value,
-            Err(_) => $growth.ok().expect($rt, "memory"),
-        }
-    };
-}
 
 mod stages;
 
@@ -85,7 +76,7 @@ fn made(rt: &(impl Abort + AllocGlobal), kind: PrefixKind, digits: &str) -> Pref
 }
 
 /// A suite in a line.
-fn small(rt: &(impl Abort + AllocGlobal), line: &str) -> Small {
+fn read_small(rt: &(impl Abort + AllocGlobal), line: &str) -> Small {
     let mut words = line.splitn(4, ' ');
     let number = number(rt, words.next().unwrap_or_default());
     let is_file = words.next() == Some("file");
@@ -121,7 +112,7 @@ fn add(rt: &impl Abort, suites: &mut Vec<Small>, suite: Small) {
 fn small_service(rt: &(impl Abort + AllocGlobal)) -> Vec<Small> {
     let mut suites = Vec::new(rt.alloc());
     for line in SUITES.lines().skip(1) {
-        add(rt, &mut suites, small(rt, line));
+        add(rt, &mut suites, read_small(rt, line));
     }
     for number in 6..25 {
         add(rt, &mut suites, absent(rt, number));
@@ -220,23 +211,45 @@ fn alike(rt: &(impl Abort + AllocGlobal), one: &Outcome, other: &Outcome) {
     );
 }
 
-/// Executes, and once more where memory was refused. What goes on from nothing, and what then goes on from
-/// where it came, comes to the same.
-fn executed(
+/// Executes from nothing, and once more where memory was refused.
+fn begun(rt: &(impl Abort + AllocGlobal), known: &Known<'_>, t: u16, asked: &Asked) -> Outcome {
+    let (alloc, t) = (rt.alloc(), u64::from(t));
+    match exec(alloc, known, t, &asked.caller, &asked.ops) {
+        Ok(outcome) => outcome,
+        Err(_) => had(rt, exec(alloc, known, t, &asked.caller, &asked.ops)),
+    }
+}
+
+/// Goes on from where it came, and once more where memory was refused.
+fn gone_on(
     rt: &(impl Abort + AllocGlobal),
     known: &Known<'_>,
     t: u16,
-    caller: &Caller,
-    ops: &[Op],
-) -> Outcome {
+    asked: &Asked,
+    progress: &mut Progress,
+) -> Outcome
+    requires { IsReached known.now.service known.now.suites t asked.now.caller asked.now.ops.items progress.old }
+    ensures { IsReached known.now.service known.now.suites t asked.now.caller asked.now.ops.items progress.new }
+{
     let (alloc, t) = (rt.alloc(), u64::from(t));
-    let outcome = grown!(rt, exec(alloc, known, t, caller, ops));
+    match exec_on(alloc, known, t, &asked.caller, &asked.ops, progress) {
+        Ok(outcome) => outcome,
+        Err(_) => had(
+            rt,
+            exec_on(alloc, known, t, &asked.caller, &asked.ops, progress),
+        ),
+    }
+}
+
+/// Executes. What goes on from nothing, and what then goes on from where it came, comes to the same.
+fn executed(rt: &(impl Abort + AllocGlobal), known: &Known<'_>, t: u16, asked: &Asked) -> Outcome {
+    let outcome = begun(rt, known, t, asked);
     unbegun_is_reached();
-    let mut progress = Progress::new(alloc);
-    let first = grown!(rt, exec_on(alloc, known, t, caller, ops, &mut progress));
-    alike(rt, &outcome, &first);
-    let again = grown!(rt, exec_on(alloc, known, t, caller, ops, &mut progress));
-    alike(rt, &outcome, &again);
+    let mut progress = Progress::new(rt.alloc());
+    let first = gone_on(rt, known, t, asked, &mut progress);
+    alike(rt, &first, &outcome);
+    let again = gone_on(rt, known, t, asked, &mut progress);
+    alike(rt, &again, &outcome);
     outcome
 }
 
@@ -246,12 +259,12 @@ fn met(rt: &(impl Abort + AllocGlobal), asked: &Asked, needs: &mut String) -> Ou
     let suites = small_service(rt);
     let service = service(rt);
     let mut known = Known::new(rt.alloc(), &service);
-    let mut outcome = executed(rt, &known, 2, &asked.caller, &asked.ops);
+    let mut outcome = executed(rt, &known, 2, asked);
     for _ in 0..20 {
         if let Outcome::Need(need) = outcome {
             push(rt, needs, need_words(rt, need).as_str());
             meet(rt, &suites, &mut known, need);
-            outcome = executed(rt, &known, 2, &asked.caller, &asked.ops);
+            outcome = executed(rt, &known, 2, asked);
         }
     }
     outcome
@@ -263,7 +276,7 @@ fn line(rt: &(impl Abort + AllocGlobal), text: &str) {
     let who = parts.next().unwrap_or_default();
     let what = parts.next().unwrap_or_default();
     let mut needs = String::new(rt.alloc());
-    let outcome = met(rt, &asked(rt, who, what), &mut needs);
+    let outcome = met(rt, &read_asked(rt, who, what), &mut needs);
     let want = parts.next().unwrap_or_default();
     holds(rt, needs.as_str().trim() == want.trim(), text);
     let want = parts.next().unwrap_or_default();
@@ -363,7 +376,7 @@ fn row_words(rt: &(impl Abort + AllocGlobal), change: &Change) -> String {
 /// A transaction leaves this row of a suite; of one that it sets nothing of it tells nothing.
 fn leaves(rt: &(impl Abort + AllocGlobal), what: &str, suite: u64, want: &str) {
     let mut needs = String::new(rt.alloc());
-    let outcome = met(rt, &asked(rt, "1000 100", what), &mut needs);
+    let outcome = met(rt, &read_asked(rt, "1000 100", what), &mut needs);
     let told = match &outcome {
         Outcome::Done(_, changes) => changes.get(suite),
         _ => None,

@@ -101,7 +101,7 @@ fn caller(rt: &impl Abort, text: &str) -> Caller {
 }
 
 /// Who asks, and for what.
-pub(crate) fn asked(rt: &(impl Abort + AllocGlobal), who: &str, what: &str) -> Asked {
+pub(crate) fn read_asked(rt: &(impl Abort + AllocGlobal), who: &str, what: &str) -> Asked {
     Asked {
         caller: caller(rt, who.trim()),
         ops: ops(rt, what),

@@ -6,7 +6,7 @@ mod uses;
 
 use crate::checks::{had, holds, tells};
 use crate::fixtures::{lists, votes};
-use crate::operations::{Asked, asked};
+use crate::operations::{Asked, read_asked};
 use crate::outcomes::{answers_words, refusal_words};
 use file_ops::{Answer, Answers, ApplyError, Table};
 use std::process::Abort;
@@ -42,7 +42,7 @@ fn line(rt: &(impl Abort + AllocGlobal), table: &mut Table, t: u16, text: &str) 
     let mut parts = text.split('|');
     let who = parts.next().unwrap_or_default();
     let what = parts.next().unwrap_or_default();
-    let outcome = played(table, t, &asked(rt, who, what));
+    let outcome = played(table, t, &read_asked(rt, who, what));
     let want = parts.next().unwrap_or_default().trim();
     tells(rt, &words(rt, &outcome), want, text);
 }

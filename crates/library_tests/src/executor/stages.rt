@@ -3,7 +3,7 @@
 
 use super::{Small, absent, end_words, executed, hold, made, names, service};
 use crate::checks::{had, tells};
-use crate::operations::asked;
+use crate::operations::read_asked;
 use crate::outcomes::answers_words;
 use file_exec::{Change, Changes, Known, Outcome};
 use file_ops::{Service, made_number};
@@ -127,8 +127,7 @@ fn outcome_of(rt: &(impl Abort + AllocGlobal), table: &[Held], t: u16, text: &st
     let what = parts.next().unwrap_or_default();
     let service = service(rt);
     let known = known_of(rt, &service, table);
-    let asked = asked(rt, who, what);
-    let outcome = executed(rt, &known, t, &asked.caller, &asked.ops);
+    let outcome = executed(rt, &known, t, &read_asked(rt, who, what));
     let want = parts.next().unwrap_or_default().trim();
     tells(rt, &told(rt, &outcome), want, text);
     outcome

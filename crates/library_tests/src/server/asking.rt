@@ -62,7 +62,7 @@ struct Words<'a> {
     take: &'a str,
 }
 
-fn words<'a>(text: &'a str) -> Words<'a> {
+fn split<'a>(text: &'a str) -> Words<'a> {
     let mut words = text.split(' ');
     Words {
         word: words.next().unwrap_or_default(),
@@ -131,7 +131,7 @@ fn of_suite(rt: &(impl Abort + AllocGlobal), words: Words<'_>) -> Request {
 /// A request in words: `deny` is a Decide that refuses, `answer` one with no replies, `twice` a Prepare that
 /// lists a suite twice.
 pub(super) fn request(rt: &(impl Abort + AllocGlobal), text: &str) -> Request {
-    let words = words(text);
+    let words = split(text);
     let t = words.t;
     match words.word {
         "answer" => Request::Decide {
