@@ -1,11 +1,10 @@
 -- What the commands write, as functions of what they read.
 use Rattle.std.specs.Prelude.{ℕ, ◌+◌, List, [], ◌∷◌, ◌++◌, codes, decimal, Option, Some, None, Result}
-use Rattle.std.specs.List.{filter_map}
-use Rattle.acl_core.specs.declared.entry.Entry.{Entry}
-use Rattle.acl_core.specs.InOrder.{in_order}
+use Rattle.acl_text.specs.Sides.{lists_of}
 use Rattle.acl_text.specs.Tables.{Tables}
-use Rattle.acl_text.specs.Texts.{entry_said, fault, readings}
+use Rattle.acl_text.specs.Texts.{fault, said_in}
 use Rattle.acl_text.specs.Writing.{canonical}
+use Rattle.acl_text.specs.declared.item.Said.{Said}
 use Rattle.acl_text.specs.declared.read.TextFault.{TextFault}
 use Rattle.file_ops.specs.Rows.{PlainTable, opening}
 use Rattle.file_ops.specs.Transactions.{transaction, replies, table_after}
@@ -70,13 +69,14 @@ script_output_of Play text = play_output text
 abbrev pub text_fault_line : TextFault → List ℕ
 text_fault_line fault = codes "fault " ++ text_code fault ++ line_feed
 
-abbrev pub list_output : Option TextFault → List Entry → Output
-list_output (Some fault) entries = Faulty (text_fault_line fault)
-list_output None entries = Done (canonical (in_order entries))
+-- the lists that entries make, or the fault of their text
+abbrev pub lists_output : Option TextFault → List Said → Output
+lists_output (Some fault) said = Faulty (text_fault_line fault)
+lists_output None said = Done (canonical (lists_of said))
 
 -- what `acl` writes for a list's text
 abbrev pub acl_output : Tables → List ℕ → Output
-acl_output names text = list_output (fault text names) (filter_map entry_said (readings text names))
+acl_output names text = lists_output (fault text names) (said_in text names)
 
 -- the line of a bad name among the words of `acl`
 abbrev pub word_fault_line : ℕ → List ℕ

@@ -1,4 +1,4 @@
-//! The command `acl`: a list's text, printed anew.
+//! The command `acl`: the text of lists, printed anew.
 
 ghost use Rattle.std.specs.Prelude.{◌≡◌, ◌-◌, ◌==◌, map, not, length, option_map, IfOk};
 ghost use Rattle.std.specs.List.{suffix_len};
@@ -110,14 +110,14 @@ fn number_start(text: &[u8]) -> usize
     start
 }
 
-/// The long text of the list that a text spells.
+/// The long text of the lists that a text spells.
 pub(crate) fn list_text(alloc: Global, names: &Names, text: &[u8]) -> Result<Vec<u8>, ListError>
     ensures { GivesList result (acl_output names.now text.now) }
 {
     let mut written = Vec::new(alloc);
     match read_acl(alloc, text, names) {
-        Ok(acl) => {
-            append_acl(&mut written, &acl)?;
+        Ok(lists) => {
+            append_acl(&mut written, &lists)?;
             Ok(written)
         }
         Err(TextFault::Memory) => Err(ListError::Memory),
