@@ -13,7 +13,7 @@ use Rattle.file_exec.specs.declared.log.Edit.TheVariants.{SetAcl, SetVotes, SetC
 use Rattle.file_exec.specs.Following.{Edits, seen, is_set}
 use Rattle.file_exec.specs.Known.{Known, known_rows, Heard, Needs, Done}
 
--- whether an edit sets the list, the votes, or all; what is made is set in all its parts
+-- whether an edit sets the lists, the votes, or all; what is made is set in all its parts
 abbrev pub sets_acl : Edit → Bool
 sets_acl (SetAcl acl) = true
 sets_acl (SetVotes votes) = false

@@ -218,7 +218,7 @@ impl<'a, 'k> View<'a, 'k> {
         self.held(suite, mode)
     }
 
-    /// The file or folder whose list and votes the caller may see.
+    /// The file or folder whose lists and votes the caller may see.
     pub(crate) fn shown(
         self,
         caller: &Caller,
@@ -235,7 +235,7 @@ impl<'a, 'k> View<'a, 'k> {
         Ok(place)
     }
 
-    /// The file or folder whose list and votes the caller may change.
+    /// The file or folder whose lists and votes the caller may change.
     pub(crate) fn owned(
         self,
         caller: &Caller,

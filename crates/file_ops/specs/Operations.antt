@@ -61,7 +61,7 @@ names_listed rows caller names = do
   entries ← names_in place.row.content
   Ok (record { answer = answer.List (folders.names_in entries); rows = rows })
 
--- the access list of a file or folder, answered; its votes, answered
+-- the lists of a file or folder, answered; its votes, answered
 abbrev pub list_shown : Rows → Identity → List (List ℕ) → Result Done Why
 list_shown rows caller names = do
   place ← shown rows caller names

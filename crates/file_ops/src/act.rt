@@ -92,7 +92,7 @@ fn list(
     })
 }
 
-/// The access list of a file or folder.
+/// The lists of a file or folder.
 fn get_acl(rows: &StoredRows, caller: &Caller, names: &[Name]) -> Result<Answer, OpError>
     ensures { Does result (plain rows.now) (list_shown (plain rows.now) caller.now names.now) }
 {
@@ -134,7 +134,7 @@ fn write(
     })
 }
 
-/// Gives a file or folder another access list.
+/// Gives a file or folder other lists.
 fn set_acl(
     rows: &mut StoredRows,
     caller: &Caller,
@@ -215,13 +215,7 @@ fn make(
 }
 
 /// The row of a new file or folder.
-fn new_row(
-    alloc: Global,
-    kind: Kind,
-    acl: Lists,
-    votes: Votes,
-    caller: &Caller,
-) -> StoredRow
+fn new_row(alloc: Global, kind: Kind, acl: Lists, votes: Votes, caller: &Caller) -> StoredRow
     ensures { plain_row result ≡ new_row kind acl votes caller.now }
 {
     StoredRow {

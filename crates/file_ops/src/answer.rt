@@ -8,7 +8,7 @@ use std::sync::ArcSlice;
 use suite_content::{FileBytes, NameList};
 use vote_core::Votes;
 
-/// The reply to an operation. A clone shares the bytes, the names and the list.
+/// The reply to an operation. A clone shares the bytes, the names and the lists.
 #[derive(Debug, Drop)]
 pub enum Answer {
     /// To Read: the bytes of the file.
@@ -21,7 +21,7 @@ pub enum Answer {
     Made(u64),
     /// To Drop.
     Dropped,
-    /// To GetAcl: the list.
+    /// To GetAcl: the access list, and the default list where there is one.
     Acl(Lists),
     /// To SetAcl and SetVotes.
     Set,

@@ -31,7 +31,7 @@ pub(crate) fn exchange_content(
     Some(mem::replace(&mut row.content, content))
 }
 
-/// Gives a suite another access list, where it has a row, and answers the list before.
+/// Gives a suite other lists, where it has a row, and answers those before.
 pub(crate) fn exchange_acl(rows: &mut StoredRows, suite: u64, acl: Lists) -> Option<Lists>
     ensures before { result ≡ option_map (λ row. row.acl) (get nat_cmp rows.old suite) }
     ensures after { rows.new ≡ exchanged rows.old suite (with_stored_acl acl) }

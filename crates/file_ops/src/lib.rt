@@ -1,6 +1,6 @@
 //! The plain table: files and folders, and transactions of operations on them.
 //!
-//! A [`Table`] has a row for each file and folder: its owner, its group, its access list, its votes and
+//! A [`Table`] has a row for each file and folder: its owner, its group, its lists, its votes and
 //! what it holds. [`Table::apply`] plays a transaction, a list of operations that see one another and are
 //! taken back together at the first refusal. Its contract is the definition of a transaction on rows
 //! as a finite map (`specs/Transactions.antt`): for every table, caller and list of operations the

@@ -98,9 +98,9 @@ pub enum Action {
     Make(Kind, Init, Option<Votes>),
     /// A name is taken out of a folder. What it led to stays.
     Drop,
-    /// The access list is answered.
+    /// The access list is answered, and a folder's default list.
     GetAcl,
-    /// A file or folder gets this access list.
+    /// A file or folder gets these lists; a file can have no default list.
     SetAcl(Lists),
     /// The votes are answered.
     GetVotes,

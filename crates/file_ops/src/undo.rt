@@ -30,7 +30,7 @@ pub(crate) enum Undo {
         suite: u64,
         before: StoredContent,
     },
-    /// The access list of a suite before.
+    /// The lists of a suite before.
     Listed {
         suite: u64,
         before: Lists,
@@ -101,7 +101,7 @@ pub(crate) fn replace_content(rows: &mut StoredRows, suite: u64, content: Stored
     }
 }
 
-/// Gives a suite another access list.
+/// Gives a suite other lists.
 pub(crate) fn replace_acl(rows: &mut StoredRows, suite: u64, acl: Lists) -> Undo
     ensures rows { plain rows.new ≡ edited (plain rows.old) suite (put_acl acl) }
     ensures back { TakesBack result rows.old rows.new }

@@ -6,7 +6,7 @@ use std::alloc::AllocError;
 use std::marker::Model;
 use suite_prefix::{LockMode, Prefix, Replica};
 
-/// What a transaction leaves of a suite at a server once it is decided. A clone shares list and content.
+/// What a transaction leaves of a suite at a server once it is decided. A clone shares lists and content.
 #[derive(Debug, Drop)]
 pub enum Take {
     /// What was there.

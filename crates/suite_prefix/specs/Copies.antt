@@ -16,7 +16,7 @@ use Rattle.suite_prefix.specs.declared.copies.PrefixKind.TheVariants.{Absent, Fi
 use Rattle.suite_prefix.specs.declared.copies.Prefix.{Prefix}
 use Rattle.suite_prefix.specs.declared.copies.Replica.{Replica}
 
--- what was never made is nobody's, and grants nothing: its list is that of mode 000
+-- what was never made is nobody's, and grants nothing: its lists are the one of mode 000, and no default list
 pub record IsNothing (prefix : Prefix) : Type 0 where
   pub no_owner : prefix.owner ≡ 0
   pub no_group : prefix.group ≡ 0

@@ -69,7 +69,7 @@ impl Eq for Prefix {
     ghost laws = { same_prefix_laws };
 }
 
-/// A copy: a prefix, the version of the content, and the content. A clone shares list and content.
+/// A copy: a prefix, the version of the content, and the content. A clone shares lists and content.
 #[derive(Debug, Drop)]
 pub struct Replica {
     pub prefix: Prefix,

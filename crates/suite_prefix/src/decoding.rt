@@ -189,7 +189,10 @@ fn is_nothing(parts: &Parts) -> bool
     requires known { All (λ entry. entry.permissions < 8) parts.now.entries }
     ensures { IsTrue result ↔ IsNothing (copy_of parts.now).prefix }
 {
-    parts.identity.owner == 0 && parts.identity.group == 0 && is_closed(parts.entries) && parts.default.is_empty()
+    parts.identity.owner == 0
+        && parts.identity.group == 0
+        && is_closed(parts.entries)
+        && parts.default.is_empty()
 }
 
 /// Whether entries spell the list of mode 000.

@@ -1,7 +1,7 @@
 //! Prefixes, copies and their bytes, and settings.
 //!
 //! A [`Replica`] is what a server stores of a file or a folder, and what it sends: the [`Prefix`] (its
-//! version, kind, owner, group, access list and votes), the content's version, and the content. Which
+//! version, kind, owner, group, lists and votes), the content's version, and the content. Which
 //! copies are valid stands in `specs/Copies.antt`, the bytes of a copy in `specs/Bytes.antt`, and what keeps
 //! bytes from being a copy's in `specs/Faults.antt`.
 //! [`Settings`] are what a service is opened with.

@@ -34,7 +34,7 @@ pub enum SettingsFault {
     BadCache,
 }
 
-/// How many servers and agents there are, the opening votes, the root's owner, group and list, and the
+/// How many servers and agents there are, the opening votes, the root's owner, group and lists, and the
 /// limits of each agent's cache.
 #[derive(Debug, Drop)]
 pub struct Settings {
@@ -105,7 +105,7 @@ impl Eq for Settings {
 }
 
 impl Settings {
-    /// Settings of these numbers, votes and list. The fault that is answered is the first.
+    /// Settings of these numbers, votes and lists. The fault that is answered is the first.
     pub fn new(
         servers: usize,
         agents: usize,

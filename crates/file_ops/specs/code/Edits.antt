@@ -24,7 +24,7 @@ number_at rows suite name = option_map_or (λ row. number_in row.content name) (
 abbrev pub put_content : Content → Row → Row
 put_content content row = with_content row content
 
--- another list, other votes, another row
+-- other lists, other votes, another row
 abbrev pub put_acl : Lists → Row → Row
 put_acl acl row = with_acl row acl
 
