@@ -1,0 +1,282 @@
+//! Servers under locks as their users meet them.
+//!
+//! What memory was refused to is called again, so that each allocation can be refused in turn.
+
+use acl_core::{Acl, Lists, Mode};
+use file_ops::{Refusal, Why};
+use rep_core::{Decision, Lack, Reply, Request, Stamped};
+use server_lock::{Answer, CloseFault, Gate, Histories, Miss, OpenGate, Pass, Servers};
+use std::process::Abort;
+use std::sync::Wait;
+use std::thread::{Threads, map_vec};
+use suite_prefix::{LockMode, Settings};
+use vote_core::Votes;
+
+/// What a call gives, where memory may be refused to it once.
+macro_rules! again {
+    ($rt:expr, $call:expr) => {
+        match $call {
+            Ok(given) => given,
+            Err(_) => $call.ok().expect($rt, "memory"),
+        }
+    };
+}
+
+/// Three servers with one vote each.
+fn settings(rt: &(impl Abort + AllocGlobal), agents: usize) -> Settings {
+    let mode = Mode::new(0o777).expect(rt, "a mode");
+    let acl = again!(rt, Acl::from_mode(rt.alloc(), mode));
+    let votes = Votes::new(3, &[(0, 1), (1, 1), (2, 1)], 2, 2).expect(rt, "votes");
+    let made = Settings::new(3, agents, votes, 1000, 100, Lists::from(acl), 0, 0, 0);
+    made.ok().expect(rt, "settings")
+}
+
+fn started(rt: &(impl Abort + AllocGlobal), agents: usize) -> (Servers, Vec<Pass>) {
+    let settings = settings(rt, agents);
+    again!(rt, Servers::start(rt.alloc(), &settings))
+}
+
+/// A request, in a word.
+#[derive(Clone, Copy)]
+enum Ask {
+    Shared(u64),
+    Exclusive(u64),
+    Locks,
+    Refused(u64),
+    Resolve(u64),
+    Crash,
+}
+
+fn request(ask: Ask) -> Request {
+    match ask {
+        Ask::Shared(t) => Request::Poll {
+            t,
+            suite: 0,
+            mode: LockMode::Shared,
+        },
+        Ask::Exclusive(t) => Request::Poll {
+            t,
+            suite: 0,
+            mode: LockMode::Exclusive,
+        },
+        Ask::Locks => Request::Locks,
+        Ask::Refused(t) => {
+            let refusal = Refusal {
+                op: 1,
+                why: Why::BadPath,
+            };
+            let decision = Decision::Refused { uid: 1000, refusal };
+            Request::Decide { t, decision }
+        }
+        Ask::Resolve(t) => Request::Resolve { t },
+        Ask::Crash => Request::Crash,
+    }
+}
+
+/// A reply, in words.
+fn reply_words(rt: &(impl Abort + AllocGlobal), reply: &Stamped<Reply>) -> String {
+    let stamp = reply.stamp;
+    let made = match &reply.value {
+        Reply::Held { prefix, dver } => {
+            let (kind, pver) = (prefix.kind, prefix.pver);
+            format!(in rt.alloc(); "{stamp}: Held {kind:?} {pver} {dver}")
+        }
+        Reply::Busy { holder, prepared } => {
+            format!(in rt.alloc(); "{stamp}: Busy {holder} {prepared}")
+        }
+        Reply::Locked(locks) => {
+            let count = locks.as_slice().len();
+            format!(in rt.alloc(); "{stamp}: Locked {count}")
+        }
+        other => format!(in rt.alloc(); "{stamp}: {other:?}"),
+    };
+    made.expect(rt, "memory")
+}
+
+/// What is answered, in words.
+fn words(rt: &(impl Abort + AllocGlobal), answer: &Answer) -> String {
+    match answer.reply() {
+        Ok(reply) => reply_words(rt, reply),
+        Err(miss) => {
+            let before = answer.before();
+            format!(in rt.alloc(); "{miss:?} {before}").expect(rt, "memory")
+        }
+    }
+}
+
+/// Compares two texts.
+fn same(rt: &impl Abort, got: &str, want: &str) {
+    assert_eq!(rt; got, want);
+}
+
+/// Takes the pass at this place out.
+fn take(rt: &impl Abort, passes: &mut Vec<Pass>, agent: Option<u8>) -> Pass {
+    for place in 0..passes.len() {
+        if passes[place].agent() == agent {
+            return passes.swap_remove(place);
+        }
+    }
+    let none: Option<Pass> = None;
+    none.expect(rt, "a pass")
+}
+
+fn put(rt: &impl Abort, passes: &mut Vec<Pass>, pass: Pass) {
+    passes.push(pass).ok().expect(rt, "memory");
+}
+
+/// Asks, and compares what is answered.
+fn expect_at<R: Abort + AllocGlobal + Wait>(
+    rt: &R,
+    servers: &Servers,
+    passes: &mut Vec<Pass>,
+    step: &Step,
+) {
+    let Step(agent, server, ask, want) = step;
+    let pass = take(rt, passes, *agent);
+    let count = pass.count();
+    let (pass, answer) = asked(rt, servers, pass, *server, *ask);
+    same(rt, words(rt, &answer).as_str(), want);
+    assert!(rt; answer.server() == *server);
+    assert!(rt; pass.count() == count.wrapping_add(1));
+    put(rt, passes, pass);
+}
+
+/// Asks, and once more where memory was refused.
+fn asked<R: Abort + AllocGlobal + Wait>(
+    rt: &R,
+    servers: &Servers,
+    pass: Pass,
+    server: u8,
+    ask: Ask,
+) -> (Pass, Answer) {
+    asked_by(rt, &OpenGate, servers, pass, server, ask)
+}
+
+fn asked_by<R: Abort + AllocGlobal + Wait, G: Gate>(
+    rt: &R,
+    gate: &G,
+    servers: &Servers,
+    pass: Pass,
+    server: u8,
+    ask: Ask,
+) -> (Pass, Answer) {
+    assert!(rt; usize::from(server) < servers.settings().servers());
+    let (pass, answer) = servers.ask(rt, gate, pass, server, request(ask));
+    if let Err(Miss::Lack(Lack::Memory)) = answer.reply() {
+        return servers.ask(rt, gate, pass, server, request(ask));
+    }
+    (pass, answer)
+}
+
+/// Whose pass, which server, what is asked, and what is answered.
+struct Step(Option<u8>, u8, Ask, &'static str);
+
+const RUN: [Step; 7] = [
+    Step(Some(0), 0, Ask::Shared(0), "1: Held Folder 1 1"),
+    Step(Some(0), 1, Ask::Locks, "2: Locked 0"),
+    Step(Some(1), 0, Ask::Exclusive(1), "2: Busy 0 false"),
+    Step(None, 0, Ask::Crash, "3: Done"),
+    Step(Some(1), 0, Ask::Locks, "4: Down"),
+    Step(
+        Some(0),
+        1,
+        Ask::Refused(0),
+        "3: Verdict(Refused(Refusal { op: 1, why: BadPath }))",
+    ),
+    Step(
+        Some(0),
+        1,
+        Ask::Resolve(0),
+        "4: Verdict(Refused(Refusal { op: 1, why: BadPath }))",
+    ),
+];
+
+fn run<R: Abort + AllocGlobal + Wait>(rt: &R, servers: &Servers, passes: &mut Vec<Pass>) {
+    for step in &RUN {
+        expect_at(rt, servers, passes, step);
+    }
+}
+
+fn lengths_are(rt: &impl Abort, histories: &Histories, lengths: &[usize]) {
+    assert!(rt; histories.as_slice().len() == lengths.len());
+    for (history, length) in histories.as_slice().iter().zip(lengths) {
+        assert_eq!(rt; history.as_slice().len(), *length);
+    }
+}
+
+#[test]
+fn the_replies_are_the_servers(rt: HostRuntime) {
+    let (servers, mut passes) = started(&rt, 2);
+    run(&rt, &servers, &mut passes);
+    for pass in &passes {
+        let count = match pass.agent() {
+            None => 1,
+            Some(0) => 4,
+            Some(_) => 2,
+        };
+        assert!(rt; pass.count() == count);
+    }
+    let histories = servers.close(passes).ok().expect(&rt, "closed");
+    lengths_are(&rt, &histories, &[4, 3, 0]);
+}
+
+/// Asks each of three servers for its locks a hundred times.
+fn ask_often<R: Abort + AllocGlobal + Wait, G: Gate>(
+    rt: &R,
+    gate: &G,
+    servers: &Servers,
+    pass: Pass,
+) -> Pass {
+    let mut pass = pass;
+    for _ in 0..100u8 {
+        for server in 0..3u8 {
+            pass = asked_by(rt, gate, servers, pass, server, Ask::Locks).0;
+        }
+    }
+    pass
+}
+
+/// Each pass asks in a thread of its own.
+fn in_threads<R: Abort + AllocGlobal + Wait + Threads + Sync, G: Gate + Sync>(
+    rt: &R,
+    gate: &G,
+    servers: &Servers,
+    passes: Vec<Pass>,
+) -> Vec<Pass> {
+    let done = map_vec(rt, passes, &|pass| ask_often(rt, gate, servers, pass));
+    done.ok().expect(rt, "threads")
+}
+
+#[test]
+fn eight_threads_ask(rt: HostRuntime) {
+    let (servers, mut passes) = started(&rt, 8);
+    let operator = take(&rt, &mut passes, None);
+    let mut passes = in_threads(&rt, &OpenGate, &servers, passes);
+    for pass in &passes {
+        assert!(rt; pass.count() == 300);
+    }
+    put(&rt, &mut passes, operator);
+    let histories = servers.close(passes).ok().expect(&rt, "closed");
+    lengths_are(&rt, &histories, &[800, 800, 800]);
+}
+
+#[test]
+fn a_pass_of_another_start_is_stale(rt: HostRuntime) {
+    let (first, mut passes) = started(&rt, 2);
+    let (second, _others) = started(&rt, 2);
+    let pass = take(&rt, &mut passes, Some(0));
+    let (pass, answer) = asked(&rt, &first, pass, 0, Ask::Locks);
+    same(&rt, words(&rt, &answer).as_str(), "1: Locked 0");
+    let (pass, answer) = asked(&rt, &second, pass, 0, Ask::Locks);
+    same(&rt, words(&rt, &answer).as_str(), "Stale 0");
+    assert!(rt; pass.count() == 1 && pass.stamp() == 1 && pass.front(0) == 1 && pass.front(1) == 0);
+}
+
+#[test]
+fn a_pass_is_missing(rt: HostRuntime) {
+    let (servers, mut passes) = started(&rt, 2);
+    run(&rt, &servers, &mut passes);
+    let _missing = take(&rt, &mut passes, Some(1));
+    let fault = servers.close(passes).err().expect(&rt, "a fault");
+    assert_eq!(rt; fault, CloseFault::Count(Some(1)));
+}

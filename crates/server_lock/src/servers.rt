@@ -1,0 +1,215 @@
+//! Servers that threads share.
+
+ghost use Rattle.std.specs.Prelude.{◌≡◌, ◌≢◌, ℕ, ◌≤◌, ◌<◌, true, false, length, slice_index, Option, Err, IfOk, OnOk, IsTrue};
+ghost use Rattle.std.specs.Vec.{vec_len, vec_capacity};
+ghost use Rattle.rep_core.specs.Fits.{fits};
+ghost use Rattle.server_lock.specs.declared.close_fault.CloseFault.TheVariants.{Count, Place};
+ghost use Rattle.server_lock.specs.declared.miss.Miss.TheVariants.{Stale};
+ghost use Rattle.server_lock.specs.Closed.{AreLegal, AreOf, IsMiscounted};
+ghost use Rattle.server_lock.specs.Counts.{is_counted, made_by, passes_at, passes_by, seat_of};
+ghost use Rattle.server_lock.specs.Told.{IsTold};
+ghost use Rattle.server_lock.specs.Passes.{after_answer, front_at, passes_of, sent_stamp};
+
+use crate::answer::Answer;
+use crate::close_fault::CloseFault;
+use crate::counting::{SEATS, is_counted, tally};
+use crate::gate::Gate;
+use crate::history::{Histories, History};
+use crate::locked::Locked;
+use crate::pass::Pass;
+use rep_core::{Request, Stamped};
+use std::alloc::{AllocError, Global};
+use std::marker::Model;
+use std::sync::{Mutex, Wait};
+use suite_prefix::Settings;
+
+/// Servers, each under a lock of its own, and the settings that they were opened with. It has the room that
+/// closing them takes.
+#[derive(Drop)]
+pub struct Servers {
+    settings: Settings,
+    locks: Vec<Mutex<Locked>>,
+    histories: Vec<History>,
+}
+
+impl Model for Servers {
+    ghost use Rattle.suite_prefix.specs.SettingsRules.{Opening};
+    ghost use Rattle.std.specs.Vec.{vec_len, vec_capacity};
+    ghost use Rattle.server_lock.specs.code.Room.{HasRoom};
+
+    ghost Value = { Opening };
+
+    ghost view = { λ servers. servers.settings };
+
+    ghost invariant = { λ servers. HasRoom servers.settings.servers (vec_len servers.locks) (vec_len servers.histories) (vec_capacity servers.histories) };
+}
+
+impl Servers {
+    /// The servers as a service opens with these settings, and a pass for each agent, in their order, and
+    /// for the operator, last. What closing them takes is made room for here.
+    pub fn start(alloc: Global, settings: &Settings) -> Result<(Servers, Vec<Pass>), AllocError>
+        ensures servers { IfOk result (λ started. started.0 ≡ settings.now) }
+        ensures passes { IfOk result (λ started. started.1.items ≡ passes_of settings.now.agents) }
+    {
+        let settings = settings.clone()?;
+        let locks = locks_of(alloc, &settings)?;
+        let histories = Vec::with_capacity(alloc, locks.len())?;
+        let passes = first_passes(alloc, &settings)?;
+        let servers = Servers {
+            settings,
+            locks,
+            histories,
+        };
+        Ok((servers, passes))
+    }
+
+    /// The settings that they were opened with.
+    pub fn settings(&self) -> &Settings
+        ensures { result.now ≡ self.now }
+    {
+        &self.settings
+    }
+
+    /// Asks a server, under its lock. The pass comes back, with an item more where there is a reply. The
+    /// gate's `inside` is called under the lock, before the request is served, and its `after` once the lock is
+    /// free.
+    pub fn ask<R: Wait, G: Gate>(
+        &self,
+        rt: &R,
+        gate: &G,
+        pass: Pass,
+        server: u8,
+        request: Request,
+    ) -> (Pass, Answer)
+        requires { server < self.now.servers }
+        ensures request { result.1.request ≡ record { stamp = sent_stamp pass; value = request } }
+        ensures told { IsTold result.1 }
+        ensures front { IfOk result.1.reply (λ reply. front_at pass server ≤ result.1.before) }
+        ensures stale { result.1.reply ≡ Err Stale → result.1.before < front_at pass server }
+        ensures fits { IfOk result.1.reply (λ reply. IsTrue (fits request reply.value)) }
+        ensures rises { IfOk result.1.reply (λ reply. sent_stamp pass < reply.stamp) }
+        ensures pass { result.0 ≡ after_answer pass server result.1 }
+    {
+        let _locks = self.locks.len();
+        let stamp = pass.sent_stamp();
+        let front = pass.front(server);
+        let mut guard = self.locks[usize::from(server)].lock(rt);
+        gate.inside(server, pass.agent());
+        let answer = guard.serve(
+            pass.agent(),
+            front,
+            Stamped {
+                stamp,
+                value: request,
+            },
+        );
+        drop(guard);
+        gate.after(server, pass.agent());
+        answer.is_told();
+        answer.has_room();
+        let pass = pass.after(server, &answer);
+        (pass, answer)
+    }
+
+    /// The histories of the servers, each legal from the opening that the settings of `start` give to its
+    /// server. Each agent has made as many of their items as its one pass counted, and so has the operator;
+    /// who hands in no pass has made none. Closing takes no memory, so a fault is always told.
+    pub fn close(self, passes: Vec<Pass>) -> Result<Histories, CloseFault>
+        ensures legal { IfOk result (λ histories. AreOf self histories) }
+        ensures counted { IfOk result (λ histories. (asker : Option ℕ) → seat_of asker < 257 → is_counted (made_by asker histories) (passes_by asker passes.items) ≡ true) }
+        ensures place { (server : ℕ) → result ≡ Err (Place server) → server < self.servers }
+        ensures count { (asker : Option ℕ) → result ≡ Err (Count asker) → IsMiscounted self passes.items asker }
+    {
+        let Servers {
+            settings,
+            locks,
+            histories,
+        } = self;
+        let histories = histories_of(&settings, locks, histories)?;
+        let tally = tally(histories.as_slice());
+        all_counted(&tally, passes.as_slice())?;
+        Ok(Histories::from_vec(histories))
+    }
+}
+
+/// The locks as a service opens.
+fn locks_of(alloc: Global, settings: &Settings) -> Result<Vec<Mutex<Locked>>, AllocError>
+    ensures each { IfOk result (λ locks. vec_len locks ≡ settings.now.servers) }
+    ensures few { IfOk result (λ locks. vec_len locks ≤ 16) }
+{
+    let count = settings.servers() as u8;
+    let mut locks = Vec::new(alloc);
+    for number in 0..count {
+        let locked = Locked::opening(alloc, number, settings)?;
+        locks.push(Mutex::new(locked))?;
+    }
+    Ok(locks)
+}
+
+/// The first passes.
+fn first_passes(alloc: Global, settings: &Settings) -> Result<Vec<Pass>, AllocError>
+    ensures { IfOk result (λ passes. passes.items ≡ passes_of settings.now.agents) }
+{
+    let count = settings.agents() as u8;
+    let mut passes = Vec::new(alloc);
+    for agent in 0..count {
+        passes.push(Pass::new(Some(agent)))?;
+    }
+    passes.push(Pass::new(None))?;
+    Ok(passes)
+}
+
+/// What stood under the locks, where it is what these settings opened, put into this room.
+fn histories_of(
+    settings: &Settings,
+    locks: Vec<Mutex<Locked>>,
+    room: Vec<History>,
+) -> Result<Vec<History>, CloseFault>
+    requires few { vec_len locks ≤ 16 }
+    requires empty { vec_len room ≡ 0 }
+    requires room { vec_len locks ≤ vec_capacity room }
+    ensures each { IfOk result (λ histories. length histories.items ≡ vec_len locks) }
+    ensures legal { IfOk result (λ histories. AreLegal settings.now histories.items) }
+    ensures place { (server : ℕ) → result ≡ Err (Place server) → server < vec_len locks }
+    ensures count { (asker : Option ℕ) → result ≢ Err (Count asker) }
+{
+    let mut locks = locks;
+    locks.as_mut_slice().reverse();
+    let mut histories = room;
+    while let Some(lock) = locks.pop() {
+        let number = histories.len() as u8;
+        let locked = lock.into_inner();
+        if !locked.is_of(number, settings) {
+            return Err(CloseFault::Place(number));
+        }
+        histories.push_reserved(locked.into_history());
+    }
+    Ok(histories)
+}
+
+/// Whether what was made is what was counted, of each agent and of the operator.
+fn all_counted(tally: &[u64], passes: &[Pass]) -> Result<(), CloseFault>
+    requires { length tally.now ≡ 257 }
+    ensures ok { OnOk result ((seat : ℕ) → seat < 257 → is_counted (slice_index tally.now seat) (passes_at seat passes.now) ≡ true) }
+    ensures count { (asker : Option ℕ) → result ≡ Err (Count asker) → (seat_of asker < 257) × (is_counted (slice_index tally.now (seat_of asker)) (passes_by asker passes.now) ≡ false) }
+    ensures place { (server : ℕ) → result ≢ Err (Place server) }
+{
+    for seat in 0..SEATS {
+        if !is_counted(tally[seat], seat, passes) {
+            return Err(CloseFault::Count(asker_at(seat)));
+        }
+    }
+    Ok(())
+}
+
+/// Who has this place in the count.
+fn asker_at(seat: usize) -> Option<u8>
+    requires { seat < 257 }
+    ensures { seat_of result ≡ seat }
+{
+    if seat == 0 {
+        None
+    } else {
+        Some((seat - 1) as u8)
+    }
+}
