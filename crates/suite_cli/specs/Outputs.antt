@@ -4,7 +4,6 @@ use Rattle.acl_text.specs.Sides.{lists_of}
 use Rattle.acl_text.specs.Tables.{Tables}
 use Rattle.acl_text.specs.Texts.{fault, said_in}
 use Rattle.acl_text.specs.Writing.{canonical}
-use Rattle.acl_text.specs.declared.item.Said.{Said}
 use Rattle.acl_text.specs.declared.read.TextFault.{TextFault}
 use Rattle.file_ops.specs.Rows.{PlainTable, opening}
 use Rattle.file_ops.specs.Transactions.{transaction, replies, table_after}
@@ -69,14 +68,14 @@ script_output_of Play text = play_output text
 abbrev pub text_fault_line : TextFault → List ℕ
 text_fault_line fault = codes "fault " ++ text_code fault ++ line_feed
 
--- the lists that entries make, or the fault of their text
-abbrev pub lists_output : Option TextFault → List Said → Output
-lists_output (Some fault) said = Faulty (text_fault_line fault)
-lists_output None said = Done (canonical (lists_of said))
+-- the text of lists, or the fault of what was read
+abbrev pub lists_output : Option TextFault → List ℕ → Output
+lists_output (Some fault) text = Faulty (text_fault_line fault)
+lists_output None text = Done text
 
--- what `acl` writes for a list's text
+-- what `acl` writes for the text of lists: the canonical text of the lists that its items make
 abbrev pub acl_output : Tables → List ℕ → Output
-acl_output names text = lists_output (fault text names) (said_in text names)
+acl_output names text = lists_output (fault text names) (canonical (lists_of (said_in text names)))
 
 -- the line of a bad name among the words of `acl`
 abbrev pub word_fault_line : ℕ → List ℕ
