@@ -49,8 +49,9 @@ Operations, one to eight in a transaction:
   list PATH         drop PATH
 
   GIDS   the user's own group, and up to 32 others behind commas: 100,200
-  INIT   three octal digits, or a LIST
+  INIT   three octal digits, or a LIST; where the folder around it has a default list, digits limit that
   LIST   an access list without spaces: u::rw,u:lisa:rw,g::r,m::r,o::-
+         and of a folder, behind it, a default list for what is made in it: d:u::rwx,d:g::r-x,d:o::-
   HEX    two digits a byte, or - for no bytes
   VOTES  the votes of server 0, 1, .. (or - for one that is left out), and how many a read and a
          write collect: 1,1,1/2/2
