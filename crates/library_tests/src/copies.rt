@@ -297,8 +297,11 @@ fn a_default_list_stands_behind_the_access_list(rt: HostRuntime) {
     let bytes = bytes(&rt, DEFAULT);
     let copy = had(&rt, decode(rt.alloc(), &bytes));
     is_spelled_in(&rt, &copy, 89);
-    let default = copy.prefix.acl.default.expect(&rt, "a default list");
-    holds(&rt, default.entries().len() == 5, "its entries");
+    let entries = match &copy.prefix.acl.default {
+        Some(default) => default.entries().len(),
+        None => 0,
+    };
+    holds(&rt, entries == 5, "its entries");
 }
 
 #[test]
