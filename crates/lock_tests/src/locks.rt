@@ -8,8 +8,9 @@ use rep_core::{Decision, Lack, Reply, Request, Stamped};
 use server_lock::{Answer, CloseFault, Gate, Histories, Miss, OpenGate, Pass, Servers};
 use std::process::Abort;
 use std::sync::Wait;
+use std::sync::atomic::{AtomicU64, Ordering};
 use std::thread::{Threads, map_vec};
-use suite_prefix::{LockMode, Settings};
+use suite_prefix::{LockMode, Prefix, PrefixKind, Settings};
 use vote_core::Votes;
 
 /// What a call gives, where memory may be refused to it once.
@@ -73,13 +74,29 @@ fn request(ask: Ask) -> Request {
     }
 }
 
-/// A reply, in words.
-fn reply_words(rt: &(impl Abort + AllocGlobal), reply: &Stamped<Reply>) -> String {
+/// The prefix of the root as the service opens.
+fn root(rt: &(impl Abort + AllocGlobal), settings: &Settings) -> Prefix {
+    Prefix {
+        pver: 1,
+        kind: PrefixKind::Folder,
+        owner: 1000,
+        group: 100,
+        acl: again!(rt, settings.root_acl().clone()),
+        votes: *settings.c0(),
+    }
+}
+
+/// A reply, in words; the prefix of a lock that is held has to be the root's.
+fn reply_words(
+    rt: &(impl Abort + AllocGlobal),
+    settings: &Settings,
+    reply: &Stamped<Reply>,
+) -> String {
     let stamp = reply.stamp;
     let made = match &reply.value {
         Reply::Held { prefix, dver } => {
-            let (kind, pver) = (prefix.kind, prefix.pver);
-            format!(in rt.alloc(); "{stamp}: Held {kind:?} {pver} {dver}")
+            assert!(rt; *prefix == root(rt, settings));
+            format!(in rt.alloc(); "{stamp}: Held the root {dver}")
         }
         Reply::Busy { holder, prepared } => {
             format!(in rt.alloc(); "{stamp}: Busy {holder} {prepared}")
@@ -94,9 +111,9 @@ fn reply_words(rt: &(impl Abort + AllocGlobal), reply: &Stamped<Reply>) -> Strin
 }
 
 /// What is answered, in words.
-fn words(rt: &(impl Abort + AllocGlobal), answer: &Answer) -> String {
+fn words(rt: &(impl Abort + AllocGlobal), servers: &Servers, answer: &Answer) -> String {
     match answer.reply() {
-        Ok(reply) => reply_words(rt, reply),
+        Ok(reply) => reply_words(rt, servers.settings(), reply),
         Err(miss) => {
             let before = answer.before();
             format!(in rt.alloc(); "{miss:?} {before}").expect(rt, "memory")
@@ -135,7 +152,7 @@ fn expect_at<R: Abort + AllocGlobal + Wait>(
     let pass = take(rt, passes, *agent);
     let count = pass.count();
     let (pass, answer) = asked(rt, servers, pass, *server, *ask);
-    same(rt, words(rt, &answer).as_str(), want);
+    same(rt, words(rt, servers, &answer).as_str(), want);
     assert!(rt; answer.server() == *server);
     assert!(rt; pass.count() == count.wrapping_add(1));
     put(rt, passes, pass);
@@ -172,7 +189,7 @@ fn asked_by<R: Abort + AllocGlobal + Wait, G: Gate>(
 struct Step(Option<u8>, u8, Ask, &'static str);
 
 const RUN: [Step; 7] = [
-    Step(Some(0), 0, Ask::Shared(0), "1: Held Folder 1 1"),
+    Step(Some(0), 0, Ask::Shared(0), "1: Held the root 1"),
     Step(Some(0), 1, Ask::Locks, "2: Locked 0"),
     Step(Some(1), 0, Ask::Exclusive(1), "2: Busy 0 false"),
     Step(None, 0, Ask::Crash, "3: Done"),
@@ -247,11 +264,36 @@ fn in_threads<R: Abort + AllocGlobal + Wait + Threads + Sync, G: Gate + Sync>(
     done.ok().expect(rt, "threads")
 }
 
+/// A gate that counts who was inside, and who was after.
+#[derive(Drop)]
+struct Counting {
+    inside: AtomicU64,
+    after: AtomicU64,
+}
+
+impl Gate for Counting {
+    fn begun(&self, _agent: u8, _job: u64) {}
+
+    fn inside(&self, _server: u8, _agent: Option<u8>) {
+        self.inside.fetch_add(1, Ordering::SeqCst);
+    }
+
+    fn after(&self, _server: u8, _agent: Option<u8>) {
+        self.after.fetch_add(1, Ordering::SeqCst);
+    }
+}
+
 #[test]
 fn eight_threads_ask(rt: HostRuntime) {
     let (servers, mut passes) = started(&rt, 8);
     let operator = take(&rt, &mut passes, None);
-    let mut passes = in_threads(&rt, &OpenGate, &servers, passes);
+    let gate = Counting {
+        inside: AtomicU64::new(0),
+        after: AtomicU64::new(0),
+    };
+    let mut passes = in_threads(&rt, &gate, &servers, passes);
+    assert!(rt; gate.inside.load(Ordering::SeqCst) == 2400);
+    assert!(rt; gate.after.load(Ordering::SeqCst) == 2400);
     for pass in &passes {
         assert!(rt; pass.count() == 300);
     }
@@ -266,9 +308,9 @@ fn a_pass_of_another_start_is_stale(rt: HostRuntime) {
     let (second, _others) = started(&rt, 2);
     let pass = take(&rt, &mut passes, Some(0));
     let (pass, answer) = asked(&rt, &first, pass, 0, Ask::Locks);
-    same(&rt, words(&rt, &answer).as_str(), "1: Locked 0");
+    same(&rt, words(&rt, &first, &answer).as_str(), "1: Locked 0");
     let (pass, answer) = asked(&rt, &second, pass, 0, Ask::Locks);
-    same(&rt, words(&rt, &answer).as_str(), "Stale 0");
+    same(&rt, words(&rt, &second, &answer).as_str(), "Stale 0");
     assert!(rt; pass.count() == 1 && pass.stamp() == 1 && pass.front(0) == 1 && pass.front(1) == 0);
 }
 

@@ -4,7 +4,7 @@
 //! history is legal (`IsLegal` in `specs/Histories.antt`: a replay of its requests from the opening gives its
 //! replies and stamps), and that the server is as it is at the end of it. So no thread can falsify a history,
 //! whatever it asks. [`Locked::serve`] is the one step of a server, and [`Servers::ask`] takes it under the
-//! lock: it waits for the lock, and for nothing else.
+//! lock: it waits for the lock, and for nothing else but what the caller's gate does.
 //!
 //! An asker has a [`Pass`], which remembers how much it has seen of each server's history. What it is told
 //! next comes after that: where a history is shorter, the answer is Stale. [`Servers::close`] takes the
