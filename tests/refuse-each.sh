@@ -16,56 +16,7 @@ most=${MOST:-1000}
 work=$(mktemp -d) || exit 2
 trap 'rm -rf "$work"' EXIT
 
-# Stands before the allocator of the C library: refuses the calls from REFUSE_FROM to REFUSE_TO, counted from 1,
-# and makes the file REFUSE_MARK where it does.
-cat > "$work/refuse.c" <<'END'
-#define _GNU_SOURCE
-#include <dlfcn.h>
-#include <errno.h>
-#include <fcntl.h>
-#include <stdlib.h>
-#include <unistd.h>
-
-static unsigned long calls;
-
-static int refused(void)
-{
-    calls++;
-    const char *from = getenv("REFUSE_FROM"), *to = getenv("REFUSE_TO"), *mark = getenv("REFUSE_MARK");
-    if (!from || !to || !mark || calls < strtoul(from, 0, 10) || calls > strtoul(to, 0, 10))
-        return 0;
-    close(open(mark, O_CREAT | O_WRONLY, 0600));
-    errno = ENOMEM;
-    return 1;
-}
-
-#define NEXT(name) static __typeof__(&name) next; if (!next) next = (__typeof__(&name))dlsym(RTLD_NEXT, #name)
-
-void *malloc(size_t size)
-{
-    NEXT(malloc);
-    return refused() ? 0 : next(size);
-}
-
-void *realloc(void *old, size_t size)
-{
-    NEXT(realloc);
-    return refused() ? 0 : next(old, size);
-}
-
-void *aligned_alloc(size_t alignment, size_t size)
-{
-    NEXT(aligned_alloc);
-    return refused() ? 0 : next(alignment, size);
-}
-
-int posix_memalign(void **block, size_t alignment, size_t size)
-{
-    NEXT(posix_memalign);
-    return refused() ? ENOMEM : next(block, alignment, size);
-}
-END
-cc -O1 -shared -fPIC -o "$work/refuse.so" "$work/refuse.c" -ldl 2> "$work/cc" || { cat "$work/cc" >&2; exit 2; }
+cc -O1 -shared -fPIC -o "$work/refuse.so" "$here/tests/refuse.c" -ldl 2> "$work/cc" || { cat "$work/cc" >&2; exit 2; }
 
 "$program" "$@" < "$input" > "$work/full" 2> "$work/errors"
 full_status=$?

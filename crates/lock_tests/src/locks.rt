@@ -6,6 +6,7 @@ use acl_core::{Acl, Lists, Mode};
 use file_ops::{Refusal, Why};
 use rep_core::{Decision, Lack, Reply, Request, Stamped};
 use server_lock::{Answer, CloseFault, Gate, Histories, Miss, OpenGate, Pass, Servers};
+use std::alloc::AllocError;
 use std::process::Abort;
 use std::sync::Wait;
 use std::sync::atomic::{AtomicU64, Ordering};
@@ -91,9 +92,9 @@ fn reply_words(
     rt: &(impl Abort + AllocGlobal),
     settings: &Settings,
     reply: &Stamped<Reply>,
-) -> String {
+) -> Result<String, AllocError> {
     let stamp = reply.stamp;
-    let made = match &reply.value {
+    match &reply.value {
         Reply::Held { prefix, dver } => {
             assert!(rt; *prefix == root(rt, settings));
             format!(in rt.alloc(); "{stamp}: Held the root {dver}")
@@ -106,17 +107,16 @@ fn reply_words(
             format!(in rt.alloc(); "{stamp}: Locked {count}")
         }
         other => format!(in rt.alloc(); "{stamp}: {other:?}"),
-    };
-    made.expect(rt, "memory")
+    }
 }
 
 /// What is answered, in words.
 fn words(rt: &(impl Abort + AllocGlobal), servers: &Servers, answer: &Answer) -> String {
     match answer.reply() {
-        Ok(reply) => reply_words(rt, servers.settings(), reply),
+        Ok(reply) => again!(rt, reply_words(rt, servers.settings(), reply)),
         Err(miss) => {
             let before = answer.before();
-            format!(in rt.alloc(); "{miss:?} {before}").expect(rt, "memory")
+            again!(rt, format!(in rt.alloc(); "{miss:?} {before}"))
         }
     }
 }
