@@ -57,8 +57,13 @@ def fresh_kind(now, kit):
 
 
 def keep_choice(kind, now, kit, begun):
-    """Keeps the choice, as if written when the files began to be read. Where it cannot be kept it is made anew each time."""
-    looked = [sources.LIST, *now.folders(), *now.files, PROGRAMS[kind]]
+    """Keeps the choice, as if written when the files began to be read. Where it cannot be kept it is made anew each time.
+
+    A checked build is made of the code alone. Its claims are looked at only where a proved program is there, which may
+    become the one of these sources again.
+    """
+    is_proved = kind == "proved" or os.path.exists(path_of("proved"))
+    looked = [sources.LIST, *now.looked_at(is_proved), PROGRAMS[kind]]
     if kit.command:
         looked.append(os.path.realpath(kit.command))
     kept = {"kind": kind, "program": PROGRAMS[kind], "rt": kit.command, "searched": os.environ.get("PATH", ""), "files": "\n".join(looked)}

@@ -136,7 +136,8 @@ class Sources:
         self.crates = crates_below(PROGRAM)
         self.sums = self.summed([f"crates/{name}/{part}" for name in self.crates for part in (CODE, *CLAIMS)])
         self.files = sorted(self.sums)
-        self.code = self.total([file for file in self.files if file.split("/")[2] == CODE])
+        self.code_files = [file for file in self.files if file.split("/")[2] == CODE]
+        self.code = self.total(self.code_files)
         self.all = self.total(self.files)
 
     def summed(self, folders):
@@ -164,6 +165,7 @@ class Sources:
         lines += [f"{file} {self.sums[file]}" for file in files]
         return hashlib.sha256("\n".join(lines).encode()).hexdigest()
 
-    def folders(self):
-        """The folders of code and definitions, in which a new file may matter."""
-        return sorted({os.path.dirname(file) for file in self.files if file.split("/")[2] != "proofs"})
+    def looked_at(self, is_proved):
+        """What is looked at before each run of the program: the code, and where a proved program is at stake its claims too, with the folders in which a new file may matter."""
+        files = self.files if is_proved else self.code_files
+        return [*sorted({os.path.dirname(file) for file in files if file.split("/")[2] != "proofs"}), *files]
