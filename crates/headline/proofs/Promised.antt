@@ -4,14 +4,14 @@ use Rattle.vote_core.specs.Validity.{IsValid}
 use Rattle.suite_prefix.specs.SettingsRules.{Opening, IsAccepted}
 use Rattle.txn_core.specs.Agents.{fixed_of}
 use Rattle.run_core.specs.declared.event.Event.{Event}
-use Rattle.run_core.specs.Worlds.{World, opening}
+use Rattle.run_core.specs.Worlds.{opening}
 use Rattle.run_core.specs.Runs.{after}
 use Rattle.run_core.specs.Opened.{Opened}
 use Rattle.run_core.proofs.Appending.{after-append}
-use Rattle.run_laws.proofs.Conclusions.{decided_once}
+use Rattle.run_laws.proofs.Conclusions.{decided_once, decisions_are_the_records}
 use Rattle.headline.specs.Premises.{CanBe, VotesAreValid}
 use Rattle.headline.proofs.Asked.{are_as_begun}
-use Rattle.headline.specs.Promises.{IsPromised, IsRunOf, Promises}
+use Rattle.headline.specs.Promises.{IsPromised, IsRunOf, OpensARun, PlaysOn, Promises}
 use Rattle.headline.proofs.Conclusions.{answers_are_the_tables, audit_is_the_denials, answered_before, revocations_are_met, in_effect_in_every_quorum, replaced_is_known}
 
 -- ---- events that can be, and those of them that came first
@@ -29,11 +29,10 @@ both (event ∷ before) later first second = (first.0, both before later first.1
 
 -- ---- a world as it opens, and as it goes on
 
-pub opens : (opened : Opened) → IsAccepted opened.given → IsValid opened.given.c0 → opened.world ≡ opening opened.given → IsRunOf opened []
+pub opens : OpensARun
 opens opened accepted c0 is = record { can_be = record { accepted = accepted; c0 = c0; votes = tt }; is = is }
 
-pub goes_on : (opened : Opened) (events later : List Event) (world : World) → IsRunOf opened events → VotesAreValid later → world ≡ after (fixed_of opened.given) opened.world later
-    → IsRunOf (record opened { world = world }) (events ++ later)
+pub goes_on : PlaysOn
 goes_on opened events later world so valid is = record {
   can_be = record { accepted = so.can_be.accepted; c0 = so.can_be.c0; votes = both events later so.can_be.votes valid };
   is = is ∙ ap (λ world. after (fixed_of opened.given) world later) so.is ∙ sym (after-append (fixed_of opened.given) (opening opened.given) events later);
@@ -50,6 +49,7 @@ promised given events can = record {
   in_effect = in_effect_in_every_quorum given events can;
   replaced = replaced_is_known given events can;
   once = decided_once given can.accepted events;
+  recorded = decisions_are_the_records given can.accepted events;
   audits = (audit_is_the_denials given events can).1;
   audit = (audit_is_the_denials given events can).0;
 }

@@ -1,6 +1,7 @@
 -- What is promised of a run at each of its moments, and what a world so promises.
-use Rattle.std.specs.Prelude.{◌≡◌, ℕ, ◌<◌, Bool, false, List, ◌∷◌, ◌++◌, Contains, Some, Result, Ok}
-use Rattle.suite_prefix.specs.SettingsRules.{Opening}
+use Rattle.std.specs.Prelude.{◌≡◌, ℕ, ◌<◌, Bool, false, List, [], ◌∷◌, ◌++◌, Contains, Some, Result, Ok}
+use Rattle.vote_core.specs.Validity.{IsValid}
+use Rattle.suite_prefix.specs.SettingsRules.{Opening, IsAccepted}
 use Rattle.acl_core.specs.Identity.{Identity}
 use Rattle.file_ops.specs.declared.answer.Answer.{Answer}
 use Rattle.file_ops.specs.declared.operation.Op.{Op}
@@ -15,17 +16,17 @@ use Rattle.txn_core.specs.Agents.{fixed_of}
 use Rattle.run_core.specs.declared.event.Event.{Event}
 use Rattle.run_core.specs.declared.event.Event.TheVariants.{Begin}
 use Rattle.run_core.specs.declared.done.Outcome.{Outcome}
-use Rattle.run_core.specs.Worlds.{audit_of}
-use Rattle.run_core.specs.Runs.{run}
+use Rattle.run_core.specs.Worlds.{World, opening, audit_of}
+use Rattle.run_core.specs.Runs.{after, run}
 use Rattle.run_core.specs.Decisions.{Decided, decisions}
 use Rattle.run_core.specs.TableOfRun.{played_on, table_after_all, table_of, AnswersAreTheTables}
 use Rattle.run_core.specs.Opened.{Opened}
 use Rattle.run_laws.specs.Numbers.{number_of, was_begun, begins_at}
 use Rattle.run_laws.specs.Answers.{all_denials}
-use Rattle.run_laws.specs.Claims.{ended, IsDecidedOnce, denials_at, StandsBefore}
+use Rattle.run_laws.specs.Claims.{ended, IsDecidedOnce, AreTheRecords, denials_at, StandsBefore}
 use Rattle.suite_machine.specs.Machine.{IsQuorum}
 use Rattle.one_table.specs.Effects.{copy_at, HasOne, IsInEffect}
-use Rattle.headline.specs.Premises.{CanBe}
+use Rattle.headline.specs.Premises.{CanBe, VotesAreValid}
 
 -- A transaction was begun with this number, for this caller, and with these operations.
 pub record WasBegun (given : Opening) (events : List Event) (t : ℕ) (caller : Identity) (ops : List Op) : Type 0 where
@@ -88,6 +89,8 @@ pub record IsPromised (given : Opening) (events : List Event) : Type 0 where
   pub replaced : KnowsReplaced given events
   -- each transaction is decided once at most: as its job ended, where that was answered or refused, and never, where it ended undecided
   pub once : IsDecidedOnce given events
+  -- each stands in its home's record, and what a server has recorded as answered or refused is one of them
+  pub recorded : AreTheRecords given events
   -- each server's audit is the denials of the decisions whose home it is, and the table's audit is all denials
   pub audits : (server : ℕ) → audit_of (run given events) server ≡ denials_at (fixed_of given).service server (decisions given events)
   pub audit : (table_of given events).audit ≡ all_denials (decisions given events)
@@ -98,6 +101,16 @@ pub record IsPromised (given : Opening) (events : List Event) : Type 0 where
 pub record IsRunOf (opened : Opened) (events : List Event) : Type 0 where
   pub can_be : CanBe opened.given events
   pub is : opened.world ≡ run opened.given events
+
+-- A world as it opens, with accepted settings and valid votes, is that of no events.
+abbrev pub OpensARun : Type 0
+OpensARun = (opened : Opened) → IsAccepted opened.given → IsValid opened.given.c0 → opened.world ≡ opening opened.given → IsRunOf opened []
+
+-- One that these events made, and on which later ones were played, is that of all of them.
+abbrev pub PlaysOn : Type 0
+PlaysOn =
+    (opened : Opened) (events later : List Event) (world : World) → IsRunOf opened events → VotesAreValid later
+    → world ≡ after (fixed_of opened.given) opened.world later → IsRunOf (record opened { world = world }) (events ++ later)
 
 -- what some events made of it
 pub record IsOfRun (opened : Opened) : Type 0 where

@@ -11,7 +11,9 @@ mod witnesses;
 
 ghost use Rattle.headline.specs.Laws.{AnswersAreTheTables, AuditIsTheDenials, AnsweredBefore, RevocationsAreMet, LocksStand, InEffectInEveryQuorum, ReplacedIsKnown, RowsAreTheRegisters, KnowledgeWas, AgentsKeepSides, FirstsAreGiven};
 
-pub use promises::{decided_as_begun, promise, votes_are_valid};
+pub use promises::{
+    all_votes_are_valid, decided_as_begun, opens_a_run, plays_on, promise, votes_are_valid,
+};
 pub use witnesses::{some_run_holds_locks, some_run_moves_votes, some_run_revokes};
 
 /// A law: every run is answered as one unreplicated table answers it that takes the decided transactions one at a time, in

@@ -1,8 +1,8 @@
 //! What a world promises.
 
-ghost use Rattle.headline.specs.Premises.{AllGiveValidVotes, AreValid, EventGivesValidVotes, GivesValidVotes, JobGivesValidVotes};
+ghost use Rattle.headline.specs.Premises.{AllGiveValidVotes, AreValid, EventGivesValidVotes, GivesValidVotes, JobGivesValidVotes, VotesAreValid};
 ghost use Rattle.headline.specs.Laws.{DecidedAsBegun};
-ghost use Rattle.headline.specs.Promises.{IsOfRun, Promises};
+ghost use Rattle.headline.specs.Promises.{IsOfRun, OpensARun, PlaysOn, Promises};
 
 use file_ops::{Action, Op};
 use run_core::{Event, World};
@@ -22,6 +22,26 @@ pub fn promise(world: &World)
 pub fn decided_as_begun()
     ensures { DecidedAsBegun }
 {}
+
+/// A law: a world as it opens is that of no events. It does nothing.
+pub fn opens_a_run()
+    ensures { OpensARun }
+{}
+
+/// A law: a world that some events made, and on which later ones were played (as `World::play`, `step` and `advance`
+/// do), is that of all of them, one after the other. It does nothing.
+pub fn plays_on()
+    ensures { PlaysOn }
+{}
+
+/// A law: the votes that events have are valid, by their type. It does nothing.
+pub fn all_votes_are_valid(events: &[Event])
+    ensures { VotesAreValid events.now }
+{
+    for event in events {
+        votes_are_valid(event);
+    }
+}
 
 /// A law: the votes that an event has are valid, by their type. It does nothing.
 pub fn votes_are_valid(event: &Event)

@@ -8,7 +8,8 @@ pub fn some_run_revokes()
     ensures { SomeRunRevokes }
 {}
 
-/// A law: a run in which the votes of a file are moved away from its servers, and every old server falls down. It does nothing.
+/// A law: a run in which the votes of a file are moved to other servers, and two of the old ones fall down, of which one is
+/// back when the file is read. It does nothing.
 pub fn some_run_moves_votes()
     ensures { SomeRunMovesVotes }
 {}

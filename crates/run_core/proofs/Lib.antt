@@ -6,3 +6,4 @@ pub mod Operating
 pub mod Playing
 mod Worked
 pub mod Wanting
+mod Senseless

@@ -6,4 +6,6 @@ pub mod Laws
 pub mod WorkedRuns
 pub mod Opened
 pub mod Wanting
+pub mod Asking
+pub mod Senses
 pub mod code

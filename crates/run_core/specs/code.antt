@@ -3,3 +3,4 @@ pub mod SeatFields
 pub mod Exchanges
 pub mod Orders
 pub mod WorldFields
+pub mod Equality

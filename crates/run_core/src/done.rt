@@ -21,6 +21,27 @@ pub struct Outcome {
     pub ending: Ending,
 }
 
+impl PartialEq for Outcome {
+    ghost use Rattle.run_core.specs.code.Equality.{same_outcome, same_outcome_partial_laws};
+
+    ghost eq = { same_outcome };
+
+    ghost laws = { same_outcome_partial_laws };
+
+    fn eq(&self, other: &Outcome) -> bool {
+        self.agent == other.agent
+            && self.count == other.count
+            && self.steps == other.steps
+            && self.ending == other.ending
+    }
+}
+
+impl Eq for Outcome {
+    ghost use Rattle.run_core.specs.code.Equality.{same_outcome_laws};
+
+    ghost laws = { same_outcome_laws };
+}
+
 /// What was done in an event: what was served, if anything was, and how a job ended, if one did.
 #[derive(Debug, Drop)]
 pub struct Done {

@@ -4,7 +4,7 @@ use rep_core::Lack;
 use txn_core::Job;
 
 /// What happens in a world. Servers and agents are named by their numbers, from 0.
-#[derive(Debug, Drop)]
+#[derive(Clone, Debug, Drop)]
 pub enum Event {
     /// An agent begins a job.
     Begin { agent: u8, job: Job },

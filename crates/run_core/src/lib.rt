@@ -4,7 +4,7 @@
 //! agent begins a job; it sends its request to a server and takes the reply; a server falls down or comes
 //! up; an agent forgets what its cache keeps for a site, or is told that its request was not served. An
 //! event without sense (a number that nobody has, a step of an agent without a job, a begin of one that has
-//! one) does nothing. [`World::step`] plays one event, and answers what was served and how a job ended;
+//! one; `specs/Senses.antt`) does nothing. [`World::step`] plays one event, and answers what was served and how a job ended;
 //! [`World::advance`] plays one and tells the second alone; [`World::play`] plays many.
 //!
 //! What an event makes of a world is one equation each (`specs/Worlds.antt`). A run is events one after the
@@ -32,5 +32,5 @@ mod world;
 
 pub use done::{Done, Outcome, Served};
 pub use event::Event;
-pub use laws::{runs_go_on, worked_runs};
+pub use laws::{nothing_comes, runs_go_on, worked_runs};
 pub use world::{Stopped, World};

@@ -4,6 +4,7 @@ ghost use Rattle.std.specs.Prelude.{◌≡◌, ◌≤◌, ◌++◌, [], take, le
 ghost use Rattle.std.specs.List.{cons_option};
 ghost use Rattle.std.specs.Option.{option_or};
 ghost use Rattle.txn_core.specs.Agents.{fixed_of};
+ghost use Rattle.run_core.specs.Asking.{asked_at};
 ghost use Rattle.run_core.specs.Runs as runs;
 ghost use Rattle.run_core.specs.Wanting as wanting;
 ghost use Rattle.run_core.specs.Worlds as worlds;
@@ -155,6 +156,16 @@ impl World {
         match self.servers.get(usize::from(server)) {
             Some(found) => found.audit(),
             None => &[],
+        }
+    }
+
+    /// Of which server an agent asks next: of none, where it has no job or is not there. It takes no memory.
+    pub fn asked(&self, agent: u8) -> Option<u8>
+        ensures { result ≡ asked_at (fixed_of self.now.given) self.now.world agent }
+    {
+        match self.seats.get(usize::from(agent)) {
+            Some(seat) => seat.asked(),
+            None => None,
         }
     }
 

@@ -9,6 +9,8 @@ use Rattle.sorted_map.specs.SortedMap.{get}
 use Rattle.suite_prefix.specs.SettingsRules.{Opening, IsAccepted}
 use Rattle.rep_core.specs.State as state
 use Rattle.rep_core.specs.State.{State}
+use Rattle.rep_core.specs.declared.reply.Verdict.{Verdict}
+use Rattle.rep_core.specs.declared.reply.Verdict.TheVariants as verdict
 use Rattle.rep_core.proofs.Members.{Has, has_from, contains_from}
 use Rattle.txn_core.specs.declared.ending.Ending.{Ending}
 use Rattle.txn_core.specs.declared.ending.Ending.TheVariants.{Answered, Refused, Swept, Undecided}
@@ -22,8 +24,8 @@ use Rattle.run_core.specs.Runs.{after, dones, outcomes, run, done_in}
 use Rattle.run_core.specs.Decisions.{Decided, decisions, decisions_from}
 use Rattle.run_core.proofs.Appending.{dones-append, outcomes-append, decisions_from-append}
 use Rattle.run_laws.specs.Numbers.{number_of, has_begun, was_begun}
-use Rattle.run_laws.specs.Claims.{ended, IsDecidedAs, DecidedOnce, denials_of, denials_at, AuditIsTheDenials, AnsweredBefore}
-use Rattle.run_laws.proofs.Standing.{Answer', In, NotIn, append_has_left}
+use Rattle.run_laws.specs.Claims.{ended, IsDecidedAs, DecidedOnce, verdict_of, record_by, DecisionsAreTheRecords, denials_of, denials_at, AuditIsTheDenials, AnsweredBefore}
+use Rattle.run_laws.proofs.Standing.{Answer', In, NotIn, Recorded, append_has_left, verdict_as}
 use Rattle.run_laws.proofs.Agents.{IsAt, EndStands, AreAt}
 use Rattle.run_laws.proofs.Worlds.{agent_of, agent_at, Holds, run_holds}
 use Rattle.run_laws.proofs.Order.{stands_first, same_decision, apart_distinct}
@@ -112,6 +114,31 @@ decided_once given accepted events = record {
       ends_as given accepted (events ++ later) job (Undecided cause) (contains_from (ended given (events ++ later)) job (ended_still given events later job (has_from (ended given events) job there))) is
       one (has_from (decisions given (events ++ later)) one in') same;
 }
+
+-- ---- a decision is its home's record
+
+same_verdict : (answer : Answer') → verdict_as answer ≡ verdict_of answer
+same_verdict (Ok answers) = refl
+same_verdict (Err refusal) = refl
+
+pub decisions_are_the_records : DecisionsAreTheRecords
+decisions_are_the_records given accepted events = record {
+  kept = λ one there.
+      let home = holds.servers.kept one (has_from ds one there) in
+      ap (λ found. record_by found one.t) home.at ∙ home.is ∙ ap Some (same_verdict one.answer);
+  answered = λ server t answers is. decided_as ds t (Ok answers) (recorded_of server t (verdict.Answered answers) (server_at (run given events) server) refl is);
+  refused = λ server t refusal is. decided_as ds t (Err refusal) (recorded_of server t (verdict.Refused refusal) (server_at (run given events) server) refl is);
+}
+  where
+    ds : List Decided
+    ds = decisions given events
+
+    holds : Holds (fixed_of given) (run given events) (decisions given events) (ended given events)
+    holds = holds_of given accepted events
+
+    recorded_of : (server t : ℕ) (v : Verdict) (found : Option State) → server_at (run given events) server ≡ found → record_by found t ≡ Some v → Recorded (decisions given events) t v
+    recorded_of server t v None at is = absurd (none-some v is)
+    recorded_of server t v (Some st) at is = holds.servers.recorded server st t v at is
 
 -- ---- the audit is the denials
 

@@ -1,5 +1,5 @@
 -- What holds of the decisions of every run.
-use Rattle.std.specs.Prelude.{◌≡◌, ◌≢◌, ℕ, ◌==◌, nat_eq, false, if◌then◌else◌, List, [], ◌∷◌, ◌++◌, map, Contains, Some, Result, Ok, Err}
+use Rattle.std.specs.Prelude.{◌≡◌, ◌≢◌, ℕ, ◌==◌, nat_eq, false, if◌then◌else◌, List, [], ◌∷◌, ◌++◌, map, Contains, Option, Some, None, Result, Ok, Err}
 use Rattle.std.specs.List.{IsDistinct}
 use Rattle.suite_prefix.specs.SettingsRules.{Opening, IsAccepted}
 use Rattle.acl_core.specs.Identity.{Identity}
@@ -8,6 +8,9 @@ use Rattle.file_ops.specs.declared.audit.AuditItem.{AuditItem}
 use Rattle.file_ops.specs.declared.refusal.Refusal.{Refusal}
 use Rattle.file_ops.specs.declared.service.Service.{Service}
 use Rattle.file_ops.specs.Transactions.{denials}
+use Rattle.rep_core.specs.declared.reply.Verdict.{Verdict}
+use Rattle.rep_core.specs.declared.reply.Verdict.TheVariants as verdict
+use Rattle.rep_core.specs.State.{State, record_of}
 use Rattle.txn_core.specs.declared.ending.Cause.{Cause}
 use Rattle.txn_core.specs.declared.ending.Ending.TheVariants.{Answered, Refused, Undecided}
 use Rattle.txn_core.specs.declared.job.Job.{Job}
@@ -16,7 +19,7 @@ use Rattle.txn_core.specs.Agents.{fixed_of}
 use Rattle.run_core.specs.declared.event.Event.{Event}
 use Rattle.run_core.specs.declared.event.Event.TheVariants.{Begin}
 use Rattle.run_core.specs.declared.done.Outcome.{Outcome}
-use Rattle.run_core.specs.Worlds.{audit_of}
+use Rattle.run_core.specs.Worlds.{audit_of, server_at}
 use Rattle.run_core.specs.Runs.{run, done_in, outcomes}
 use Rattle.run_core.specs.Decisions.{Decided, decisions}
 use Rattle.run_laws.specs.Numbers.{number_of, was_begun, begins_at}
@@ -48,6 +51,30 @@ pub record IsDecidedOnce (given : Opening) (events : List Event) : Type 0 where
 
 abbrev pub DecidedOnce : Type 0
 DecidedOnce = (given : Opening) → IsAccepted given → (events : List Event) → IsDecidedOnce given events
+
+-- ---- a decision is its home's record
+
+-- what a home records of an answer
+abbrev pub verdict_of : Result (List Answer) Refusal → Verdict
+verdict_of (Ok answers) = verdict.Answered answers
+verdict_of (Err refusal) = verdict.Refused refusal
+
+-- what a server recorded of a transaction; one that is not there recorded nothing
+abbrev pub record_by : Option State → ℕ → Option Verdict
+record_by (Some st) t = record_of st t
+record_by None t = None
+
+abbrev pub record_at : Opening → List Event → ℕ → ℕ → Option Verdict
+record_at given events server t = record_by (server_at (run given events) server) t
+
+-- Each decision stands in the record of its home, with its answer; and what any server has recorded as answered or refused is a decision, with that answer.
+pub record AreTheRecords (given : Opening) (events : List Event) : Type 0 where
+  pub kept : (one : Decided) → Contains (decisions given events) one → record_at given events (home_of (fixed_of given).service one.t) one.t ≡ Some (verdict_of one.answer)
+  pub answered : (server t : ℕ) (answers : List Answer) → record_at given events server t ≡ Some (verdict.Answered answers) → IsDecidedAs (decisions given events) t (Ok answers)
+  pub refused : (server t : ℕ) (refusal : Refusal) → record_at given events server t ≡ Some (verdict.Refused refusal) → IsDecidedAs (decisions given events) t (Err refusal)
+
+abbrev pub DecisionsAreTheRecords : Type 0
+DecisionsAreTheRecords = (given : Opening) → IsAccepted given → (events : List Event) → AreTheRecords given events
 
 -- ---- the audit is the denials
 

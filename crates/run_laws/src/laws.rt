@@ -1,6 +1,6 @@
 //! What holds of every run.
 
-ghost use Rattle.run_laws.specs.Claims.{DecidedOnce, AuditIsTheDenials, AnsweredBefore, ChangesAreMet};
+ghost use Rattle.run_laws.specs.Claims.{DecidedOnce, DecisionsAreTheRecords, AuditIsTheDenials, AnsweredBefore, ChangesAreMet};
 ghost use Rattle.run_laws.specs.Numbers.{EachIsBegunOnce, AgentsAskForThemselves};
 ghost use Rattle.run_laws.specs.Answers.{AnswersFollowKnowledge, KnownAnswersAreTheTables, TablesAuditIsTheDenials};
 ghost use Rattle.run_laws.specs.Worked.{SomeRunsDecide};
@@ -10,6 +10,12 @@ ghost use Rattle.run_laws.specs.Worked.{SomeRunsDecide};
 /// goes on. It does nothing.
 pub fn decided_once()
     ensures { DecidedOnce }
+{}
+
+/// A law: each decision stands in its home's record, with its answer; and what a server has recorded as answered or
+/// refused is a decision, with that answer. It does nothing.
+pub fn decisions_are_the_records()
+    ensures { DecisionsAreTheRecords }
 {}
 
 /// A law: the audit of each server is exactly the denials of the decisions whose home it is, in their

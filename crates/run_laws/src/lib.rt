@@ -9,6 +9,7 @@ mod laws;
 
 pub use laws::{
     agents_ask_for_themselves, answered_before_decided_before, answers_follow_knowledge,
-    audit_is_the_denials, changes_are_met, decided_once, each_is_begun_once,
-    known_answers_are_the_tables, some_runs_decide, tables_audit_is_the_denials,
+    audit_is_the_denials, changes_are_met, decided_once, decisions_are_the_records,
+    each_is_begun_once, known_answers_are_the_tables, some_runs_decide,
+    tables_audit_is_the_denials,
 };

@@ -19,3 +19,4 @@ pub mod Telling
 pub mod Endings
 pub mod Passing
 pub mod Reaching
+pub mod Equality

@@ -45,6 +45,81 @@ pub enum Ending {
     Undecided(Cause),
 }
 
+impl PartialEq for Cause {
+    ghost use Rattle.txn_core.specs.code.Equality.{same_cause, same_cause_partial_laws};
+
+    ghost eq = { same_cause };
+
+    ghost laws = { same_cause_partial_laws };
+
+    fn eq(&self, other: &Cause) -> bool {
+        match (self, other) {
+            (
+                Cause::Unavailable { suite, got, needed },
+                Cause::Unavailable {
+                    suite: place,
+                    got: had,
+                    needed: wanted,
+                },
+            ) => suite == place && got == had && needed == wanted,
+            (
+                Cause::Busy { server, holder },
+                Cause::Busy {
+                    server: at,
+                    holder: other,
+                },
+            ) => server == at && holder == other,
+            (Cause::Lost { server }, Cause::Lost { server: at })
+            | (Cause::Full { server }, Cause::Full { server: at }) => server == at,
+            (Cause::Overruled, Cause::Overruled)
+            | (Cause::HomeDown, Cause::HomeDown)
+            | (Cause::Memory, Cause::Memory) => true,
+            _ => false,
+        }
+    }
+}
+
+impl Eq for Cause {
+    ghost use Rattle.txn_core.specs.code.Equality.{same_cause_laws};
+
+    ghost laws = { same_cause_laws };
+}
+
+impl PartialEq for Ending {
+    ghost use Rattle.txn_core.specs.code.Equality.{same_ending, same_ending_partial_laws};
+
+    ghost eq = { same_ending };
+
+    ghost laws = { same_ending_partial_laws };
+
+    fn eq(&self, other: &Ending) -> bool {
+        match (self, other) {
+            (Ending::Answered(own), Ending::Answered(theirs)) => own == theirs,
+            (Ending::Refused(own), Ending::Refused(theirs)) => own == theirs,
+            (
+                Ending::Swept {
+                    broken,
+                    finished,
+                    left,
+                },
+                Ending::Swept {
+                    broken: locks,
+                    finished: ended,
+                    left: others,
+                },
+            ) => broken == locks && finished == ended && left == others,
+            (Ending::Undecided(own), Ending::Undecided(theirs)) => own == theirs,
+            _ => false,
+        }
+    }
+}
+
+impl Eq for Ending {
+    ghost use Rattle.txn_core.specs.code.Equality.{same_ending_laws};
+
+    ghost laws = { same_ending_laws };
+}
+
 impl Cause {
     /// Why too few votes were to be had of a suite: the first server that was busy, or none was.
     pub(crate) fn of_short(suite: u64, got: u32, needed: u32, busy: Option<(u8, u64)>) -> Cause

@@ -53,7 +53,7 @@ impl Ops {
 }
 
 /// What an agent is asked to do.
-#[derive(Debug, Drop)]
+#[derive(Clone, Debug, Drop)]
 pub enum Job {
     /// To carry out a transaction of a caller, with the cache of a site.
     Transaction { caller: Caller, site: u8, ops: Ops },

@@ -1,0 +1,98 @@
+-- An event without sense changes nothing.
+use Rattle.std.proofs.Common.{◌≡◌, ℕ, ◌+◌, ◌<◌, Bool, true, false, cond, List, [], ◌∷◌, Option, Some, None, inl, inr, refl, ap, sym, subst, ◌∙◌, arith}
+use Rattle.std.specs.Prelude.{◌==◌, nat_lt, not, is_some, Contains}
+use Rattle.std.proofs.lemmas.Bool.{false≢true}
+use Rattle.std.proofs.lemmas.Bool.Decides.{nat_tests}
+use Rattle.rep_core.specs.declared.request.Request.{Request}
+use Rattle.rep_core.specs.declared.request.Request.TheVariants as request
+use Rattle.rep_core.specs.declared.stamped.Stamped.{Stamped}
+use Rattle.rep_core.specs.State.{State}
+use Rattle.rep_core.proofs.Members.{Has, contains_from}
+use Rattle.weak_cache.specs.Entries.{Entry, Cache, is_at, forgotten}
+use Rattle.txn_core.specs.declared.job.Job.{Job}
+use Rattle.txn_core.specs.declared.word.Word.{Word}
+use Rattle.txn_core.specs.declared.word.Word.TheVariants.{Lacked}
+use Rattle.txn_core.specs.Doing.{Fixed}
+use Rattle.txn_core.specs.Agents.{Agent, begin, begins, started, forget, max_sites, next_of}
+use Rattle.run_core.specs.declared.done.Served.{Served}
+use Rattle.run_core.specs.declared.event.Event.{Event}
+use Rattle.run_core.specs.declared.event.Event.TheVariants as event
+use Rattle.run_core.specs.Asking.{asked_by}
+use Rattle.run_core.specs.Senses.{can_begin, asks_one, can_forget, NothingComes}
+use Rattle.run_core.specs.Worlds.{Actor, World, Stepped, actor_at, server_at, becomes, quiet, steps_once, asks, asks_at, lacks, lacks_for, operates, operated, serve}
+use Rattle.run_core.proofs.Exchanging.{set_there}
+
+-- an agent that stays as it was, put back where it stood
+stays : (world : World) (place : ℕ) (change : Agent → Agent) (found : Option Actor) → actor_at world place ≡ found
+    → ((actor : Actor) → found ≡ Some actor → change actor.agent ≡ actor.agent) → becomes world place change found ≡ quiet world
+stays world place change None is same = refl
+stays world place change (Some actor) is same =
+    ap (λ (agent : Agent). becomes world place (λ _. agent) (Some actor)) (same actor refl)
+    ∙ ap (λ agents. quiet (record world { agents = agents })) (set_there world.agents place actor is)
+
+-- ---- Begin
+
+not_begun : (fixed : Fixed) (agent : Agent) (job : Job) → begins fixed agent job ≡ false → begin fixed agent job ≡ agent
+not_begun fixed agent job none = ap (λ b. cond b (record (started fixed agent job) { count = agent.count + 1 }) agent) none
+
+begun_never : (fixed : Fixed) (job : Job) (found : Option Actor) → can_begin fixed job found ≡ false → (actor : Actor) → found ≡ Some actor → begin fixed actor.agent job ≡ actor.agent
+begun_never fixed job found none actor is = not_begun fixed actor.agent job (ap (can_begin fixed job) (sym is) ∙ none)
+
+-- ---- Forget
+
+apart : (site other : ℕ) → site < max_sites → nat_lt other max_sites ≡ false → (site == other) ≡ false
+apart site other less none = grind (arith, nat_tests, less, none)
+
+none_left : (site : ℕ) (cache : Cache) → nat_lt site max_sites ≡ false → ((entry : Entry) → Has cache entry → entry.site < max_sites) → forgotten site cache ≡ cache
+none_left site [] none there = refl
+none_left site (entry ∷ cache) none there =
+    ap (λ t. cond (not t) (entry ∷ forgotten site cache) (forgotten site cache)) (apart entry.site site (there entry (inl refl)) none)
+    ∙ ap (λ rest. entry ∷ rest) (none_left site cache none (λ one has. there one (inr has)))
+
+forgets_nothing : (world : World) (place site : ℕ) (found : Option Actor) → can_forget site found ≡ false
+    → ((actor : Actor) (entry : Entry) → found ≡ Some actor → Contains actor.agent.cache entry → entry.site < max_sites)
+    → (actor : Actor) → found ≡ Some actor → forget actor.agent site ≡ actor.agent
+forgets_nothing world place site found none there actor is =
+    ap (λ cache. record actor.agent { cache = cache })
+    (none_left site actor.agent.cache (ap (can_forget site) (sym is) ∙ none) (λ entry has. there actor entry is (contains_from actor.agent.cache entry has)))
+
+-- ---- Step and Lack
+
+none_there : {X : Type 0} (found : Option X) → is_some found ≡ false → found ≡ None
+none_there None none = refl
+none_there (Some x) none = absurd (false≢true (sym none))
+
+asks_none : (fixed : Fixed) (world : World) (place : ℕ) (actor : Actor) (asked : Option (ℕ × Request)) → asks_one world asked ≡ false → asks fixed world place actor asked ≡ quiet world
+asks_none fixed world place actor None none = refl
+asks_none fixed world place actor (Some asked) none = ap (asks_at fixed world place actor asked) (none_there (server_at world asked.0) none)
+
+steps_never : (fixed : Fixed) (world : World) (place : ℕ) (found : Option Actor) → asks_one world (asked_by fixed found) ≡ false → steps_once fixed world place found ≡ quiet world
+steps_never fixed world place None none = refl
+steps_never fixed world place (Some actor) none = asks_none fixed world place actor (next_of fixed actor.agent) none
+
+lacks_never : (fixed : Fixed) (world : World) (place : ℕ) (word : Word) (found : Option Actor) → is_some (asked_by fixed found) ≡ false → lacks fixed world place word found ≡ quiet world
+lacks_never fixed world place word None none = refl
+lacks_never fixed world place word (Some actor) none = ap (lacks_for fixed world place actor word) (none_there (next_of fixed actor.agent) none)
+
+-- ---- Crash and Return
+
+not_operated : (world : World) (st : State) (what : Option Served) → is_some (operated world st what).done.served ≡ false → operated world st what ≡ quiet world
+not_operated world st None none = refl
+not_operated world st (Some what) none = absurd (false≢true (sym none))
+
+operates_never : (world : World) (server : ℕ) (asked : Request) (found : Option State) → is_some (operates world server asked found).done.served ≡ false → operates world server asked found ≡ quiet world
+operates_never world server asked None none = refl
+operates_never world server asked (Some st) none = not_operated world st (serve server st (record { stamp = 0; value = asked })) none
+
+-- ---- every event
+
+pub nothing_comes : NothingComes
+nothing_comes fixed world (event.Begin agent job) there none =
+    stays world agent (λ a. begin fixed a job) (actor_at world agent) refl (begun_never fixed job (actor_at world agent) none)
+nothing_comes fixed world (event.Step agent) there none = steps_never fixed world agent (actor_at world agent) none
+nothing_comes fixed world (event.Crash server) there none = operates_never world server request.Crash (server_at world server) none
+nothing_comes fixed world (event.Return server) there none = operates_never world server request.Return (server_at world server) none
+nothing_comes fixed world (event.Forget agent site) there none =
+    stays world agent (λ a. forget a site) (actor_at world agent) refl
+    (forgets_nothing world agent site (actor_at world agent) none (λ actor entry is has. there agent actor entry is has))
+nothing_comes fixed world (event.Lack agent why) there none = lacks_never fixed world agent (Lacked why) (actor_at world agent) none
