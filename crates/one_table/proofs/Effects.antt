@@ -117,10 +117,16 @@ module _ (given : Opening) (events : List happening.Event) (kept : AllKeepSides 
   in_effect row of =
       let held = register given z events in
       record {
+        pversion = held.prefix.pver;
+        newest = λ server. subst (λ (copy : Replica). copy.prefix.pver ≤ held.prefix.pver) (effect_at server) (current.greatest server).0;
         head = λ set quorum.
             let shown = current.prefix set (subst (λ (votes : Configuration). IsQuorum votes set) (sym of.votes) quorum) in
-            has_one given events z (machine_of given z events) follows.shows set (HasHead row)
-            (record { server = shown.server; inside = shown.inside; is = has_head held.prefix held.content row (effect (machine_of given z events) shown.server) of shown.is });
+            has_one given events z (machine_of given z events) follows.shows set (λ copy. (copy.prefix.pver ≡ held.prefix.pver) × HasHead row copy)
+            (record {
+              server = shown.server;
+              inside = shown.inside;
+              is = (ap (λ (prefix : Prefix). prefix.pver) shown.is, has_head held.prefix held.content row (effect (machine_of given z events) shown.server) of shown.is);
+            });
         version = held.dver;
         greatest = λ server. subst (λ (copy : Replica). copy.dver ≤ held.dver) (effect_at server) (current.greatest server).1;
         content = λ set quorum.

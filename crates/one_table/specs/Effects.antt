@@ -45,10 +45,12 @@ pub record HasHead (row : Row) (copy : Replica) : Type 0 where
   pub acl : copy.prefix.acl ≡ row.acl
   pub votes : copy.prefix.votes ≡ row.votes
 
--- Every read quorum and every write quorum of the row's votes has a copy in effect with the row's kind, owner, group, list and votes, and one
--- with the row's content, at the greatest version of a content that is in effect anywhere.
+-- Every read quorum and every write quorum of the row's votes has a copy in effect with the row's kind, owner, group, list and votes, at the
+-- greatest version of a prefix that is in effect anywhere, and one with the row's content, at the greatest version of a content.
 pub record IsInEffect (given : Opening) (events : List Event) (z : ℕ) (row : Row) : Type 0 where
-  pub head : (set : ℕ → Bool) → IsQuorum row.votes set → HasOne given events z set (HasHead row)
+  pub pversion : ℕ
+  pub newest : (server : ℕ) → (copy_at given events z server).prefix.pver ≤ pversion
+  pub head : (set : ℕ → Bool) → IsQuorum row.votes set → HasOne given events z set (λ copy. (copy.prefix.pver ≡ pversion) × HasHead row copy)
   pub version : ℕ
   pub greatest : (server : ℕ) → (copy_at given events z server).dver ≤ version
   pub content : (set : ℕ → Bool) → IsQuorum row.votes set → HasOne given events z set (λ copy. (copy.dver ≡ version) × (copy.content ≡ row.content))
