@@ -1,5 +1,5 @@
 -- A change that was answered is met by every request that begins later: the laws of runs, joined.
-use Rattle.std.proofs.Common.{◌≡◌, ◌<◌, ⊎_elim, List, [], ◌∷◌, ◌++◌, sym, ap, subst}
+use Rattle.std.proofs.Common.{◌≡◌, ⊎_elim, List, [], ◌∷◌, ◌++◌, sym, ap, subst}
 use Rattle.std.specs.Prelude.{Contains, Ok}
 use Rattle.rep_core.proofs.Members.{Has, has_from}
 use Rattle.file_ops.specs.Rows as rows
@@ -16,7 +16,6 @@ use Rattle.run_knowledge.proofs.Events as knowledge
 use Rattle.one_table.proofs.Running as tables
 use Rattle.one_table.proofs.Running.{answers_are_one_tables, audit_is_one_tables}
 use Rattle.one_table.proofs.Versions as versions
-use Rattle.headline.specs.Premises.{CanBe}
 use Rattle.headline.specs.Laws.{AnswersAreTheTables, AuditIsTheDenials, AnsweredBefore, RevocationsAreMet, RowsHaveVersions, RowsAreTheRegisters, KnowledgeWas, AgentsKeepSides}
 use Rattle.headline.proofs.Keeping.{all_keep}
 
