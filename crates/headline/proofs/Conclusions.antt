@@ -1,5 +1,5 @@
 -- A change that was answered is met by every request that begins later: the laws of runs, joined.
-use Rattle.std.proofs.Common.{◌≡◌, ◌<◌, ⊎_elim, List, [], ◌∷◌, ◌++◌, sym, ap, subst}
+use Rattle.std.proofs.Common.{◌≡◌, ⊎_elim, List, [], ◌∷◌, ◌++◌, sym, ap, subst}
 use Rattle.std.specs.Prelude.{Contains, Ok}
 use Rattle.rep_core.proofs.Members.{Has, has_from}
 use Rattle.file_ops.specs.Rows as rows
@@ -13,12 +13,10 @@ use Rattle.run_laws.specs.Claims.{StandsBefore, IsMet}
 use Rattle.run_laws.proofs.Conclusions as of_runs
 use Rattle.run_laws.proofs.Begun.{changes_are_met}
 use Rattle.run_knowledge.proofs.Events as knowledge
-use Rattle.one_table.specs.Effects.{copy_at, HasOne}
 use Rattle.one_table.proofs.Running as tables
 use Rattle.one_table.proofs.Running.{answers_are_one_tables, audit_is_one_tables}
-use Rattle.one_table.proofs.Effects as effects
-use Rattle.headline.specs.Premises.{CanBe}
-use Rattle.headline.specs.Laws.{AnswersAreTheTables, AuditIsTheDenials, AnsweredBefore, RevocationsAreMet, InEffectInEveryQuorum, ReplacedIsKnown, RowsAreTheRegisters, KnowledgeWas, AgentsKeepSides}
+use Rattle.one_table.proofs.Versions as versions
+use Rattle.headline.specs.Laws.{AnswersAreTheTables, AuditIsTheDenials, AnsweredBefore, RevocationsAreMet, RowsHaveVersions, RowsAreTheRegisters, KnowledgeWas, AgentsKeepSides}
 use Rattle.headline.proofs.Keeping.{all_keep}
 
 -- ---- the laws that follow at once
@@ -34,14 +32,8 @@ answered_before given events can before later job first second is there number n
     subst (λ all. Contains (decisions given all) first → StandsBefore (decisions given all) first second) (sym is)
     (of_runs.answered_before given can.accepted before later job first second there number not_begun) decided
 
-pub in_effect_in_every_quorum : InEffectInEveryQuorum
-in_effect_in_every_quorum given events can = effects.rows_are_in_effect given events (all_keep given events can)
-
-pub replaced_is_known : ReplacedIsKnown
-replaced_is_known given events can before later z server other set is quorum newer =
-    let copy = copy_at given before z server in
-    subst (λ all. copy.prefix.pver < (copy_at given all z other).prefix.pver → HasOne given all z set (λ one. copy.prefix.pver < one.prefix.pver)) (sym is)
-    (effects.replaced_is_known given before later (all_keep given (before ++ later) (subst (CanBe given) is can)) z server other set quorum) newer
+pub rows_have_versions : RowsHaveVersions
+rows_have_versions given events can = versions.rows_have_versions given events (all_keep given events can)
 
 pub rows_are_the_registers : RowsAreTheRegisters
 rows_are_the_registers given events can = tables.rows_are_the_registers given events (all_keep given events can)

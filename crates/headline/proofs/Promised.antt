@@ -12,7 +12,7 @@ use Rattle.run_laws.proofs.Conclusions.{decided_once, decisions_are_the_records}
 use Rattle.headline.specs.Premises.{CanBe, VotesAreValid}
 use Rattle.headline.proofs.Asked.{are_as_begun}
 use Rattle.headline.specs.Promises.{IsPromised, IsRunOf, OpensARun, PlaysOn, Promises}
-use Rattle.headline.proofs.Conclusions.{answers_are_the_tables, audit_is_the_denials, answered_before, revocations_are_met, in_effect_in_every_quorum, replaced_is_known}
+use Rattle.headline.proofs.Conclusions.{answers_are_the_tables, audit_is_the_denials, answered_before, revocations_are_met, rows_have_versions}
 
 -- ---- events that can be, and those of them that came first
 
@@ -46,8 +46,7 @@ promised given events can = record {
   begun = are_as_begun given can.accepted events;
   in_order = answered_before given events can;
   changes = revocations_are_met given events can;
-  in_effect = in_effect_in_every_quorum given events can;
-  replaced = replaced_is_known given events can;
+  versions = rows_have_versions given events can;
   once = decided_once given can.accepted events;
   recorded = decisions_are_the_records given can.accepted events;
   audits = (audit_is_the_denials given events can).1;

@@ -11,7 +11,7 @@ use Rattle.rep_core.specs.declared.request.Request.TheVariants.{Poll, Upgrade}
 use Rattle.rep_core.specs.declared.reply.Reply.TheVariants.{Held}
 use Rattle.rep_core.specs.Locks.{is_own}
 use Rattle.file_ops.specs.Rows as rows
-use Rattle.file_ops.specs.Rows.{Row, row_of}
+use Rattle.file_ops.specs.Rows.{row_of}
 use Rattle.txn_core.specs.Suites.{First, Suite, suite_of}
 use Rattle.txn_core.specs.declared.job.Job.{Job}
 use Rattle.txn_core.specs.Doing.{Fixed, Course, Running}
@@ -33,9 +33,9 @@ use Rattle.run_machine.specs.Sides as sides
 use Rattle.run_knowledge.specs.Knowledge.{AllWere}
 use Rattle.server_moves.specs.Laws.{beginning}
 use Rattle.one_table.specs.Tables.{row_shown, register}
-use Rattle.one_table.specs.Effects.{IsInEffect}
+use Rattle.one_table.specs.Versions.{HaveVersions}
 use Rattle.headline.specs.Premises.{CanBe}
-use Rattle.headline.specs.Promises.{AreAsBegun, StandInOrder, MeetsChanges, KnowsReplaced}
+use Rattle.headline.specs.Promises.{AreAsBegun, StandInOrder, MeetsChanges}
 
 -- ---- one table
 
@@ -95,15 +95,10 @@ LocksStand =
 
 -- ---- what is in effect
 
--- Each row of the table is in effect in every read and every write quorum of its votes.
-abbrev pub InEffectInEveryQuorum : Type 0
-InEffectInEveryQuorum =
-    (given : Opening) (events : List Event) → CanBe given events → (z : ℕ) (row : Row)
-    → row_of (table_of given events).rows z ≡ Some row → IsInEffect given events z row
-
--- Every quorum of votes that were replaced has a copy in effect that is newer.
-abbrev pub ReplacedIsKnown : Type 0
-ReplacedIsKnown = (given : Opening) (events : List Event) → CanBe given events → KnowsReplaced given events
+-- The rows of the table have versions that rise as they change, and each row is in effect at its versions in every read and every write quorum of its
+-- votes. Every quorum of votes that were replaced has a newer prefix in effect. What is in effect and what caches keep was the table's.
+abbrev pub RowsHaveVersions : Type 0
+RowsHaveVersions = (given : Opening) (events : List Event) → CanBe given events → HaveVersions given events
 
 -- Each row of the table is what the register of its suite's machine holds.
 abbrev pub RowsAreTheRegisters : Type 0

@@ -1,5 +1,5 @@
 -- What is promised of a run at each of its moments, and what a world so promises.
-use Rattle.std.specs.Prelude.{◌≡◌, ℕ, ◌<◌, Bool, false, List, [], ◌∷◌, ◌++◌, Contains, Some, Result, Ok}
+use Rattle.std.specs.Prelude.{◌≡◌, ℕ, false, List, [], ◌∷◌, ◌++◌, Contains, Some, Result, Ok}
 use Rattle.vote_core.specs.Validity.{IsValid}
 use Rattle.suite_prefix.specs.SettingsRules.{Opening, IsAccepted}
 use Rattle.acl_core.specs.Identity.{Identity}
@@ -7,7 +7,6 @@ use Rattle.file_ops.specs.declared.answer.Answer.{Answer}
 use Rattle.file_ops.specs.declared.operation.Op.{Op}
 use Rattle.file_ops.specs.declared.refusal.Refusal.{Refusal}
 use Rattle.file_ops.specs.Rows as rows
-use Rattle.file_ops.specs.Rows.{Row, row_of}
 use Rattle.file_ops.specs.Transactions.{replies}
 use Rattle.txn_core.specs.declared.ending.Ending.TheVariants.{Answered}
 use Rattle.txn_core.specs.declared.job.Job.{Job}
@@ -24,8 +23,7 @@ use Rattle.run_core.specs.Opened.{Opened}
 use Rattle.run_laws.specs.Numbers.{number_of, was_begun, begins_at}
 use Rattle.run_laws.specs.Answers.{all_denials}
 use Rattle.run_laws.specs.Claims.{ended, IsDecidedOnce, AreTheRecords, denials_at, StandsBefore}
-use Rattle.suite_machine.specs.Machine.{IsQuorum}
-use Rattle.one_table.specs.Effects.{copy_at, HasOne, IsInEffect}
+use Rattle.one_table.specs.Versions.{HaveVersions}
 use Rattle.headline.specs.Premises.{CanBe, VotesAreValid}
 
 -- A transaction was begun with this number, for this caller, and with these operations.
@@ -67,14 +65,6 @@ MeetsChanges given events =
     → Contains (ended given before) job → job.ending ≡ Answered answers → begins_at given (run given before) (Begin agent asked) ≡ Some t → request.t ≡ t
     → Contains (decisions given events) request → MeetsChange given (decisions given events) (number_of job) (Ok answers) request
 
--- Where a prefix that was in effect has been replaced, every read and every write quorum of its votes has a newer one in effect.
-abbrev pub KnowsReplaced : Opening → List Event → Type 0
-KnowsReplaced given events =
-    (before later : List Event) (z server other : ℕ) (set : ℕ → Bool) → events ≡ before ++ later
-    → IsQuorum (copy_at given before z server).prefix.votes set
-    → (copy_at given before z server).prefix.pver < (copy_at given events z other).prefix.pver
-    → HasOne given events z set (λ copy. (copy_at given before z server).prefix.pver < copy.prefix.pver)
-
 -- after these events of a run
 pub record IsPromised (given : Opening) (events : List Event) : Type 0 where
   -- each decided transaction was answered as one table answers it that takes them one at a time, in the order of their decisions
@@ -84,9 +74,9 @@ pub record IsPromised (given : Opening) (events : List Event) : Type 0 where
   -- and that is an order in which what was answered stands before all that began later
   pub in_order : StandInOrder given events
   pub changes : MeetsChanges given events
-  -- each row of that table is in effect in every read and every write quorum of its votes, and what was replaced is seen to be so
-  pub in_effect : (z : ℕ) (row : Row) → row_of (table_of given events).rows z ≡ Some row → IsInEffect given events z row
-  pub replaced : KnowsReplaced given events
+  -- the rows of that table have versions, at which they are in effect in every read and every write quorum of their votes; what was replaced is
+  -- seen to be so; and all that is in effect, and all that a cache has, was the table's
+  pub versions : HaveVersions given events
   -- each transaction is decided once at most: as its job ended, where that was answered or refused, and never, where it ended undecided
   pub once : IsDecidedOnce given events
   -- each stands in its home's record, and what a server has recorded as answered or refused is one of them

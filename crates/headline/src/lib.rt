@@ -9,7 +9,7 @@
 mod promises;
 mod witnesses;
 
-ghost use Rattle.headline.specs.Laws.{AnswersAreTheTables, AuditIsTheDenials, AnsweredBefore, RevocationsAreMet, LocksStand, InEffectInEveryQuorum, ReplacedIsKnown, RowsAreTheRegisters, KnowledgeWas, AgentsKeepSides, FirstsAreGiven};
+ghost use Rattle.headline.specs.Laws.{AnswersAreTheTables, AuditIsTheDenials, AnsweredBefore, RevocationsAreMet, LocksStand, RowsHaveVersions, RowsAreTheRegisters, KnowledgeWas, AgentsKeepSides, FirstsAreGiven};
 
 pub use promises::{
     all_votes_are_valid, decided_as_begun, opens_a_run, plays_on, promise, votes_are_valid,
@@ -45,14 +45,11 @@ pub fn locks_stand()
     ensures { LocksStand }
 {}
 
-/// A law: each row of that table is in effect in every read and every write quorum of its votes. It does nothing.
-pub fn in_effect_in_every_quorum()
-    ensures { InEffectInEveryQuorum }
-{}
-
-/// A law: every quorum of votes that were replaced has a copy in effect that is newer. It does nothing.
-pub fn replaced_is_known()
-    ensures { ReplacedIsKnown }
+/// A law: the rows of that table have versions that rise as they change, and each row is in effect at its versions in every
+/// read and every write quorum of its votes; every quorum of votes that were replaced has a newer prefix in effect; and what
+/// is in effect, or in a cache, was the table's. It does nothing.
+pub fn rows_have_versions()
+    ensures { RowsHaveVersions }
 {}
 
 /// A law: each row of that table is what the register of its suite's machine holds. It does nothing.

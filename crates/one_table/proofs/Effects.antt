@@ -1,5 +1,5 @@
 -- What is in effect at the servers is what the machines of the suites have in effect.
-use Rattle.std.proofs.Common.{◌≡◌, ℕ, ◌<◌, ◌≤◌, Bool, cond, List, [], ◌∷◌, ◌++◌, append_assoc, Option, Some, None, refl, sym, ap, subst, ◌∙◌, arith}
+use Rattle.std.proofs.Common.{◌≡◌, ℕ, ◌<◌, ◌≤◌, Bool, cond, List, [], ◌∷◌, ◌++◌, append_assoc, Option, Some, None, refl, sym, ap, subst, ◌∙◌}
 use Rattle.std.specs.Ordering.{nat_cmp}
 use Rattle.std.proofs.lemmas.Option.{none-some, same_Some}
 use Rattle.sorted_map.specs.SortedMap.{get}
@@ -25,14 +25,17 @@ use Rattle.run_core.specs.declared.event.Event as happening
 use Rattle.run_core.specs.Worlds as worlds
 use Rattle.run_core.specs.Worlds.{opening, step}
 use Rattle.run_core.specs.Runs as runs
-use Rattle.suite_machine.specs.Registers.{Beginning, WasPrefix, row}
+use Rattle.suite_machine.specs.Registers.{Beginning, prefix_at}
 use Rattle.suite_machine.specs.Machine as machine
 use Rattle.suite_machine.specs.Machine.{World, IsQuorum, effect, is_answered, begun}
 use Rattle.suite_machine.specs.Events.{Event, happens, run}
 use Rattle.suite_machine.specs.Conditions.{Obeys}
-use Rattle.suite_machine.specs.Laws.{CopiesWere, QuorumsShowRow, ReplacedIsSuperseded, Stays}
+use Rattle.suite_machine.specs.Laws.{QuorumsShowRow, Stays}
 use Rattle.suite_machine.specs.Laws as laws
-use Rattle.suite_machine.proofs.Conclusions.{always_current, always_superseded, every_copy_was, what_was_stays}
+use Rattle.suite_machine.proofs.Invariant.{Inv}
+use Rattle.suite_machine.proofs.Starting.{begins}
+use Rattle.suite_machine.proofs.Steps.{all_steps}
+use Rattle.suite_machine.proofs.Conclusions.{quorums_show, superseded, what_was_stays}
 use Rattle.server_moves.specs.Views.{Shows, plan_of, verdict_of}
 use Rattle.server_moves.specs.Laws.{beginning}
 use Rattle.run_machine.specs.Machines.{servers_of, home_in, events_of, moved, machine_from, history_from, machine_of, history_of}
@@ -40,9 +43,9 @@ use Rattle.run_machine.specs.Laws.{Follows}
 use Rattle.run_machine.proofs.Joining.{run-append}
 use Rattle.run_machine.proofs.Following.{machines_follow}
 use Rattle.one_table.specs.Tables.{register, AllKeepSides}
-use Rattle.one_table.specs.Effects.{was_answered, answered_in, copy_at, HasOne, HasHead, IsInEffect, RowsAreInEffect, ReplacedIsKnown}
+use Rattle.one_table.specs.Effects.{was_answered, answered_in, copy_at, HasOne, HasHead, IsInEffect}
 use Rattle.one_table.proofs.Shown.{FitsAs}
-use Rattle.one_table.proofs.Running.{earlier, all_shown}
+use Rattle.one_table.proofs.Running.{earlier}
 
 -- ---- the copy in effect
 
@@ -64,7 +67,7 @@ module _ (given : Opening) (events : List happening.Event) (z : ℕ) (w : World)
       ∙ ap (λ copy. machine.in_effect w.verdict (plan_of (get nat_cmp st.store.intentions z) (copy_of st.store z)) copy) (shows.at i).copy
       ∙ plans (get nat_cmp st.store.intentions z) (copy_of st.store z)
 
-  has_one : (set : ℕ → Bool) (P : Replica → Type 0) → laws.Shows w set P → HasOne given events z set P
+  pub has_one : (set : ℕ → Bool) (P : Replica → Type 0) → laws.Shows w set P → HasOne given events z set P
   has_one set P shown = record { server = shown.server; inside = shown.inside; is = subst P (effect_is shown.server) shown.is }
 
 -- ---- a row that is shown
@@ -77,7 +80,7 @@ pub record IsOfRow (k : PrefixKind) (prefix : Prefix) (content : Content) (row :
   pub votes : prefix.votes ≡ row.votes
   pub content_is : content ≡ row.content
 
-of_row : (k : PrefixKind) (prefix : Prefix) (content : Content) (row : Row) → FitsAs k content → row_with k prefix (Some content) ≡ Some row → IsOfRow k prefix content row
+pub of_row : (k : PrefixKind) (prefix : Prefix) (content : Content) (row : Row) → FitsAs k content → row_with k prefix (Some content) ≡ Some row → IsOfRow k prefix content row
 of_row kind.Absent prefix content row fits is = absurd (none-some row is)
 of_row kind.File prefix content row fits is =
     subst (IsOfRow kind.File prefix content) (same_Some (record { owner = prefix.owner; group = prefix.group; acl = prefix.acl; votes = prefix.votes; content = content }) row is)
@@ -86,8 +89,8 @@ of_row kind.Folder prefix content row fits is =
     subst (IsOfRow kind.Folder prefix content) (same_Some (record { owner = prefix.owner; group = prefix.group; acl = prefix.acl; votes = prefix.votes; content = content }) row is)
     (record { kind_is = sym (ap prefix_kind fits); owner = refl; group = refl; acl = refl; votes = refl; content_is = refl })
 
-has_head : (prefix : Prefix) (content : Content) (row : Row) (copy : Replica) → IsOfRow prefix.kind prefix content row → copy.prefix ≡ prefix → HasHead row copy
-has_head prefix content row copy of is = record {
+pub has_head : (prefix : Prefix) (content : Content) (row : Row) (other : Prefix) → IsOfRow prefix.kind prefix content row → other ≡ prefix → HasHead row other
+has_head prefix content row other of is = record {
   kind = ap (λ (prefix : Prefix). prefix.kind) is ∙ of.kind_is;
   owner = ap (λ (prefix : Prefix). prefix.owner) is ∙ of.owner;
   group = ap (λ (prefix : Prefix). prefix.group) is ∙ of.group;
@@ -98,42 +101,47 @@ has_head prefix content row copy of is = record {
 -- ---- the machine of a suite, after a run
 
 module _ (given : Opening) (events : List happening.Event) (kept : AllKeepSides given events) (z : ℕ) where
-  follows : Follows given z events
+  pub follows : Follows given z events
   follows = machines_follow given z events kept.valid (kept.keep z)
 
+  pub inv : Inv (beginning z given) (machine_of given z events)
+  inv = subst (Inv (beginning z given)) (sym follows.is) (all_steps (beginning z given) (begun (beginning z given)) (begins (beginning z given) follows.begins) (history_of given z events) follows.obeys)
+
   current : QuorumsShowRow (beginning z given) (machine_of given z events)
-  current = subst (QuorumsShowRow (beginning z given)) (sym follows.is) (always_current (beginning z given) follows.begins (history_of given z events) follows.obeys)
+  current = quorums_show (beginning z given) (machine_of given z events) inv
 
-  superseded : ReplacedIsSuperseded (beginning z given) (machine_of given z events)
-  superseded = subst (ReplacedIsSuperseded (beginning z given)) (sym follows.is) (always_superseded (beginning z given) follows.begins (history_of given z events) follows.obeys)
-
-  were : CopiesWere (beginning z given) (machine_of given z events)
-  were = subst (CopiesWere (beginning z given)) (sym follows.is) (every_copy_was (beginning z given) follows.begins (history_of given z events) follows.obeys)
-
-  effect_at : (i : ℕ) → effect (machine_of given z events) i ≡ copy_at given events z i
+  pub effect_at : (i : ℕ) → effect (machine_of given z events) i ≡ copy_at given events z i
   effect_at i = effect_is given events z (machine_of given z events) follows.shows i
 
-  in_effect : (row : Row) → IsOfRow (register given z events).prefix.kind (register given z events).prefix (register given z events).content row → IsInEffect given events z row
+  pub in_effect : (row : Row) → IsOfRow (register given z events).prefix.kind (register given z events).prefix (register given z events).content row
+      → IsInEffect given events z row (record { prefix = (register given z events).prefix.pver; content = (register given z events).dver })
   in_effect row of =
       let held = register given z events in
       record {
         head = λ set quorum.
             let shown = current.prefix set (subst (λ (votes : Configuration). IsQuorum votes set) (sym of.votes) quorum) in
-            has_one given events z (machine_of given z events) follows.shows set (HasHead row)
-            (record { server = shown.server; inside = shown.inside; is = has_head held.prefix held.content row (effect (machine_of given z events) shown.server) of shown.is });
-        version = held.dver;
-        greatest = λ server. subst (λ (copy : Replica). copy.dver ≤ held.dver) (effect_at server) (current.greatest server).1;
+            has_one given events z (machine_of given z events) follows.shows set (λ copy. (copy.prefix.pver ≡ held.prefix.pver) × HasHead row copy.prefix)
+            (record {
+              server = shown.server;
+              inside = shown.inside;
+              is = (ap (λ (prefix : Prefix). prefix.pver) shown.is, has_head held.prefix held.content row (effect (machine_of given z events) shown.server).prefix of shown.is);
+            });
         content = λ set quorum.
             let shown = current.content set (subst (λ (votes : Configuration). IsQuorum votes set) (sym of.votes) quorum) in
             has_one given events z (machine_of given z events) follows.shows set (λ copy. (copy.dver ≡ held.dver) × (copy.content ≡ row.content))
             (record { server = shown.server; inside = shown.inside; is = (shown.is.0, shown.is.1 ∙ of.content_is) });
       }
 
-pub rows_are_in_effect : RowsAreInEffect
-rows_are_in_effect given events kept z row is =
-    let held = register given z events in
-    let shown = all_shown given events kept z in
-    in_effect given events kept z row (of_row held.prefix.kind held.prefix held.content row shown.fits (shown.shows ∙ is))
+  pub greatest : (server : ℕ) → ((copy_at given events z server).prefix.pver ≤ (register given z events).prefix.pver) × ((copy_at given events z server).dver ≤ (register given z events).dver)
+  greatest server =
+      subst (λ (copy : Replica). (copy.prefix.pver ≤ (register given z events).prefix.pver) × (copy.dver ≤ (register given z events).dver)) (effect_at server) (current.greatest server)
+
+  -- every quorum under a prefix that the register had, and has no more, has a newer one in effect
+  pub newer : (p : ℕ) (prefix : Prefix) (set : ℕ → Bool) → p < (register given z events).prefix.pver → prefix_at (beginning z given) (machine_of given z events).log p ≡ prefix → IsQuorum prefix.votes set
+      → HasOne given events z set (λ copy. p < copy.prefix.pver)
+  newer p prefix set less was quorum =
+      has_one given events z (machine_of given z events) follows.shows set (λ copy. p < copy.prefix.pver)
+      (superseded (beginning z given) (machine_of given z events) inv p less set (subst (λ (prefix : Prefix). IsQuorum prefix.votes set) (sym was) quorum))
 
 -- ---- a run goes on
 
@@ -162,7 +170,7 @@ module _ (given : Opening) (events later : List happening.Event) (kept : AllKeep
   abbrev rest : List Event
   rest = history_from given z (machine_of given z events) (runs.run given events) later
 
-  goes_on : Stays start (machine_of given z events) (machine_of given z (events ++ later))
+  pub goes_on : Stays start (machine_of given z events) (machine_of given z (events ++ later))
   goes_on =
       let was = follows given events before z in
       let now = follows given (events ++ later) kept z in
@@ -171,22 +179,3 @@ module _ (given : Opening) (events later : List happening.Event) (kept : AllKeep
       let is : machine_of given z (events ++ later) ≡ run start (run start (begun start) first) rest = now.is ∙ ap (run start (begun start)) joined ∙ run-append start (begun start) first rest in
       subst (λ (w : World). Stays start w (machine_of given z (events ++ later))) (sym was.is)
       (subst (Stays start (run start (begun start) first)) (sym is) (what_was_stays start was.begins first rest was.obeys (obeys_later start (begun start) first rest obeys)))
-
-  replaced : (prefix : Prefix) (other : ℕ) (set : ℕ → Bool) → WasPrefix start (machine_of given z events).log prefix → IsQuorum prefix.votes set
-      → prefix.pver < (copy_at given (events ++ later) z other).prefix.pver → HasOne given (events ++ later) z set (λ copy. prefix.pver < copy.prefix.pver)
-  replaced prefix other set was quorum newer =
-      let now = machine_of given z (events ++ later) in
-      let still = goes_on.prefixes prefix was in
-      let top : (copy_at given (events ++ later) z other).prefix.pver ≤ (row start now.log).prefix.pver =
-      subst (λ (copy : Replica). copy.prefix.pver ≤ (row start now.log).prefix.pver) (effect_at given (events ++ later) kept z other) ((current given (events ++ later) kept z).greatest other).0 in
-      has_one given (events ++ later) z now (follows given (events ++ later) kept z).shows set (λ copy. prefix.pver < copy.prefix.pver)
-      (superseded given (events ++ later) kept z prefix.pver (below prefix.pver (copy_at given (events ++ later) z other).prefix.pver (row start now.log).prefix.pver newer top) set (subst (λ (prefix : Prefix). IsQuorum prefix.votes set) (sym still.1) quorum))
-    where
-      below : (a b c : ℕ) → a < b → b ≤ c → a < c
-      below a b c less most = omega (arith, less, most)
-
-pub replaced_is_known : ReplacedIsKnown
-replaced_is_known given events later kept z server other set quorum newer =
-    replaced given events later kept z (copy_at given events z server).prefix other set
-    (subst (λ (copy : Replica). WasPrefix (beginning z given) (machine_of given z events).log copy.prefix) (effect_at given events (earlier given events later kept) z server) ((were given events (earlier given events later kept) z).in_effect server).0)
-    quorum newer

@@ -4,3 +4,5 @@ pub mod Knowing
 pub mod Writing
 pub mod Running
 pub mod Effects
+mod Had
+pub mod Versions

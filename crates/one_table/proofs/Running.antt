@@ -55,7 +55,7 @@ machine_more : (given : Opening) (z : ℕ) (w : World) (world : worlds.World) (e
 machine_more given z w world [] event = refl
 machine_more given z w world (one ∷ events) event = machine_more given z (moved given z w world one) (step (fixed_of given) world one).world events event
 
-machine_one : (given : Opening) (z : ℕ) (events : List happening.Event) (event : happening.Event) → machine_of given z (events ++ event ∷ []) ≡ moved given z (machine_of given z events) (runs.run given events) event
+pub machine_one : (given : Opening) (z : ℕ) (events : List happening.Event) (event : happening.Event) → machine_of given z (events ++ event ∷ []) ≡ moved given z (machine_of given z events) (runs.run given events) event
 machine_one given z events event = machine_more given z (begun (beginning z given)) (opening given) events event
 
 -- ---- at the opening
@@ -75,10 +75,10 @@ not_root z = of (nat_cmp (suc z) 0) refl
     of Equal is = let none : suc z ≡ 0 = exact_unsigned (suc z) 0 is in absurd (omega (arith, none))
 
 opens_shown : (given : Opening) → AllShown given []
-opens_shown given zero = record { shows = refl; fits = refl }
+opens_shown given zero = record { shows = refl; fits = refl; never = tt }
 opens_shown given (suc z) =
     subst (λ b. IsShown (cond b (root_copy given) (absent_copy given.c0)) (row_of (table_of given []).rows (suc z))) (sym (not_zero z))
-    (subst (λ b. IsShown (absent_copy given.c0) (cond b (Some (rows.root_row given)) None)) (sym (not_root z)) (record { shows = refl; fits = tt }))
+    (subst (λ b. IsShown (absent_copy given.c0) (cond b (Some (rows.root_row given)) None)) (sym (not_root z)) (record { shows = refl; fits = tt; never = (refl, refl) }))
 
 -- ---- what a step decides
 
@@ -173,7 +173,7 @@ module _ (given : Opening) (events : List happening.Event) (event : happening.Ev
 
 -- ---- all events
 
-nothing_more : (events : List happening.Event) → events ++ [] ≡ events
+pub nothing_more : (events : List happening.Event) → events ++ [] ≡ events
 nothing_more [] = refl
 nothing_more (event ∷ events) = ap (λ rest. event ∷ rest) (nothing_more events)
 

@@ -36,10 +36,17 @@ FitsAs kind.Absent content = Unit {0}
 FitsAs kind.File content = kind_of content ≡ holds.File
 FitsAs kind.Folder content = kind_of content ≡ holds.Folder
 
+-- what was never made is at version 0
+abbrev pub NeverAs : PrefixKind → ℕ → ℕ → Type 0
+NeverAs kind.Absent pver dver = (pver ≡ 0) × (dver ≡ 0)
+NeverAs kind.File pver dver = Unit {0}
+NeverAs kind.Folder pver dver = Unit {0}
+
 -- a register shows a row
 pub record IsShown (held : Replica) (row : Option Row) : Type 0 where
   pub shows : row_shown held ≡ row
   pub fits : FitsAs held.prefix.kind held.content
+  pub never : NeverAs held.prefix.kind held.prefix.pver held.dver
 
 -- ---- what is known is so
 
@@ -106,6 +113,10 @@ fits_kind : (k : Kind) (content : Content) → kind_of content ≡ k → FitsAs 
 fits_kind holds.File content is = is
 fits_kind holds.Folder content is = is
 
+made_now : (k : Kind) (pver dver : ℕ) → NeverAs (prefix_kind k) pver dver
+made_now holds.File pver dver = tt
+made_now holds.Folder pver dver = tt
+
 kind_empty : (k : Kind) → kind_of (empty_content k) ≡ k
 kind_empty holds.File = refl
 kind_empty holds.Folder = refl
@@ -125,6 +136,7 @@ module _ (first : First) (change : executor.Change) (held : Replica) (before aft
   whole is = record {
     shows = made_row (kind_of change.row.content) (new_prefix first change) change.row.content ∙ is;
     fits = fits_kind (kind_of change.row.content) change.row.content refl;
+    never = made_now (kind_of change.row.content) (new_prefix first change).pver (change_to first change).dver;
   }
 
   -- neither is: the content stays
@@ -147,6 +159,7 @@ module _ (first : First) (change : executor.Change) (held : Replica) (before aft
       record {
         shows = made_row (kind_of change.row.content) (new_prefix first change) held.content ∙ ap Some (same_row change.row row held.content same stays) ∙ sym is;
         fits = fits_kind (kind_of change.row.content) held.content (sym (ap kind_of stays) ∙ sym kinds);
+        never = made_now (kind_of change.row.content) (new_prefix first change).pver (change_to first change).dver;
       }
 
   kept_if : change.content ≡ false → (row : Option Row) → after ≡ row → IsShown (changed (record { prefix = new_prefix first change; dver = (change_to first change).dver; content = None }) held) after

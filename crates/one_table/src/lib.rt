@@ -1,11 +1,11 @@
 //! Every run is that of one table.
 //!
-//! There is no code here but laws. What they say of the table of a run stands in `specs/Tables`, and what they say of the
-//! copies in effect at its servers in `specs/Effects`.
+//! There is no code here but laws. What they say of the table of a run stands in `specs/Tables`, and what they say of its
+//! versions, of the copies in effect at servers and of caches in `specs/Effects` and `specs/Versions`.
 #![tactic(auto)]
 
-ghost use Rattle.one_table.specs.Effects.{RowsAreInEffect, ReplacedIsKnown};
 ghost use Rattle.one_table.specs.Tables.{RowsAreTheRegisters, AgentsKnowTheTable, AnswersAreOneTables, AuditIsOneTables, OwedIsEnough};
+ghost use Rattle.one_table.specs.Versions.{RowsHaveVersions};
 
 /// A law: where agents keep to their side, each row of the table of a run is what the register of its suite holds. It
 /// does nothing.
@@ -25,16 +25,11 @@ pub fn answers_are_one_tables()
     ensures { AnswersAreOneTables }
 {}
 
-/// A law: where agents keep to their side, every read and every write quorum of a row's votes has the row in effect. It
-/// does nothing.
-pub fn rows_are_in_effect()
-    ensures { RowsAreInEffect }
-{}
-
-/// A law: where agents keep to their side, every read and every write quorum under a replaced prefix has a newer one in
-/// effect. It does nothing.
-pub fn replaced_is_known()
-    ensures { ReplacedIsKnown }
+/// A law: where agents keep to their side, the rows of a run's table have versions that rise as they change, at which
+/// they are in effect in every read and every write quorum of their votes; every quorum of replaced votes has a newer
+/// prefix in effect; and every copy in effect and every entry of a cache was the table's. It does nothing.
+pub fn rows_have_versions()
+    ensures { RowsHaveVersions }
 {}
 
 /// A law: where agents keep to their side, the audit of the one table is the denials of all decisions, in their order. It
