@@ -37,7 +37,7 @@ use Rattle.txn_core.specs.Doing.{home_of, Fixed, Task, Course, Sweeping, Listing
 use Rattle.txn_core.specs.Transactions.{heard_on, to_widen, after_word, lack_cause}
 use Rattle.txn_core.specs.Sweeps as sweep
 use Rattle.txn_core.specs.Agents.{Agent, Event, Take, next_in, next_of, end_of, take_in, begin, after_all}
-use Rattle.txn_core.specs.Laws.{Exchange, of_job, exchange_of, is_down, told_of, Was, loses, is_lack, fits_word, all_fit, has_said, holding, refusing, down, task_of, IsStart, SetsVotes, IsShort, IsCaused, EndsAreCaused}
+use Rattle.txn_core.specs.Laws.{Exchange, of_job, exchange_of, is_lost_by_down, told_of, Was, loses, is_lack, fits_word, all_fit, has_said, holding, refusing, down, task_of, IsStart, SetsVotes, IsShort, IsCaused, EndsAreCaused}
 use Rattle.txn_core.proofs.Gathers.{Sets}
 use Rattle.txn_core.proofs.Causes.{push, Begun, ShortBy, CausedBy, EndIs, OrFresh, LeftOf, was_now, last_fits}
 use Rattle.txn_core.proofs.Upheld.{Begins, Started, started_is, untold_is, begins_more, started_more, fresh_begins, map_cause, DoingStands, after-append, exchanges-take, word_leaves, stands_after}
@@ -73,7 +73,7 @@ caused_sweep : (past : List Exchange) (round : Round) (locks : List Lock) → Ro
 caused_sweep past round [] = tt
 caused_sweep past round (lock ∷ locks) = tt
 
-caused_lost : (past : List Exchange) (round : Round) (server : ℕ) (asked : Request) → is_down asked ≡ true → server ≡ round.server → RoundCaused (push past server asked (Replied reply.Down)) (sweep.lost round)
+caused_lost : (past : List Exchange) (round : Round) (server : ℕ) (asked : Request) → is_lost_by_down asked ≡ true → server ≡ round.server → RoundCaused (push past server asked (Replied reply.Down)) (sweep.lost round)
 caused_lost past round server asked is at = subst (λ who. Was (push past server asked (Replied reply.Down)) who loses) at (was_now past server asked (Replied reply.Down) loses is)
 
 abbrev push_now : List Exchange → Service → Round → Sweeping → Word → List Exchange

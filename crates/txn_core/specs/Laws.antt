@@ -325,9 +325,21 @@ pub record Was (past : List Exchange) (server : ℕ) (kind : Request → Word �
   pub at : one.server ≡ server
   pub is : kind one.request one.word ≡ true
 
+-- A server that is down to one of these has lost what the job needs of it: the requests of a transaction that stand on its locks, and those of
+-- a sweep. Not so a Poll, which asks for a lock anew, nor a Decide, which leaves open how the transaction ends.
+abbrev pub is_lost_by_down : Request → Bool
+is_lost_by_down (request.Upgrade t suite) = true
+is_lost_by_down (request.Fetch t suite) = true
+is_lost_by_down (request.Prepare t parts) = true
+is_lost_by_down request.Locks = true
+is_lost_by_down (request.Finish t v) = true
+is_lost_by_down (request.Break t suite) = true
+is_lost_by_down (request.Resolve t) = true
+is_lost_by_down _ = false
+
 abbrev pub loses : Request → Word → Bool
 loses asked (Replied reply.Lost) = true
-loses asked (Replied reply.Down) = is_down asked
+loses asked (Replied reply.Down) = is_lost_by_down asked
 loses asked _ = false
 
 abbrev pub says_aborted : Word → Bool
