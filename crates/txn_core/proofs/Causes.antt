@@ -1,6 +1,6 @@
 -- Undecided ends are caused.
 use Rattle.std.proofs.Common.{◌≡◌, ℕ, Bool, true, false, cond, List, [], ◌∷◌, ◌++◌, Option, Some, None, Ok, Err, refl, sym, ◌⊎◌, inl, inr, zero, suc, ap, subst, ◌∙◌}
-use Rattle.std.specs.Prelude.{◌==◌, ◌&&◌, length}
+use Rattle.std.specs.Prelude.{◌==◌, ◌&&◌, not, length}
 use Rattle.std.proofs.lemmas.Bool.{eqb-true}
 use Rattle.std.proofs.lemmas.List.Elements.{Contains-append_left, Contains-push}
 use Rattle.std.proofs.lemmas.List.Folds.{list_all-append}
@@ -39,8 +39,8 @@ use Rattle.txn_core.specs.declared.ending.Cause.TheVariants.{Unavailable, Busy, 
 use Rattle.txn_core.specs.declared.ending.Ending.TheVariants.{Answered, Refused, Swept, Undecided}
 use Rattle.txn_core.specs.Doing.{Granted, home_of, Fixed, Task, Outcome, Phase, Gathering, Fetching, Widening, Preparing, Deciding, Finishing, Course, After, GoesOn, Ends}
 use Rattle.txn_core.specs.Transactions.{Step, Gathered, tell_end, give_up, prepare, locked_at, short_cause, gather_by, widen_by, widen_one, widened, widen_all, to_widen, opened, or_all, open_needed, open_suite, open_first, opened_with, free_content, start_from, heard_on, raised_or_new, keep_content, heard_of, said_to, proceed, execute, collected, hear, fetched, prepared, after_lack, after_word, asked_by, asked_for, fetched_at, fetched_for, request_in, changes_of, decision_of, given_in, verdict_in, ending_by, cause_of_abort, lack_cause}
-use Rattle.txn_core.specs.Laws.{Exchange, locks, is_decide, told_of, told_by, more_told, Was, loses, says_aborted, says_down, is_lack, fits_word, all_fit}
-use Rattle.txn_core.proofs.Asks.{asks_same}
+use Rattle.txn_core.specs.Laws.{Exchange, locks, is_decide, told_of, told_by, more_told, Was, loses, says_aborted, says_down, is_finish, stops, fits_word, all_fit}
+use Rattle.txn_core.proofs.Asks.{asks_same, asked_as, fetched_as}
 use Rattle.txn_core.proofs.Gathers.{self, with_at, at_with, Each, EachBut, each_but, each_with, but_with, tell_start, Sets, Grants, Kept, Asking, wide_told, wide_widened, kept_same, kept_more, kept_told, asking_of, asks_new, asks_on, settles_on}
 use Rattle.txn_core.proofs.Locks.{Are, are_with, are_same, are_opened, told_raised, all_told-tell, asks_lock}
 
@@ -114,8 +114,8 @@ CausedBy fixed task Old Loose past (Busy server holder) = (suite got needed : �
 CausedBy fixed task Old Loose past (Lost server) = Was past server loses
 CausedBy fixed task Old Loose past Overruled = (server : ℕ) × Was past server (λ asked word. is_decide asked && says_aborted word)
 CausedBy fixed task Old Loose past HomeDown = (server : ℕ) × Was past server (λ asked word. is_decide asked && says_down word)
-CausedBy fixed task Old Loose past (Full server) = Was past server (λ asked word. is_lack lack.Full word)
-CausedBy fixed task Old Loose past Memory = (server : ℕ) × Was past server (λ asked word. is_lack lack.Memory word)
+CausedBy fixed task Old Loose past (Full server) = Was past server (stops lack.Full)
+CausedBy fixed task Old Loose past Memory = (server : ℕ) × Was past server (stops lack.Memory)
 
 abbrev pub EndIs : Fixed → Task → (ℕ → Prefix → Type 0) → (ℕ → Prefix → Type 0) → List Exchange → Ending → Type 0
 EndIs fixed task Old Loose past (Undecided cause) = CausedBy fixed task Old Loose past cause
@@ -294,9 +294,9 @@ module _ (fixed : Fixed) (task : Task) (Old Loose : ℕ → Prefix → Type 0) w
   short_caused L past number collector had wanting None same is begun wide = record { collector = collector; told = same; short = is; begun = begun; wide = wide }
   short_caused L past number collector had wanting (Some busy) same is begun wide = (number, had, wanting, record { collector = collector; told = same; short = is; begun = begun; wide = wide })
 
-  lack_caused : (L : ℕ → Prefix → Type 0) (past : List Exchange) (server : ℕ) (asked : Request) (lacked : Lack) → CausedBy fixed task Old L (push past server asked (Lacked lacked)) (lack_cause server lacked)
-  lack_caused L past server asked lack.Full = was_now past server asked (Lacked lack.Full) (λ asked word. is_lack lack.Full word) refl
-  lack_caused L past server asked lack.Memory = (server, was_now past server asked (Lacked lack.Memory) (λ asked word. is_lack lack.Memory word) refl)
+  lack_caused : (L : ℕ → Prefix → Type 0) (past : List Exchange) (server : ℕ) (asked : Request) (lacked : Lack) → is_finish asked ≡ false → CausedBy fixed task Old L (push past server asked (Lacked lacked)) (lack_cause server lacked)
+  lack_caused L past server asked lack.Full open' = was_now past server asked (Lacked lack.Full) (stops lack.Full) (ap (λ b. not b && true) open')
+  lack_caused L past server asked lack.Memory open' = (server, was_now past server asked (Lacked lack.Memory) (stops lack.Memory) (ap (λ b. not b && true) open'))
 
   -- ---- steps that hear nothing
 
@@ -476,11 +476,20 @@ module _ (fixed : Fixed) (task : Task) (Old Loose : ℕ → Prefix → Type 0) w
 
   caused_lack : (past : List Exchange) (cache : Cache) (suites : Suites) (phase : Phase) (server : ℕ) (asked : Request) (lacked : Lack) → request_in fixed task suites phase ≡ Some (server, asked) → Stands fixed task Old Old Loose past suites phase
       → Leaves fixed task Old Loose (push past server asked (Lacked lacked)) (after_lack task cache suites phase server lacked)
-  caused_lack past cache suites (Gathering number) server asked lacked is stands = caused_give_up _ cache suites (lack_cause server lacked) (λ _. lack_caused _ past server asked lacked)
-  caused_lack past cache suites (Fetching number) server asked lacked is stands = caused_give_up _ cache suites (lack_cause server lacked) (λ _. lack_caused _ past server asked lacked)
-  caused_lack past cache suites (Widening left granted) server asked lacked is stands = caused_give_up _ cache suites (lack_cause server lacked) (λ _. lack_caused _ past server asked lacked)
-  caused_lack past cache suites (Preparing left outcome) server asked lacked is stands = caused_give_up _ cache suites (lack_cause server lacked) (λ _. lack_caused _ past server asked lacked)
-  caused_lack past cache suites (Deciding outcome) server asked lacked is stands = caused_give_up _ cache suites (lack_cause server lacked) (λ _. lack_caused _ past server asked lacked)
+  caused_lack past cache suites (Gathering number) server asked lacked is stands =
+      caused_give_up _ cache suites (lack_cause server lacked) (λ _. lack_caused _ past server asked lacked (asked_as is_finish false task number (suite_of suites number) server asked (λ _. refl) refl is))
+  caused_lack past cache suites (Fetching number) server asked lacked is stands =
+      caused_give_up _ cache suites (lack_cause server lacked) (λ _. lack_caused _ past server asked lacked (fetched_as is_finish false task number (suite_of suites number) server asked refl is))
+  caused_lack past cache suites (Widening [] granted) server asked lacked is stands = cc
+  caused_lack past cache suites (Widening (number ∷ left) granted) server asked lacked is stands =
+      caused_give_up _ cache suites (lack_cause server lacked) (λ _. lack_caused _ past server asked lacked (asked_as is_finish false task number (suite_of suites number) server asked (λ _. refl) refl is))
+  caused_lack past cache suites (Preparing [] outcome) server asked lacked is stands = cc
+  caused_lack past cache suites (Preparing (now ∷ left) outcome) server asked lacked is stands =
+      caused_give_up _ cache suites (lack_cause server lacked)
+      (λ _. lack_caused _ past server asked lacked (ap is_finish (sym (asks_same now server (request.Prepare task.t (parts_at suites (changes_of outcome) now)) asked is))))
+  caused_lack past cache suites (Deciding outcome) server asked lacked is stands =
+      caused_give_up _ cache suites (lack_cause server lacked)
+      (λ _. lack_caused _ past server asked lacked (ap is_finish (sym (asks_same (home_of fixed.service task.t) server (request.Decide task.t (decision_of task outcome)) asked is))))
   caused_lack past cache suites (Finishing [] v ending) server asked lacked is stands = cc
   caused_lack past cache suites (Finishing (now ∷ left) v ending) server asked lacked is stands =
       caused_end _ cache suites v ending left (still_ended past cache server asked (Lacked lacked) (λ number. ap (locks number) (sym (asks_same now server (request.Finish task.t v) asked is))) ending stands)

@@ -1,21 +1,25 @@
 -- What stands after every event of a job.
 use Rattle.std.proofs.Common.{◌≡◌, ℕ, Bool, true, false, cond, inl, inr, List, [], ◌∷◌, ◌++◌, Option, Some, None, refl, sym, ap, subst, ◌∙◌}
-use Rattle.std.specs.Prelude.{◌+◌, ◌&&◌, nat_lt}
+use Rattle.std.specs.Prelude.{◌+◌, ◌==◌, ◌&&◌, nat_lt}
 use Rattle.std.proofs.lemmas.List.{append-nil, append_assoc}
 use Rattle.acl_core.specs.Identity.{Identity}
 use Rattle.file_ops.specs.declared.operation.Op.{Op}
 use Rattle.suite_prefix.specs.declared.copies.Prefix.{Prefix}
+use Rattle.rep_core.specs.declared.lock.Lock.{Lock}
 use Rattle.rep_core.specs.declared.request.Request.{Request}
+use Rattle.rep_core.specs.declared.reply.Reply.{Reply}
+use Rattle.rep_core.specs.declared.reply.Reply.TheVariants as reply
 use Rattle.weak_cache.specs.Entries.{Cache}
 use Rattle.txn_core.specs.Suites.{Suite, Suites, suite_of}
 use Rattle.txn_core.specs.declared.word.Word.{Word}
+use Rattle.txn_core.specs.declared.word.Word.TheVariants.{Replied, Lacked}
 use Rattle.txn_core.specs.declared.ending.Cause.{Cause}
 use Rattle.txn_core.specs.declared.ending.Ending.{Ending}
 use Rattle.txn_core.specs.declared.ending.Cause.TheVariants.{Unavailable, Busy, Lost, Overruled, HomeDown, Full, Memory}
 use Rattle.txn_core.specs.declared.ending.Ending.TheVariants.{Answered, Refused, Swept, Undecided}
 use Rattle.txn_core.specs.declared.job.Job.{Job}
 use Rattle.txn_core.specs.declared.job.Job.TheVariants.{Transaction, Sweep}
-use Rattle.txn_core.specs.Doing.{Fixed, Task, Phase, Gathering, Fetching, Widening, Preparing, Deciding, Finishing, Course, Round, Doing, Running, Rounding, After, GoesOn, Ends}
+use Rattle.txn_core.specs.Doing.{home_of, Fixed, Task, Phase, Gathering, Fetching, Widening, Preparing, Deciding, Finishing, Course, Sweeping, Listing, Resolving, Telling, Breaking, Round, Doing, Running, Rounding, After, GoesOn, Ends}
 use Rattle.txn_core.specs.Transactions.{start_from, execute, after_word, request_in, request_of}
 use Rattle.txn_core.specs.Sweeps as sweep
 use Rattle.txn_core.specs.Agents.{Agent, Event, Take, Forget, next_in, next_of, left, take_in, take, begin, started, forget, is_idle, has_sense, max_jobs, after_event, after_all}
@@ -170,7 +174,7 @@ module _ (fixed : Fixed) (agent : Agent) (job : Job) where
 
   abbrev pub DoingStands : List Event → Option Doing → Type 0
   DoingStands events (Some (Running course)) = Runs events course
-  DoingStands events (Some (Rounding round)) = Unit {0}
+  DoingStands events (Some (Rounding round)) = job ≡ Sweep round.server
   DoingStands events None = Unit {0}
 
   module _ (caller : Identity) (site : ℕ) (ops : List Op) (transaction : job ≡ Transaction caller site ops) (task : Task) (task_is : task ≡ task_of agent caller site ops) (px : List Exchange) (cache : Cache) (events : List Event)
@@ -214,9 +218,28 @@ module _ (fixed : Fixed) (agent : Agent) (job : Job) where
           (subst (λ task. Stands fixed task (Started fixed agent job events) (Started fixed agent job events) (Begins fixed agent job events) px course.suites course.phase) (sym leaves.0) mapped);
     }
 
-  round_stands : (events : List Event) (after : After Round) → DoingStands events (left Rounding after)
-  round_stands events (GoesOn round) = tt
-  round_stands events (Ends ending) = tt
+  -- a sweep stays at its server
+  swept_on : (events : List Event) (round : Round) (locks : List Lock) → job ≡ Sweep round.server → DoingStands events (left Rounding (sweep.sweep_on round locks))
+  swept_on events round [] same = tt
+  swept_on events round (lock ∷ locks) same = same
+
+  answer_stands : (events : List Event) (round : Round) (now : Sweeping) (said : Reply) → job ≡ Sweep round.server → DoingStands events (left Rounding (sweep.after_answer fixed.service round now said))
+  answer_stands events round Listing (reply.Locked locks) same = swept_on events round (sweep.rising locks) same
+  answer_stands events round Listing _ same = tt
+  answer_stands events round (Resolving t rest) (reply.Verdict v) same = same
+  answer_stands events round (Resolving t rest) _ same = of (home_of fixed.service t == round.server)
+    where
+      of : (b : Bool) → DoingStands events (left Rounding (cond b (sweep.lost round) (sweep.sweep_on (record round { left = round.left + 1 }) rest)))
+      of true = tt
+      of false = swept_on events (record round { left = round.left + 1 }) rest same
+  answer_stands events round (Telling t v rest) reply.Done same = swept_on events (record round { finished = round.finished + 1 }) rest same
+  answer_stands events round (Telling t v rest) _ same = tt
+  answer_stands events round (Breaking lock rest) reply.Done same = swept_on events (record round { broken = round.broken + 1 }) rest same
+  answer_stands events round (Breaking lock rest) _ same = tt
+
+  round_stands : (events : List Event) (round : Round) (server : ℕ) (word : Word) → job ≡ Sweep round.server → DoingStands events (left Rounding (sweep.after_word fixed.service round server word))
+  round_stands events round server (Replied said) same = answer_stands events round round.now said same
+  round_stands events round server (Lacked lacked) same = tt
 
   -- what a word leaves of a transaction
   pub word_leaves : (events : List Event) (word : Word) (running : Course) (asked : ℕ × Request) → request_of fixed running ≡ Some asked → Runs events running
@@ -240,7 +263,7 @@ module _ (fixed : Fixed) (agent : Agent) (job : Job) where
     task = stands.task;
     stands = λ asked asks. cc;
   })
-  stands_take events word (Some (Rounding round)) (Some asked) was is told after stands = round_stands (events ++ Take word ∷ []) (sweep.after_word fixed.service round asked.0 word)
+  stands_take events word (Some (Rounding round)) (Some asked) was is told after stands = round_stands (events ++ Take word ∷ []) round asked.0 word stands
   stands_take events word (Some (Rounding round)) None was is told after stands = cc
   stands_take events word None (Some asked) was is told after stands = cc
   stands_take events word None None was is told after stands = subst (DoingStands (events ++ Take word ∷ [])) (sym was) tt
@@ -259,7 +282,7 @@ module _ (fixed : Fixed) (agent : Agent) (job : Job) where
         (started_more fixed agent job events (Forget site ∷ [])) (begins_more fixed agent job events (Forget site ∷ [])) (Started fixed agent job events) running.suites running.phase
         (λ n start _ started. started_more fixed agent job events (Forget site ∷ []) n start started) (stands.stands asked is));
   }
-  stands_forget events site (Some (Rounding round)) stands = tt
+  stands_forget events site (Some (Rounding round)) stands = stands
   stands_forget events site None stands = tt
 
   stands_more : (events : List Event) (event : Event) → DoingStands events (After_all events).doing → DoingStands (events ++ event ∷ []) (After_all (events ++ event ∷ [])).doing
@@ -283,7 +306,7 @@ module _ (fixed : Fixed) (agent : Agent) (job : Job) where
       none (Some doing) idle = cc
 
       begun : (j : Job) → job ≡ j → begin fixed agent job ≡ record (started fixed agent j) { count = agent.count + 1 } → DoingStands [] (started fixed agent j).doing
-      begun (Sweep server) same is = tt
+      begun (Sweep server) same is = same
       begun (Transaction caller site ops) same is =
           let task = task_of agent caller site ops in
           let step = execute fixed task (record { suites = []; cache = agent.cache }) in

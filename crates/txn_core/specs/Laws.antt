@@ -325,21 +325,17 @@ pub record Was (past : List Exchange) (server : ℕ) (kind : Request → Word �
   pub at : one.server ≡ server
   pub is : kind one.request one.word ≡ true
 
--- A server that is down to one of these has lost what the job needs of it: the requests of a transaction that stand on its locks, and those of
--- a sweep. Not so a Poll, which asks for a lock anew, nor a Decide, which leaves open how the transaction ends.
-abbrev pub is_lost_by_down : Request → Bool
-is_lost_by_down (request.Upgrade t suite) = true
-is_lost_by_down (request.Fetch t suite) = true
-is_lost_by_down (request.Prepare t parts) = true
-is_lost_by_down request.Locks = true
-is_lost_by_down (request.Finish t v) = true
-is_lost_by_down (request.Break t suite) = true
-is_lost_by_down (request.Resolve t) = true
-is_lost_by_down _ = false
+-- the requests of a transaction that stand on its locks at a server
+abbrev pub stands_on_locks : Request → Bool
+stands_on_locks (request.Upgrade t suite) = true
+stands_on_locks (request.Fetch t suite) = true
+stands_on_locks (request.Prepare t parts) = true
+stands_on_locks _ = false
 
+-- the server has lost them
 abbrev pub loses : Request → Word → Bool
 loses asked (Replied reply.Lost) = true
-loses asked (Replied reply.Down) = is_lost_by_down asked
+loses asked (Replied reply.Down) = stands_on_locks asked
 loses asked _ = false
 
 abbrev pub says_aborted : Word → Bool
@@ -355,15 +351,33 @@ is_lack lack.Full (Lacked lack.Full) = true
 is_lack lack.Memory (Lacked lack.Memory) = true
 is_lack _ _ = false
 
+abbrev pub is_finish : Request → Bool
+is_finish (request.Finish t v) = true
+is_finish _ = false
+
+-- a request of a transaction that was not served while it was open how it ends
+abbrev pub stops : Lack → Request → Word → Bool
+stops lacked asked word = not (is_finish asked) && is_lack lacked word
+
+-- A server was lost to the job: it lost locks of a transaction, or it is the one that was to be swept and was down.
+abbrev pub WasLost : List Exchange → Job → ℕ → Type 0
+WasLost past (Transaction caller site ops) server = Was past server loses
+WasLost past (Sweep swept) server = (server ≡ swept) × Was past server (λ asked word. says_down word)
+
+-- It did not serve a request: of a transaction one before its end is told, of a sweep any.
+abbrev pub DidNotServe : List Exchange → Job → Lack → ℕ → Type 0
+DidNotServe past (Transaction caller site ops) lacked server = Was past server (stops lacked)
+DidNotServe past (Sweep swept) lacked server = Was past server (λ asked word. is_lack lacked word)
+
 -- what an undecided end must find in the exchanges of its job
 abbrev pub IsCaused : Fixed → Agent → Job → List Event → Cause → Type 0
 IsCaused fixed agent job events (Unavailable suite got needed) = IsShort fixed agent job events suite got needed None
 IsCaused fixed agent job events (Busy server holder) = (suite got needed : ℕ) × IsShort fixed agent job events suite got needed (Some (server, holder))
-IsCaused fixed agent job events (Lost server) = Was (of_job fixed agent job events) server loses
+IsCaused fixed agent job events (Lost server) = WasLost (of_job fixed agent job events) job server
 IsCaused fixed agent job events Overruled = (server : ℕ) × Was (of_job fixed agent job events) server (λ asked word. is_decide asked && says_aborted word)
 IsCaused fixed agent job events HomeDown = (server : ℕ) × Was (of_job fixed agent job events) server (λ asked word. is_decide asked && says_down word)
-IsCaused fixed agent job events (Full server) = Was (of_job fixed agent job events) server (λ asked word. is_lack lack.Full word)
-IsCaused fixed agent job events Memory = (server : ℕ) × Was (of_job fixed agent job events) server (λ asked word. is_lack lack.Memory word)
+IsCaused fixed agent job events (Full server) = DidNotServe (of_job fixed agent job events) job lack.Full server
+IsCaused fixed agent job events Memory = (server : ℕ) × DidNotServe (of_job fixed agent job events) job lack.Memory server
 
 -- what was told fits what was asked, as all replies of servers do
 abbrev pub fits_word : Request → Word → Bool
