@@ -30,7 +30,8 @@ use Rattle.txn_core.specs.declared.word.Word.{Word}
 use Rattle.txn_core.specs.declared.word.Word.TheVariants.{Replied, Lacked}
 use Rattle.txn_core.specs.Doing.{Fixed}
 use Rattle.txn_core.specs.Transactions.{said_to, is_poll}
-use Rattle.txn_core.specs.Laws.{Exchange, exchange_of, of_job, all_fit, fits_word, locks, heard_in, has_said, is_said, refusing, holding, says_down, says_aborted, is_decide, is_lack, is_finish, loses, stops, Was, WasLost, DidNotServe, told_of, told_by, more_told, task_of, IsStart, IsShort, IsCaused}
+use Rattle.txn_core.specs.Laws.{Exchange, exchange_of, of_job, all_fit, fits_word, locks, heard_in, has_said, is_said, refusing, holding, is_decide, told_of, told_by, more_told, task_of, IsStart}
+use Rattle.txn_core.specs.Undecided.{says_down, says_aborted, is_lack, is_finish, loses, stops, Was, WasLost, DidNotServe, IsShort, IsCaused}
 use Rattle.txn_core.specs.Agents as agents
 use Rattle.txn_core.specs.Agents.{Agent, Take, Forget, next_of, take, begin, forget, is_idle, after_all, after_event}
 use Rattle.txn_core.proofs.Upheld.{after-append, exchanges-take, exchanges-forget}
@@ -272,8 +273,8 @@ module _ (fixed : Fixed) (c0 : IsValid fixed.service.c0) (before : Agent) (job :
       let all : votes_in short.votes.reps (has_said past suite (holding short.mode)) ≡ total_votes short.votes.reps =
       all_votes short.votes.reps (has_said past suite (holding short.mode)) (λ rep has some. every_held suite short.mode rep (short.none_left rep (contains_from short.votes.reps rep has) some)) in
       let valid : IsValid short.votes = elim (short.count) [
-        | inl is ↦ subst IsValid (sym is) (newest_valid short.start (told_of suite [] past) (begins_valid suite short.start short.gathered) (told_valid suite [] past tt free))
-        | inr set ↦ set_votes_valid fixed c0 before job sets suite short.votes set.1
+        | inl is ↦ subst IsValid (sym is.0) (newest_valid short.start (told_of suite [] past) (begins_valid suite short.start short.gathered) (told_valid suite [] past tt free))
+        | inr set ↦ set_votes_valid fixed c0 before job sets told' suite short.votes set.1
       ] in
       let some = enough short.mode short.votes valid in
       let had = short.had in

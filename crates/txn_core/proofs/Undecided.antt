@@ -21,7 +21,7 @@ use Rattle.rep_core.specs.declared.stamped.Lack.{Lack}
 use Rattle.rep_core.specs.declared.stamped.Lack.TheVariants as lack
 use Rattle.rep_core.specs.Fits.{fits}
 use Rattle.suite_collect.specs.Telling.{newest, has_told, has_refused, first_busy}
-use Rattle.suite_collect.specs.Collecting.{Collector, told_since, votes_or, mode_or, all_told, counted, wanted, is_member, Short, next}
+use Rattle.suite_collect.specs.Collecting.{told_since, votes_or, mode_or, all_told, counted, wanted, is_member}
 use Rattle.suite_collect.specs.Collecting as collecting
 use Rattle.suite_collect.proofs.Finding.{has_to}
 use Rattle.suite_collect.proofs.Shortness.{short_has_none_left}
@@ -33,12 +33,14 @@ use Rattle.txn_core.specs.declared.ending.Ending.{Ending}
 use Rattle.txn_core.specs.declared.ending.Ending.TheVariants.{Answered, Refused, Swept, Undecided}
 use Rattle.txn_core.specs.declared.job.Job.{Job}
 use Rattle.txn_core.specs.declared.job.Job.TheVariants.{Transaction, Sweep}
+use Rattle.txn_core.specs.Suites.{Suites}
 use Rattle.txn_core.specs.Doing.{home_of, Fixed, Task, Course, Sweeping, Listing, Resolving, Telling, Breaking, Round, Doing, Running, Rounding, After, GoesOn, Ends}
 use Rattle.txn_core.specs.Transactions.{heard_on, to_widen, after_word, lack_cause}
 use Rattle.txn_core.specs.Sweeps as sweep
 use Rattle.txn_core.specs.Agents.{Agent, Event, Take, next_in, next_of, end_of, take_in, begin, after_all}
-use Rattle.txn_core.specs.Laws.{Exchange, of_job, exchange_of, told_of, Was, WasLost, DidNotServe, says_down, is_lack, fits_word, all_fit, has_said, holding, refusing, down, task_of, IsStart, SetsVotes, IsShort, IsCaused, EndsAreCaused}
-use Rattle.txn_core.proofs.Gathers.{Sets}
+use Rattle.txn_core.specs.Laws.{Exchange, of_job, exchange_of, told_of, fits_word, all_fit, has_said, holding, refusing, down, task_of, IsStart}
+use Rattle.txn_core.specs.Undecided.{WereGathered, IsWanted, SetsVotes, IsShort, Was, WasLost, DidNotServe, says_down, is_lack, IsCaused, EndsAreCaused}
+use Rattle.txn_core.proofs.Gathers.{AllGathered, Wants, Sets}
 use Rattle.txn_core.proofs.Causes.{push, Begun, ShortBy, CausedBy, EndIs, OrFresh, LeftOf, was_now, last_fits}
 use Rattle.txn_core.proofs.Upheld.{Begins, Started, started_is, untold_is, begins_more, started_more, fresh_begins, map_cause, DoingStands, after-append, exchanges-take, word_leaves, stands_after}
 use Rattle.txn_core.proofs.Shown.{told_said, busy_said, votes_same, tells_busy, kind_of}
@@ -141,13 +143,36 @@ module _ (fixed : Fixed) (agent : Agent) (job : Job) (events : List Event) where
     transaction : job ≡ Transaction caller site ops
     task_is : task ≡ task_of agent caller site ops
 
-  sets : (task : Task) → IsOf task → (number : ℕ) (votes : Configuration) → Sets fixed task number votes → SetsVotes fixed agent job number votes
+  gathers : (suites : Suites) → AllGathered (Started fixed agent job events) past suites → WereGathered fixed agent job events suites
+  gathers suites gathered number suite there =
+      let was = gathered number suite there in
+      record {
+        start = suite.collector.start;
+        gathered = started_is fixed agent job events number suite.collector.start was.0;
+        first = was.1.first;
+        was = was.1.was;
+        gave = was.1.gave;
+      }
+
+  is_wanted : (task : Task) → IsOf task → (number : ℕ) (mode : LockMode) → Wants fixed task (Started fixed agent job events) past number mode → IsWanted fixed agent job events number mode
+  is_wanted task own number mode wants = record {
+    caller = own.caller;
+    site = own.site;
+    ops = own.ops;
+    transaction = own.transaction;
+    suites = wants.suites;
+    gathered = gathers wants.suites wants.gathered;
+    needs = ap (λ task. heard_on fixed task wants.suites) (sym own.task_is) ∙ wants.needs;
+  }
+
+  sets : (task : Task) → IsOf task → (number : ℕ) (votes : Configuration) → Sets fixed task (Started fixed agent job events) past number votes → SetsVotes fixed agent job events number votes
   sets task own number votes set = record {
     caller = own.caller;
     site = own.site;
     ops = own.ops;
     transaction = own.transaction;
     suites = set.suites;
+    gathered = gathers set.suites set.gathered;
     answers = set.answers;
     changes = set.changes;
     done = ap (λ task. heard_on fixed task set.suites) (sym own.task_is) ∙ set.done;
@@ -164,14 +189,16 @@ module _ (fixed : Fixed) (agent : Agent) (job : Job) (events : List Event) where
     either server (inr refused) = inr (sym (said_of refusing server) ∙ refused)
 
     which : (widening : Option collecting.Widening) → by.collector.widening ≡ widening
-        → (counted by.collector ≡ (newest by.collector.start (told_of suite [] past)).votes) ⊎ ((wanted by.collector ≡ Exclusive) × SetsVotes fixed agent job suite (counted by.collector))
+        → ((counted by.collector ≡ (newest by.collector.start (told_of suite [] past)).votes) × IsWanted fixed agent job events suite (wanted by.collector))
+        ⊎ ((wanted by.collector ≡ Exclusive) × SetsVotes fixed agent job events suite (counted by.collector))
     which None is = inl (
-        ap (λ w. votes_or w (newest by.collector.start by.collector.told)) is
-        ∙ ap (λ told. (newest by.collector.start told).votes) (sym (ap (λ w. told_since w ++ by.collector.told) is) ∙ by.told)
-        )
+      ap (λ w. votes_or w (newest by.collector.start by.collector.told)) is
+          ∙ ap (λ told. (newest by.collector.start told).votes) (sym (ap (λ w. told_since w ++ by.collector.told) is) ∙ by.told),
+      is_wanted task own suite (wanted by.collector) (subst (Wants fixed task (Started fixed agent job events) past suite) (sym (ap (λ w. mode_or w by.collector.mode) is)) by.wanted),
+    )
     which (Some w) is = inr (
       ap (λ w. mode_or w by.collector.mode) is,
-      subst (SetsVotes fixed agent job suite) (sym (ap (λ w. votes_or w (newest by.collector.start by.collector.told)) is)) (sets task own suite w.votes (by.wide w is)),
+      subst (SetsVotes fixed agent job events suite) (sym (ap (λ w. votes_or w (newest by.collector.start by.collector.told)) is)) (sets task own suite w.votes (by.wide w is)),
     )
 
     gathered : Begun (Started fixed agent job events) (Begins fixed agent job events) suite by.collector → IsStart fixed agent job events suite by.collector.start

@@ -2,6 +2,7 @@
 use Rattle.std.proofs.Common.{◌≡◌, ℕ, Bool, true, false, cond, inl, inr, List, [], ◌∷◌, ◌++◌, Option, Some, None, refl, sym, ap, subst, ◌∙◌}
 use Rattle.std.specs.Prelude.{◌+◌, ◌==◌, ◌&&◌, nat_lt}
 use Rattle.std.proofs.lemmas.List.{append-nil, append_assoc}
+use Rattle.std.proofs.lemmas.Option.{none-some}
 use Rattle.acl_core.specs.Identity.{Identity}
 use Rattle.file_ops.specs.declared.operation.Op.{Op}
 use Rattle.suite_prefix.specs.declared.copies.Prefix.{Prefix}
@@ -20,12 +21,12 @@ use Rattle.txn_core.specs.declared.ending.Ending.TheVariants.{Answered, Refused,
 use Rattle.txn_core.specs.declared.job.Job.{Job}
 use Rattle.txn_core.specs.declared.job.Job.TheVariants.{Transaction, Sweep}
 use Rattle.txn_core.specs.Doing.{home_of, Fixed, Task, Phase, Gathering, Fetching, Widening, Preparing, Deciding, Finishing, Course, Sweeping, Listing, Resolving, Telling, Breaking, Round, Doing, Running, Rounding, After, GoesOn, Ends}
-use Rattle.txn_core.specs.Transactions.{start_from, execute, after_word, request_in, request_of}
+use Rattle.txn_core.specs.Transactions.{Step, start_from, execute, after_word, request_in, request_of}
 use Rattle.txn_core.specs.Sweeps as sweep
 use Rattle.txn_core.specs.Agents.{Agent, Event, Take, Forget, next_in, next_of, left, take_in, take, begin, started, forget, is_idle, has_sense, max_jobs, after_event, after_all}
 use Rattle.txn_core.specs.Laws.{Exchange, exchange_of, exchanges, of_job, told_of, locks, task_of, asks_for, IsStart}
 use Rattle.txn_core.proofs.Locks.{are_nil, asks_lock}
-use Rattle.txn_core.proofs.Gathers.{self, Kept}
+use Rattle.txn_core.proofs.Gathers.{self, wants_map, sets_map, grants_map, Kept}
 use Rattle.txn_core.proofs.Causes.{push, ShortBy, CausedBy, EndIs, Stands, Fresh, OrFresh, LeftOf, Leaves, caused_execute, caused_word}
 
 -- ---- events
@@ -118,7 +119,12 @@ untold_is fixed agent job events n start begins none = record {
 
 module _ (fixed : Fixed) (task : Task) (Old Loose Old' Loose' : ℕ → Prefix → Type 0) (past : List Exchange) (old : (n : ℕ) (start : Prefix) → Old n start → Old' n start) (loose : (n : ℕ) (start : Prefix) → Loose n start → Loose' n start) where
   map_kept : (n : ℕ) (suite : Suite) → Kept fixed task Old past n suite → Kept fixed task Old' past n suite
-  map_kept n suite kept = record { start = old n suite.collector.start kept.start; first = kept.first; wide = kept.wide }
+  map_kept n suite kept = record {
+    start = old n suite.collector.start kept.start;
+    first = kept.first;
+    wide = λ w is. sets_map fixed task Old Old' past old n w.votes (kept.wide w is);
+    wanted = wants_map fixed task Old Old' past old n suite.collector.mode kept.wanted;
+  }
 
   map_short : (suite had wanting : ℕ) (busy : Option (ℕ × ℕ)) → ShortBy fixed task Old Loose past suite had wanting busy → ShortBy fixed task Old' Loose' past suite had wanting busy
   map_short suite had wanting busy by = record {
@@ -126,7 +132,8 @@ module _ (fixed : Fixed) (task : Task) (Old Loose Old' Loose' : ℕ → Prefix �
     told = by.told;
     short = by.short;
     begun = elim by.begun [ inl is ↦ inl (old suite by.collector.start is) | inr is ↦ inr (loose suite by.collector.start is.0, is.1) ];
-    wide = by.wide;
+    wide = λ w is. sets_map fixed task Old Old' past old suite w.votes (by.wide w is);
+    wanted = wants_map fixed task Old Old' past old suite by.collector.mode by.wanted;
   }
 
   pub map_cause : (cause : Cause) → CausedBy fixed task Old Loose past cause → CausedBy fixed task Old' Loose' past cause
@@ -148,13 +155,28 @@ module _ (fixed : Fixed) (task : Task) (Old Loose Old' Loose' : ℕ → Prefix �
   map_stands Now suites (Gathering number) now stands = (
     stands.0,
     λ n suite other at. map_kept n suite (stands.1 n suite other at),
-    λ suite at. let asking = stands.2 suite at in record { start = now number suite.collector.start refl asking.start; first = asking.first; wide = asking.wide },
+    λ suite at.
+        let asking = stands.2 suite at in
+        record {
+          start = now number suite.collector.start refl asking.start;
+          first = asking.first;
+          wide = λ w is. sets_map fixed task Old Old' past old number w.votes (asking.wide w is);
+          wanted = wants_map fixed task Old Old' past old number suite.collector.mode asking.wanted;
+        },
   )
   map_stands Now suites (Fetching number) now stands = (stands.0, λ n suite at. map_kept n suite (stands.1 n suite at))
-  map_stands Now suites (Widening left granted) now stands = (stands.0, λ n suite at. map_kept n suite (stands.1 n suite at), stands.2, stands.3)
+  map_stands Now suites (Widening left granted) now stands = (stands.0, λ n suite at. map_kept n suite (stands.1 n suite at), grants_map fixed task Old Old' past old granted.answers granted.changes stands.2, stands.3)
   map_stands Now suites (Preparing left outcome) now stands = tt
   map_stands Now suites (Deciding outcome) now stands = tt
   map_stands Now suites (Finishing servers v ending) now stands = λ fine. map_end ending (stands fine)
+
+-- ---- what a begin leaves
+
+none_kept : (fixed : Fixed) (task : Task) (n : ℕ) (suite : Suite) → suite_of [] n ≡ Some suite → Kept fixed task (λ _ _. ⊥) [] n suite
+none_kept fixed task n suite there = absurd (none-some suite there)
+
+begin_leaves : (fixed : Fixed) (task : Task) (cache : Cache) → Leaves fixed task (λ _ _. ⊥) (λ _ _. ⊥) [] (execute fixed task (record { suites = []; cache = cache }))
+begin_leaves fixed task cache = caused_execute fixed task (λ _ _. ⊥) (λ _ _. ⊥) [] (record { suites = []; cache = cache }) are_nil (none_kept fixed task)
 
 -- ---- after each event
 
@@ -298,6 +320,11 @@ module _ (fixed : Fixed) (agent : Agent) (job : Job) where
   all_stand events (event ∷ more) stands =
       subst (λ events. DoingStands events (After_all events).doing) (append_assoc events (event ∷ []) more) (all_stand (events ++ event ∷ []) more (stands_more events event stands))
 
+  first_stands : (caller : Identity) (site : ℕ) (ops : List Op) → job ≡ Transaction caller site ops → (task : Task) → task ≡ task_of agent caller site ops → (step : Step) → (After_all []).cache ≡ step.cache → (After_all []).doing ≡ left Running step.after
+      → Leaves fixed task (λ _ _. ⊥) (λ _ _. ⊥) [] step → DoingStands [] (left Running step.after)
+  first_stands caller site ops same task task_is step cache doing leaves =
+      convert caller site ops same task task_is [] step.cache [] refl cache (λ _ _. ⊥) (λ _ _. ⊥) step.after doing (λ n start no. absurd no) (λ n start no. absurd no) leaves
+
   begin_stands : is_idle agent.doing ≡ true → DoingStands [] (begin fixed agent job).doing
   begin_stands idle = of (is_idle agent.doing && has_sense fixed job && nat_lt agent.count max_jobs) refl job refl
     where
@@ -309,9 +336,8 @@ module _ (fixed : Fixed) (agent : Agent) (job : Job) where
       begun (Sweep server) same is = same
       begun (Transaction caller site ops) same is =
           let task = task_of agent caller site ops in
-          let step = execute fixed task (record { suites = []; cache = agent.cache }) in
-          convert caller site ops same task refl [] step.cache [] refl (ap (λ (agent : Agent). agent.cache) is) (λ _ _. ⊥) (λ _ _. ⊥) step.after (ap (λ (agent : Agent). agent.doing) is) (λ n start no. absurd no) (λ n start no. absurd no)
-          (caused_execute fixed task (λ _ _. ⊥) (λ _ _. ⊥) [] (record { suites = []; cache = agent.cache }) are_nil (λ n suite there. cc))
+          first_stands caller site ops same task refl (execute fixed task (record { suites = []; cache = agent.cache })) (ap (λ (agent : Agent). agent.cache) is) (ap (λ (agent : Agent). agent.doing) is)
+          (begin_leaves fixed task agent.cache)
 
       of : (b : Bool) → (is_idle agent.doing && has_sense fixed job && nat_lt agent.count max_jobs) ≡ b → (j : Job) → job ≡ j → DoingStands [] (begin fixed agent job).doing
       of true is j same =
