@@ -1,6 +1,6 @@
 -- What the agent of a transaction was told since it began, where nothing disturbed it; and that it is then decided.
 use Rattle.std.proofs.Common.{◌≡◌, ◌⊎◌, inl, inr, ⊎_elim, ℕ, zero, suc, ◌+◌, ◌<◌, ◌≤◌, Bool, true, false, cond, List, [], ◌∷◌, ◌++◌, Option, Some, None, refl, sym, ap, subst, ◌∙◌, arith}
-use Rattle.std.specs.Prelude.{◌==◌, ◌&&◌, ◌||◌}
+use Rattle.std.specs.Prelude.{◌==◌, ◌&&◌, ◌||◌, not}
 use Rattle.std.proofs.lemmas.Bool.{and_parts, false≢true}
 use Rattle.std.proofs.lemmas.Bool.Decides.{nat_tests}
 use Rattle.std.proofs.lemmas.Option.{none-some, same_Some}
@@ -25,11 +25,13 @@ use Rattle.txn_core.specs.declared.ending.Cause.{Cause}
 use Rattle.txn_core.specs.declared.ending.Cause.TheVariants as cause
 use Rattle.txn_core.specs.declared.ending.Ending.TheVariants.{Undecided}
 use Rattle.txn_core.specs.declared.job.Job.{Job}
+use Rattle.txn_core.specs.declared.job.Job.TheVariants.{Transaction, Sweep}
 use Rattle.txn_core.specs.declared.word.Word.{Word}
 use Rattle.txn_core.specs.declared.word.Word.TheVariants.{Replied, Lacked}
 use Rattle.txn_core.specs.Doing.{Fixed}
 use Rattle.txn_core.specs.Transactions.{said_to, is_poll}
-use Rattle.txn_core.specs.Laws.{Exchange, exchange_of, of_job, all_fit, fits_word, locks, heard_in, has_said, is_said, refusing, holding, says_down, says_aborted, is_decide, is_lack, loses, told_of, told_by, more_told, task_of, IsStart, IsShort, IsCaused}
+use Rattle.txn_core.specs.Laws.{Exchange, exchange_of, of_job, all_fit, fits_word, locks, heard_in, has_said, is_said, refusing, holding, is_decide, told_of, told_by, more_told, task_of, IsStart}
+use Rattle.txn_core.specs.Undecided.{says_down, says_aborted, is_lack, is_finish, loses, stops, Was, WasLost, DidNotServe, IsShort, IsCaused}
 use Rattle.txn_core.specs.Agents as agents
 use Rattle.txn_core.specs.Agents.{Agent, Take, Forget, next_of, take, begin, forget, is_idle, after_all, after_event}
 use Rattle.txn_core.proofs.Upheld.{after-append, exchanges-take, exchanges-forget}
@@ -222,6 +224,37 @@ lacks why one free is = of why one.word free is
     of lack.Memory (Replied said) free is = false≢true is
     of why (Lacked other) free is = absurd free
 
+-- a server that is down
+downs : (one : Exchange) → IsFreeWord one.request one.word → says_down one.word ≡ true → ⊥
+downs one free is = of one.word free is
+  where
+    of : (word : Word) → IsFreeWord one.request word → says_down word ≡ true → ⊥
+    of (Lacked why) free is = absurd free
+    of (Replied reply.Down) free is = false≢true (sym free.up)
+    of (Replied _) free is = false≢true is
+
+-- or lost locks
+lost : (one : Exchange) → IsFreeWord one.request one.word → loses one.request one.word ≡ true → ⊥
+lost one free is = of one.word free is
+  where
+    of : (word : Word) → IsFreeWord one.request word → loses one.request word ≡ true → ⊥
+    of (Lacked why) free is = absurd free
+    of (Replied reply.Lost) free is = false≢true (sym free.kept)
+    of (Replied reply.Down) free is = absurd (false≢true (sym free.up))
+    of (Replied _) free is = absurd (false≢true is)
+
+module _ (past : List Exchange) (free : AllFree past) where
+  none_was : (server : ℕ) (kind : Request → Word → Bool) → ((one : Exchange) → IsFreeWord one.request one.word → kind one.request one.word ≡ true → ⊥) → Was past server kind → ⊥
+  none_was server kind none was = none was.one (free was.one (has_from past was.one was.there)) was.is
+
+  none_lost : (job : Job) (server : ℕ) → WasLost past job server → ⊥
+  none_lost (Transaction caller site ops) server was = none_was server loses lost was
+  none_lost (Sweep swept) server was = none_was server (λ asked word. says_down word) downs was.1
+
+  all_served : (job : Job) (why : Why) (server : ℕ) → DidNotServe past job why server → ⊥
+  all_served (Transaction caller site ops) why server was = none_was server (stops why) (λ one free is. lacks why one free (and_parts (not (is_finish one.request)) (is_lack why one.word) is).1) was
+  all_served (Sweep swept) why server was = none_was server (λ asked word. is_lack why word) (lacks why) was
+
 module _ (fixed : Fixed) (c0 : IsValid fixed.service.c0) (before : Agent) (job : Job) (sets : JobGivesValidVotes job) (told' : List agents.Event) (free : AllFree (of_job fixed before job told')) (caches : AllValid fixed (begin fixed before job) told') where
   abbrev past : List Exchange
   past = of_job fixed before job told'
@@ -240,8 +273,8 @@ module _ (fixed : Fixed) (c0 : IsValid fixed.service.c0) (before : Agent) (job :
       let all : votes_in short.votes.reps (has_said past suite (holding short.mode)) ≡ total_votes short.votes.reps =
       all_votes short.votes.reps (has_said past suite (holding short.mode)) (λ rep has some. every_held suite short.mode rep (short.none_left rep (contains_from short.votes.reps rep has) some)) in
       let valid : IsValid short.votes = elim (short.count) [
-        | inl is ↦ subst IsValid (sym is) (newest_valid short.start (told_of suite [] past) (begins_valid suite short.start short.gathered) (told_valid suite [] past tt free))
-        | inr set ↦ set_votes_valid fixed c0 before job sets suite short.votes set.1
+        | inl is ↦ subst IsValid (sym is.0) (newest_valid short.start (told_of suite [] past) (begins_valid suite short.start short.gathered) (told_valid suite [] past tt free))
+        | inr set ↦ set_votes_valid fixed c0 before job sets told' suite short.votes set.1
       ] in
       let some = enough short.mode short.votes valid in
       let had = short.had in
@@ -252,16 +285,7 @@ module _ (fixed : Fixed) (c0 : IsValid fixed.service.c0) (before : Agent) (job :
   none_caused : (cause' : Cause) → IsCaused fixed before job told' cause' → ⊥
   none_caused (cause.Unavailable suite got needed) caused = none_short suite got needed None caused
   none_caused (cause.Busy server holder) caused = none_short caused.0 caused.1 caused.2 (Some (server, holder)) caused.3
-  none_caused (cause.Lost server) caused = lost caused.one (free caused.one (has_from past caused.one caused.there)) caused.is
-    where
-      lost : (one : Exchange) → IsFreeWord one.request one.word → loses one.request one.word ≡ true → ⊥
-      lost one free is = of one.word free is
-        where
-          of : (word : Word) → IsFreeWord one.request word → loses one.request word ≡ true → ⊥
-          of (Lacked why) free is = absurd free
-          of (Replied reply.Lost) free is = false≢true (sym free.kept)
-          of (Replied reply.Down) free is = absurd (false≢true (sym free.up))
-          of (Replied _) free is = absurd (false≢true is)
+  none_caused (cause.Lost server) caused = none_lost past free job server caused
   none_caused cause.Overruled caused = overruled caused.1.one (free caused.1.one (has_from past caused.1.one caused.1.there)) caused.1.is
     where
       overruled : (one : Exchange) → IsFreeWord one.request one.word → (is_decide one.request && says_aborted one.word) ≡ true → ⊥
@@ -271,17 +295,10 @@ module _ (fixed : Fixed) (c0 : IsValid fixed.service.c0) (before : Agent) (job :
           of (Lacked why) free decide is = absurd free
           of (Replied (reply.Verdict verdict.Aborted)) free decide is = free.decides decide refl
           of (Replied _) free decide is = false≢true is
-  none_caused cause.HomeDown caused = down caused.1.one (free caused.1.one (has_from past caused.1.one caused.1.there)) caused.1.is
-    where
-      down : (one : Exchange) → IsFreeWord one.request one.word → (is_decide one.request && says_down one.word) ≡ true → ⊥
-      down one free is = of one.word free (and_parts (is_decide one.request) (says_down one.word) is).1
-        where
-          of : (word : Word) → IsFreeWord one.request word → says_down word ≡ true → ⊥
-          of (Lacked why) free is = absurd free
-          of (Replied reply.Down) free is = false≢true (sym free.up)
-          of (Replied _) free is = false≢true is
-  none_caused (cause.Full server) caused = lacks lack.Full caused.one (free caused.one (has_from past caused.one caused.there)) caused.is
-  none_caused cause.Memory caused = lacks lack.Memory caused.1.one (free caused.1.one (has_from past caused.1.one caused.1.there)) caused.1.is
+  none_caused cause.HomeDown caused =
+      none_was past free caused.0 (λ asked word. is_decide asked && says_down word) (λ one free is. downs one free (and_parts (is_decide one.request) (says_down one.word) is).1) caused.1
+  none_caused (cause.Full server) caused = all_served past free job lack.Full server caused
+  none_caused cause.Memory caused = all_served past free job lack.Memory caused.0 caused.1
 
 -- all that was told fits
 free_fit : (past : List Exchange) → AllFree past → all_fit past ≡ true

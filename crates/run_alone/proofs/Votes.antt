@@ -41,8 +41,10 @@ use Rattle.txn_core.specs.Suites.{known_of}
 use Rattle.txn_core.specs.Writing.{change_of}
 use Rattle.txn_core.specs.Doing.{Fixed, Task}
 use Rattle.txn_core.specs.Transactions.{start_from, to_widen}
-use Rattle.txn_core.specs.Laws.{SetsVotes, task_of}
+use Rattle.txn_core.specs.Laws.{task_of}
+use Rattle.txn_core.specs.Undecided.{SetsVotes}
 use Rattle.txn_core.specs.declared.job.Job.{Job}
+use Rattle.txn_core.specs.Agents as agents
 use Rattle.txn_core.specs.Agents.{Agent}
 use Rattle.run_core.specs.declared.event.Event.{Event}
 use Rattle.run_core.specs.Worlds.{Actor, server_at, actor_at}
@@ -188,7 +190,7 @@ touched : (b : Bool) (found : Option Change) (change : Change) → cond b found 
 touched true found change is = is
 touched false found change is = absurd (none-some change is)
 
-module _ (fixed : Fixed) (c0 : IsValid fixed.service.c0) (before : Agent) (job : Job) (valid : JobGivesValidVotes job) (suite : ℕ) (votes : Configuration) (sets : SetsVotes fixed before job suite votes) where
+module _ (fixed : Fixed) (c0 : IsValid fixed.service.c0) (before : Agent) (job : Job) (valid : JobGivesValidVotes job) (told' : List agents.Event) (suite : ℕ) (votes : Configuration) (sets : SetsVotes fixed before job told' suite votes) where
   abbrev known : Known
   known = known_of sets.suites
 

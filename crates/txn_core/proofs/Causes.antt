@@ -1,6 +1,6 @@
 -- Undecided ends are caused.
 use Rattle.std.proofs.Common.{◌≡◌, ℕ, Bool, true, false, cond, List, [], ◌∷◌, ◌++◌, Option, Some, None, Ok, Err, refl, sym, ◌⊎◌, inl, inr, zero, suc, ap, subst, ◌∙◌}
-use Rattle.std.specs.Prelude.{◌==◌, ◌&&◌, length}
+use Rattle.std.specs.Prelude.{◌==◌, ◌&&◌, not, length}
 use Rattle.std.proofs.lemmas.Bool.{eqb-true}
 use Rattle.std.proofs.lemmas.List.Elements.{Contains-append_left, Contains-push}
 use Rattle.std.proofs.lemmas.List.Folds.{list_all-append}
@@ -24,7 +24,7 @@ use Rattle.suite_collect.specs.declared.told.Told.{Told}
 use Rattle.suite_collect.specs.declared.told.Said.{Said}
 use Rattle.suite_prefix.specs.declared.copies.Prefix.{Prefix}
 use Rattle.suite_prefix.specs.declared.lock_mode.LockMode.{LockMode}
-use Rattle.suite_prefix.specs.declared.lock_mode.LockMode.TheVariants.{Shared}
+use Rattle.suite_prefix.specs.declared.lock_mode.LockMode.TheVariants.{Shared, Exclusive}
 use Rattle.suite_collect.proofs.Finding.{Has}
 use Rattle.suite_collect.specs.Collecting as collecting
 use Rattle.suite_collect.specs.Collecting.{Collector, all_told, raise, tell, mode_of, request_for, Asked, Poll, Upgrade, Next, Ask, Current, Short, next}
@@ -39,9 +39,11 @@ use Rattle.txn_core.specs.declared.ending.Cause.TheVariants.{Unavailable, Busy, 
 use Rattle.txn_core.specs.declared.ending.Ending.TheVariants.{Answered, Refused, Swept, Undecided}
 use Rattle.txn_core.specs.Doing.{Granted, home_of, Fixed, Task, Outcome, Phase, Gathering, Fetching, Widening, Preparing, Deciding, Finishing, Course, After, GoesOn, Ends}
 use Rattle.txn_core.specs.Transactions.{Step, Gathered, tell_end, give_up, prepare, locked_at, short_cause, gather_by, widen_by, widen_one, widened, widen_all, to_widen, opened, or_all, open_needed, open_suite, open_first, opened_with, free_content, start_from, heard_on, raised_or_new, keep_content, heard_of, said_to, proceed, execute, collected, hear, fetched, prepared, after_lack, after_word, asked_by, asked_for, fetched_at, fetched_for, request_in, changes_of, decision_of, given_in, verdict_in, ending_by, cause_of_abort, lack_cause}
-use Rattle.txn_core.specs.Laws.{Exchange, locks, is_decide, told_of, told_by, more_told, Was, loses, says_aborted, says_down, is_lack, fits_word, all_fit}
-use Rattle.txn_core.proofs.Asks.{asks_same}
-use Rattle.txn_core.proofs.Gathers.{self, with_at, at_with, Each, EachBut, each_but, each_with, but_with, tell_start, Sets, Grants, Kept, Asking, wide_told, wide_widened, kept_same, kept_more, kept_told, asking_of, asks_new, asks_on, settles_on}
+use Rattle.txn_core.specs.Laws.{Exchange, locks, is_decide, told_of, told_by, more_told, fits_word, all_fit}
+use Rattle.txn_core.specs.Undecided.{Was, loses, says_aborted, says_down, is_finish, stops}
+use Rattle.txn_core.proofs.Asks.{asks_same, asked_as, fetched_as}
+use Rattle.txn_core.proofs.Fetches.{exclusive_needed}
+use Rattle.txn_core.proofs.Gathers.{self, with_at, at_with, Each, EachBut, each_but, each_with, but_with, tell_start, AllGathered, Wants, Sets, Grants, wants_more, sets_more, grants_more, Kept, Asking, wide_told, wants_told, wide_widened, kept_same, kept_more, kept_told, asking_of, asks_new, asks_on, settles_on}
 use Rattle.txn_core.proofs.Locks.{Are, are_with, are_same, are_opened, told_raised, all_told-tell, asks_lock}
 
 -- ---- replies that lose a lock
@@ -106,7 +108,8 @@ pub record ShortBy (fixed : Fixed) (task : Task) (Old Loose : ℕ → Prefix →
   pub told : all_told collector ≡ told_of suite [] past
   pub short : next collector ≡ Short got needed busy
   pub begun : Begun Old Loose suite collector
-  pub wide : (w : collecting.Widening) → collector.widening ≡ Some w → Sets fixed task suite w.votes
+  pub wide : (w : collecting.Widening) → collector.widening ≡ Some w → Sets fixed task Old past suite w.votes
+  pub wanted : Wants fixed task Old past suite collector.mode
 
 abbrev pub CausedBy : Fixed → Task → (ℕ → Prefix → Type 0) → (ℕ → Prefix → Type 0) → List Exchange → Cause → Type 0
 CausedBy fixed task Old Loose past (Unavailable suite got needed) = ShortBy fixed task Old Loose past suite got needed None
@@ -114,8 +117,8 @@ CausedBy fixed task Old Loose past (Busy server holder) = (suite got needed : �
 CausedBy fixed task Old Loose past (Lost server) = Was past server loses
 CausedBy fixed task Old Loose past Overruled = (server : ℕ) × Was past server (λ asked word. is_decide asked && says_aborted word)
 CausedBy fixed task Old Loose past HomeDown = (server : ℕ) × Was past server (λ asked word. is_decide asked && says_down word)
-CausedBy fixed task Old Loose past (Full server) = Was past server (λ asked word. is_lack lack.Full word)
-CausedBy fixed task Old Loose past Memory = (server : ℕ) × Was past server (λ asked word. is_lack lack.Memory word)
+CausedBy fixed task Old Loose past (Full server) = Was past server (stops lack.Full)
+CausedBy fixed task Old Loose past Memory = (server : ℕ) × Was past server (stops lack.Memory)
 
 abbrev pub EndIs : Fixed → Task → (ℕ → Prefix → Type 0) → (ℕ → Prefix → Type 0) → List Exchange → Ending → Type 0
 EndIs fixed task Old Loose past (Undecided cause) = CausedBy fixed task Old Loose past cause
@@ -130,10 +133,10 @@ EndCaused fixed task Old Loose past ending = all_fit past ≡ true → EndIs fix
 -- What a phase keeps: of the suite that is gathered, of all others, of the suites that get votes, and of how it ends.
 abbrev pub Stands : Fixed → Task → (Old Now Loose : ℕ → Prefix → Type 0) → List Exchange → Suites → Phase → Type 0
 Stands fixed task Old Now Loose past suites (Gathering number) =
-    Are (Tells past) suites × EachBut (Kept fixed task Old past) number suites × ((suite : Suite) → suite_of suites number ≡ Some suite → Asking fixed task Now past number suite)
+    Are (Tells past) suites × EachBut (Kept fixed task Old past) number suites × ((suite : Suite) → suite_of suites number ≡ Some suite → Asking fixed task Old Now past number suite)
 Stands fixed task Old Now Loose past suites (Fetching number) = Are (Tells past) suites × Each (Kept fixed task Old past) suites
 Stands fixed task Old Now Loose past suites (Widening left granted) =
-    Are (Tells past) suites × Each (Kept fixed task Old past) suites × Grants fixed task granted.answers granted.changes × ((number : ℕ) → Has left number → Has (to_widen granted.changes) number)
+    Are (Tells past) suites × Each (Kept fixed task Old past) suites × Grants fixed task Old past granted.answers granted.changes × ((number : ℕ) → Has left number → Has (to_widen granted.changes) number)
 Stands fixed task Old Now Loose past suites (Preparing left outcome) = Unit {0}
 Stands fixed task Old Now Loose past suites (Deciding outcome) = Unit {0}
 Stands fixed task Old Now Loose past suites (Finishing servers v ending) = EndCaused fixed task Old Loose past ending
@@ -269,7 +272,8 @@ module _ (fixed : Fixed) (task : Task) (Old Loose : ℕ → Prefix → Type 0) w
     told = by.told ∙ sym (told_same past server asked word none suite);
     short = by.short;
     begun = elim by.begun [ inl old ↦ inl old | inr loose ↦ inr (inl loose.0, loose.1) ];
-    wide = by.wide;
+    wide = λ w is. sets_more fixed task Old past (record { server = server; request = asked; word = word } ∷ []) suite w.votes (by.wide w is);
+    wanted = wants_more fixed task Old past (record { server = server; request = asked; word = word } ∷ []) suite by.collector.mode by.wanted;
   }
 
   still_caused : (past : List Exchange) (cache : Cache) (server : ℕ) (asked : Request) (word : Word) → ((number : ℕ) → locks number asked ≡ false) → (cause : Cause) → CausedBy fixed task Old Loose past cause
@@ -290,13 +294,13 @@ module _ (fixed : Fixed) (task : Task) (Old Loose : ℕ → Prefix → Type 0) w
   still_ended past cache server asked word none (Swept broken finished left) is fine = tt
 
   short_caused : (L : ℕ → Prefix → Type 0) (past : List Exchange) (number : ℕ) (collector : Collector) (had wanting : ℕ) (busy : Option (ℕ × ℕ)) → all_told collector ≡ Tells past number → next collector ≡ Short had wanting busy → Begun Old L number collector
-      → ((w : collecting.Widening) → collector.widening ≡ Some w → Sets fixed task number w.votes) → CausedBy fixed task Old L past (short_cause number had wanting busy)
-  short_caused L past number collector had wanting None same is begun wide = record { collector = collector; told = same; short = is; begun = begun; wide = wide }
-  short_caused L past number collector had wanting (Some busy) same is begun wide = (number, had, wanting, record { collector = collector; told = same; short = is; begun = begun; wide = wide })
+      → ((w : collecting.Widening) → collector.widening ≡ Some w → Sets fixed task Old past number w.votes) → Wants fixed task Old past number collector.mode → CausedBy fixed task Old L past (short_cause number had wanting busy)
+  short_caused L past number collector had wanting None same is begun wide wanted = record { collector = collector; told = same; short = is; begun = begun; wide = wide; wanted = wanted }
+  short_caused L past number collector had wanting (Some busy) same is begun wide wanted = (number, had, wanting, record { collector = collector; told = same; short = is; begun = begun; wide = wide; wanted = wanted })
 
-  lack_caused : (L : ℕ → Prefix → Type 0) (past : List Exchange) (server : ℕ) (asked : Request) (lacked : Lack) → CausedBy fixed task Old L (push past server asked (Lacked lacked)) (lack_cause server lacked)
-  lack_caused L past server asked lack.Full = was_now past server asked (Lacked lack.Full) (λ asked word. is_lack lack.Full word) refl
-  lack_caused L past server asked lack.Memory = (server, was_now past server asked (Lacked lack.Memory) (λ asked word. is_lack lack.Memory word) refl)
+  lack_caused : (L : ℕ → Prefix → Type 0) (past : List Exchange) (server : ℕ) (asked : Request) (lacked : Lack) → is_finish asked ≡ false → CausedBy fixed task Old L (push past server asked (Lacked lacked)) (lack_cause server lacked)
+  lack_caused L past server asked lack.Full open' = was_now past server asked (Lacked lack.Full) (stops lack.Full) (ap (λ b. not b && true) open')
+  lack_caused L past server asked lack.Memory open' = (server, was_now past server asked (Lacked lack.Memory) (stops lack.Memory) (ap (λ b. not b && true) open'))
 
   -- ---- steps that hear nothing
 
@@ -313,52 +317,62 @@ module _ (fixed : Fixed) (task : Task) (Old Loose : ℕ → Prefix → Type 0) w
   caused_prepare past cache suites outcome (server ∷ servers) = (refl, tt)
 
   caused_gather : (past : List Exchange) (cache : Cache) (suites : Suites) (number : ℕ) (suite : Suite) (after : Next) → Are (Tells past) suites → EachBut (Keeps past) number suites → suite_of suites number ≡ Some suite
-      → all_told suite.collector ≡ Tells past number → Asking fixed task (OrFresh fixed task cache past Old) past number suite → next suite.collector ≡ after → Leaves fixed task Old Loose past (gather_by task cache suites number after)
+      → all_told suite.collector ≡ Tells past number → Asking fixed task Old (OrFresh fixed task cache past Old) past number suite → next suite.collector ≡ after → Leaves fixed task Old Loose past (gather_by task cache suites number after)
   caused_gather past cache suites number suite (Short had wanting busy) are others there same asking is =
       caused_give_up past cache suites (short_cause number had wanting busy) (λ _. short_caused (OrFresh fixed task cache past Loose) past number suite.collector had wanting busy same is
-      (elim asking.start [ inl old ↦ inl old | inr fresh ↦ inr (inr fresh, same ∙ fresh.untold) ]) asking.wide)
+      (elim asking.start [ inl old ↦ inl old | inr fresh ↦ inr (inr fresh, same ∙ fresh.untold) ]) asking.wide asking.wanted)
   caused_gather past cache suites number suite (Ask server asked) are others there same asking is =
-      (refl, (are, others, λ found at. subst (Asking fixed task (OrFresh fixed task cache past Old) past number) (same_Some suite found (sym there ∙ at)) asking))
+      (refl, (are, others, λ found at. subst (Asking fixed task Old (OrFresh fixed task cache past Old) past number) (same_Some suite found (sym there ∙ at)) asking))
   caused_gather past cache suites number suite (Current prefix dver members) are others there same asking is =
-      (refl, (are, others, λ found at. subst (Asking fixed task (OrFresh fixed task cache past Old) past number) (same_Some suite found (sym there ∙ at)) asking))
+      (refl, (are, others, λ found at. subst (Asking fixed task Old (OrFresh fixed task cache past Old) past number) (same_Some suite found (sym there ∙ at)) asking))
 
   -- what is gathered: a suite that is there, or a new one
-  gathers : (past : List Exchange) (cache : Cache) (number : ℕ) (mode : LockMode) (found : Option Suite) → ((suite : Suite) → found ≡ Some suite → Keeps past number suite) → (found ≡ None → told_of number [] past ≡ [])
-      → Asking fixed task (OrFresh fixed task cache past Old) past number (raised_or_new fixed task cache number mode found)
-  gathers past cache number mode (Some suite) kept untold =
+  gathers : (past : List Exchange) (cache : Cache) (number : ℕ) (mode : LockMode) (found : Option Suite) → ((suite : Suite) → found ≡ Some suite → Keeps past number suite) → (found ≡ None → told_of number [] past ≡ []) → Wants fixed task Old past number mode
+      → ((suite : Suite) (first : First) → found ≡ Some suite → suite.first ≡ Some first → mode ≡ Exclusive)
+      → Asking fixed task Old (OrFresh fixed task cache past Old) past number (raised_or_new fixed task cache number mode found)
+  gathers past cache number mode (Some suite) kept untold wants exclusive =
       let raised : Suite = record suite { collector = raise suite.collector } in
       let was = kept suite refl in
-      let now = kept_same fixed task Old past number suite raised refl refl (λ w is. was.wide w is) was in
-      record { start = inl now.start; first = inl now.first; wide = now.wide }
-  gathers past cache number mode None kept untold =
-      asks_new fixed task (OrFresh fixed task cache past Old) past number mode Shared (start_from fixed task cache number) (untold refl) (inr (record { from = refl; untold = untold refl }))
+      let wanted : Wants fixed task Old past number raised.collector.mode =
+      wants_raised suite.collector.widening (subst (Wants fixed task Old past number) (exclusive suite was.first.first refl was.first.was) wants) was.wanted in
+      let now = kept_same fixed task Old past number suite raised refl refl (λ w is. was.wide w is) wanted was in
+      record { start = inl now.start; first = inl now.first; wide = now.wide; wanted = wanted }
+    where
+      wants_raised : (w : Option collecting.Widening) → Wants fixed task Old past number Exclusive → Wants fixed task Old past number suite.collector.mode → Wants fixed task Old past number (collecting.raised w suite.collector.mode)
+      wants_raised (Some w) now before = before
+      wants_raised None now before = now
+  gathers past cache number mode None kept untold wants exclusive =
+      asks_new fixed task Old past number (OrFresh fixed task cache past Old) mode Shared (start_from fixed task cache number) (untold refl) (inr (record { from = refl; untold = untold refl })) wants
 
   caused_widen_by : (past : List Exchange) (cache : Cache) (suites : Suites) (left : List ℕ) (granted : Granted) (number : ℕ) (collector : Collector) (after : Next) (go_on : Suites → Step)
       → Stands fixed task Old (OrFresh fixed task cache past Old) (OrFresh fixed task cache past Loose) past suites (Widening left granted) → all_told collector ≡ Tells past number → next collector ≡ after → Old number collector.start
-      → ((w : collecting.Widening) → collector.widening ≡ Some w → Sets fixed task number w.votes) → Leaves fixed task Old Loose past (go_on suites) → Leaves fixed task Old Loose past (widen_by task cache suites (Widening left granted) number after go_on)
-  caused_widen_by past cache suites left granted number collector (Current prefix dver members) go_on stands same is old wide more = more
-  caused_widen_by past cache suites left granted number collector (Ask server asked) go_on stands same is old wide more = (refl, stands)
-  caused_widen_by past cache suites left granted number collector (Short had wanting busy) go_on stands same is old wide more =
-      caused_give_up past cache suites (short_cause number had wanting busy) (λ _. short_caused (OrFresh fixed task cache past Loose) past number collector had wanting busy same is (inl old) wide)
+      → ((w : collecting.Widening) → collector.widening ≡ Some w → Sets fixed task Old past number w.votes) → Wants fixed task Old past number collector.mode → Leaves fixed task Old Loose past (go_on suites) → Leaves fixed task Old Loose past (widen_by task cache suites (Widening left granted) number after go_on)
+  caused_widen_by past cache suites left granted number collector (Current prefix dver members) go_on stands same is old wide wanted more = more
+  caused_widen_by past cache suites left granted number collector (Ask server asked) go_on stands same is old wide wanted more = (refl, stands)
+  caused_widen_by past cache suites left granted number collector (Short had wanting busy) go_on stands same is old wide wanted more =
+      caused_give_up past cache suites (short_cause number had wanting busy) (λ _. short_caused (OrFresh fixed task cache past Loose) past number collector had wanting busy same is (inl old) wide wanted)
 
   caused_widen_one : (past : List Exchange) (cache : Cache) (suites : Suites) (number : ℕ) (left : List ℕ) (granted : Granted) (found : Option Suite) (go_on : Suites → Step) → suite_of suites number ≡ found → Are (Tells past) suites → Each (Keeps past) suites
-      → Grants fixed task granted.answers granted.changes → ((n : ℕ) → Has (number ∷ left) n → Has (to_widen granted.changes) n) → ((suites : Suites) → Are (Tells past) suites → Each (Keeps past) suites → Leaves fixed task Old Loose past (go_on suites))
+      → Grants fixed task Old past granted.answers granted.changes → ((n : ℕ) → Has (number ∷ left) n → Has (to_widen granted.changes) n) → ((suites : Suites) → Are (Tells past) suites → Each (Keeps past) suites → Leaves fixed task Old Loose past (go_on suites))
       → Leaves fixed task Old Loose past (widen_one task cache suites (Widening (number ∷ left) granted) granted.changes number found go_on)
   caused_widen_one past cache suites number left granted None go_on there are each grants gets more = more suites are each
   caused_widen_one past cache suites number left granted (Some suite) go_on there are each grants gets more =
       let now = widened granted.changes number suite in
       let was = each number suite there in
-      let kept = kept_same fixed task Old past number suite now refl refl (wide_widened fixed task granted.changes granted.answers number suite grants (gets number (inl refl))) was in
+      let kept = kept_same fixed task Old past number suite now refl refl (wide_widened fixed task Old past granted.changes granted.answers number suite grants (gets number (inl refl))) was.wanted was in
       let are' = are_same (Tells past) suites number now are (sym (ap told_in there)) in
       let each' = each_with (Keeps past) number suites now (each_but (Keeps past) number suites each) kept in
-      caused_widen_by past cache (with_suite number now suites) (number ∷ left) granted number now.collector (next now.collector) go_on (are', each', grants, gets) (told_there past suites number (Some suite) there are) refl kept.start kept.wide
+      caused_widen_by past cache (with_suite number now suites) (number ∷ left) granted number now.collector (next now.collector) go_on (are', each', grants, gets) (told_there past suites number (Some suite) there are) refl kept.start kept.wide kept.wanted
       (more (with_suite number now suites) are' each')
 
-  caused_widen : (past : List Exchange) (cache : Cache) (suites : Suites) (granted : Granted) (left : List ℕ) → Are (Tells past) suites → Each (Keeps past) suites → Grants fixed task granted.answers granted.changes
+  caused_widen : (past : List Exchange) (cache : Cache) (suites : Suites) (granted : Granted) (left : List ℕ) → Are (Tells past) suites → Each (Keeps past) suites → Grants fixed task Old past granted.answers granted.changes
       → ((n : ℕ) → Has left n → Has (to_widen granted.changes) n) → Leaves fixed task Old Loose past (widen_all task cache suites granted left)
   caused_widen past cache suites granted [] are each grants gets = caused_prepare past cache suites (Ok granted) (locked_at suites)
   caused_widen past cache suites granted (number ∷ left) are each grants gets =
       caused_widen_one past cache suites number left granted (suite_of suites number) _ refl are each grants gets (λ suites are each. caused_widen past cache suites granted left are each grants (λ n has. gets n (inr has)))
+
+  gathered : (past : List Exchange) (suites : Suites) → Each (Keeps past) suites → AllGathered Old past suites
+  gathered past suites each n suite there = let kept = each n suite there in (kept.start, kept.first)
 
   caused_proceed : (past : List Exchange) (cache : Cache) (suites : Suites) (heard : Executed) → heard_on fixed task suites ≡ heard → Are (Tells past) suites → Each (Keeps past) suites → Leaves fixed task Old Loose past (proceed fixed task cache suites heard)
   caused_proceed past cache suites (exec.Need (Hold number mode)) is are each =
@@ -366,17 +380,18 @@ module _ (fixed : Fixed) (task : Task) (Old Loose : ℕ → Prefix → Type 0) w
       let same = told_raised fixed task cache number mode (suite_of suites number) in
       caused_gather past cache (with_suite number suite suites) number suite (next suite.collector) (are_same (Tells past) suites number suite are same)
       (but_with (Keeps past) number suites suite (each_but (Keeps past) number suites each)) (there_with number suite suites) (same ∙ are.1 number)
-      (gathers past cache number mode (suite_of suites number) (each number) (λ none. sym (ap told_in (sym none) ∙ are.1 number))) refl
+      (gathers past cache number mode (suite_of suites number) (each number) (λ none. sym (ap told_in (sym none) ∙ are.1 number))
+      (record { suites = suites; gathered = gathered past suites each; needs = is }) (λ suite first there was. exclusive_needed fixed task suites number mode suite first is there was)) refl
   caused_proceed past cache suites (exec.Need (Know number)) is are each = (refl, (are, each))
   caused_proceed past cache suites (exec.Done answers changes) is are each =
-      caused_widen past cache suites (record { answers = answers; changes = changes }) (to_widen changes) are each (record { suites = suites; done = is }) (λ n has. has)
+      caused_widen past cache suites (record { answers = answers; changes = changes }) (to_widen changes) are each (record { suites = suites; gathered = gathered past suites each; done = is }) (λ n has. has)
   caused_proceed past cache suites (exec.Refused refusal) is are each = caused_prepare past cache suites (Err refusal) (locked_at suites)
 
   pub caused_execute : (past : List Exchange) (all : Gathered) → Are (Tells past) all.suites → Each (Keeps past) all.suites → Leaves fixed task Old Loose past (execute fixed task all)
   caused_execute past all are each =
       let open' = opened (length all.suites) fixed task all in
       caused_proceed past open'.cache open'.suites (heard_on fixed task open'.suites) refl (are_opened (Tells past) (length all.suites) fixed task all are)
-      (each_opened (Keeps past) (λ number suite content kept. kept_same fixed task Old past number suite (record suite { content = Some content }) refl refl (λ w is. kept.wide w is) kept) (length all.suites) fixed task all each)
+      (each_opened (Keeps past) (λ number suite content kept. kept_same fixed task Old past number suite (record suite { content = Some content }) refl refl (λ w is. kept.wide w is) kept.wanted kept) (length all.suites) fixed task all each)
 
   -- ---- a reply to a collector
 
@@ -385,7 +400,8 @@ module _ (fixed : Fixed) (task : Task) (Old Loose : ℕ → Prefix → Type 0) w
     told : all_told now.collector ≡ Tells past number
     are : (it : Suite) → it.collector ≡ now.collector → Are (Tells past) (with_suite number it suites)
     begun : Old number now.collector.start
-    wide : (w : collecting.Widening) → now.collector.widening ≡ Some w → Sets fixed task number w.votes
+    wide : (w : collecting.Widening) → now.collector.widening ≡ Some w → Sets fixed task Old past number w.votes
+    wanted : Wants fixed task Old past number now.collector.mode
     asks : (who : ℕ) (what : Asked) → next now.collector ≡ Ask who what → Stands fixed task Old (OrFresh fixed task cache past Old) (OrFresh fixed task cache past Loose) past (with_suite number now suites) phase
     settles : (prefix : Prefix) (dver : ℕ) (members : List ℕ) → next now.collector ≡ Current prefix dver members → Keeps past number (settled prefix dver members now)
     more : (it : Suite) → Are (Tells past) (with_suite number it suites) → Keeps past number it → Leaves fixed task Old Loose past (go_on (with_suite number it suites))
@@ -394,15 +410,15 @@ module _ (fixed : Fixed) (task : Task) (Old Loose : ℕ → Prefix → Type 0) w
       → Leaves fixed task Old Loose past (collected task cache suites phase number now after (λ suite. go_on (with_suite number suite suites)))
   caused_collected past cache suites phase number go_on now (Ask server asked) hears is = (refl, hears.asks server asked is)
   caused_collected past cache suites phase number go_on now (Short had wanting busy) hears is =
-      caused_give_up past cache (with_suite number now suites) (short_cause number had wanting busy) (λ _. short_caused (OrFresh fixed task cache past Loose) past number now.collector had wanting busy hears.told is (inl hears.begun) hears.wide)
+      caused_give_up past cache (with_suite number now suites) (short_cause number had wanting busy) (λ _. short_caused (OrFresh fixed task cache past Loose) past number now.collector had wanting busy hears.told is (inl hears.begun) hears.wide hears.wanted)
   caused_collected past cache suites phase number go_on now (Current prefix dver members) hears is =
       hears.more (settled prefix dver members now) (hears.are (settled prefix dver members now) refl) (hears.settles prefix dver members is)
 
   caused_heard : (past : List Exchange) (cache : Cache) (suites : Suites) (phase : Phase) (number : ℕ) (found : Option Suite) (server : ℕ) (asked : Request) (said : Reply) (go_on : Suites → Step)
-      → Are (Tells past) suites → suite_of suites number ≡ found → asked_for task number found ≡ Some (server, asked) → ((suite : Suite) → found ≡ Some suite → Asking fixed task Old past number suite)
+      → Are (Tells past) suites → suite_of suites number ≡ found → asked_for task number found ≡ Some (server, asked) → ((suite : Suite) → found ≡ Some suite → Asking fixed task Old Old past number suite)
       → ((suite : Suite) (one : Told) → found ≡ Some suite → (heard : all_told (tell one suite.collector) ≡ Tells (push past server asked (Replied said)) number)
       → Are (Tells (push past server asked (Replied said))) (with_suite number (record suite { collector = tell one suite.collector }) suites)
-      → Asking fixed task Old (push past server asked (Replied said)) number (record suite { collector = tell one suite.collector })
+      → Asking fixed task Old Old (push past server asked (Replied said)) number (record suite { collector = tell one suite.collector })
       → Stands fixed task Old (OrFresh fixed task cache (push past server asked (Replied said)) Old) (OrFresh fixed task cache (push past server asked (Replied said)) Loose) (push past server asked (Replied said)) (with_suite number (record suite { collector = tell one suite.collector }) suites) phase)
       → ((it : Suite) → Are (Tells (push past server asked (Replied said))) (with_suite number it suites) → Keeps (push past server asked (Replied said)) number it → Leaves fixed task Old Loose (push past server asked (Replied said)) (go_on (with_suite number it suites)))
       → Leaves fixed task Old Loose (push past server asked (Replied said)) (heard_of task cache suites phase number found server asked said go_on)
@@ -436,7 +452,8 @@ module _ (fixed : Fixed) (task : Task) (Old Loose : ℕ → Prefix → Type 0) w
                 told = told;
                 are = areas;
                 begun = subst (Old number) (sym (tell_start one suite.collector)) asking.start;
-                wide = wide_told fixed task number suite one asking.wide;
+                wide = wide_told fixed task Old past number suite one (x ∷ []) asking.wide;
+                wanted = wants_told fixed task Old past number suite one (x ∷ []) asking.wanted;
                 asks = λ at what is. keep suite one refl told (areas now refl) (asks_on fixed task Old past number suite one x told who question asks asking at what is);
                 settles = settles_on fixed task Old past number suite one x told who question asks asking;
                 more = more;
@@ -459,7 +476,7 @@ module _ (fixed : Fixed) (task : Task) (Old Loose : ℕ → Prefix → Type 0) w
       opens : (content : Content) → Keeps (past ++ x ∷ []) number (record suite { content = Some content })
       opens content =
           let kept = kept_more fixed task Old past number (x ∷ []) suite (each number suite there) in
-          kept_same fixed task Old (past ++ x ∷ []) number suite (record suite { content = Some content }) refl refl (λ w is. kept.wide w is) kept
+          kept_same fixed task Old (past ++ x ∷ []) number suite (record suite { content = Some content }) refl refl (λ w is. kept.wide w is) kept.wanted kept
 
       kept : (content : Content) (first : Option First) → fetched_at task number first ≡ Some (server, asked) → Leaves fixed task Old Loose (push past server asked (Replied said)) (keep_content fixed task cache suites number suite content first server)
       kept content None is = cc
@@ -476,11 +493,20 @@ module _ (fixed : Fixed) (task : Task) (Old Loose : ℕ → Prefix → Type 0) w
 
   caused_lack : (past : List Exchange) (cache : Cache) (suites : Suites) (phase : Phase) (server : ℕ) (asked : Request) (lacked : Lack) → request_in fixed task suites phase ≡ Some (server, asked) → Stands fixed task Old Old Loose past suites phase
       → Leaves fixed task Old Loose (push past server asked (Lacked lacked)) (after_lack task cache suites phase server lacked)
-  caused_lack past cache suites (Gathering number) server asked lacked is stands = caused_give_up _ cache suites (lack_cause server lacked) (λ _. lack_caused _ past server asked lacked)
-  caused_lack past cache suites (Fetching number) server asked lacked is stands = caused_give_up _ cache suites (lack_cause server lacked) (λ _. lack_caused _ past server asked lacked)
-  caused_lack past cache suites (Widening left granted) server asked lacked is stands = caused_give_up _ cache suites (lack_cause server lacked) (λ _. lack_caused _ past server asked lacked)
-  caused_lack past cache suites (Preparing left outcome) server asked lacked is stands = caused_give_up _ cache suites (lack_cause server lacked) (λ _. lack_caused _ past server asked lacked)
-  caused_lack past cache suites (Deciding outcome) server asked lacked is stands = caused_give_up _ cache suites (lack_cause server lacked) (λ _. lack_caused _ past server asked lacked)
+  caused_lack past cache suites (Gathering number) server asked lacked is stands =
+      caused_give_up _ cache suites (lack_cause server lacked) (λ _. lack_caused _ past server asked lacked (asked_as is_finish false task number (suite_of suites number) server asked (λ _. refl) refl is))
+  caused_lack past cache suites (Fetching number) server asked lacked is stands =
+      caused_give_up _ cache suites (lack_cause server lacked) (λ _. lack_caused _ past server asked lacked (fetched_as is_finish false task number (suite_of suites number) server asked refl is))
+  caused_lack past cache suites (Widening [] granted) server asked lacked is stands = cc
+  caused_lack past cache suites (Widening (number ∷ left) granted) server asked lacked is stands =
+      caused_give_up _ cache suites (lack_cause server lacked) (λ _. lack_caused _ past server asked lacked (asked_as is_finish false task number (suite_of suites number) server asked (λ _. refl) refl is))
+  caused_lack past cache suites (Preparing [] outcome) server asked lacked is stands = cc
+  caused_lack past cache suites (Preparing (now ∷ left) outcome) server asked lacked is stands =
+      caused_give_up _ cache suites (lack_cause server lacked)
+      (λ _. lack_caused _ past server asked lacked (ap is_finish (sym (asks_same now server (request.Prepare task.t (parts_at suites (changes_of outcome) now)) asked is))))
+  caused_lack past cache suites (Deciding outcome) server asked lacked is stands =
+      caused_give_up _ cache suites (lack_cause server lacked)
+      (λ _. lack_caused _ past server asked lacked (ap is_finish (sym (asks_same (home_of fixed.service task.t) server (request.Decide task.t (decision_of task outcome)) asked is))))
   caused_lack past cache suites (Finishing [] v ending) server asked lacked is stands = cc
   caused_lack past cache suites (Finishing (now ∷ left) v ending) server asked lacked is stands =
       caused_end _ cache suites v ending left (still_ended past cache server asked (Lacked lacked) (λ number. ap (locks number) (sym (asks_same now server (request.Finish task.t v) asked is))) ending stands)
@@ -510,7 +536,7 @@ module _ (fixed : Fixed) (task : Task) (Old Loose : ℕ → Prefix → Type 0) w
       (λ suite one there heard are asking. (
         are,
         but_with (Keeps (past ++ x ∷ [])) number suites (record suite { collector = tell one suite.collector }) others,
-        λ found at. subst (Asking fixed task (OrFresh fixed task cache (past ++ x ∷ []) Old) (past ++ x ∷ []) number) (at_with number (record suite { collector = tell one suite.collector }) found suites at) (record { start = inl asking.start; first = asking.first; wide = asking.wide }),
+        λ found at. subst (Asking fixed task Old (OrFresh fixed task cache (past ++ x ∷ []) Old) (past ++ x ∷ []) number) (at_with number (record suite { collector = tell one suite.collector }) found suites at) (record { start = inl asking.start; first = asking.first; wide = asking.wide; wanted = asking.wanted }),
       ))
       (λ it are kept. caused_execute (push past server asked (Replied said)) (record { suites = with_suite number it suites; cache = cache }) are (each_with (Keeps (past ++ x ∷ [])) number suites it others kept))
   caused_word past cache suites (Fetching number) server asked (Replied said) is stands = caused_fetched past cache suites number (suite_of suites number) server asked said stands.0 stands.1 refl is
@@ -522,10 +548,10 @@ module _ (fixed : Fixed) (task : Task) (Old Loose : ℕ → Prefix → Type 0) w
       (λ suite one there heard are asking. (
         are,
         each_with (Keeps (past ++ x ∷ [])) number suites (record suite { collector = tell one suite.collector }) others (kept_told fixed task Old past number suite one x heard (stands.1 number suite there)),
-        stands.2,
+        grants_more fixed task Old past (x ∷ []) granted.answers granted.changes stands.2,
         stands.3,
       ))
-      (λ it are kept. caused_widen (push past server asked (Replied said)) cache (with_suite number it suites) granted left are (each_with (Keeps (past ++ x ∷ [])) number suites it others kept) stands.2 (λ n has. stands.3 n (inr has)))
+      (λ it are kept. caused_widen (push past server asked (Replied said)) cache (with_suite number it suites) granted left are (each_with (Keeps (past ++ x ∷ [])) number suites it others kept) (grants_more fixed task Old past (x ∷ []) granted.answers granted.changes stands.2) (λ n has. stands.3 n (inr has)))
   caused_word past cache suites (Preparing [] outcome) server asked (Replied said) is stands = cc
   caused_word past cache suites (Preparing (now ∷ left) outcome) server asked (Replied said) is stands =
       elim (is_prepared said) as (λ b. is_prepared said ≡ b → Leaves fixed task Old Loose (push past server asked (Replied said)) (cond b (prepare task cache suites outcome left) (give_up task cache suites (Lost server)))) [

@@ -12,6 +12,8 @@ use Rattle.file_ops.specs.declared.refusal.Refusal.{Refusal}
 use Rattle.acl_core.specs.Identity.{Identity}
 use Rattle.file_ops.specs.declared.operation.Op.{Op}
 use Rattle.suite_prefix.specs.declared.lock_mode.LockMode.{LockMode}
+use Rattle.suite_prefix.specs.declared.lock_mode.LockMode.TheVariants.{Shared, Exclusive}
+use Rattle.suite_prefix.specs.LockModes.{serves}
 use Rattle.rep_core.specs.declared.request.Request.{Request}
 use Rattle.rep_core.specs.declared.request.Request.TheVariants as request
 use Rattle.rep_core.specs.declared.reply.Reply.{Reply}
@@ -194,6 +196,18 @@ away fixed task suites number is suite first there was =
     sym (ap known.is_opened (known_at suites number suite first there was))
     ∙ needs_what_is_unmet fixed.service (known_of suites) task.t task.caller task.ops (Know number)
     (needed_first (known_of suites) (known.exec_of fixed.service (known_of suites) task.t task.caller task.ops) (Know number) is)
+
+-- a lock that is needed on a suite that had a Current is an exclusive one
+pub exclusive_needed : (fixed : Fixed) (task : Task) (suites : Suites) (number : ℕ) (mode : LockMode) (suite : Suite) (first : First) → heard_on fixed task suites ≡ exec.Need (Hold number mode) → suite_of suites number ≡ Some suite → suite.first ≡ Some first → mode ≡ Exclusive
+exclusive_needed fixed task suites number mode suite first is there was =
+    of suite.mode mode (sym (ap (known.is_held mode) (known_at suites number suite first there was))
+    ∙ needs_what_is_unmet fixed.service (known_of suites) task.t task.caller task.ops (Hold number mode)
+    (needed_first (known_of suites) (known.exec_of fixed.service (known_of suites) task.t task.caller task.ops) (Hold number mode) is))
+  where
+    of : (have want : LockMode) → serves have want ≡ false → want ≡ Exclusive
+    of have Exclusive is = refl
+    of Shared Shared is = cc
+    of Exclusive Shared is = cc
 
 raised_keeps : (before : ℕ → ℕ) (fixed : Fixed) (task : Task) (cache : Cache) (suites : Suites) (number : ℕ) (mode : LockMode) (found : Option Suite) → suite_of suites number ≡ found → Keeps before suites
     → Keeps before (with_suite number (raised_or_new fixed task cache number mode found) suites)

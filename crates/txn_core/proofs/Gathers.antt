@@ -15,6 +15,7 @@ use Rattle.suite_prefix.specs.declared.lock_mode.LockMode.{LockMode}
 use Rattle.file_ops.specs.declared.answer.Answer.{Answer}
 use Rattle.file_exec.specs.declared.changes.Change.{Change}
 use Rattle.file_exec.specs.declared.executor.Outcome.TheVariants as exec
+use Rattle.file_exec.specs.declared.need.Need.TheVariants.{Hold}
 use Rattle.suite_collect.specs.declared.told.Told.{Told}
 use Rattle.suite_collect.specs.declared.told.Said.{Said}
 use Rattle.suite_collect.specs.Collecting.{Widening, Collector, told_since, all_told, tell_at, tell, collect, Asked, Next, Current, Ask, next}
@@ -143,10 +144,38 @@ gave_more start number past more first gave = record {
   never_before = gave.never_before;
 }
 
+-- ---- suites that were gathered
+
+pub record FirstKept (past : List Exchange) (number : ℕ) (suite : Suite) : Type 0 where
+  pub first : First
+  pub was : suite.first ≡ Some first
+  pub gave : FirstGave suite.collector.start number past first
+
+first_more : (past more : List Exchange) (number : ℕ) (suite : Suite) → FirstKept past number suite → FirstKept (past ++ more) number suite
+first_more past more number suite kept = record { first = kept.first; was = kept.was; gave = gave_more suite.collector.start number past more kept.first kept.gave }
+
+-- all of them
+abbrev pub AllGathered : (ℕ → Prefix → Type 0) → List Exchange → Suites → Type 0
+AllGathered Old past suites = (n : ℕ) (suite : Suite) → suite_of suites n ≡ Some suite → Old n suite.collector.start × FirstKept past n suite
+
+gathered_more : (Old : ℕ → Prefix → Type 0) (past more : List Exchange) (suites : Suites) → AllGathered Old past suites → AllGathered Old (past ++ more) suites
+gathered_more Old past more suites gathered n suite there = let was = gathered n suite there in (was.0, first_more past more n suite was.1)
+
+gathered_map : (Old Old' : ℕ → Prefix → Type 0) (past : List Exchange) (suites : Suites) → ((n : ℕ) (start : Prefix) → Old n start → Old' n start) → AllGathered Old past suites → AllGathered Old' past suites
+gathered_map Old Old' past suites old gathered n suite there = let was = gathered n suite there in (old n suite.collector.start was.0, was.1)
+
+-- ---- modes that are wanted
+
+pub record Wants (fixed : Fixed) (task : Task) (Old : ℕ → Prefix → Type 0) (past : List Exchange) (number : ℕ) (mode : LockMode) : Type 0 where
+  pub suites : Suites
+  pub gathered : AllGathered Old past suites
+  pub needs : heard_on fixed task suites ≡ exec.Need (Hold number mode)
+
 -- ---- votes that are set
 
-pub record Sets (fixed : Fixed) (task : Task) (number : ℕ) (votes : Configuration) : Type 0 where
+pub record Sets (fixed : Fixed) (task : Task) (Old : ℕ → Prefix → Type 0) (past : List Exchange) (number : ℕ) (votes : Configuration) : Type 0 where
   pub suites : Suites
+  pub gathered : AllGathered Old past suites
   pub answers : List Answer
   pub changes : Changes
   pub done : heard_on fixed task suites ≡ exec.Done answers changes
@@ -154,9 +183,46 @@ pub record Sets (fixed : Fixed) (task : Task) (number : ℕ) (votes : Configurat
   pub are : option_map (λ (change : Change). change.row.votes) (change_of changes number) ≡ Some votes
 
 -- what the executor has set
-pub record Grants (fixed : Fixed) (task : Task) (answers : List Answer) (changes : Changes) : Type 0 where
+pub record Grants (fixed : Fixed) (task : Task) (Old : ℕ → Prefix → Type 0) (past : List Exchange) (answers : List Answer) (changes : Changes) : Type 0 where
   pub suites : Suites
+  pub gathered : AllGathered Old past suites
   pub done : heard_on fixed task suites ≡ exec.Done answers changes
+
+module _ (fixed : Fixed) (task : Task) (Old : ℕ → Prefix → Type 0) (past more : List Exchange) where
+  pub wants_more : (number : ℕ) (mode : LockMode) → Wants fixed task Old past number mode → Wants fixed task Old (past ++ more) number mode
+  wants_more number mode wants = record { suites = wants.suites; gathered = gathered_more Old past more wants.suites wants.gathered; needs = wants.needs }
+
+  pub sets_more : (number : ℕ) (votes : Configuration) → Sets fixed task Old past number votes → Sets fixed task Old (past ++ more) number votes
+  sets_more number votes sets = record {
+    suites = sets.suites;
+    gathered = gathered_more Old past more sets.suites sets.gathered;
+    answers = sets.answers;
+    changes = sets.changes;
+    done = sets.done;
+    gets = sets.gets;
+    are = sets.are;
+  }
+
+  pub grants_more : (answers : List Answer) (changes : Changes) → Grants fixed task Old past answers changes → Grants fixed task Old (past ++ more) answers changes
+  grants_more answers changes grants = record { suites = grants.suites; gathered = gathered_more Old past more grants.suites grants.gathered; done = grants.done }
+
+module _ (fixed : Fixed) (task : Task) (Old Old' : ℕ → Prefix → Type 0) (past : List Exchange) (old : (n : ℕ) (start : Prefix) → Old n start → Old' n start) where
+  pub wants_map : (number : ℕ) (mode : LockMode) → Wants fixed task Old past number mode → Wants fixed task Old' past number mode
+  wants_map number mode wants = record { suites = wants.suites; gathered = gathered_map Old Old' past wants.suites old wants.gathered; needs = wants.needs }
+
+  pub sets_map : (number : ℕ) (votes : Configuration) → Sets fixed task Old past number votes → Sets fixed task Old' past number votes
+  sets_map number votes sets = record {
+    suites = sets.suites;
+    gathered = gathered_map Old Old' past sets.suites old sets.gathered;
+    answers = sets.answers;
+    changes = sets.changes;
+    done = sets.done;
+    gets = sets.gets;
+    are = sets.are;
+  }
+
+  pub grants_map : (answers : List Answer) (changes : Changes) → Grants fixed task Old past answers changes → Grants fixed task Old' past answers changes
+  grants_map answers changes grants = record { suites = grants.suites; gathered = gathered_map Old Old' past grants.suites old grants.gathered; done = grants.done }
 
 listed_change : (changes : Changes) (number : ℕ) → Has (to_widen changes) number → (change : Change) × (change_of changes number ≡ Some change)
 listed_change [] number has = absurd has
@@ -174,19 +240,15 @@ listed_change (one ∷ changes) number has = of (is_at (nat_cmp number) one.0) r
 
 -- ---- what is kept of a suite
 
-pub record FirstKept (past : List Exchange) (number : ℕ) (suite : Suite) : Type 0 where
-  pub first : First
-  pub was : suite.first ≡ Some first
-  pub gave : FirstGave suite.collector.start number past first
-
-abbrev pub Wide : Fixed → Task → ℕ → Suite → Type 0
-Wide fixed task number suite = (w : Widening) → suite.collector.widening ≡ Some w → Sets fixed task number w.votes
+abbrev pub Wide : Fixed → Task → (ℕ → Prefix → Type 0) → List Exchange → ℕ → Suite → Type 0
+Wide fixed task Old past number suite = (w : Widening) → suite.collector.widening ≡ Some w → Sets fixed task Old past number w.votes
 
 -- a suite that had a Current
 pub record Kept (fixed : Fixed) (task : Task) (Old : ℕ → Prefix → Type 0) (past : List Exchange) (number : ℕ) (suite : Suite) : Type 0 where
   pub start : Old number suite.collector.start
   pub first : FirstKept past number suite
-  pub wide : Wide fixed task number suite
+  pub wide : Wide fixed task Old past number suite
+  pub wanted : Wants fixed task Old past number suite.collector.mode
 
 -- none was Current of what was told
 abbrev pub NoneYet : Prefix → LockMode → ℕ → List Exchange → Type 0
@@ -199,27 +261,29 @@ FirstOrAsks past number suite =
     × ((server : ℕ) (asked : Asked) → next suite.collector ≡ Ask server asked → NoneYet suite.collector.start suite.collector.mode number past))
 
 -- a suite that is gathered
-pub record Asking (fixed : Fixed) (task : Task) (Start : ℕ → Prefix → Type 0) (past : List Exchange) (number : ℕ) (suite : Suite) : Type 0 where
+pub record Asking (fixed : Fixed) (task : Task) (Old Start : ℕ → Prefix → Type 0) (past : List Exchange) (number : ℕ) (suite : Suite) : Type 0 where
   pub start : Start number suite.collector.start
   pub first : FirstOrAsks past number suite
-  pub wide : Wide fixed task number suite
-
-first_more : (past more : List Exchange) (number : ℕ) (suite : Suite) → FirstKept past number suite → FirstKept (past ++ more) number suite
-first_more past more number suite kept = record { first = kept.first; was = kept.was; gave = gave_more suite.collector.start number past more kept.first kept.gave }
+  pub wide : Wide fixed task Old past number suite
+  pub wanted : Wants fixed task Old past number suite.collector.mode
 
 -- another with the same start and the same first
 first_same : (past : List Exchange) (number : ℕ) (suite other : Suite) → other.collector.start ≡ suite.collector.start → other.first ≡ suite.first → FirstKept past number suite → FirstKept past number other
 first_same past number suite other start first kept = record { first = kept.first; was = first ∙ kept.was; gave = subst (λ start. FirstGave start number past kept.first) (sym start) kept.gave }
 
-module _ (fixed : Fixed) (task : Task) where
-  pub wide_told : (number : ℕ) (suite : Suite) (one : Told) → Wide fixed task number suite → Wide fixed task number (record suite { collector = tell one suite.collector })
-  wide_told number suite one wide after is = let was = tell_votes one suite.collector after is in subst (Sets fixed task number) was.2 (wide was.0 was.1)
+module _ (fixed : Fixed) (task : Task) (Old : ℕ → Prefix → Type 0) (past : List Exchange) where
+  pub wide_told : (number : ℕ) (suite : Suite) (one : Told) (more : List Exchange) → Wide fixed task Old past number suite → Wide fixed task Old (past ++ more) number (record suite { collector = tell one suite.collector })
+  wide_told number suite one more wide after is =
+      let was = tell_votes one suite.collector after is in subst (Sets fixed task Old (past ++ more) number) was.2 (sets_more fixed task Old past more number was.0.votes (wide was.0 was.1))
 
-  pub wide_widened : (changes : Changes) (answers : List Answer) (number : ℕ) (suite : Suite) → Grants fixed task answers changes → Has (to_widen changes) number → Wide fixed task number (widened changes number suite)
+  pub wants_told : (number : ℕ) (suite : Suite) (one : Told) (more : List Exchange) → Wants fixed task Old past number suite.collector.mode → Wants fixed task Old (past ++ more) number (tell one suite.collector).mode
+  wants_told number suite one more wanted = subst (Wants fixed task Old (past ++ more) number) (sym (tell_mode one suite.collector)) (wants_more fixed task Old past more number suite.collector.mode wanted)
+
+  pub wide_widened : (changes : Changes) (answers : List Answer) (number : ℕ) (suite : Suite) → Grants fixed task Old past answers changes → Has (to_widen changes) number → Wide fixed task Old past number (widened changes number suite)
   wide_widened changes answers number suite grants gets after is =
       let change = listed_change changes number gets in
       let votes : change.0.row.votes ≡ after.votes = of change.0 change.1 in
-      record { suites = grants.suites; answers = answers; changes = changes; done = grants.done; gets = gets; are = ap (option_map (λ (change : Change). change.row.votes)) change.1 ∙ ap Some votes }
+      record { suites = grants.suites; gathered = grants.gathered; answers = answers; changes = changes; done = grants.done; gets = gets; are = ap (option_map (λ (change : Change). change.row.votes)) change.1 ∙ ap Some votes }
     where
       of : (change : Change) → change_of changes number ≡ Some change → change.row.votes ≡ after.votes
       of change set =
@@ -242,21 +306,27 @@ none_same start other mode another number past same_start same_mode none early r
     none early rest parts (subst (λ mode. IsCurrent (next (gathered_from start mode number early))) same_mode (subst (λ start. IsCurrent (next (gathered_from start another number early))) same_start current))
 
 module _ (fixed : Fixed) (task : Task) (Old : ℕ → Prefix → Type 0) (past : List Exchange) (number : ℕ) where
-  pub kept_same : (suite other : Suite) → other.collector.start ≡ suite.collector.start → other.first ≡ suite.first → Wide fixed task number other → Kept fixed task Old past number suite → Kept fixed task Old past number other
-  kept_same suite other start first wide kept = record { start = subst (Old number) (sym start) kept.start; first = first_same past number suite other start first kept.first; wide = wide }
+  pub kept_same : (suite other : Suite) → other.collector.start ≡ suite.collector.start → other.first ≡ suite.first → Wide fixed task Old past number other → Wants fixed task Old past number other.collector.mode → Kept fixed task Old past number suite → Kept fixed task Old past number other
+  kept_same suite other start first wide wanted kept = record { start = subst (Old number) (sym start) kept.start; first = first_same past number suite other start first kept.first; wide = wide; wanted = wanted }
 
   pub kept_more : (more : List Exchange) (suite : Suite) → Kept fixed task Old past number suite → Kept fixed task Old (past ++ more) number suite
-  kept_more more suite kept = record { start = kept.start; first = first_more past more number suite kept.first; wide = kept.wide }
+  kept_more more suite kept = record {
+    start = kept.start;
+    first = first_more past more number suite kept.first;
+    wide = λ w is. sets_more fixed task Old past more number w.votes (kept.wide w is);
+    wanted = wants_more fixed task Old past more number suite.collector.mode kept.wanted;
+  }
 
-  pub asking_of : (suite : Suite) → Kept fixed task Old past number suite → Asking fixed task Old past number suite
-  asking_of suite kept = record { start = kept.start; first = inl kept.first; wide = kept.wide }
+  pub asking_of : (suite : Suite) → Kept fixed task Old past number suite → Asking fixed task Old Old past number suite
+  asking_of suite kept = record { start = kept.start; first = inl kept.first; wide = kept.wide; wanted = kept.wanted }
 
   -- a suite that is new
-  pub asks_new : (mode another : LockMode) (start : Prefix) → told_of number [] past ≡ [] → Old number start → Asking fixed task Old past number (record { collector = collect mode start; first = None; mode = another; content = None })
-  asks_new mode another start untold old = record {
+  pub asks_new : (Start : ℕ → Prefix → Type 0) (mode another : LockMode) (start : Prefix) → told_of number [] past ≡ [] → Start number start → Wants fixed task Old past number mode → Asking fixed task Old Start past number (record { collector = collect mode start; first = None; mode = another; content = None })
+  asks_new Start mode another start untold old wanted = record {
     start = old;
     first = inr (refl, refl, λ server asked is early rest parts current. asks_not server asked (next (gathered_from start mode number early)) (nothing early rest parts ∙ is) current);
     wide = λ w is. cc;
+    wanted = wanted;
   }
     where
       nothing : (early rest : List Exchange) → past ≡ early ++ rest → next (gathered_from start mode number early) ≡ next (collect mode start)
@@ -274,18 +344,24 @@ module _ (fixed : Fixed) (task : Task) (Old : ℕ → Prefix → Type 0) (past :
     first_told kept = first_same (past ++ x ∷ []) number suite now (tell_start one suite.collector) refl (first_more past (x ∷ []) number suite kept)
 
     pub kept_told : Kept fixed task Old past number suite → Kept fixed task Old (past ++ x ∷ []) number now
-    kept_told kept = record { start = subst (Old number) (sym (tell_start one suite.collector)) kept.start; first = first_told kept.first; wide = wide_told fixed task number suite one kept.wide }
+    kept_told kept = record {
+      start = subst (Old number) (sym (tell_start one suite.collector)) kept.start;
+      first = first_told kept.first;
+      wide = wide_told fixed task Old past number suite one (x ∷ []) kept.wide;
+      wanted = wants_told fixed task Old past number suite one (x ∷ []) kept.wanted;
+    }
 
-    module _ (server : ℕ) (asked : Asked) (asks : next suite.collector ≡ Ask server asked) (asking : Asking fixed task Old past number suite) where
+    module _ (server : ℕ) (asked : Asked) (asks : next suite.collector ≡ Ask server asked) (asking : Asking fixed task Old Old past number suite) where
       none_now : NoneYet suite.collector.start suite.collector.mode number past → NoneYet now.collector.start now.collector.mode number past
       none_now = none_same suite.collector.start now.collector.start suite.collector.mode now.collector.mode number past (tell_start one suite.collector) (tell_mode one suite.collector)
 
       -- and asks on
-      pub asks_on : (who : ℕ) (what : Asked) → next now.collector ≡ Ask who what → Asking fixed task Old (past ++ x ∷ []) number now
+      pub asks_on : (who : ℕ) (what : Asked) → next now.collector ≡ Ask who what → Asking fixed task Old Old (past ++ x ∷ []) number now
       asks_on who what is = record {
         start = subst (Old number) (sym (tell_start one suite.collector)) asking.start;
         first = of asking.first;
-        wide = wide_told fixed task number suite one asking.wide;
+        wide = wide_told fixed task Old past number suite one (x ∷ []) asking.wide;
+        wanted = wants_told fixed task Old past number suite one (x ∷ []) asking.wanted;
       }
         where
           of : FirstOrAsks past number suite → FirstOrAsks (past ++ x ∷ []) number now
@@ -301,7 +377,8 @@ module _ (fixed : Fixed) (task : Task) (Old : ℕ → Prefix → Type 0) (past :
       settles_on prefix dver members is = record {
         start = subst (Old number) (sym (tell_start one suite.collector)) asking.start;
         first = of asking.first;
-        wide = wide_told fixed task number suite one asking.wide;
+        wide = wide_told fixed task Old past number suite one (x ∷ []) asking.wide;
+        wanted = wants_told fixed task Old past number suite one (x ∷ []) asking.wanted;
       }
         where
           new : First

@@ -21,7 +21,7 @@ use Rattle.rep_core.specs.declared.stamped.Lack.{Lack}
 use Rattle.rep_core.specs.declared.stamped.Lack.TheVariants as lack
 use Rattle.rep_core.specs.Fits.{fits}
 use Rattle.suite_collect.specs.Telling.{newest, has_told, has_refused, first_busy}
-use Rattle.suite_collect.specs.Collecting.{Collector, told_since, votes_or, mode_or, all_told, counted, wanted, is_member, Short, next}
+use Rattle.suite_collect.specs.Collecting.{told_since, votes_or, mode_or, all_told, counted, wanted, is_member}
 use Rattle.suite_collect.specs.Collecting as collecting
 use Rattle.suite_collect.proofs.Finding.{has_to}
 use Rattle.suite_collect.proofs.Shortness.{short_has_none_left}
@@ -32,88 +32,90 @@ use Rattle.txn_core.specs.declared.ending.Cause.TheVariants.{Unavailable, Busy, 
 use Rattle.txn_core.specs.declared.ending.Ending.{Ending}
 use Rattle.txn_core.specs.declared.ending.Ending.TheVariants.{Answered, Refused, Swept, Undecided}
 use Rattle.txn_core.specs.declared.job.Job.{Job}
-use Rattle.txn_core.specs.declared.job.Job.TheVariants.{Transaction}
+use Rattle.txn_core.specs.declared.job.Job.TheVariants.{Transaction, Sweep}
+use Rattle.txn_core.specs.Suites.{Suites}
 use Rattle.txn_core.specs.Doing.{home_of, Fixed, Task, Course, Sweeping, Listing, Resolving, Telling, Breaking, Round, Doing, Running, Rounding, After, GoesOn, Ends}
 use Rattle.txn_core.specs.Transactions.{heard_on, to_widen, after_word, lack_cause}
 use Rattle.txn_core.specs.Sweeps as sweep
 use Rattle.txn_core.specs.Agents.{Agent, Event, Take, next_in, next_of, end_of, take_in, begin, after_all}
-use Rattle.txn_core.specs.Laws.{Exchange, of_job, exchange_of, is_down, told_of, Was, loses, is_lack, fits_word, all_fit, has_said, holding, refusing, down, task_of, IsStart, SetsVotes, IsShort, IsCaused, EndsAreCaused}
-use Rattle.txn_core.proofs.Gathers.{Sets}
+use Rattle.txn_core.specs.Laws.{Exchange, of_job, exchange_of, told_of, fits_word, all_fit, has_said, holding, refusing, down, task_of, IsStart}
+use Rattle.txn_core.specs.Undecided.{WereGathered, IsWanted, SetsVotes, IsShort, Was, WasLost, DidNotServe, says_down, is_lack, IsCaused, EndsAreCaused}
+use Rattle.txn_core.proofs.Gathers.{AllGathered, Wants, Sets}
 use Rattle.txn_core.proofs.Causes.{push, Begun, ShortBy, CausedBy, EndIs, OrFresh, LeftOf, was_now, last_fits}
 use Rattle.txn_core.proofs.Upheld.{Begins, Started, started_is, untold_is, begins_more, started_more, fresh_begins, map_cause, DoingStands, after-append, exchanges-take, word_leaves, stands_after}
 use Rattle.txn_core.proofs.Shown.{told_said, busy_said, votes_same, tells_busy, kind_of}
 
 -- ---- sweeps
 
--- a sweep falls short of nothing
-abbrev SweepCaused : List Exchange → Cause → Type 0
-SweepCaused past (Unavailable suite got needed) = ⊥
-SweepCaused past (Busy server holder) = ⊥
-SweepCaused past (Lost server) = Was past server loses
-SweepCaused past Overruled = ⊥
-SweepCaused past HomeDown = ⊥
-SweepCaused past (Full server) = Was past server (λ asked word. is_lack lack.Full word)
-SweepCaused past Memory = (server : ℕ) × Was past server (λ asked word. is_lack lack.Memory word)
+-- a sweep of a server falls short of nothing
+abbrev SweepCaused : List Exchange → ℕ → Cause → Type 0
+SweepCaused past swept (Unavailable suite got needed) = ⊥
+SweepCaused past swept (Busy server holder) = ⊥
+SweepCaused past swept (Lost server) = WasLost past (Sweep swept) server
+SweepCaused past swept Overruled = ⊥
+SweepCaused past swept HomeDown = ⊥
+SweepCaused past swept (Full server) = DidNotServe past (Sweep swept) lack.Full server
+SweepCaused past swept Memory = (server : ℕ) × DidNotServe past (Sweep swept) lack.Memory server
 
-abbrev SweepEnds : List Exchange → Ending → Type 0
-SweepEnds past (Undecided cause) = SweepCaused past cause
-SweepEnds past (Answered answers) = Unit {0}
-SweepEnds past (Refused refusal) = Unit {0}
-SweepEnds past (Swept broken finished left) = Unit {0}
+abbrev SweepEnds : List Exchange → ℕ → Ending → Type 0
+SweepEnds past swept (Undecided cause) = SweepCaused past swept cause
+SweepEnds past swept (Answered answers) = Unit {0}
+SweepEnds past swept (Refused refusal) = Unit {0}
+SweepEnds past swept (Swept broken finished left) = Unit {0}
 
-abbrev RoundCaused : List Exchange → After Round → Type 0
-RoundCaused past (GoesOn round) = Unit {0}
-RoundCaused past (Ends ending) = SweepEnds past ending
+abbrev RoundCaused : List Exchange → ℕ → After Round → Type 0
+RoundCaused past swept (GoesOn round) = Unit {0}
+RoundCaused past swept (Ends ending) = SweepEnds past swept ending
 
-lack_swept : (past : List Exchange) (server : ℕ) (asked : Request) (lacked : Lack) → SweepCaused (push past server asked (Lacked lacked)) (lack_cause server lacked)
-lack_swept past server asked lack.Full = was_now past server asked (Lacked lack.Full) (λ asked word. is_lack lack.Full word) refl
-lack_swept past server asked lack.Memory = (server, was_now past server asked (Lacked lack.Memory) (λ asked word. is_lack lack.Memory word) refl)
+lack_swept : (past : List Exchange) (swept server : ℕ) (asked : Request) (lacked : Lack) → SweepCaused (push past server asked (Lacked lacked)) swept (lack_cause server lacked)
+lack_swept past swept server asked lack.Full = was_now past server asked (Lacked lack.Full) (λ asked word. is_lack lack.Full word) refl
+lack_swept past swept server asked lack.Memory = (server, was_now past server asked (Lacked lack.Memory) (λ asked word. is_lack lack.Memory word) refl)
 
-caused_sweep : (past : List Exchange) (round : Round) (locks : List Lock) → RoundCaused past (sweep.sweep_on round locks)
-caused_sweep past round [] = tt
-caused_sweep past round (lock ∷ locks) = tt
+caused_sweep : (past : List Exchange) (swept : ℕ) (round : Round) (locks : List Lock) → RoundCaused past swept (sweep.sweep_on round locks)
+caused_sweep past swept round [] = tt
+caused_sweep past swept round (lock ∷ locks) = tt
 
-caused_lost : (past : List Exchange) (round : Round) (server : ℕ) (asked : Request) → is_down asked ≡ true → server ≡ round.server → RoundCaused (push past server asked (Replied reply.Down)) (sweep.lost round)
-caused_lost past round server asked is at = subst (λ who. Was (push past server asked (Replied reply.Down)) who loses) at (was_now past server asked (Replied reply.Down) loses is)
+caused_lost : (past : List Exchange) (round : Round) (server : ℕ) (asked : Request) → server ≡ round.server → RoundCaused (push past server asked (Replied reply.Down)) round.server (sweep.lost round)
+caused_lost past round server asked at = (refl, subst (λ who. Was (push past server asked (Replied reply.Down)) who (λ asked word. says_down word)) at (was_now past server asked (Replied reply.Down) (λ asked word. says_down word) refl))
 
 abbrev push_now : List Exchange → Service → Round → Sweeping → Word → List Exchange
 push_now past service round now word = push past (sweep.asked_now service round now).0 (sweep.asked_now service round now).1 word
 
-caused_answer : (past : List Exchange) (service : Service) (round : Round) (now : Sweeping) (said : Reply) → fits (sweep.asked_now service round now).1 said ≡ true → RoundCaused (push_now past service round now (Replied said)) (sweep.after_answer service round now said)
+caused_answer : (past : List Exchange) (service : Service) (round : Round) (now : Sweeping) (said : Reply) → fits (sweep.asked_now service round now).1 said ≡ true → RoundCaused (push_now past service round now (Replied said)) round.server (sweep.after_answer service round now said)
 caused_answer past service round Listing (reply.Held prefix dver) fine = cc
 caused_answer past service round Listing (reply.Busy holder prepared) fine = cc
-caused_answer past service round Listing reply.Down fine = caused_lost past round round.server request.Locks refl refl
+caused_answer past service round Listing reply.Down fine = caused_lost past round round.server request.Locks refl
 caused_answer past service round Listing reply.Lost fine = cc
 caused_answer past service round Listing (reply.Given dver content) fine = cc
 caused_answer past service round Listing reply.Prepared fine = cc
 caused_answer past service round Listing (reply.Verdict v) fine = cc
 caused_answer past service round Listing reply.Done fine = cc
-caused_answer past service round Listing (reply.Locked locks) fine = caused_sweep _ round (sweep.rising locks)
+caused_answer past service round Listing (reply.Locked locks) fine = caused_sweep _ round.server round (sweep.rising locks)
 caused_answer past service round (Telling t w left) (reply.Held prefix dver) fine = cc
 caused_answer past service round (Telling t w left) (reply.Busy holder prepared) fine = cc
-caused_answer past service round (Telling t w left) reply.Down fine = caused_lost past round round.server (request.Finish t w) refl refl
+caused_answer past service round (Telling t w left) reply.Down fine = caused_lost past round round.server (request.Finish t w) refl
 caused_answer past service round (Telling t w left) reply.Lost fine = cc
 caused_answer past service round (Telling t w left) (reply.Given dver content) fine = cc
 caused_answer past service round (Telling t w left) reply.Prepared fine = cc
 caused_answer past service round (Telling t w left) (reply.Verdict v) fine = cc
-caused_answer past service round (Telling t w left) reply.Done fine = caused_sweep _ (record round { finished = round.finished + 1 }) left
+caused_answer past service round (Telling t w left) reply.Done fine = caused_sweep _ round.server (record round { finished = round.finished + 1 }) left
 caused_answer past service round (Telling t w left) (reply.Locked locks) fine = cc
 caused_answer past service round (Breaking lock left) (reply.Held prefix dver) fine = cc
 caused_answer past service round (Breaking lock left) (reply.Busy holder prepared) fine = cc
-caused_answer past service round (Breaking lock left) reply.Down fine = caused_lost past round round.server (request.Break lock.t lock.suite) refl refl
+caused_answer past service round (Breaking lock left) reply.Down fine = caused_lost past round round.server (request.Break lock.t lock.suite) refl
 caused_answer past service round (Breaking lock left) reply.Lost fine = cc
 caused_answer past service round (Breaking lock left) (reply.Given dver content) fine = cc
 caused_answer past service round (Breaking lock left) reply.Prepared fine = cc
 caused_answer past service round (Breaking lock left) (reply.Verdict v) fine = cc
-caused_answer past service round (Breaking lock left) reply.Done fine = caused_sweep _ (record round { broken = round.broken + 1 }) left
+caused_answer past service round (Breaking lock left) reply.Done fine = caused_sweep _ round.server (record round { broken = round.broken + 1 }) left
 caused_answer past service round (Breaking lock left) (reply.Locked locks) fine = cc
 caused_answer past service round (Resolving t left) (reply.Held prefix dver) fine = cc
 caused_answer past service round (Resolving t left) (reply.Busy holder prepared) fine = cc
 caused_answer past service round (Resolving t left) reply.Down fine =
     elim (home_of service t == round.server) as (λ b. (home_of service t == round.server) ≡ b
-    → RoundCaused (push past (home_of service t) (request.Resolve t) (Replied reply.Down)) (cond b (sweep.lost round) (sweep.sweep_on (record round { left = round.left + 1 }) left))) [
-      | true ↦ λ same. caused_lost past round (home_of service t) (request.Resolve t) refl (eqb-true (home_of service t) round.server same)
-      | false ↦ λ _. caused_sweep _ (record round { left = round.left + 1 }) left
+    → RoundCaused (push past (home_of service t) (request.Resolve t) (Replied reply.Down)) round.server (cond b (sweep.lost round) (sweep.sweep_on (record round { left = round.left + 1 }) left))) [
+      | true ↦ λ same. caused_lost past round (home_of service t) (request.Resolve t) (eqb-true (home_of service t) round.server same)
+      | false ↦ λ _. caused_sweep _ round.server (record round { left = round.left + 1 }) left
     ] refl
 caused_answer past service round (Resolving t left) reply.Lost fine = cc
 caused_answer past service round (Resolving t left) (reply.Given dver content) fine = cc
@@ -123,9 +125,9 @@ caused_answer past service round (Resolving t left) reply.Done fine = cc
 caused_answer past service round (Resolving t left) (reply.Locked locks) fine = cc
 
 caused_round : (past : List Exchange) (service : Service) (round : Round) (word : Word) → fits_word (sweep.asked_now service round round.now).1 word ≡ true
-    → RoundCaused (push_now past service round round.now word) (sweep.after_word service round (sweep.asked_now service round round.now).0 word)
+    → RoundCaused (push_now past service round round.now word) round.server (sweep.after_word service round (sweep.asked_now service round round.now).0 word)
 caused_round past service round (Replied said) fine = caused_answer past service round round.now said fine
-caused_round past service round (Lacked lacked) fine = lack_swept past (sweep.asked_now service round round.now).0 (sweep.asked_now service round round.now).1 lacked
+caused_round past service round (Lacked lacked) fine = lack_swept past round.server (sweep.asked_now service round round.now).0 (sweep.asked_now service round round.now).1 lacked
 
 -- ---- what a collector that falls short was told
 
@@ -141,13 +143,36 @@ module _ (fixed : Fixed) (agent : Agent) (job : Job) (events : List Event) where
     transaction : job ≡ Transaction caller site ops
     task_is : task ≡ task_of agent caller site ops
 
-  sets : (task : Task) → IsOf task → (number : ℕ) (votes : Configuration) → Sets fixed task number votes → SetsVotes fixed agent job number votes
+  gathers : (suites : Suites) → AllGathered (Started fixed agent job events) past suites → WereGathered fixed agent job events suites
+  gathers suites gathered number suite there =
+      let was = gathered number suite there in
+      record {
+        start = suite.collector.start;
+        gathered = started_is fixed agent job events number suite.collector.start was.0;
+        first = was.1.first;
+        was = was.1.was;
+        gave = was.1.gave;
+      }
+
+  is_wanted : (task : Task) → IsOf task → (number : ℕ) (mode : LockMode) → Wants fixed task (Started fixed agent job events) past number mode → IsWanted fixed agent job events number mode
+  is_wanted task own number mode wants = record {
+    caller = own.caller;
+    site = own.site;
+    ops = own.ops;
+    transaction = own.transaction;
+    suites = wants.suites;
+    gathered = gathers wants.suites wants.gathered;
+    needs = ap (λ task. heard_on fixed task wants.suites) (sym own.task_is) ∙ wants.needs;
+  }
+
+  sets : (task : Task) → IsOf task → (number : ℕ) (votes : Configuration) → Sets fixed task (Started fixed agent job events) past number votes → SetsVotes fixed agent job events number votes
   sets task own number votes set = record {
     caller = own.caller;
     site = own.site;
     ops = own.ops;
     transaction = own.transaction;
     suites = set.suites;
+    gathered = gathers set.suites set.gathered;
     answers = set.answers;
     changes = set.changes;
     done = ap (λ task. heard_on fixed task set.suites) (sym own.task_is) ∙ set.done;
@@ -164,14 +189,16 @@ module _ (fixed : Fixed) (agent : Agent) (job : Job) (events : List Event) where
     either server (inr refused) = inr (sym (said_of refusing server) ∙ refused)
 
     which : (widening : Option collecting.Widening) → by.collector.widening ≡ widening
-        → (counted by.collector ≡ (newest by.collector.start (told_of suite [] past)).votes) ⊎ ((wanted by.collector ≡ Exclusive) × SetsVotes fixed agent job suite (counted by.collector))
+        → ((counted by.collector ≡ (newest by.collector.start (told_of suite [] past)).votes) × IsWanted fixed agent job events suite (wanted by.collector))
+        ⊎ ((wanted by.collector ≡ Exclusive) × SetsVotes fixed agent job events suite (counted by.collector))
     which None is = inl (
-        ap (λ w. votes_or w (newest by.collector.start by.collector.told)) is
-        ∙ ap (λ told. (newest by.collector.start told).votes) (sym (ap (λ w. told_since w ++ by.collector.told) is) ∙ by.told)
-        )
+      ap (λ w. votes_or w (newest by.collector.start by.collector.told)) is
+          ∙ ap (λ told. (newest by.collector.start told).votes) (sym (ap (λ w. told_since w ++ by.collector.told) is) ∙ by.told),
+      is_wanted task own suite (wanted by.collector) (subst (Wants fixed task (Started fixed agent job events) past suite) (sym (ap (λ w. mode_or w by.collector.mode) is)) by.wanted),
+    )
     which (Some w) is = inr (
       ap (λ w. mode_or w by.collector.mode) is,
-      subst (SetsVotes fixed agent job suite) (sym (ap (λ w. votes_or w (newest by.collector.start by.collector.told)) is)) (sets task own suite w.votes (by.wide w is)),
+      subst (SetsVotes fixed agent job events suite) (sym (ap (λ w. votes_or w (newest by.collector.start by.collector.told)) is)) (sets task own suite w.votes (by.wide w is)),
     )
 
     gathered : Begun (Started fixed agent job events) (Begins fixed agent job events) suite by.collector → IsStart fixed agent job events suite by.collector.start
@@ -198,20 +225,20 @@ module _ (fixed : Fixed) (agent : Agent) (job : Job) (events : List Event) where
   caused : (task : Task) → IsOf task → (cause : Cause) → CausedBy fixed task (Started fixed agent job events) (Begins fixed agent job events) past cause → IsCaused fixed agent job events cause
   caused task own (Unavailable suite had wanting) by = is_short task own suite had wanting None by
   caused task own (Busy server holder) by = (by.0, by.1, by.2, is_short task own by.0 by.1 by.2 (Some (server, holder)) by.3)
-  caused task own (Lost server) by = by
+  caused task own (Lost server) by = subst (λ job. WasLost past job server) (sym own.transaction) by
   caused task own Overruled by = by
   caused task own HomeDown by = by
-  caused task own (Full server) by = by
-  caused task own Memory by = by
+  caused task own (Full server) by = subst (λ job. DidNotServe past job lack.Full server) (sym own.transaction) by
+  caused task own Memory by = (by.0, subst (λ job. DidNotServe past job lack.Memory by.0) (sym own.transaction) by.1)
 
-  swept : (cause : Cause) → SweepCaused past cause → IsCaused fixed agent job events cause
-  swept (Unavailable suite had wanting) by = absurd by
-  swept (Busy server holder) by = absurd by
-  swept (Lost server) by = by
-  swept Overruled by = absurd by
-  swept HomeDown by = absurd by
-  swept (Full server) by = by
-  swept Memory by = by
+  swept : (server : ℕ) → job ≡ Sweep server → (cause : Cause) → SweepCaused past server cause → IsCaused fixed agent job events cause
+  swept server own (Unavailable suite had wanting) by = absurd by
+  swept server own (Busy at holder) by = absurd by
+  swept server own (Lost at) by = subst (λ job. WasLost past job at) (sym own) by
+  swept server own Overruled by = absurd by
+  swept server own HomeDown by = absurd by
+  swept server own (Full at) by = subst (λ job. DidNotServe past job lack.Full at) (sym own) by
+  swept server own Memory by = (by.0, subst (λ job. DidNotServe past job lack.Memory by.0) (sym own) by.1)
 
 -- ---- all words
 
@@ -220,9 +247,9 @@ course_ends : (fixed : Fixed) (task : Task) (Old Loose : ℕ → Prefix → Type
 course_ends fixed task Old Loose px cache (GoesOn course) cause left is fine = cc
 course_ends fixed task Old Loose px cache (Ends ending) cause left is fine = subst (EndIs fixed task Old (OrFresh fixed task cache px Loose) px) (same_Some ending (Undecided cause) is) (left fine)
 
-round_ends : (past : List Exchange) (after : After Round) (cause : Cause) → RoundCaused past after → end_of after ≡ Some (Undecided cause) → SweepCaused past cause
-round_ends past (GoesOn round) cause caused is = cc
-round_ends past (Ends ending) cause caused is = subst (SweepEnds past) (same_Some ending (Undecided cause) is) caused
+round_ends : (past : List Exchange) (swept : ℕ) (after : After Round) (cause : Cause) → RoundCaused past swept after → end_of after ≡ Some (Undecided cause) → SweepCaused past swept cause
+round_ends past swept (GoesOn round) cause caused is = cc
+round_ends past swept (Ends ending) cause caused is = subst (SweepEnds past swept) (same_Some ending (Undecided cause) is) caused
 
 module _ (fixed : Fixed) (agent : Agent) (job : Job) (events : List Event) (word : Word) (cause : Cause) where
   abbrev now : Agent
@@ -251,9 +278,9 @@ module _ (fixed : Fixed) (agent : Agent) (job : Job) (events : List Event) (word
   ends (Some (Rounding round)) (Some asked) was is told after fine stands end' =
       let px = push (of_job fixed agent job events) asked.0 asked.1 word in
       let fits' = last_fits (of_job fixed agent job events) asked.0 asked.1 word (ap all_fit (sym told) ∙ fine) in
-      let caused' = subst (λ (asked : ℕ × Request). fits_word asked.1 word ≡ true → RoundCaused (push (of_job fixed agent job events) asked.0 asked.1 word) (sweep.after_word fixed.service round asked.0 word))
+      let caused' = subst (λ (asked : ℕ × Request). fits_word asked.1 word ≡ true → RoundCaused (push (of_job fixed agent job events) asked.0 asked.1 word) round.server (sweep.after_word fixed.service round asked.0 word))
       (same_Some (sweep.asked_now fixed.service round round.now) asked is) (caused_round (of_job fixed agent job events) fixed.service round word) fits' in
-      swept fixed agent job then' cause (subst (λ past. SweepCaused past cause) (sym told) (round_ends px (sweep.after_word fixed.service round asked.0 word) cause caused' end'))
+      swept fixed agent job then' round.server stands cause (subst (λ past. SweepCaused past round.server cause) (sym told) (round_ends px round.server (sweep.after_word fixed.service round asked.0 word) cause caused' end'))
   ends (Some (Rounding round)) None was is told after fine stands end' = cc
   ends None (Some asked) was is told after fine stands end' = cc
   ends None None was is told after fine stands end' = cc

@@ -1,27 +1,32 @@
 -- What stands after every event of a job.
 use Rattle.std.proofs.Common.{◌≡◌, ℕ, Bool, true, false, cond, inl, inr, List, [], ◌∷◌, ◌++◌, Option, Some, None, refl, sym, ap, subst, ◌∙◌}
-use Rattle.std.specs.Prelude.{◌+◌, ◌&&◌, nat_lt}
+use Rattle.std.specs.Prelude.{◌+◌, ◌==◌, ◌&&◌, nat_lt}
 use Rattle.std.proofs.lemmas.List.{append-nil, append_assoc}
+use Rattle.std.proofs.lemmas.Option.{none-some}
 use Rattle.acl_core.specs.Identity.{Identity}
 use Rattle.file_ops.specs.declared.operation.Op.{Op}
 use Rattle.suite_prefix.specs.declared.copies.Prefix.{Prefix}
+use Rattle.rep_core.specs.declared.lock.Lock.{Lock}
 use Rattle.rep_core.specs.declared.request.Request.{Request}
+use Rattle.rep_core.specs.declared.reply.Reply.{Reply}
+use Rattle.rep_core.specs.declared.reply.Reply.TheVariants as reply
 use Rattle.weak_cache.specs.Entries.{Cache}
 use Rattle.txn_core.specs.Suites.{Suite, Suites, suite_of}
 use Rattle.txn_core.specs.declared.word.Word.{Word}
+use Rattle.txn_core.specs.declared.word.Word.TheVariants.{Replied, Lacked}
 use Rattle.txn_core.specs.declared.ending.Cause.{Cause}
 use Rattle.txn_core.specs.declared.ending.Ending.{Ending}
 use Rattle.txn_core.specs.declared.ending.Cause.TheVariants.{Unavailable, Busy, Lost, Overruled, HomeDown, Full, Memory}
 use Rattle.txn_core.specs.declared.ending.Ending.TheVariants.{Answered, Refused, Swept, Undecided}
 use Rattle.txn_core.specs.declared.job.Job.{Job}
 use Rattle.txn_core.specs.declared.job.Job.TheVariants.{Transaction, Sweep}
-use Rattle.txn_core.specs.Doing.{Fixed, Task, Phase, Gathering, Fetching, Widening, Preparing, Deciding, Finishing, Course, Round, Doing, Running, Rounding, After, GoesOn, Ends}
-use Rattle.txn_core.specs.Transactions.{start_from, execute, after_word, request_in, request_of}
+use Rattle.txn_core.specs.Doing.{home_of, Fixed, Task, Phase, Gathering, Fetching, Widening, Preparing, Deciding, Finishing, Course, Sweeping, Listing, Resolving, Telling, Breaking, Round, Doing, Running, Rounding, After, GoesOn, Ends}
+use Rattle.txn_core.specs.Transactions.{Step, start_from, execute, after_word, request_in, request_of}
 use Rattle.txn_core.specs.Sweeps as sweep
 use Rattle.txn_core.specs.Agents.{Agent, Event, Take, Forget, next_in, next_of, left, take_in, take, begin, started, forget, is_idle, has_sense, max_jobs, after_event, after_all}
 use Rattle.txn_core.specs.Laws.{Exchange, exchange_of, exchanges, of_job, told_of, locks, task_of, asks_for, IsStart}
 use Rattle.txn_core.proofs.Locks.{are_nil, asks_lock}
-use Rattle.txn_core.proofs.Gathers.{self, Kept}
+use Rattle.txn_core.proofs.Gathers.{self, wants_map, sets_map, grants_map, Kept}
 use Rattle.txn_core.proofs.Causes.{push, ShortBy, CausedBy, EndIs, Stands, Fresh, OrFresh, LeftOf, Leaves, caused_execute, caused_word}
 
 -- ---- events
@@ -114,7 +119,12 @@ untold_is fixed agent job events n start begins none = record {
 
 module _ (fixed : Fixed) (task : Task) (Old Loose Old' Loose' : ℕ → Prefix → Type 0) (past : List Exchange) (old : (n : ℕ) (start : Prefix) → Old n start → Old' n start) (loose : (n : ℕ) (start : Prefix) → Loose n start → Loose' n start) where
   map_kept : (n : ℕ) (suite : Suite) → Kept fixed task Old past n suite → Kept fixed task Old' past n suite
-  map_kept n suite kept = record { start = old n suite.collector.start kept.start; first = kept.first; wide = kept.wide }
+  map_kept n suite kept = record {
+    start = old n suite.collector.start kept.start;
+    first = kept.first;
+    wide = λ w is. sets_map fixed task Old Old' past old n w.votes (kept.wide w is);
+    wanted = wants_map fixed task Old Old' past old n suite.collector.mode kept.wanted;
+  }
 
   map_short : (suite had wanting : ℕ) (busy : Option (ℕ × ℕ)) → ShortBy fixed task Old Loose past suite had wanting busy → ShortBy fixed task Old' Loose' past suite had wanting busy
   map_short suite had wanting busy by = record {
@@ -122,7 +132,8 @@ module _ (fixed : Fixed) (task : Task) (Old Loose Old' Loose' : ℕ → Prefix �
     told = by.told;
     short = by.short;
     begun = elim by.begun [ inl is ↦ inl (old suite by.collector.start is) | inr is ↦ inr (loose suite by.collector.start is.0, is.1) ];
-    wide = by.wide;
+    wide = λ w is. sets_map fixed task Old Old' past old suite w.votes (by.wide w is);
+    wanted = wants_map fixed task Old Old' past old suite by.collector.mode by.wanted;
   }
 
   pub map_cause : (cause : Cause) → CausedBy fixed task Old Loose past cause → CausedBy fixed task Old' Loose' past cause
@@ -144,13 +155,28 @@ module _ (fixed : Fixed) (task : Task) (Old Loose Old' Loose' : ℕ → Prefix �
   map_stands Now suites (Gathering number) now stands = (
     stands.0,
     λ n suite other at. map_kept n suite (stands.1 n suite other at),
-    λ suite at. let asking = stands.2 suite at in record { start = now number suite.collector.start refl asking.start; first = asking.first; wide = asking.wide },
+    λ suite at.
+        let asking = stands.2 suite at in
+        record {
+          start = now number suite.collector.start refl asking.start;
+          first = asking.first;
+          wide = λ w is. sets_map fixed task Old Old' past old number w.votes (asking.wide w is);
+          wanted = wants_map fixed task Old Old' past old number suite.collector.mode asking.wanted;
+        },
   )
   map_stands Now suites (Fetching number) now stands = (stands.0, λ n suite at. map_kept n suite (stands.1 n suite at))
-  map_stands Now suites (Widening left granted) now stands = (stands.0, λ n suite at. map_kept n suite (stands.1 n suite at), stands.2, stands.3)
+  map_stands Now suites (Widening left granted) now stands = (stands.0, λ n suite at. map_kept n suite (stands.1 n suite at), grants_map fixed task Old Old' past old granted.answers granted.changes stands.2, stands.3)
   map_stands Now suites (Preparing left outcome) now stands = tt
   map_stands Now suites (Deciding outcome) now stands = tt
   map_stands Now suites (Finishing servers v ending) now stands = λ fine. map_end ending (stands fine)
+
+-- ---- what a begin leaves
+
+none_kept : (fixed : Fixed) (task : Task) (n : ℕ) (suite : Suite) → suite_of [] n ≡ Some suite → Kept fixed task (λ _ _. ⊥) [] n suite
+none_kept fixed task n suite there = absurd (none-some suite there)
+
+begin_leaves : (fixed : Fixed) (task : Task) (cache : Cache) → Leaves fixed task (λ _ _. ⊥) (λ _ _. ⊥) [] (execute fixed task (record { suites = []; cache = cache }))
+begin_leaves fixed task cache = caused_execute fixed task (λ _ _. ⊥) (λ _ _. ⊥) [] (record { suites = []; cache = cache }) are_nil (none_kept fixed task)
 
 -- ---- after each event
 
@@ -170,7 +196,7 @@ module _ (fixed : Fixed) (agent : Agent) (job : Job) where
 
   abbrev pub DoingStands : List Event → Option Doing → Type 0
   DoingStands events (Some (Running course)) = Runs events course
-  DoingStands events (Some (Rounding round)) = Unit {0}
+  DoingStands events (Some (Rounding round)) = job ≡ Sweep round.server
   DoingStands events None = Unit {0}
 
   module _ (caller : Identity) (site : ℕ) (ops : List Op) (transaction : job ≡ Transaction caller site ops) (task : Task) (task_is : task ≡ task_of agent caller site ops) (px : List Exchange) (cache : Cache) (events : List Event)
@@ -214,9 +240,28 @@ module _ (fixed : Fixed) (agent : Agent) (job : Job) where
           (subst (λ task. Stands fixed task (Started fixed agent job events) (Started fixed agent job events) (Begins fixed agent job events) px course.suites course.phase) (sym leaves.0) mapped);
     }
 
-  round_stands : (events : List Event) (after : After Round) → DoingStands events (left Rounding after)
-  round_stands events (GoesOn round) = tt
-  round_stands events (Ends ending) = tt
+  -- a sweep stays at its server
+  swept_on : (events : List Event) (round : Round) (locks : List Lock) → job ≡ Sweep round.server → DoingStands events (left Rounding (sweep.sweep_on round locks))
+  swept_on events round [] same = tt
+  swept_on events round (lock ∷ locks) same = same
+
+  answer_stands : (events : List Event) (round : Round) (now : Sweeping) (said : Reply) → job ≡ Sweep round.server → DoingStands events (left Rounding (sweep.after_answer fixed.service round now said))
+  answer_stands events round Listing (reply.Locked locks) same = swept_on events round (sweep.rising locks) same
+  answer_stands events round Listing _ same = tt
+  answer_stands events round (Resolving t rest) (reply.Verdict v) same = same
+  answer_stands events round (Resolving t rest) _ same = of (home_of fixed.service t == round.server)
+    where
+      of : (b : Bool) → DoingStands events (left Rounding (cond b (sweep.lost round) (sweep.sweep_on (record round { left = round.left + 1 }) rest)))
+      of true = tt
+      of false = swept_on events (record round { left = round.left + 1 }) rest same
+  answer_stands events round (Telling t v rest) reply.Done same = swept_on events (record round { finished = round.finished + 1 }) rest same
+  answer_stands events round (Telling t v rest) _ same = tt
+  answer_stands events round (Breaking lock rest) reply.Done same = swept_on events (record round { broken = round.broken + 1 }) rest same
+  answer_stands events round (Breaking lock rest) _ same = tt
+
+  round_stands : (events : List Event) (round : Round) (server : ℕ) (word : Word) → job ≡ Sweep round.server → DoingStands events (left Rounding (sweep.after_word fixed.service round server word))
+  round_stands events round server (Replied said) same = answer_stands events round round.now said same
+  round_stands events round server (Lacked lacked) same = tt
 
   -- what a word leaves of a transaction
   pub word_leaves : (events : List Event) (word : Word) (running : Course) (asked : ℕ × Request) → request_of fixed running ≡ Some asked → Runs events running
@@ -240,7 +285,7 @@ module _ (fixed : Fixed) (agent : Agent) (job : Job) where
     task = stands.task;
     stands = λ asked asks. cc;
   })
-  stands_take events word (Some (Rounding round)) (Some asked) was is told after stands = round_stands (events ++ Take word ∷ []) (sweep.after_word fixed.service round asked.0 word)
+  stands_take events word (Some (Rounding round)) (Some asked) was is told after stands = round_stands (events ++ Take word ∷ []) round asked.0 word stands
   stands_take events word (Some (Rounding round)) None was is told after stands = cc
   stands_take events word None (Some asked) was is told after stands = cc
   stands_take events word None None was is told after stands = subst (DoingStands (events ++ Take word ∷ [])) (sym was) tt
@@ -259,7 +304,7 @@ module _ (fixed : Fixed) (agent : Agent) (job : Job) where
         (started_more fixed agent job events (Forget site ∷ [])) (begins_more fixed agent job events (Forget site ∷ [])) (Started fixed agent job events) running.suites running.phase
         (λ n start _ started. started_more fixed agent job events (Forget site ∷ []) n start started) (stands.stands asked is));
   }
-  stands_forget events site (Some (Rounding round)) stands = tt
+  stands_forget events site (Some (Rounding round)) stands = stands
   stands_forget events site None stands = tt
 
   stands_more : (events : List Event) (event : Event) → DoingStands events (After_all events).doing → DoingStands (events ++ event ∷ []) (After_all (events ++ event ∷ [])).doing
@@ -275,6 +320,11 @@ module _ (fixed : Fixed) (agent : Agent) (job : Job) where
   all_stand events (event ∷ more) stands =
       subst (λ events. DoingStands events (After_all events).doing) (append_assoc events (event ∷ []) more) (all_stand (events ++ event ∷ []) more (stands_more events event stands))
 
+  first_stands : (caller : Identity) (site : ℕ) (ops : List Op) → job ≡ Transaction caller site ops → (task : Task) → task ≡ task_of agent caller site ops → (step : Step) → (After_all []).cache ≡ step.cache → (After_all []).doing ≡ left Running step.after
+      → Leaves fixed task (λ _ _. ⊥) (λ _ _. ⊥) [] step → DoingStands [] (left Running step.after)
+  first_stands caller site ops same task task_is step cache doing leaves =
+      convert caller site ops same task task_is [] step.cache [] refl cache (λ _ _. ⊥) (λ _ _. ⊥) step.after doing (λ n start no. absurd no) (λ n start no. absurd no) leaves
+
   begin_stands : is_idle agent.doing ≡ true → DoingStands [] (begin fixed agent job).doing
   begin_stands idle = of (is_idle agent.doing && has_sense fixed job && nat_lt agent.count max_jobs) refl job refl
     where
@@ -283,12 +333,11 @@ module _ (fixed : Fixed) (agent : Agent) (job : Job) where
       none (Some doing) idle = cc
 
       begun : (j : Job) → job ≡ j → begin fixed agent job ≡ record (started fixed agent j) { count = agent.count + 1 } → DoingStands [] (started fixed agent j).doing
-      begun (Sweep server) same is = tt
+      begun (Sweep server) same is = same
       begun (Transaction caller site ops) same is =
           let task = task_of agent caller site ops in
-          let step = execute fixed task (record { suites = []; cache = agent.cache }) in
-          convert caller site ops same task refl [] step.cache [] refl (ap (λ (agent : Agent). agent.cache) is) (λ _ _. ⊥) (λ _ _. ⊥) step.after (ap (λ (agent : Agent). agent.doing) is) (λ n start no. absurd no) (λ n start no. absurd no)
-          (caused_execute fixed task (λ _ _. ⊥) (λ _ _. ⊥) [] (record { suites = []; cache = agent.cache }) are_nil (λ n suite there. cc))
+          first_stands caller site ops same task refl (execute fixed task (record { suites = []; cache = agent.cache })) (ap (λ (agent : Agent). agent.cache) is) (ap (λ (agent : Agent). agent.doing) is)
+          (begin_leaves fixed task agent.cache)
 
       of : (b : Bool) → (is_idle agent.doing && has_sense fixed job && nat_lt agent.count max_jobs) ≡ b → (j : Job) → job ≡ j → DoingStands [] (begin fixed agent job).doing
       of true is j same =

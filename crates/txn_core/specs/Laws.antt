@@ -1,13 +1,11 @@
 -- What holds of every agent that began a job, whatever it is told. An exchange is a request with what was told of it.
-use Rattle.std.specs.Prelude.{◌≡◌, ℕ, ◌+◌, ◌*◌, length, ◌≤◌, ◌<◌, ◌==◌, ◌⊎◌, nat_lt, not, Bool, true, false, ◌&&◌, ◌||◌, if◌then◌else◌, List, [], ◌∷◌, ◌++◌, map, Contains, option_map, Option, Some, None}
+use Rattle.std.specs.Prelude.{◌≡◌, ℕ, ◌+◌, ◌*◌, length, ◌≤◌, ◌==◌, ◌⊎◌, nat_lt, not, Bool, true, false, ◌&&◌, ◌||◌, if◌then◌else◌, List, [], ◌∷◌, ◌++◌, map, Contains, Option, Some, None}
 use Rattle.std.specs.List.{list_any, list_all}
 use Rattle.std.specs.List.Sorted.{IsStrictlySortedBy}
 use Rattle.std.specs.Ordering.{nat_cmp}
 use Rattle.acl_core.specs.Identity.{Identity}
 use Rattle.file_ops.specs.declared.operation.Op.{Op}
-use Rattle.file_ops.specs.declared.answer.Answer.{Answer}
-use Rattle.file_exec.specs.declared.executor.Outcome.TheVariants as exec
-use Rattle.vote_core.specs.Quorums.{Representative, Configuration, votes_in, is_write_quorum}
+use Rattle.vote_core.specs.Quorums.{votes_in, is_write_quorum}
 use Rattle.suite_prefix.specs.declared.copies.Prefix.{Prefix}
 use Rattle.rep_core.specs.declared.request.Request.{Request}
 use Rattle.rep_core.specs.declared.request.Request.TheVariants as request
@@ -24,22 +22,16 @@ use Rattle.suite_collect.specs.Telling.{newest, holds, is_held}
 use Rattle.suite_collect.specs.Telling as telling
 use Rattle.suite_collect.specs.declared.told.Said.TheVariants as told
 use Rattle.suite_prefix.specs.LockModes.{serves}
-use Rattle.suite_prefix.specs.declared.lock_mode.LockMode.TheVariants.{Exclusive}
 use Rattle.suite_collect.specs.Collecting.{needed_of, all_told, mode_of}
 use Rattle.txn_core.specs.Suites.{Suite, Suites, First, suite_of, holds_exclusively}
-use Rattle.txn_core.specs.Writing.{parts_at, change_of, is_changed, sets_votes}
+use Rattle.txn_core.specs.Writing.{parts_at, is_changed, sets_votes}
 use Rattle.txn_core.specs.declared.word.Word.{Word}
-use Rattle.txn_core.specs.declared.ending.Cause.{Cause}
 use Rattle.txn_core.specs.declared.ending.Ending.{Ending}
 use Rattle.txn_core.specs.declared.job.Job.{Job}
 use Rattle.txn_core.specs.declared.word.Word.TheVariants.{Replied, Lacked}
-use Rattle.txn_core.specs.declared.ending.Cause.TheVariants.{Unavailable, Busy, Lost, Overruled, HomeDown, Full, Memory}
-use Rattle.txn_core.specs.declared.ending.Ending.TheVariants.{Undecided}
 use Rattle.txn_core.specs.declared.job.Job.TheVariants.{Transaction, Sweep}
 use Rattle.txn_core.specs.Doing.{Changes, Fixed, Task, Outcome, Deciding, Finishing, Course, Running}
-use Rattle.txn_core.specs.Transactions.{changes_of, votes_after, verdict_in, said_to, start_from, heard_on, to_widen}
-use Rattle.rep_core.specs.declared.stamped.Lack.{Lack}
-use Rattle.rep_core.specs.declared.stamped.Lack.TheVariants as lack
+use Rattle.txn_core.specs.Transactions.{changes_of, votes_after, verdict_in, said_to, start_from}
 use Rattle.txn_core.specs.Agents.{Agent, Event, Take, Forget, next_of, take, begin, forget, is_idle, after_all}
 
 pub record Exchange : Type 0 where
@@ -289,70 +281,6 @@ pub record IsStart (fixed : Fixed) (agent : Agent) (job : Job) (events : List Ev
   pub moment : (asks_for suite (next_of fixed (after_all fixed (begin fixed agent job) before)) ≡ true) ⊎ (told_of suite [] (of_job fixed agent job events) ≡ [])
   pub from : start ≡ start_from fixed (task_of agent caller site ops) (after_all fixed (begin fixed agent job) before).cache suite
 
--- Votes that the transaction sets of a suite: those of what its operations come to on some suites that were gathered.
-pub record SetsVotes (fixed : Fixed) (agent : Agent) (job : Job) (suite : ℕ) (votes : Configuration) : Type 0 where
-  pub caller : Identity
-  pub site : ℕ
-  pub ops : List Op
-  pub transaction : job ≡ Transaction caller site ops
-  pub suites : Suites
-  pub answers : List Answer
-  pub changes : Changes
-  pub done : heard_on fixed (task_of agent caller site ops) suites ≡ exec.Done answers changes
-  pub gets : Contains (to_widen changes) suite
-  pub are : option_map (λ change. change.row.votes) (change_of changes suite) ≡ Some votes
-
--- Too few votes were to be had of a suite. The votes that count are those of the newest prefix that was seen, the one from which it was
--- gathered among them, or those that the transaction sets. The servers that were heard to hold the lock that is wanted have `got` of them,
--- fewer than are needed; each other one that has a vote was busy or down, all of them down where none was busy; and this one was busy first.
-pub record IsShort (fixed : Fixed) (agent : Agent) (job : Job) (events : List Event) (suite got needed : ℕ) (busy : Option (ℕ × ℕ)) : Type 0 where
-  pub start : Prefix
-  pub gathered : IsStart fixed agent job events suite start
-  pub votes : Configuration
-  pub mode : LockMode
-  pub count : (votes ≡ (newest start (told_of suite [] (of_job fixed agent job events))).votes) ⊎ ((mode ≡ Exclusive) × SetsVotes fixed agent job suite votes)
-  pub had : got ≡ votes_in votes.reps (has_said (of_job fixed agent job events) suite (holding mode))
-  pub wanting : needed ≡ needed_of mode votes
-  pub too_few : got < needed
-  pub none_left : (rep : Representative) → Contains votes.reps rep → 0 < rep.1 → (has_said (of_job fixed agent job events) suite (holding mode) rep.0 ≡ true) ⊎ (has_said (of_job fixed agent job events) suite refusing rep.0 ≡ true)
-  pub first_busy : busy ≡ first_busy_in suite (of_job fixed agent job events)
-  pub all_down : busy ≡ None → (server : ℕ) → has_said (of_job fixed agent job events) suite refusing server ≡ true → has_said (of_job fixed agent job events) suite down server ≡ true
-
--- an exchange of a kind
-pub record Was (past : List Exchange) (server : ℕ) (kind : Request → Word → Bool) : Type 0 where
-  pub one : Exchange
-  pub there : Contains past one
-  pub at : one.server ≡ server
-  pub is : kind one.request one.word ≡ true
-
-abbrev pub loses : Request → Word → Bool
-loses asked (Replied reply.Lost) = true
-loses asked (Replied reply.Down) = is_down asked
-loses asked _ = false
-
-abbrev pub says_aborted : Word → Bool
-says_aborted (Replied (reply.Verdict verdict.Aborted)) = true
-says_aborted _ = false
-
-abbrev pub says_down : Word → Bool
-says_down (Replied reply.Down) = true
-says_down _ = false
-
-abbrev pub is_lack : Lack → Word → Bool
-is_lack lack.Full (Lacked lack.Full) = true
-is_lack lack.Memory (Lacked lack.Memory) = true
-is_lack _ _ = false
-
--- what an undecided end must find in the exchanges of its job
-abbrev pub IsCaused : Fixed → Agent → Job → List Event → Cause → Type 0
-IsCaused fixed agent job events (Unavailable suite got needed) = IsShort fixed agent job events suite got needed None
-IsCaused fixed agent job events (Busy server holder) = (suite got needed : ℕ) × IsShort fixed agent job events suite got needed (Some (server, holder))
-IsCaused fixed agent job events (Lost server) = Was (of_job fixed agent job events) server loses
-IsCaused fixed agent job events Overruled = (server : ℕ) × Was (of_job fixed agent job events) server (λ asked word. is_decide asked && says_aborted word)
-IsCaused fixed agent job events HomeDown = (server : ℕ) × Was (of_job fixed agent job events) server (λ asked word. is_decide asked && says_down word)
-IsCaused fixed agent job events (Full server) = Was (of_job fixed agent job events) server (λ asked word. is_lack lack.Full word)
-IsCaused fixed agent job events Memory = (server : ℕ) × Was (of_job fixed agent job events) server (λ asked word. is_lack lack.Memory word)
-
 -- what was told fits what was asked, as all replies of servers do
 abbrev pub fits_word : Request → Word → Bool
 fits_word asked (Replied said) = fits asked said
@@ -360,14 +288,6 @@ fits_word asked (Lacked lack) = true
 
 abbrev pub all_fit : List Exchange → Bool
 all_fit past = list_all (λ one. fits_word one.request one.word) past
-
--- the ending of the last event, if it ended the job
-abbrev pub EndsAreCaused : Type 0
-EndsAreCaused =
-    (fixed : Fixed) (agent : Agent) (job : Job) (events : List Event) (word : Word) (cause : Cause) → is_idle agent.doing ≡ true
-    → all_fit (of_job fixed agent job (events ++ Take word ∷ [])) ≡ true
-    → (take fixed (after_all fixed (begin fixed agent job) events) word).ending ≡ Some (Undecided cause)
-    → IsCaused fixed agent job (events ++ Take word ∷ []) cause
 
 -- ---- how many steps it takes
 

@@ -1,8 +1,9 @@
 //! What holds of every agent that began a job, whatever it is told.
 
+ghost use Rattle.txn_core.specs.Undecided.{EndsAreCaused};
 ghost use Rattle.txn_core.specs.Caching.{CachesWhatWasFetched, KnowsContents};
 ghost use Rattle.txn_core.specs.Runs.{WorkedRuns};
-ghost use Rattle.txn_core.specs.Laws.{NobodyIsPolledTwice, DecideIsSentOnce, NothingFollowsAnEnd, PrepareListsTheLocks, APrepareRises, AllPrepareFirst, FinishCarriesTheVerdict, WhatIsWrittenIsFixed, DecidesOnQuorums, EndsAreCaused, LateStepsAreFew, EndsInTime, SweepEndsInTime};
+ghost use Rattle.txn_core.specs.Laws.{NobodyIsPolledTwice, DecideIsSentOnce, NothingFollowsAnEnd, PrepareListsTheLocks, APrepareRises, AllPrepareFirst, FinishCarriesTheVerdict, WhatIsWrittenIsFixed, DecidesOnQuorums, LateStepsAreFew, EndsInTime, SweepEndsInTime};
 
 /// A law: Decide is sent once at most. It does nothing.
 pub fn decide_is_sent_once()
