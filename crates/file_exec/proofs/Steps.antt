@@ -12,7 +12,7 @@ use Rattle.file_exec.specs.declared.need.Need.TheVariants.{Hold}
 use Rattle.file_exec.specs.Following.{Edits}
 use Rattle.file_exec.specs.Known.{Known, is_met, Heard, Needs, Done, is_given}
 use Rattle.file_exec.specs.Runs.{run, then_run}
-use Rattle.file_exec.specs.code.Steps.{Told, RunsOr, Runs}
+use Rattle.file_exec.specs.code.Steps.{Told, RunsOr, Runs, set_both}
 use Rattle.file_exec.proofs.Running.{runs_in_turn}
 
 -- an error that `?` hands on
@@ -98,11 +98,11 @@ pub same_set : {A : Type 0} {see : A → Unit {0}} {result : Result A Stop} {kno
 same_set {see = see} {result = result} {known = known} {before = before} {after = after} {suite = suite} same runs = subst (λ edit. Runs see result known before after (set suite edit)) same runs
 
 -- two edits in other words
-pub same_both : {A : Type 0} {see : A → Unit {0}} {result : Result A Stop} {known : Known} {before after : Edits} {suite suite' : ℕ} {edit other edit' other' : Edit}
-    → edit ≡ other → edit' ≡ other' → Runs see result known before after (◌>>◌ (set suite edit) (set suite' edit')) → Runs see result known before after (◌>>◌ (set suite other) (set suite' other'))
-same_both {see = see} {result = result} {known = known} {before = before} {after = after} {suite = suite} {suite' = suite'} {edit = edit} {other' = other'} same same' runs =
-    subst (λ edit. Runs see result known before after (◌>>◌ (set suite edit) (set suite' other'))) same
-    (subst (λ edit'. Runs see result known before after (◌>>◌ (set suite edit) (set suite' edit'))) same' runs)
+pub same_both : {A : Type 0} {see : A → Unit {0}} {result : Result A Stop} {known : Known} {before after : Edits} {first first' second second' : ℕ × Edit}
+    → first ≡ first' → second ≡ second' → Runs see result known before after (set_both first second) → Runs see result known before after (set_both first' second')
+same_both {see = see} {result = result} {known = known} {before = before} {after = after} {first = first} {second' = second'} same same' runs =
+    subst (λ first. Runs see result known before after (set_both first second')) same
+    (subst (λ second. Runs see result known before after (set_both first second)) same' runs)
 
 -- an edit, and what follows on it
 module _ {A C D : Type 0} {see : A → Unit {0}} {known : Known} {before middle : Edits} {suite : ℕ} {edit : Edit} {later : Course D Why} where

@@ -7,12 +7,14 @@ ghost use Rattle.file_ops.specs.declared.refusal.Why.TheVariants as why;
 ghost use Rattle.file_ops.specs.Operations.{refuse_if, last_name};
 ghost use Rattle.file_ops.specs.Steps.{found_or};
 ghost use Rattle.file_ops.specs.Rows.{new_row};
+ghost use Rattle.file_ops.specs.Lists.{lists_of};
+ghost use Rattle.suite_content.specs.declared.content.Content.TheVariants.{Names};
+ghost use Rattle.file_exec.specs.declared.log.Edit.TheVariants.{SetContent, Make};
 ghost use Rattle.suite_prefix.specs.declared.lock_mode.LockMode.TheVariants.{Exclusive};
 ghost use Rattle.file_exec.specs.Courses.{set};
 ghost use Rattle.file_exec.specs.Known.{is_held, known_of};
-ghost use Rattle.file_exec.specs.Operations.{bytes_read, names_listed, list_shown, votes_shown, bytes_written, list_set, votes_set, made, refuse_used, dropped, operation};
-ghost use Rattle.file_exec.specs.code.Overlay.{seen_head, IsSeenAt};
-ghost use Rattle.file_exec.specs.code.Steps.{Answers, Runs, Sees, set_both};
+ghost use Rattle.file_exec.specs.Operations.{bytes_read, names_listed, list_shown, votes_shown, bytes_written, list_set, votes_set, made, dropped, operation};
+ghost use Rattle.file_exec.specs.code.Steps.{Answers, Runs, Sees, set_both, unused};
 ghost use Rattle.file_exec.specs.code.Ways.{LeadsTo};
 ghost use Rattle.file_exec.specs.Reaching.{folders_in, walked};
 
@@ -23,8 +25,8 @@ use crate::progress::Way;
 use crate::row::KnownRow;
 use crate::seen::Seen;
 use crate::stop::Stop;
-use crate::view::View;
-use acl_core::{Caller, Lists, Perms};
+use crate::view::{Parent, View};
+use acl_core::{Acl, Caller, Lists, Perms};
 use file_ops::{Action, Answer, Init, Op, Why, last_name, made_number, require_placed};
 use std::alloc::{AllocError, Global};
 use suite_content::{Content, FileBytes, FolderNames, Kind, Name};
@@ -262,72 +264,95 @@ fn set_votes(
     Ok(Answer::Set)
 }
 
-/// Puts a name in a folder, for a new file or folder of this number.
+/// What a new file or folder is to be.
+#[derive(Clone, Copy)]
+struct New<'a> {
+    number: u64,
+    kind: Kind,
+    init: &'a Init,
+    given: &'a Option<Votes>,
+}
+
+/// Puts a name in a folder, for a new file or folder.
 fn make(
     transaction: Transaction<'_, '_>,
     log: &mut Log,
-    number: u64,
     names: &[Name],
-    kind: Kind,
-    init: &Init,
-    given: &Option<Votes>,
+    new: New<'_>,
     way: &mut Way,
 ) -> Result<Answer, Stop>
     requires { LeadsTo transaction.known.now.suites log.old transaction.caller.now (folders_in (last_name names.now)) way.old }
-    ensures answer { Runs (λ answer. answer) result transaction.entry.known.now.suites log.old log.new (made transaction.entry.known.now.service number transaction.entry.caller.now names.now kind init.now given.now) }
+    ensures answer { Runs (λ answer. answer) result transaction.entry.known.now.suites log.old log.new (made transaction.entry.known.now.service new.entry.number transaction.entry.caller.now names.now new.entry.kind new.entry.init.now new.entry.given.now) }
     ensures kept { OnErr result (log.new ≡ log.old) }
     ensures way { LeadsTo transaction.entry.known.now.suites log.old transaction.entry.caller.now (folders_in (last_name names.now)) way.new }
 {
-    let Transaction {
-        alloc,
-        known,
-        caller,
-        ..
-    } = transaction;
+    let Transaction { known, caller, .. } = transaction;
     let (name, folders) = last_name(names)?;
-    let service = known.service();
-    let votes = service.votes_of_new(given)?;
-    require_placed(kind, init.gives_default())?;
+    let votes = known.service().votes_of_new(new.given)?;
+    require_placed(new.kind, new.init.gives_default())?;
     let view = View { known, log };
     let parent = view.parent_of(caller, folders, way)?;
     require_absent(parent.names, name)?;
     require_room(parent.names)?;
-    view.look(number, LockMode::Exclusive)?;
-    let folder = parent.place.suite;
-    let entries = with_name(parent.names, name, number)?;
-    let lists = init.lists(alloc, kind, &parent.place.row.acl.default)?;
-    let row = new_row(alloc, kind, lists, votes, caller);
-    let named = Edit::SetContent(Content::Names(entries));
-    set_both(known, log, (folder, named), (number, Edit::Make(row)))?;
-    Ok(Answer::Made(number))
+    view.look(new.number, LockMode::Exclusive)?;
+    let (named, made) = edits_of_new(transaction, parent, name, new, votes)?;
+    set_both(known, log, named, made)?;
+    Ok(Answer::Made(new.number))
 }
 
-/// The row of a new file or folder.
-fn new_row(alloc: Global, kind: Kind, acl: Lists, votes: Votes, caller: &Caller) -> KnownRow
-    ensures { result ≡ new_row kind acl votes caller.now }
+/// The edits for a new file or folder: its folder gets its name, and it gets its row.
+fn edits_of_new(
+    transaction: Transaction<'_, '_>,
+    parent: Parent<'_>,
+    name: &Name,
+    new: New<'_>,
+    votes: Votes,
+) -> Result<((u64, Edit), (u64, Edit)), AllocError>
+    ensures named { IfOk result (λ edits. edits.0 ≡ (parent.entry.place.suite, SetContent (Names (with_name parent.entry.names.now name.now new.entry.number)))) }
+    ensures made { IfOk result (λ edits. edits.1 ≡ (new.entry.number, Make (new_row new.entry.kind (lists_of new.entry.kind parent.entry.place.row.acl.now.default new.entry.init.now) votes transaction.entry.caller.now))) }
 {
-    KnownRow {
+    let row = new_row(transaction, &parent.place.row.acl.default, new, votes)?;
+    let entries = with_name(parent.names, name, new.number)?;
+    Ok((
+        (
+            parent.place.suite,
+            Edit::SetContent(Content::Names(entries)),
+        ),
+        (new.number, Edit::Make(row)),
+    ))
+}
+
+/// The row of a new file or folder, in a folder with this default list.
+fn new_row(
+    transaction: Transaction<'_, '_>,
+    default: &Option<Acl>,
+    new: New<'_>,
+    votes: Votes,
+) -> Result<KnownRow, AllocError>
+    ensures { IfOk result (λ row. row ≡ new_row new.entry.kind (lists_of new.entry.kind default.now new.entry.init.now) votes transaction.entry.caller.now) }
+{
+    let Transaction { alloc, caller, .. } = transaction;
+    let acl = new.init.lists(alloc, new.kind, default)?;
+    Ok(KnownRow {
         owner: caller.uid(),
         group: caller.gid(),
         acl,
         votes,
-        content: Content::empty(alloc, kind),
-    }
+        content: Content::empty(alloc, new.kind),
+    })
 }
 
 /// Refuses to drop a folder that has names. Of anything else the content is not read.
-fn refuse_used(view: View<'_, '_>, suite: u64, row: Option<Seen<'_>>) -> Result<(), Stop>
-    requires { IsSeenAt view suite row }
-    ensures { Sees (λ done. done) result view.entry (refuse_used suite (seen_head row.entry)) }
+fn refuse_used(view: View<'_, '_>, suite: u64) -> Result<(), Stop>
+    ensures { Sees (λ done. done) result view.entry (unused suite) }
 {
-    let Some(row) = row else {
+    let Some(row) = view.look(suite, LockMode::Shared)? else {
         return Ok(());
     };
     if let Kind::File = row.content.kind() {
         return Ok(());
     }
-    let content = view.content_of(suite, row)?;
-    match content {
+    match view.content_of(suite, row)? {
         Content::Names(names) if !names.is_empty() => Err(Stop::Refused(Why::NotEmpty)),
         _ => Ok(()),
     }
@@ -350,8 +375,7 @@ fn drop(
     let view = View { known, log };
     let parent = view.parent_of(caller, folders, way)?;
     let number = number_in(parent.names, name)?;
-    let row = view.look(number, LockMode::Shared)?;
-    refuse_used(view, number, row)?;
+    refuse_used(view, number)?;
     let folder = parent.place.suite;
     let entries = without_name(parent.names, name)?;
     set(
@@ -394,8 +418,13 @@ pub(crate) fn operate(
         Action::SetVotes(votes) => set_votes(known, log, caller, names, votes, way),
         Action::Drop => drop(known, log, caller, names, way),
         Action::Make(kind, init, votes) => {
-            let number = made_number(t, at);
-            make(transaction, log, number, names, *kind, init, votes, way)
+            let new = New {
+                number: made_number(t, at),
+                kind: *kind,
+                init,
+                given: votes,
+            };
+            make(transaction, log, names, new, way)
         }
     }
 }

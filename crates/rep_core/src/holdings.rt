@@ -1,18 +1,21 @@
 //! What a server holds, and how it is changed.
 
-ghost use Rattle.std.specs.Prelude.{◌≡◌, ◌<◌, IfOk, OnOk, OnErr, false, true, is_some};
+ghost use Rattle.std.specs.Prelude.{◌≡◌, ◌<◌, ◌≤◌, IfOk, OnOk, OnErr, false, true, length, is_some};
+ghost use Rattle.std.specs.List.{list_all};
 ghost use Rattle.std.specs.Ordering.{nat_cmp};
 ghost use Rattle.std.specs.Vec.{vec_len, vec_capacity};
 ghost use Rattle.sorted_map.specs.SortedMap.{insert};
 ghost use Rattle.rep_core.specs.code.Changing as changing;
 ghost use Rattle.rep_core.specs.code.ServerFields.{state_of};
+ghost use Rattle.rep_core.specs.Locks as locking;
 ghost use Rattle.rep_core.specs.Service as service;
 ghost use Rattle.rep_core.specs.State.{opening};
+ghost use Rattle.rep_core.specs.Store as store;
 
 use crate::locks::LockTable;
 use crate::plan::{Way, audit_of, is_answered, verdict_of};
 use crate::reply::Verdict;
-use crate::request::{Decision, Request};
+use crate::request::{Decision, Parts, Request};
 use crate::store::Store;
 use file_ops::AuditItem;
 use std::alloc::{AllocError, Global};
@@ -127,23 +130,41 @@ impl Holdings {
         match request {
             Request::Poll { t, suite, mode } => self.locks.set(t, suite, mode),
             Request::Upgrade { t, suite } => self.locks.set(t, suite, LockMode::Exclusive),
-            Request::Prepare { t, parts } => {
-                self.locks.prepare(t, parts.as_slice());
-                self.store.intend(t, parts.into_vec());
-            }
+            Request::Prepare { t, parts } => self.prepare(t, parts),
             Request::Decide { t, decision } => self.note(audit_of(t, &decision)),
-            Request::Finish { t, verdict } => {
-                self.store.finish(t, is_answered(&verdict));
-                self.locks.release(t);
-            }
+            Request::Finish { t, verdict } => self.finish(t, is_answered(&verdict)),
             Request::Break { t, suite } => self.locks.break_lock(t, suite),
-            Request::Crash => {
-                self.locks.keep_prepared();
-                self.up = false;
-            }
+            Request::Crash => self.crash(),
             Request::Return => self.up = true,
             Request::Fetch { .. } | Request::Resolve { .. } | Request::Locks => {}
         }
+    }
+
+    /// Keeps the locks of some suites, and what a transaction leaves of them, for which there is room.
+    fn prepare(&mut self, t: u64, parts: Parts)
+        requires sound { list_all (store.is_sound_part (state_of self.old).store) parts ≡ true }
+        requires few { store.overfills t (state_of self.old).store parts ≡ false }
+        requires room { length parts ≤ self.old.store.room }
+        ensures { state_of self.new ≡ record (state_of self.old) { store = store.intended t parts (state_of self.old).store; locks = locking.with_prepared t parts (state_of self.old).locks } }
+    {
+        self.locks.prepare(t, parts.as_slice());
+        self.store.intend(t, parts.into_vec());
+    }
+
+    /// Lets a transaction go. Where it was answered, what it leaves is installed.
+    fn finish(&mut self, t: u64, answered: bool)
+        ensures { state_of self.new ≡ record (state_of self.old) { store = store.finished t answered (state_of self.old).store; locks = locking.released t (state_of self.old).locks } }
+    {
+        self.store.finish(t, answered);
+        self.locks.release(t);
+    }
+
+    /// Falls down: all but the prepared locks are let go.
+    fn crash(&mut self)
+        ensures { state_of self.new ≡ service.after_crash (state_of self.old) }
+    {
+        self.locks.keep_prepared();
+        self.up = false;
     }
 
     /// Adds an item to the audit, for which there is room.

@@ -5,10 +5,12 @@ use Rattle.file_exec.specs.declared.stop.Stop.{Stop}
 use Rattle.file_exec.specs.declared.stop.Stop.TheVariants as stop
 use Rattle.file_exec.specs.declared.view.View.{View}
 use Rattle.file_exec.specs.declared.log.Edit.{Edit}
-use Rattle.file_exec.specs.Courses.{Course, ◌>>◌, set}
+use Rattle.file_exec.specs.Courses.{Course, ◌>>=◌, ◌>>◌, look, set}
 use Rattle.file_exec.specs.Following.{Edits}
 use Rattle.file_exec.specs.Known.{Known, Heard, Needs, Done, is_given}
+use Rattle.file_exec.specs.Operations.{refuse_used}
 use Rattle.file_exec.specs.Runs.{run}
+use Rattle.suite_prefix.specs.declared.lock_mode.LockMode.TheVariants.{Shared}
 
 -- what it gives, seen as the course gives it, with the edits after it; or what it needs, or its refusal; or, where memory was refused,
 -- what is said of that
@@ -39,3 +41,9 @@ abbrev pub set_both : ℕ × Edit → ℕ × Edit → Course (Unit {0}) Why
 set_both first second = do
   set first.0 first.1
   set second.0 second.1
+
+-- a look at a suite, which is refused where it has names
+abbrev pub unused : ℕ → Course (Unit {0}) Why
+unused suite = do
+  row ← look suite Shared
+  refuse_used suite row

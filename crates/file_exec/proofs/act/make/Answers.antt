@@ -1,7 +1,6 @@
 use Rattle.std.proofs.Common.{◌≡◌, refl, sym, ap, ◌∙◌}
 use Rattle.std.specs.Prelude.{Bool, Result, Option}
 use Rattle.acl_core.specs.Identity.{Identity}
-use Rattle.acl_core.specs.declared.lists.Lists.{Lists}
 use Rattle.vote_core.specs.Quorums.{Configuration}
 use Rattle.suite_content.specs.declared.content.Kind.{Kind}
 use Rattle.file_ops.specs.declared.answer.Answer.TheVariants as answer
@@ -12,12 +11,9 @@ use Rattle.file_ops.specs.declared.service.Service.{Service}
 use Rattle.file_ops.specs.KnownVotes.{votes_of_new}
 use Rattle.file_ops.specs.Lists.{gives_default, is_misplaced}
 use Rattle.file_ops.specs.Operations.{refuse_if}
-use Rattle.file_ops.specs.Rows.{Row, new_row}
 use Rattle.file_exec.proofs.Holding.{parent_reached, looked_at}
 use Rattle.file_exec.proofs.Steps.{goes, stops, stops_last, unset_both, ruled, overruled, same_both}
-use Rattle.suite_content.specs.declared.content.Content.TheVariants.{Names}
 use Rattle.file_exec.specs.Courses.{Give}
-use Rattle.file_exec.specs.declared.log.Edit.TheVariants.{SetContent, Make}
 use Rattle.file_exec.proofs.act.make.Goals as goal
 
 voted : {service service' : Service} (given : Option Configuration) {votes : Result Configuration Why} → service' ≡ service → votes ≡ votes_of_new service' given → votes_of_new service given ≡ votes
@@ -27,36 +23,29 @@ placed : (kind : Kind) (init : Init) {given : Bool} {result : Result (Unit {0}) 
     → refuse_if (is_misplaced kind (gives_default init)) why.DefaultOnFile ≡ result
 placed kind init same is = ap (λ given. refuse_if (is_misplaced kind given) why.DefaultOnFile) (sym same) ∙ sym is
 
-made_so : (kind : Kind) (votes : Configuration) (caller : Identity) {lists given : Lists} {row : Row} → lists ≡ given → row ≡ new_row kind lists votes caller
-    → Make row ≡ Make (new_row kind given votes caller)
-made_so kind votes caller same is = ap (λ row. Make row) (is ∙ ap (λ lists. new_row kind lists votes caller) same)
-
 pub returns-in_err-votes-clause-answer : goal.returns-in_err-votes-clause-answer
-returns-in_err-votes-clause-answer c = ruled _ (sym c.in_ok-name.ensures) (overruled _ (voted c.args.given.now c.service-service.ensures c.in_err-votes.ensures) c.from_residual-in_err-votes.ensures)
+returns-in_err-votes-clause-answer c = ruled _ (sym c.in_ok-name.ensures) (overruled _ (voted c.args.new.given.now c.service.ensures c.in_err-votes.ensures) c.from_residual-in_err-votes.ensures)
 
 pub returns-in_err-require_placed-clause-answer : goal.returns-in_err-require_placed-clause-answer
-returns-in_err-require_placed-clause-answer c = ruled _ (sym c.in_ok-name.ensures) (ruled _ (voted c.args.given.now c.service-service.ensures c.in_ok-votes.ensures) (overruled _ (placed c.args.kind c.args.init.now c.gives_default.ensures c.in_err-require_placed.ensures) c.from_residual-in_err-require_placed.ensures))
+returns-in_err-require_placed-clause-answer c = ruled _ (sym c.in_ok-name.ensures) (ruled _ (voted c.args.new.given.now c.service.ensures c.in_ok-votes.ensures) (overruled _ (placed c.args.new.kind c.args.new.init.now c.gives_default.ensures c.in_err-require_placed.ensures) c.from_residual-in_err-require_placed.ensures))
 
 pub returns-in_err-parent-clause-answer : goal.returns-in_err-parent-clause-answer
-returns-in_err-parent-clause-answer c = ruled _ (sym c.in_ok-name.ensures) (ruled _ (voted c.args.given.now c.service-service.ensures c.in_ok-votes.ensures) (ruled _ (placed c.args.kind c.args.init.now c.gives_default.ensures c.in_ok-require_placed.ensures) (stops _ c.in_err-parent.ensures.parent c.from_residual-in_err-parent.ensures)))
+returns-in_err-parent-clause-answer c = ruled _ (sym c.in_ok-name.ensures) (ruled _ (voted c.args.new.given.now c.service.ensures c.in_ok-votes.ensures) (ruled _ (placed c.args.new.kind c.args.new.init.now c.gives_default.ensures c.in_ok-require_placed.ensures) (stops _ c.in_err-parent.ensures.parent c.from_residual-in_err-parent.ensures)))
 
 pub returns-in_err-require_absent-clause-answer : goal.returns-in_err-require_absent-clause-answer
-returns-in_err-require_absent-clause-answer c = ruled _ (sym c.in_ok-name.ensures) (ruled _ (voted c.args.given.now c.service-service.ensures c.in_ok-votes.ensures) (ruled _ (placed c.args.kind c.args.init.now c.gives_default.ensures c.in_ok-require_placed.ensures) (goes _ c.in_ok-parent.ensures.parent (overruled _ (sym c.in_err-require_absent.ensures) c.from_residual-in_err-require_absent.ensures))))
+returns-in_err-require_absent-clause-answer c = ruled _ (sym c.in_ok-name.ensures) (ruled _ (voted c.args.new.given.now c.service.ensures c.in_ok-votes.ensures) (ruled _ (placed c.args.new.kind c.args.new.init.now c.gives_default.ensures c.in_ok-require_placed.ensures) (goes _ c.in_ok-parent.ensures.parent (overruled _ (sym c.in_err-require_absent.ensures) c.from_residual-in_err-require_absent.ensures))))
 
 pub returns-in_err-require_room-clause-answer : goal.returns-in_err-require_room-clause-answer
-returns-in_err-require_room-clause-answer c = ruled _ (sym c.in_ok-name.ensures) (ruled _ (voted c.args.given.now c.service-service.ensures c.in_ok-votes.ensures) (ruled _ (placed c.args.kind c.args.init.now c.gives_default.ensures c.in_ok-require_placed.ensures) (goes _ c.in_ok-parent.ensures.parent (ruled _ (sym c.in_ok-require_absent.ensures) (overruled _ (sym c.in_err-require_room.ensures) c.from_residual-in_err-require_room.ensures)))))
+returns-in_err-require_room-clause-answer c = ruled _ (sym c.in_ok-name.ensures) (ruled _ (voted c.args.new.given.now c.service.ensures c.in_ok-votes.ensures) (ruled _ (placed c.args.new.kind c.args.new.init.now c.gives_default.ensures c.in_ok-require_placed.ensures) (goes _ c.in_ok-parent.ensures.parent (ruled _ (sym c.in_ok-require_absent.ensures) (overruled _ (sym c.in_err-require_room.ensures) c.from_residual-in_err-require_room.ensures)))))
 
 pub returns-in_err-look-clause-answer : goal.returns-in_err-look-clause-answer
-returns-in_err-look-clause-answer c = ruled _ (sym c.in_ok-name.ensures) (ruled _ (voted c.args.given.now c.service-service.ensures c.in_ok-votes.ensures) (ruled _ (placed c.args.kind c.args.init.now c.gives_default.ensures c.in_ok-require_placed.ensures) (goes _ c.in_ok-parent.ensures.parent (ruled _ (sym c.in_ok-require_absent.ensures) (ruled _ (sym c.in_ok-require_room.ensures) (stops _ c.in_err-look.ensures.row c.from_residual-in_err-look.ensures))))))
+returns-in_err-look-clause-answer c = ruled _ (sym c.in_ok-name.ensures) (ruled _ (voted c.args.new.given.now c.service.ensures c.in_ok-votes.ensures) (ruled _ (placed c.args.new.kind c.args.new.init.now c.gives_default.ensures c.in_ok-require_placed.ensures) (goes _ c.in_ok-parent.ensures.parent (ruled _ (sym c.in_ok-require_absent.ensures) (ruled _ (sym c.in_ok-require_room.ensures) (stops _ c.in_err-look.ensures.row c.from_residual-in_err-look.ensures))))))
 
-pub returns-in_err-entries-clause-answer : goal.returns-in_err-entries-clause-answer
-returns-in_err-entries-clause-answer c = ruled _ (sym c.in_ok-name.ensures) (ruled _ (voted c.args.given.now c.service-service.ensures c.in_ok-votes.ensures) (ruled _ (placed c.args.kind c.args.init.now c.gives_default.ensures c.in_ok-require_placed.ensures) (goes _ c.in_ok-parent.ensures.parent (ruled _ (sym c.in_ok-require_absent.ensures) (ruled _ (sym c.in_ok-require_room.ensures) (goes _ c.in_ok-look.ensures.row (unset_both (parent_reached c.args.transaction.caller.now c.in_ok-name.folders.now c.in_ok-parent.ensures.parent) (looked_at c.in_ok-look.ensures.row) refl c.from_residual-in_err-entries.ensures)))))))
-
-pub returns-in_err-lists-clause-answer : goal.returns-in_err-lists-clause-answer
-returns-in_err-lists-clause-answer c = ruled _ (sym c.in_ok-name.ensures) (ruled _ (voted c.args.given.now c.service-service.ensures c.in_ok-votes.ensures) (ruled _ (placed c.args.kind c.args.init.now c.gives_default.ensures c.in_ok-require_placed.ensures) (goes _ c.in_ok-parent.ensures.parent (ruled _ (sym c.in_ok-require_absent.ensures) (ruled _ (sym c.in_ok-require_room.ensures) (goes _ c.in_ok-look.ensures.row (unset_both (parent_reached c.args.transaction.caller.now c.in_ok-name.folders.now c.in_ok-parent.ensures.parent) (looked_at c.in_ok-look.ensures.row) refl c.from_residual-in_err-lists.ensures)))))))
+pub returns-in_err-named-clause-answer : goal.returns-in_err-named-clause-answer
+returns-in_err-named-clause-answer c = ruled _ (sym c.in_ok-name.ensures) (ruled _ (voted c.args.new.given.now c.service.ensures c.in_ok-votes.ensures) (ruled _ (placed c.args.new.kind c.args.new.init.now c.gives_default.ensures c.in_ok-require_placed.ensures) (goes _ c.in_ok-parent.ensures.parent (ruled _ (sym c.in_ok-require_absent.ensures) (ruled _ (sym c.in_ok-require_room.ensures) (goes _ c.in_ok-look.ensures.row (unset_both (parent_reached c.args.transaction.caller.now c.in_ok-name.folders.now c.in_ok-parent.ensures.parent) (looked_at c.in_ok-look.ensures.row) refl c.from_residual-in_err-named.ensures)))))))
 
 pub returns-in_err-set_both-clause-answer : goal.returns-in_err-set_both-clause-answer
-returns-in_err-set_both-clause-answer c = ruled _ (sym c.in_ok-name.ensures) (ruled _ (voted c.args.given.now c.service-service.ensures c.in_ok-votes.ensures) (ruled _ (placed c.args.kind c.args.init.now c.gives_default.ensures c.in_ok-require_placed.ensures) (goes _ c.in_ok-parent.ensures.parent (ruled _ (sym c.in_ok-require_absent.ensures) (ruled _ (sym c.in_ok-require_room.ensures) (goes _ c.in_ok-look.ensures.row (stops_last (λ _. answer.Made c.args.number) (same_both (ap (λ x. SetContent (Names x)) c.in_ok-entries.ensures) (made_so c.args.kind c.in_ok-votes.votes c.args.transaction.caller.now c.in_ok-lists.ensures c.new_row-row.ensures) c.in_err-set_both.ensures.set) c.from_residual-in_err-set_both.ensures)))))))
+returns-in_err-set_both-clause-answer c = ruled _ (sym c.in_ok-name.ensures) (ruled _ (voted c.args.new.given.now c.service.ensures c.in_ok-votes.ensures) (ruled _ (placed c.args.new.kind c.args.new.init.now c.gives_default.ensures c.in_ok-require_placed.ensures) (goes _ c.in_ok-parent.ensures.parent (ruled _ (sym c.in_ok-require_absent.ensures) (ruled _ (sym c.in_ok-require_room.ensures) (goes _ c.in_ok-look.ensures.row (stops_last (λ _. answer.Made c.args.new.number) (same_both c.in_ok-named.ensures.named c.in_ok-named.ensures.made c.in_err-set_both.ensures.set) c.from_residual-in_err-set_both.ensures)))))))
 
 pub returns-clause-answer : goal.returns-clause-answer
-returns-clause-answer c = ruled _ (sym c.in_ok-name.ensures) (ruled _ (voted c.args.given.now c.service-service.ensures c.in_ok-votes.ensures) (ruled _ (placed c.args.kind c.args.init.now c.gives_default.ensures c.in_ok-require_placed.ensures) (goes _ c.in_ok-parent.ensures.parent (ruled _ (sym c.in_ok-require_absent.ensures) (ruled _ (sym c.in_ok-require_room.ensures) (goes _ c.in_ok-look.ensures.row (goes (λ _. Give (answer.Made c.args.number)) (same_both (ap (λ x. SetContent (Names x)) c.in_ok-entries.ensures) (made_so c.args.kind c.in_ok-votes.votes c.args.transaction.caller.now c.in_ok-lists.ensures c.new_row-row.ensures) c.in_ok-set_both.ensures.set) (record { told = refl }))))))))
+returns-clause-answer c = ruled _ (sym c.in_ok-name.ensures) (ruled _ (voted c.args.new.given.now c.service.ensures c.in_ok-votes.ensures) (ruled _ (placed c.args.new.kind c.args.new.init.now c.gives_default.ensures c.in_ok-require_placed.ensures) (goes _ c.in_ok-parent.ensures.parent (ruled _ (sym c.in_ok-require_absent.ensures) (ruled _ (sym c.in_ok-require_room.ensures) (goes _ c.in_ok-look.ensures.row (goes (λ _. Give (answer.Made c.args.new.number)) (same_both c.in_ok-named.ensures.named c.in_ok-named.ensures.made c.in_ok-set_both.ensures.set) (record { told = refl }))))))))
