@@ -1,6 +1,6 @@
 //! An agent.
 
-ghost use Rattle.std.specs.Prelude.{◌≡◌, ◌<◌, ◌≤◌, [], IfOk, IfErr, IfNone, OnOk, OnErr, IsTrue, Some, None, option_map};
+ghost use Rattle.std.specs.Prelude.{◌≡◌, ◌<◌, ◌≤◌, [], IfOk, IfErr, IfNone, OnOk, OnErr, IsTrue, Some, None, option_map, true};
 ghost use Rattle.std.specs.Option.{option_or};
 ghost use Rattle.weak_cache.specs.Cache.{Limits};
 ghost use Rattle.txn_core.specs.code.AgentFields.{doing_of};
@@ -10,6 +10,7 @@ ghost use Rattle.txn_core.specs.Transactions as course;
 ghost use Rattle.txn_core.specs.Wanting as wanting;
 ghost use Rattle.txn_core.specs.code.Endings.{Puts, put_in};
 ghost use Rattle.txn_core.specs.code.Telling.{Tells};
+ghost use Rattle.txn_core.specs.declared.job.Job.TheVariants.{Sweep};
 ghost use Rattle.txn_core.specs.declared.word.Word.TheVariants.{Replied, Lacked};
 
 use crate::course::Course;
@@ -100,21 +101,7 @@ impl Agent {
         if !self.is_idle() || self.count >= MAX_JOBS || !self.has_sense(job) {
             return Ok(());
         }
-        match job {
-            Job::Transaction { caller, site, ops } => {
-                let task = Task {
-                    t: 64 * self.count + u64::from(self.index),
-                    caller: *caller,
-                    site: *site,
-                    ops: ops.clone()?,
-                };
-                self.start(task)?;
-            }
-            Job::Sweep { server } => {
-                let round = Round::new(self.alloc, *server);
-                self.doing = Some(Doing::Rounding(round));
-            }
-        }
+        self.start(job)?;
         self.count += 1;
         Ok(())
     }
@@ -129,8 +116,34 @@ impl Agent {
         }
     }
 
+    /// A job starts that has sense. It is not counted yet.
+    fn start(&mut self, job: &Job) -> Result<(), AllocError>
+        requires idle { agents.is_idle self.old.state.doing ≡ true }
+        requires sense { agents.has_sense self.old.fixed job.now ≡ true }
+        requires few { self.old.state.count < agents.max_jobs }
+        ensures ok { OnOk result (self.new ≡ record self.old { state = agents.started self.old.fixed self.old.state job.now }) }
+        ensures err { OnErr result (self.new ≡ self.old) }
+        ensures memory { IfErr result (λ _. IsTrue (wanting.by_job self.old.fixed self.old.state job.now)) }
+    {
+        match job {
+            Job::Transaction { caller, site, ops } => {
+                let task = Task {
+                    t: 64 * self.count + u64::from(self.index),
+                    caller: *caller,
+                    site: *site,
+                    ops: ops.clone()?,
+                };
+                self.carry_out(task)
+            }
+            Job::Sweep { server } => {
+                self.sweep(*server);
+                Ok(())
+            }
+        }
+    }
+
     /// A transaction starts.
-    fn start(&mut self, task: Task) -> Result<(), AllocError>
+    fn carry_out(&mut self, task: Task) -> Result<(), AllocError>
         ensures ok { OnOk result (self.new ≡ record self.old { state = (agents.with_step self.old.state (course.execute self.old.fixed task (record { suites = []; cache = self.old.state.cache }))).agent }) }
         ensures err { OnErr result (self.new ≡ self.old) }
     {
@@ -145,6 +158,14 @@ impl Agent {
         self.progress = progress;
         self.doing = course.map(Doing::Running);
         Ok(())
+    }
+
+    /// A sweep starts.
+    fn sweep(&mut self, server: u8)
+        ensures { self.new ≡ record self.old { state = agents.started self.old.fixed self.old.state (Sweep server) } }
+    {
+        let round = Round::new(self.alloc, server);
+        self.doing = Some(Doing::Rounding(round));
     }
 
     /// Of which server it asks next, and what, which is put into a place of the caller's: nothing is, where

@@ -1,6 +1,6 @@
 use Rattle.std.proofs.Common.{rules}
 use Rattle.txn_core.proofs.Reaching.{reaches_begun}
-use Rattle.txn_core.proofs.agent.Agent.start.Goals as goal
+use Rattle.txn_core.proofs.agent.Agent.carry_out.Goals as goal
 
 pub invariant_of-self-2 : goal.invariant_of-self-2
 invariant_of-self-2 c =
