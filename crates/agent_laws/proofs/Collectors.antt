@@ -1,5 +1,5 @@
 -- What a collector asks, and when it has a quorum of nothing.
-use Rattle.std.proofs.Common.{◌≡◌, ◌⊎◌, inl, inr, ℕ, ◌+◌, ◌≤◌, ◌<◌, Bool, true, false, cond, List, [], ◌∷◌, ◌++◌, Option, Some, None, refl, sym, ap, subst, ◌∙◌, arith}
+use Rattle.std.proofs.Common.{◌≡◌, ℕ, ◌≤◌, ◌<◌, Bool, true, false, cond, List, [], ◌∷◌, ◌++◌, Option, Some, None, refl, sym, ap, subst, ◌∙◌, arith}
 use Rattle.std.specs.Prelude.{◌==◌, ◌&&◌, ◌||◌, not, nat_lt, nat_le, find, filter, map}
 use Rattle.std.specs.List.{list_any}
 use Rattle.std.proofs.lemmas.Bool.Decides.{nat_tests}
@@ -12,7 +12,7 @@ use Rattle.suite_collect.specs.declared.told.Said.{Said}
 use Rattle.suite_collect.specs.declared.told.Said.TheVariants.{Held, Busy, Down}
 use Rattle.suite_collect.specs.declared.told.Told.{Told}
 use Rattle.suite_collect.specs.Telling.{is_held, holds, newer, newest, shown}
-use Rattle.suite_collect.specs.Collecting.{Widening, Collector, told_since, all_told, counted, votes_or, wanted, mode_or, needed, needed_of, got, is_member, is_left, members_of, version, ask_or_short, asked_of, mode_asked, Next, Ask, Current, Short, Asked, Poll, Upgrade, next}
+use Rattle.suite_collect.specs.Collecting.{Collector, all_told, counted, wanted, mode_or, needed, got, is_member, is_left, members_of, version, ask_or_short, asked_of, mode_asked, Ask, Current, Asked, Poll, Upgrade, next}
 use Rattle.suite_collect.proofs.Finding.{find_passes}
 use Rattle.txn_core.specs.Suites.{source_of}
 

@@ -1,5 +1,5 @@
 -- What a transaction reads it has looked at; and the votes that it sets are those that it may.
-use Rattle.std.proofs.Common.{◌≡◌, ◌⊎◌, inl, inr, ℕ, ◌+◌, Bool, true, false, cond, List, [], ◌∷◌, ◌++◌, Option, Some, None, Result, Ok, Err, refl, sym, ap, subst, ◌∙◌}
+use Rattle.std.proofs.Common.{◌≡◌, inl, inr, ℕ, ◌+◌, Bool, true, false, cond, List, [], ◌∷◌, ◌++◌, Option, Some, None, Result, Ok, Err, refl, sym, ap, subst, ◌∙◌}
 use Rattle.std.specs.Prelude.{nat_lt, nat_le, not, length, is_some}
 use Rattle.vote_core.specs.Quorums.{Configuration}
 use Rattle.acl_core.specs.Identity.{Identity}
@@ -14,7 +14,6 @@ use Rattle.file_ops.specs.declared.answer.Answer.{Answer}
 use Rattle.file_ops.specs.declared.operation.Action.{Action}
 use Rattle.file_ops.specs.declared.operation.Action.TheVariants as action
 use Rattle.file_ops.specs.declared.operation.Op.{Op}
-use Rattle.file_ops.specs.declared.refusal.Refusal.{Refusal}
 use Rattle.file_ops.specs.declared.refusal.Why.{Why}
 use Rattle.file_ops.specs.declared.refusal.Why.TheVariants as why
 use Rattle.file_ops.specs.declared.service.Service.{Service}
@@ -23,7 +22,7 @@ use Rattle.file_ops.specs.Lists.{gives_default, is_misplaced}
 use Rattle.file_ops.specs.Paths.{names_of}
 use Rattle.file_ops.specs.KnownVotes.{lists_unknown, known_votes, votes_of_new}
 use Rattle.file_ops.specs.Walks.{Place, bytes_in, names_in, to_read, to_write, to_search, to_change, permit, permit_others, owner_only}
-use Rattle.file_ops.specs.Operations.{Parent, refuse_if, last_name, is_used}
+use Rattle.file_ops.specs.Operations.{refuse_if, last_name, is_used}
 use Rattle.file_ops.specs.Rows.{Row, root}
 use Rattle.file_ops.specs.Transactions.{is_miscounted}
 use Rattle.file_exec.specs.Courses.{Course, Give, Refuse, Look, Read, Set, ◌>>=◌, rule, at_place}
@@ -33,7 +32,7 @@ use Rattle.file_exec.specs.declared.need.Need.{Need}
 use Rattle.file_exec.specs.declared.need.Need.TheVariants.{Hold, Know}
 use Rattle.file_exec.specs.Following.{Edits, is_set, looked, content_read, unless_set, needs, Ended, ending}
 use Rattle.file_exec.specs.KnownSuites.{KnownSuite}
-use Rattle.file_exec.specs.Known.{Known, Heard, Needs, Done, heard, known_of, known_rows, is_held, is_met, exec_of, first_unmet}
+use Rattle.file_exec.specs.Known.{Known, Needs, Done, heard, known_of, known_rows, is_held, is_met, exec_of, first_unmet}
 use Rattle.file_exec.specs.Operations as asked
 use Rattle.file_exec.proofs.Unmet.{done_unmet}
 use Rattle.rep_core.proofs.Members.{Has}

@@ -1,26 +1,19 @@
 -- The laws: an agent asks until its job is at an end, it asks whom it knows, and so the job is at an end in time.
-use Rattle.std.proofs.Common.{◌≡◌, ◌⊎◌, inl, inr, ℕ, ◌+◌, ◌*◌, ◌≤◌, ◌<◌, ◌%◌, ◌/◌, Bool, true, false, cond, List, [], ◌∷◌, ◌++◌, length, Option, Some, None, refl, sym, ap, subst, ◌∙◌, arith}
-use Rattle.std.specs.Prelude.{◌==◌, ◌&&◌, ◌||◌, nat_lt, nat_le, is_some, IsSome, All, Contains}
+use Rattle.std.proofs.Common.{◌≡◌, inl, inr, ℕ, ◌+◌, ◌*◌, ◌<◌, ◌%◌, ◌/◌, Bool, true, false, cond, List, [], ◌∷◌, ◌++◌, length, Option, Some, None, refl, sym, ap, subst, ◌∙◌, arith}
+use Rattle.std.specs.Prelude.{◌==◌, ◌&&◌, ◌||◌, nat_lt, nat_le, is_some, IsSome, Contains}
 use Rattle.std.specs.List.{list_any, list_all}
 use native.Mathlib.Nat.{mod-lt}
 use Rattle.std.proofs.lemmas.Bool.{eq-eqb, false≢true}
 use Rattle.std.proofs.lemmas.Bool.Decides.{nat_tests}
-use Rattle.std.proofs.lemmas.Option.{none-some}
-use Rattle.std.proofs.lemmas.List.{append-nil}
-use Rattle.std.proofs.lemmas.List.Elements.{All-contains, Contains-append_right}
-use Rattle.std.proofs.lemmas.List.Folds.{list_all-append}
-use Rattle.acl_core.specs.Identity.{Identity}
+use Rattle.std.proofs.lemmas.List.Elements.{All-contains}
 use Rattle.vote_core.specs.Quorums.{Representative, Configuration}
-use Rattle.vote_core.specs.Validity.{IsValid, IsAccepted}
-use Rattle.suite_prefix.specs.declared.copies.Prefix.{Prefix}
-use Rattle.file_ops.specs.declared.operation.Op.{Op}
-use Rattle.file_ops.specs.KnownVotes.{lists_unknown}
+use Rattle.vote_core.specs.Validity.{IsValid}
 use Rattle.rep_core.specs.declared.request.Request.{Request}
 use Rattle.rep_core.specs.declared.request.Request.TheVariants as request
 use Rattle.rep_core.specs.declared.reply.Reply.{Reply}
 use Rattle.rep_core.specs.declared.reply.Reply.TheVariants as reply
 use Rattle.rep_core.specs.declared.stamped.Lack.TheVariants as lack
-use Rattle.rep_core.proofs.Members.{Has, any_has, has_any, contains_from}
+use Rattle.rep_core.proofs.Members.{Has, any_has, contains_from}
 use Rattle.weak_cache.specs.Entries.{Entry, Cache}
 use Rattle.weak_cache.proofs.Origins as origins
 use Rattle.txn_core.specs.declared.word.Word.{Word}

@@ -1,16 +1,13 @@
 -- What a transaction keeps: it asks somebody, and whomever it asks, votes or the service name.
-use Rattle.std.proofs.Common.{◌≡◌, ◌⊎◌, inl, inr, ⊎_elim, ℕ, zero, suc, ◌+◌, ◌≤◌, ◌<◌, Bool, true, false, cond, List, [], ◌∷◌, ◌++◌, Option, Some, None, Ok, Err, refl, sym, ap, subst, ◌∙◌, arith, Less, Equal, Greater}
-use Rattle.std.specs.Prelude.{◌==◌, ◌&&◌, ◌||◌, length, map, filter, option_map, unwrap_or, is_some}
-use Rattle.std.specs.List.{list_any}
+use Rattle.std.proofs.Common.{◌≡◌, ℕ, zero, suc, ◌<◌, Bool, true, false, cond, List, [], ◌∷◌, ◌++◌, Option, Some, None, Ok, Err, refl, sym, ap, subst, ◌∙◌, Less, Equal, Greater}
+use Rattle.std.specs.Prelude.{◌==◌, ◌&&◌, ◌||◌, length, filter, option_map, unwrap_or, is_some}
 use Rattle.std.specs.Ordering.{nat_cmp, match_ordering}
 use Rattle.std.specs.BTreeMap.{is_at}
-use Rattle.std.specs.Cmp.{unsigned_tied}
 use Rattle.std.specs.declared.cmp.Ordering.{Ordering}
-use Rattle.std.proofs.lemmas.Bool.{eqb-true, false≢true}
 use Rattle.std.proofs.lemmas.Option.{none-some, same_Some}
 use Rattle.sorted_map.specs.Laws.{insert_step}
 use Rattle.sorted_map.specs.SortedMap.{insert}
-use Rattle.vote_core.specs.Quorums.{Representative, Configuration}
+use Rattle.vote_core.specs.Quorums.{Configuration}
 use Rattle.suite_content.specs.declared.content.Content.{Content}
 use Rattle.suite_prefix.specs.Absent.{absent_prefix}
 use Rattle.suite_prefix.specs.declared.copies.Prefix.{Prefix}
@@ -32,43 +29,30 @@ use Rattle.file_exec.specs.declared.need.Need.{Need}
 use Rattle.file_exec.specs.declared.need.Need.TheVariants.{Hold, Know}
 use Rattle.file_exec.specs.Changes as changes
 use Rattle.file_exec.specs.Changes.{touches, some, makes, sets_acl, sets_votes, answered}
-use Rattle.file_exec.specs.Following.{Edits, Ended, changed, seen, is_set}
-use Rattle.file_exec.specs.KnownSuites.{KnownSuite}
+use Rattle.file_exec.specs.Following.{Edits, changed, seen, is_set}
 use Rattle.file_exec.specs.Known as known
 use Rattle.file_exec.specs.Known.{Known, Heard, Needs, Done, known_rows, exec_of}
 use Rattle.file_exec.proofs.Leading.{changes_by_suite}
 use Rattle.file_exec.proofs.Unmet.{needs_what_is_unmet}
-use Rattle.rep_core.specs.declared.request.Request.{Request}
-use Rattle.rep_core.specs.declared.reply.Reply.{Reply}
-use Rattle.rep_core.specs.declared.reply.Reply.TheVariants as reply
 use Rattle.rep_core.specs.declared.reply.Verdict.{Verdict}
 use Rattle.rep_core.specs.declared.reply.Verdict.TheVariants as verdict
-use Rattle.rep_core.specs.declared.stamped.Lack.{Lack}
-use Rattle.rep_core.specs.Fits.{is_prepared}
-use Rattle.suite_collect.specs.declared.told.Told.{Told}
-use Rattle.suite_collect.specs.declared.told.Said.{Said}
-use Rattle.suite_collect.specs.declared.told.Said.TheVariants as said
 use Rattle.suite_collect.specs.Telling.{is_held, holds, newest}
 use Rattle.suite_collect.specs.Collecting.{Widening, Collector, told_since, all_told, counted, needed, needed_of, votes_or, mode_or, wanted, is_member, mode_of, mode_asked, request_for, tell, tell_at, collect, raise, widen, Asked, Poll, Upgrade, Next, Ask, Current, Short, next}
 use Rattle.weak_cache.specs.Entries.{Entry, Cache}
 use Rattle.weak_cache.specs.Cache.{hint, put}
 use Rattle.weak_cache.proofs.Origins.{put_has, searched_has, hint_has}
 use Rattle.weak_cache.proofs.Origins as origins
-use Rattle.txn_core.specs.Suites.{First, Suite, Suites, suite_of, with_suite, row_with, known_row, known_if, known_of, holds_lock, has_locks, source_of, first_or, settled}
-use Rattle.txn_core.specs.Writing.{parts_at, change_of}
-use Rattle.txn_core.specs.declared.word.Word.{Word}
-use Rattle.txn_core.specs.declared.word.Word.TheVariants.{Replied, Lacked}
+use Rattle.txn_core.specs.Suites.{First, Suite, Suites, suite_of, with_suite, row_with, known_row, known_if, known_of, holds_lock, has_locks}
+use Rattle.txn_core.specs.Writing.{change_of}
 use Rattle.txn_core.specs.declared.ending.Cause.{Cause}
-use Rattle.txn_core.specs.declared.ending.Cause.TheVariants.{Lost}
 use Rattle.txn_core.specs.declared.ending.Ending.{Ending}
 use Rattle.txn_core.specs.declared.ending.Ending.TheVariants.{Undecided}
 use Rattle.txn_core.specs.Doing.{Changes, Granted, home_of, Fixed, Task, Outcome, Phase, Gathering, Fetching, Widening as Widens, Preparing, Deciding, Finishing, Course, After, GoesOn, Ends}
-use Rattle.txn_core.specs.Transactions.{Step, Gathered, tell_end, give_up, prepare, locked_at, numbers_from, short_cause, gather_by, start_from, widen_by, widen_one, widened, widen_all, to_widen, votes_then, votes_after, opened, or_all, open_needed, open_suite, open_first, opened_with, after_search, free_content, heard_on, raised_or_new, keep_content, heard_of, said_to, proceed, execute, collected, hear, fetched, prepared, after_lack, after_word, asked_by, asked_for, given_in, verdict_in, ending_by, cause_of_abort, lack_cause}
+use Rattle.txn_core.specs.Transactions.{Step, Gathered, tell_end, give_up, prepare, locked_at, numbers_from, short_cause, gather_by, start_from, widen_by, widen_one, widened, widen_all, to_widen, votes_then, votes_after, opened, or_all, open_needed, open_suite, open_first, opened_with, after_search, free_content, heard_on, raised_or_new, proceed, execute}
 use Rattle.txn_core.proofs.Gathers.{Each, EachBut, each_but, each_with, with_at, self}
 use Rattle.txn_core.proofs.Setting.{known_at}
-use Rattle.txn_core.proofs.Asks.{asks_same}
 use Rattle.agent_laws.proofs.Courses.{Sets, AllSet, edits_set, reads_known}
-use Rattle.agent_laws.proofs.Collectors.{AllShared, IsPlain, none_exclusive, not_current, asks_shared, current_gives, AllReps, SaysSo, AllTold, AllIn, newest_so, all_append, teller, asked_so, given_so}
+use Rattle.agent_laws.proofs.Collectors.{IsPlain, none_exclusive, not_current, AllReps, AllTold, AllIn, newest_so, all_append, teller}
 
 -- Votes that may be met, and servers that may be asked: a quorum of such votes is of some votes, and they name no others; nor does the service.
 pub record Goes (fixed : Fixed) (V : Configuration → Type 0) (S : ℕ → Type 0) : Type 0 where
@@ -418,15 +402,18 @@ module _ (fixed : Fixed) (V : Configuration → Type 0) (S : ℕ → Type 0) (go
       → Leaves (gather_by task cache (with_suite number suite suites) number after)
   l_gather task cache suites number suite (Short had wanting busy) is cached fine others begins =
       l_give_up task cache (with_suite number suite suites) (short_cause number had wanting busy) cached (fine_with suites number suite fine begins.fine)
-  l_gather task cache suites number suite (Ask server asked) is cached fine others begins = (cached, (
-    fine_with suites number suite fine begins.fine,
-    Rattle.txn_core.proofs.Gathers.but_with IsFull number suites suite others,
-    record {
-      asking = record { suite = suite; there = there_with suites number suite; server = server; asked = asked; asks = is };
-      narrow = begins.narrow;
-      plain = begins.plain;
-    },
-  ))
+  l_gather task cache suites number suite (Ask server asked) is cached fine others begins = (
+    cached,
+    (
+      fine_with suites number suite fine begins.fine,
+      Rattle.txn_core.proofs.Gathers.but_with IsFull number suites suite others,
+      record {
+        asking = record { suite = suite; there = there_with suites number suite; server = server; asked = asked; asks = is };
+        narrow = begins.narrow;
+        plain = begins.plain;
+      },
+    ),
+  )
   l_gather task cache suites number suite (Current prefix dver members) is cached fine others begins = absurd (begins.asks prefix dver members is)
 
   -- ---- the executor

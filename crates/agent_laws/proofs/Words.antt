@@ -1,48 +1,30 @@
 -- What a transaction keeps after each word, and what a sweep keeps: it asks somebody, and whom it may.
-use Rattle.std.proofs.Common.{◌≡◌, ◌⊎◌, inl, inr, ⊎_elim, ℕ, zero, suc, ◌+◌, ◌*◌, ◌≤◌, ◌<◌, Bool, true, false, cond, List, [], ◌∷◌, ◌++◌, Option, Some, None, refl, sym, ap, subst, ◌∙◌, arith}
-use Rattle.std.specs.Prelude.{◌==◌, ◌&&◌, nat_lt, option_map, IsSome}
+use Rattle.std.proofs.Common.{◌≡◌, ⊎_elim, ℕ, Bool, true, false, cond, List, [], ◌∷◌, Option, Some, None, refl, sym, ap, subst, ◌∙◌}
 use Rattle.std.proofs.lemmas.Option.{none-some, same_Some}
-use Rattle.acl_core.specs.Identity.{Identity}
 use Rattle.vote_core.specs.Quorums.{Configuration}
 use Rattle.suite_content.specs.declared.content.Content.{Content}
 use Rattle.suite_prefix.specs.declared.copies.Prefix.{Prefix}
-use Rattle.suite_prefix.specs.declared.lock_mode.LockMode.{LockMode}
-use Rattle.suite_prefix.specs.declared.lock_mode.LockMode.TheVariants.{Shared}
-use Rattle.file_ops.specs.declared.operation.Op.{Op}
-use Rattle.file_ops.specs.declared.service.Service.{Service}
-use Rattle.rep_core.specs.declared.lock.Lock.{Lock}
 use Rattle.rep_core.specs.declared.request.Request.{Request}
-use Rattle.rep_core.specs.declared.request.Request.TheVariants as request
 use Rattle.rep_core.specs.declared.reply.Reply.{Reply}
 use Rattle.rep_core.specs.declared.reply.Reply.TheVariants as reply
-use Rattle.rep_core.specs.declared.stamped.Lack.{Lack}
 use Rattle.rep_core.specs.Fits.{is_prepared}
-use Rattle.rep_core.specs.Locks.{has_prepared}
 use Rattle.suite_collect.specs.declared.told.Told.{Told}
 use Rattle.suite_collect.specs.declared.told.Said.{Said}
 use Rattle.suite_collect.specs.declared.told.Said.TheVariants as said
 use Rattle.suite_collect.specs.Telling.{newest}
 use Rattle.suite_collect.specs.Collecting.{Widening, Collector, told_since, counted, votes_or, mode_of, mode_asked, request_for, tell, tell_at, Asked, Poll, Upgrade, Next, Ask, Current, Short, next}
-use Rattle.weak_cache.specs.Entries.{Entry, Cache, forgotten}
+use Rattle.weak_cache.specs.Entries.{Entry, Cache}
 use Rattle.weak_cache.specs.Cache.{put}
-use Rattle.weak_cache.proofs.Origins.{put_has, forgotten_has}
-use Rattle.weak_cache.proofs.Origins as origins
+use Rattle.weak_cache.proofs.Origins.{put_has}
 use Rattle.txn_core.specs.Suites.{First, Suite, Suites, suite_of, with_suite, source_of, first_or, settled}
-use Rattle.txn_core.specs.Writing.{parts_at}
 use Rattle.txn_core.specs.declared.word.Word.{Word}
 use Rattle.txn_core.specs.declared.word.Word.TheVariants.{Replied, Lacked}
 use Rattle.txn_core.specs.declared.ending.Cause.TheVariants.{Lost}
-use Rattle.txn_core.specs.declared.job.Job.{Job}
-use Rattle.txn_core.specs.declared.job.Job.TheVariants.{Transaction, Sweep}
-use Rattle.txn_core.specs.Doing.{Granted, home_of, Fixed, Task, Outcome, Phase, Gathering, Fetching, Widening as Widens, Preparing, Deciding, Finishing, Course, Sweeping, Listing, Resolving, Telling, Breaking, Round, Doing, Running, Rounding, After, GoesOn, Ends}
+use Rattle.txn_core.specs.Doing.{Granted, Fixed, Task, Outcome, Phase, Gathering, Fetching, Widening as Widens, Preparing, Deciding, Finishing}
 use Rattle.txn_core.specs.Transactions.{Step, tell_end, give_up, prepare, locked_at, short_cause, widen_all, keep_content, heard_of, said_to, execute, collected, hear, fetched, prepared, after_lack, after_word, asked_by, asked_for, given_in, verdict_in, ending_by, cause_of_abort, lack_cause, request_in, changes_of, decision_of}
-use Rattle.txn_core.specs.Sweeps as sweep
-use Rattle.txn_core.specs.Agents as agents
-use Rattle.txn_core.specs.Agents.{Agent, Event, Take, Forget, next_in, next_of, take_in, take, begin, started, forget, is_idle, has_sense, max_jobs, after_all}
-use Rattle.txn_core.specs.Laws.{Exchange, exchange_of, exchanges, of_job}
-use Rattle.txn_core.proofs.Gathers.{Each, EachBut, each_but, each_with, but_with, tell_start, self}
+use Rattle.txn_core.proofs.Gathers.{Each, each_with, but_with}
 use Rattle.txn_core.proofs.Asks.{asks_same}
-use Rattle.agent_laws.proofs.Collectors.{AllShared, IsPlain, asks_shared, current_gives, AllReps, SaysSo, AllTold, AllIn, newest_so, asked_so, given_so}
+use Rattle.agent_laws.proofs.Collectors.{IsPlain, asks_shared, current_gives, AllReps, SaysSo, AllTold, AllIn, newest_so, asked_so, given_so}
 use Rattle.agent_laws.proofs.Walk as walk
 use Rattle.agent_laws.proofs.Walk.{Goes, Fine, AllFine, Full, Asking, Gathers, InPhase, CacheFine, Goes', Leaves, Whole}
 
@@ -131,9 +113,10 @@ module _ (fixed : Fixed) (V : Configuration → Type 0) (S : ℕ → Type 0) (go
       of (Some first) was f same = fine.first f (was ∙ same)
       of None was f same =
           let gives = current_gives suite.collector prefix dver members is in
-          subst (λ (f : First). V f.prefix.votes × S f.source) (same_Some new f same)
-          (subst (λ (prefix : Prefix). V prefix.votes) gives.prefix_is (newest_so V S suite.collector.start suite.collector.told fine.start fine.told),
-          given_so V S suite.collector prefix dver members goes.first (counted_so suite fine) is)
+          subst (λ (f : First). V f.prefix.votes × S f.source) (same_Some new f same) (
+            subst (λ (prefix : Prefix). V prefix.votes) gives.prefix_is (newest_so V S suite.collector.start suite.collector.told fine.start fine.told),
+            given_so V S suite.collector prefix dver members goes.first (counted_so suite fine) is,
+          )
 
   full_settled : (suite : Suite) (prefix : Prefix) (dver : ℕ) (members : List ℕ) → suite.collector.widening ≡ None → IsPlain suite.collector → Full fixed V S goes (settled prefix dver members suite)
   full_settled suite prefix dver members narrow plain = of suite.first refl
@@ -211,11 +194,14 @@ module _ (fixed : Fixed) (V : Configuration → Type 0) (S : ℕ → Type 0) (go
 
       by : (now : Suite) → Fine' now → now.collector.widening ≡ None → IsPlain now.collector → (after : Next) → next now.collector ≡ after
           → Left (collected task cache suites (Gathering number) number now after (λ suite. execute fixed task (record { suites = with_suite number suite suites; cache = cache })))
-      by now fine narrow plain (Ask who what) is = (cached, (
-        walk.fine_with fixed V S goes suites number now in'.0 fine,
-        but_with IsFull number suites now in'.1,
-        record { asking = record { suite = now; there = walk.there_with fixed V S goes suites number now; server = who; asked = what; asks = is }; narrow = narrow; plain = plain },
-      ))
+      by now fine narrow plain (Ask who what) is = (
+        cached,
+        (
+          walk.fine_with fixed V S goes suites number now in'.0 fine,
+          but_with IsFull number suites now in'.1,
+          record { asking = record { suite = now; there = walk.there_with fixed V S goes suites number now; server = who; asked = what; asks = is }; narrow = narrow; plain = plain },
+        ),
+      )
       by now fine narrow plain (Short had wanting busy) is =
           walk.l_give_up fixed V S goes task cache (with_suite number now suites) (short_cause number had wanting busy) cached (walk.fine_with fixed V S goes suites number now in'.0 fine)
       by now fine narrow plain (Current prefix dver members) is =
@@ -251,11 +237,14 @@ module _ (fixed : Fixed) (V : Configuration → Type 0) (S : ℕ → Type 0) (go
 
       by : (now : Suite) → Fine' now → (after : Next) → next now.collector ≡ after
           → Left (collected task cache suites (Widens (number ∷ left) granted) number now after (λ suite. widen_all task cache (with_suite number suite suites) granted left))
-      by now fine (Ask who what) is = (cached, (
-        walk.fine_with fixed V S goes suites number now in'.0 fine,
-        record { suite = now; there = walk.there_with fixed V S goes suites number now; server = who; asked = what; asks = is },
-        in'.2,
-      ))
+      by now fine (Ask who what) is = (
+        cached,
+        (
+          walk.fine_with fixed V S goes suites number now in'.0 fine,
+          record { suite = now; there = walk.there_with fixed V S goes suites number now; server = who; asked = what; asks = is },
+          in'.2,
+        ),
+      )
       by now fine (Short had wanting busy) is =
           walk.l_give_up fixed V S goes task cache (with_suite number now suites) (short_cause number had wanting busy) cached (walk.fine_with fixed V S goes suites number now in'.0 fine)
       by now fine (Current prefix dver members) is =
