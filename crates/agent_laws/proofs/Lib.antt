@@ -1,0 +1,6 @@
+pub mod Courses
+pub mod Collectors
+pub mod Walk
+pub mod Words
+pub mod Told
+pub mod Ends
