@@ -174,10 +174,18 @@ static DENIED: &str = "
 0 deny 6 = 4: Down
 0 return = 5: Done";
 
+fn told_words(rt: &(impl Abort + AllocGlobal), server: &Server, ask: &str) -> String {
+    words(rt, &server.answer(&stamped(rt, 0, ask)))
+}
+
+fn served_words(rt: &(impl Abort + AllocGlobal), server: &mut Server, ask: &str) -> String {
+    words(rt, &served(rt, server, 0, ask))
+}
+
 /// What is answered to the same request by `answer` and by `serve` is the same.
 fn told_is_served(rt: &(impl Abort + AllocGlobal), server: &mut Server, ask: &str) {
-    let told = words(rt, &server.answer(&stamped(rt, 0, ask)));
-    let served = words(rt, &served(rt, server, 0, ask));
+    let told = told_words(rt, server, ask);
+    let served = served_words(rt, server, ask);
     tells(rt, &told, served.as_str(), ask);
 }
 
@@ -239,11 +247,14 @@ fn the_laws_are_called(rt: HostRuntime) {
     laws_of_copies();
 }
 
+fn asked(server: &mut Server, value: Request) -> Result<Stamped<Reply>, Lack> {
+    server.serve(Stamped { stamp: 0, value })
+}
+
 /// Locks a suite.
 fn lock(rt: &impl Abort, server: &mut Server, t: u64, suite: u64) {
     let mode = LockMode::Exclusive;
-    let value = Request::Poll { t, suite, mode };
-    let outcome = server.serve(Stamped { stamp: 0, value });
+    let outcome = asked(server, Request::Poll { t, suite, mode });
     holds(rt, outcome.is_ok(), "a lock");
 }
 
@@ -283,8 +294,7 @@ fn take_files(
     count: u16,
 ) -> String {
     let parts = lock_and_take(rt, server, t, first, count);
-    let value = Request::Prepare { t, parts };
-    words(rt, &server.serve(Stamped { stamp: 0, value }))
+    words(rt, &asked(server, Request::Prepare { t, parts }))
 }
 
 static LAST_PLACE: &str = "
