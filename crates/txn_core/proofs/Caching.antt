@@ -15,7 +15,7 @@ use Rattle.txn_core.specs.Agents.{Agent, Event, Take, next_in, next_of, take_in,
 use Rattle.txn_core.specs.Laws.{of_job, task_of}
 use Rattle.txn_core.specs.Caching.{FirstGave, IsFetched, CachesWhatWasFetched}
 use Rattle.txn_core.proofs.Gathers.{Kept}
-use Rattle.txn_core.proofs.Causes.{Stands}
+use Rattle.txn_core.proofs.Causes.{started_from, Stands}
 use Rattle.txn_core.proofs.Cached.{PutBy, execute_has, word_has}
 use Rattle.txn_core.proofs.Upheld.{Begins, Started, started_is, Runs, DoingStands, after-append, stands_after}
 
@@ -46,7 +46,7 @@ module _ (fixed : Fixed) (agent : Agent) (job : Job) (events : List Event) (word
       stands : Stands fixed running.task (Started fixed agent job events) (Started fixed agent job events) (Begins fixed agent job events) (of_job fixed agent job events) running.suites (Fetching put.number)
       stands = subst (Stands fixed running.task (Started fixed agent job events) (Started fixed agent job events) (Begins fixed agent job events) (of_job fixed agent job events) running.suites) put.fetching (runs.stands asked is)
 
-      kept : Kept fixed running.task (Started fixed agent job events) (of_job fixed agent job events) put.number put.suite
+      kept : Kept fixed running.task (started_from (Started fixed agent job events)) (of_job fixed agent job events) put.number put.suite
       kept = stands.1 put.number put.suite put.there
 
   told_has : (doing : Option Doing) (asked : Option (ℕ × Request)) (x : Entry) → (after_all fixed (begin fixed agent job) events).doing ≡ doing → next_of fixed (after_all fixed (begin fixed agent job) events) ≡ asked → next_in fixed doing ≡ asked

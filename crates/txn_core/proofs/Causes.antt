@@ -1,5 +1,5 @@
 -- Undecided ends are caused.
-use Rattle.std.proofs.Common.{◌≡◌, ℕ, Bool, true, false, cond, List, [], ◌∷◌, ◌++◌, Option, Some, None, Ok, Err, refl, sym, ◌⊎◌, inl, inr, zero, suc, ap, subst, ◌∙◌}
+use Rattle.std.proofs.Common.{◌≡◌, ℕ, Bool, true, false, cond, List, [], ◌∷◌, ◌++◌, Option, Some, None, Ok, Err, refl, sym, ◌⊎◌, inl, inr, ap, subst, ◌∙◌}
 use Rattle.std.specs.Prelude.{◌==◌, ◌&&◌, not, length}
 use Rattle.std.proofs.lemmas.Bool.{eqb-true}
 use Rattle.std.proofs.lemmas.List.Elements.{Contains-append_left, Contains-push}
@@ -29,6 +29,7 @@ use Rattle.suite_collect.proofs.Finding.{Has}
 use Rattle.suite_collect.specs.Collecting as collecting
 use Rattle.suite_collect.specs.Collecting.{Collector, all_told, raise, tell, mode_of, request_for, Asked, Poll, Upgrade, Next, Ask, Current, Short, next}
 use Rattle.weak_cache.specs.Entries.{Cache}
+use Rattle.weak_cache.specs.Cache.{put}
 use Rattle.txn_core.specs.Suites.{First, Suite, Suites, suite_of, with_suite, settled, told_in}
 use Rattle.txn_core.specs.Writing.{parts_at}
 use Rattle.txn_core.specs.declared.word.Word.{Word}
@@ -38,12 +39,14 @@ use Rattle.txn_core.specs.declared.word.Word.TheVariants.{Replied, Lacked}
 use Rattle.txn_core.specs.declared.ending.Cause.TheVariants.{Unavailable, Busy, Lost, Overruled, HomeDown, Full, Memory}
 use Rattle.txn_core.specs.declared.ending.Ending.TheVariants.{Answered, Refused, Swept, Undecided}
 use Rattle.txn_core.specs.Doing.{Granted, home_of, Fixed, Task, Outcome, Phase, Gathering, Fetching, Widening, Preparing, Deciding, Finishing, Course, After, GoesOn, Ends}
-use Rattle.txn_core.specs.Transactions.{Step, Gathered, tell_end, give_up, prepare, locked_at, short_cause, gather_by, widen_by, widen_one, widened, widen_all, to_widen, opened, or_all, open_needed, open_suite, open_first, opened_with, free_content, start_from, heard_on, raised_or_new, keep_content, heard_of, said_to, proceed, execute, collected, hear, fetched, prepared, after_lack, after_word, asked_by, asked_for, fetched_at, fetched_for, request_in, changes_of, decision_of, given_in, verdict_in, ending_by, cause_of_abort, lack_cause}
+use Rattle.txn_core.specs.Transactions.{Step, Gathered, tell_end, give_up, prepare, locked_at, short_cause, gather_by, widen_by, widen_one, widened, widen_all, to_widen, opened, start_from, heard_on, raised_or_new, keep_content, heard_of, said_to, proceed, execute, collected, hear, fetched, prepared, after_lack, after_word, asked_by, asked_for, fetched_at, fetched_for, request_in, changes_of, decision_of, given_in, verdict_in, ending_by, cause_of_abort, lack_cause}
 use Rattle.txn_core.specs.Laws.{Exchange, locks, is_decide, told_of, told_by, more_told, fits_word, all_fit}
 use Rattle.txn_core.specs.Undecided.{Was, loses, says_aborted, says_down, is_finish, stops}
 use Rattle.txn_core.proofs.Asks.{asks_same, asked_as, fetched_as}
 use Rattle.txn_core.proofs.Fetches.{exclusive_needed}
-use Rattle.txn_core.proofs.Gathers.{self, with_at, at_with, Each, EachBut, each_but, each_with, but_with, tell_start, AllGathered, Wants, Sets, Grants, wants_more, sets_more, grants_more, Kept, Asking, wide_told, wants_told, wide_widened, kept_same, kept_more, kept_told, asking_of, asks_new, asks_on, settles_on}
+use Rattle.txn_core.proofs.Gathers.{self, with_at, at_with, Each, EachBut, each_but, each_with, but_with, tell_start, Base, Knows, AllGathered, Wants, Sets, Grants, wants_more, sets_more, grants_more, Kept, Asking, wide_told, wants_told, wide_widened, kept_same, kept_more, kept_told, asking_of, asks_new, asks_on, settles_on}
+use Rattle.txn_core.proofs.Cached.{given_is}
+use Rattle.txn_core.proofs.Contents.{Free, each_opened, FreeIn, free_before, GivenTo, GivenIn}
 use Rattle.txn_core.proofs.Locks.{Are, are_with, are_same, are_opened, told_raised, all_told-tell, asks_lock}
 
 -- ---- replies that lose a lock
@@ -103,15 +106,15 @@ abbrev pub Begun : (ℕ → Prefix → Type 0) → (ℕ → Prefix → Type 0) �
 Begun Old Loose suite collector = Old suite collector.start ⊎ (Loose suite collector.start × (all_told collector ≡ []))
 
 -- a collector that was told just this falls short
-pub record ShortBy (fixed : Fixed) (task : Task) (Old Loose : ℕ → Prefix → Type 0) (past : List Exchange) (suite got needed : ℕ) (busy : Option (ℕ × ℕ)) : Type 0 where
+pub record ShortBy (fixed : Fixed) (task : Task) (Old : Base) (Loose : ℕ → Prefix → Type 0) (past : List Exchange) (suite got needed : ℕ) (busy : Option (ℕ × ℕ)) : Type 0 where
   pub collector : Collector
   pub told : all_told collector ≡ told_of suite [] past
   pub short : next collector ≡ Short got needed busy
-  pub begun : Begun Old Loose suite collector
+  pub begun : Begun Old.start Loose suite collector
   pub wide : (w : collecting.Widening) → collector.widening ≡ Some w → Sets fixed task Old past suite w.votes
   pub wanted : Wants fixed task Old past suite collector.mode
 
-abbrev pub CausedBy : Fixed → Task → (ℕ → Prefix → Type 0) → (ℕ → Prefix → Type 0) → List Exchange → Cause → Type 0
+abbrev pub CausedBy : Fixed → Task → Base → (ℕ → Prefix → Type 0) → List Exchange → Cause → Type 0
 CausedBy fixed task Old Loose past (Unavailable suite got needed) = ShortBy fixed task Old Loose past suite got needed None
 CausedBy fixed task Old Loose past (Busy server holder) = (suite got needed : ℕ) × ShortBy fixed task Old Loose past suite got needed (Some (server, holder))
 CausedBy fixed task Old Loose past (Lost server) = Was past server loses
@@ -120,26 +123,33 @@ CausedBy fixed task Old Loose past HomeDown = (server : ℕ) × Was past server 
 CausedBy fixed task Old Loose past (Full server) = Was past server (stops lack.Full)
 CausedBy fixed task Old Loose past Memory = (server : ℕ) × Was past server (stops lack.Memory)
 
-abbrev pub EndIs : Fixed → Task → (ℕ → Prefix → Type 0) → (ℕ → Prefix → Type 0) → List Exchange → Ending → Type 0
+abbrev pub EndIs : Fixed → Task → Base → (ℕ → Prefix → Type 0) → List Exchange → Ending → Type 0
 EndIs fixed task Old Loose past (Undecided cause) = CausedBy fixed task Old Loose past cause
 EndIs fixed task Old Loose past (Answered answers) = Unit {0}
 EndIs fixed task Old Loose past (Refused refusal) = Unit {0}
 EndIs fixed task Old Loose past (Swept broken finished left) = Unit {0}
 
 -- where all that was told fits
-abbrev pub EndCaused : Fixed → Task → (ℕ → Prefix → Type 0) → (ℕ → Prefix → Type 0) → List Exchange → Ending → Type 0
+abbrev pub EndCaused : Fixed → Task → Base → (ℕ → Prefix → Type 0) → List Exchange → Ending → Type 0
 EndCaused fixed task Old Loose past ending = all_fit past ≡ true → EndIs fixed task Old Loose past ending
 
 -- What a phase keeps: of the suite that is gathered, of all others, of the suites that get votes, and of how it ends.
-abbrev pub Stands : Fixed → Task → (Old Now Loose : ℕ → Prefix → Type 0) → List Exchange → Suites → Phase → Type 0
-Stands fixed task Old Now Loose past suites (Gathering number) =
+abbrev pub StandsOn : Fixed → Task → (Old : Base) (Now Loose : ℕ → Prefix → Type 0) → List Exchange → Suites → Phase → Type 0
+StandsOn fixed task Old Now Loose past suites (Gathering number) =
     Are (Tells past) suites × EachBut (Kept fixed task Old past) number suites × ((suite : Suite) → suite_of suites number ≡ Some suite → Asking fixed task Old Now past number suite)
-Stands fixed task Old Now Loose past suites (Fetching number) = Are (Tells past) suites × Each (Kept fixed task Old past) suites
-Stands fixed task Old Now Loose past suites (Widening left granted) =
+StandsOn fixed task Old Now Loose past suites (Fetching number) = Are (Tells past) suites × Each (Kept fixed task Old past) suites
+StandsOn fixed task Old Now Loose past suites (Widening left granted) =
     Are (Tells past) suites × Each (Kept fixed task Old past) suites × Grants fixed task Old past granted.answers granted.changes × ((number : ℕ) → Has left number → Has (to_widen granted.changes) number)
-Stands fixed task Old Now Loose past suites (Preparing left outcome) = Unit {0}
-Stands fixed task Old Now Loose past suites (Deciding outcome) = Unit {0}
-Stands fixed task Old Now Loose past suites (Finishing servers v ending) = EndCaused fixed task Old Loose past ending
+StandsOn fixed task Old Now Loose past suites (Preparing left outcome) = Unit {0}
+StandsOn fixed task Old Now Loose past suites (Deciding outcome) = Unit {0}
+StandsOn fixed task Old Now Loose past suites (Finishing servers v ending) = EndCaused fixed task Old Loose past ending
+
+-- the same where nothing is said of contents
+abbrev pub started_from : (ℕ → Prefix → Type 0) → Base
+started_from Old = record { start = Old; content = λ number first content. Unit {0} }
+
+abbrev pub Stands : Fixed → Task → (Old Now Loose : ℕ → Prefix → Type 0) → List Exchange → Suites → Phase → Type 0
+Stands fixed task Old Now Loose past suites phase = StandsOn fixed task (started_from Old) Now Loose past suites phase
 
 -- from where a suite starts that is gathered just now
 pub record Fresh (fixed : Fixed) (task : Task) (cache : Cache) (past : List Exchange) (number : ℕ) (start : Prefix) : Type 0 where
@@ -149,13 +159,13 @@ pub record Fresh (fixed : Fixed) (task : Task) (cache : Cache) (past : List Exch
 abbrev pub OrFresh : Fixed → Task → Cache → List Exchange → (ℕ → Prefix → Type 0) → ℕ → Prefix → Type 0
 OrFresh fixed task cache past Old number start = Old number start ⊎ Fresh fixed task cache past number start
 
-abbrev pub LeftOf : Fixed → Task → (Old Loose : ℕ → Prefix → Type 0) → List Exchange → Cache → After Course → Type 0
+abbrev pub LeftOf : Fixed → Task → (Old : Base) (Loose : ℕ → Prefix → Type 0) → List Exchange → Cache → After Course → Type 0
 LeftOf fixed task Old Loose past cache (GoesOn course) =
-    (course.task ≡ task) × Stands fixed task Old (OrFresh fixed task cache past Old) (OrFresh fixed task cache past Loose) past course.suites course.phase
+    (course.task ≡ task) × StandsOn fixed task Old (OrFresh fixed task cache past Old.start) (OrFresh fixed task cache past Loose) past course.suites course.phase
 LeftOf fixed task Old Loose past cache (Ends ending) = EndCaused fixed task Old (OrFresh fixed task cache past Loose) past ending
 
 -- what a step leaves
-abbrev pub Leaves : Fixed → Task → (Old Loose : ℕ → Prefix → Type 0) → List Exchange → Step → Type 0
+abbrev pub Leaves : Fixed → Task → (Old : Base) (Loose : ℕ → Prefix → Type 0) → List Exchange → Step → Type 0
 Leaves fixed task Old Loose past step = LeftOf fixed task Old Loose past step.cache step.after
 
 pub was_now : (past : List Exchange) (server : ℕ) (asked : Request) (word : Word) (kind : Request → Word → Bool) → kind asked word ≡ true → Was (push past server asked word) server kind
@@ -192,40 +202,6 @@ last_fits past server asked word fine = of (fits_word asked word) (both_fit past
     of true is = refl
     of false is = cc
 
--- ---- contents that are opened
-
-pub each_opened : (K : ℕ → Suite → Type 0) → ((number : ℕ) (suite : Suite) (content : Content) → K number suite → K number (record suite { content = Some content })) → (n : ℕ) (fixed : Fixed) (task : Task) (all : Gathered) → Each K all.suites
-    → Each K (opened n fixed task all).suites
-each_opened K opens zero fixed task all each = each
-each_opened K opens (suc n) fixed task all each = of (heard_on fixed task all.suites) (λ more each. each_opened K opens n fixed task more each)
-  where
-    or' : (found : Option Gathered) → ((more : Gathered) → found ≡ Some more → Each K more.suites) → ((more : Gathered) → Each K more.suites → Each K (opened n fixed task more).suites) → Each K (or_all all found (λ all. opened n fixed task all)).suites
-    or' (Some more) found_each later = later more (found_each more refl)
-    or' None found_each later = each
-
-    with_content : (number : ℕ) (suite : Suite) (first : First) (content : Option Content) (more : Gathered) → suite_of all.suites number ≡ Some suite → opened_with task all number suite first content ≡ Some more → Each K more.suites
-    with_content number suite first (Some content) more there is =
-        subst (λ (more : Gathered). Each K more.suites) (same_Some _ more is)
-        (each_with K number all.suites (record suite { content = Some content }) (each_but K number all.suites each) (opens number suite content (each number suite there)))
-    with_content number suite first None more there is = cc
-
-    at_first : (number : ℕ) (suite : Suite) (first : Option First) (more : Gathered) → suite_of all.suites number ≡ Some suite → open_first task all number suite first ≡ Some more → Each K more.suites
-    at_first number suite (Some first) more there is = with_content number suite first (free_content task all.cache number first) more there is
-    at_first number suite None more there is = cc
-
-    at_suite : (number : ℕ) (found : Option Suite) (more : Gathered) → suite_of all.suites number ≡ found → open_suite task all number found ≡ Some more → Each K more.suites
-    at_suite number (Some suite) more there is = at_first number suite suite.first more there is
-    at_suite number None more there is = cc
-
-    needed' : (heard : Executed) (more : Gathered) → open_needed task all heard ≡ Some more → Each K more.suites
-    needed' (exec.Need (Know number)) more is = at_suite number (suite_of all.suites number) more refl is
-    needed' (exec.Need (Hold number mode)) more is = cc
-    needed' (exec.Done answers changes) more is = cc
-    needed' (exec.Refused refusal) more is = cc
-
-    of : (heard : Executed) → ((more : Gathered) → Each K more.suites → Each K (opened n fixed task more).suites) → Each K (or_all all (open_needed task all heard) (λ all. opened n fixed task all)).suites
-    of heard later = or' (open_needed task all heard) (needed' heard) later
-
 -- ---- what is told
 
 lost_asked : (task : Task) (number : ℕ) (after : Next) (server : ℕ) (asked : Request) (said : Reply) → asked_by task number after ≡ Some (server, asked) → fits asked said ≡ true → said_to asked said ≡ None → loses asked (Replied said) ≡ true
@@ -260,7 +236,7 @@ there_with number suite suites = with_at number suite suites number ∙ ap (λ b
 
 -- ---- steps
 
-module _ (fixed : Fixed) (task : Task) (Old Loose : ℕ → Prefix → Type 0) where
+module _ (fixed : Fixed) (task : Task) (Old : Base) (Loose : ℕ → Prefix → Type 0) where
   abbrev Keeps : List Exchange → ℕ → Suite → Type 0
   Keeps past number suite = Kept fixed task Old past number suite
 
@@ -293,7 +269,7 @@ module _ (fixed : Fixed) (task : Task) (Old Loose : ℕ → Prefix → Type 0) w
   still_ended past cache server asked word none (Refused refusal) is fine = tt
   still_ended past cache server asked word none (Swept broken finished left) is fine = tt
 
-  short_caused : (L : ℕ → Prefix → Type 0) (past : List Exchange) (number : ℕ) (collector : Collector) (had wanting : ℕ) (busy : Option (ℕ × ℕ)) → all_told collector ≡ Tells past number → next collector ≡ Short had wanting busy → Begun Old L number collector
+  short_caused : (L : ℕ → Prefix → Type 0) (past : List Exchange) (number : ℕ) (collector : Collector) (had wanting : ℕ) (busy : Option (ℕ × ℕ)) → all_told collector ≡ Tells past number → next collector ≡ Short had wanting busy → Begun Old.start L number collector
       → ((w : collecting.Widening) → collector.widening ≡ Some w → Sets fixed task Old past number w.votes) → Wants fixed task Old past number collector.mode → CausedBy fixed task Old L past (short_cause number had wanting busy)
   short_caused L past number collector had wanting None same is begun wide wanted = record { collector = collector; told = same; short = is; begun = begun; wide = wide; wanted = wanted }
   short_caused L past number collector had wanting (Some busy) same is begun wide wanted = (number, had, wanting, record { collector = collector; told = same; short = is; begun = begun; wide = wide; wanted = wanted })
@@ -317,35 +293,35 @@ module _ (fixed : Fixed) (task : Task) (Old Loose : ℕ → Prefix → Type 0) w
   caused_prepare past cache suites outcome (server ∷ servers) = (refl, tt)
 
   caused_gather : (past : List Exchange) (cache : Cache) (suites : Suites) (number : ℕ) (suite : Suite) (after : Next) → Are (Tells past) suites → EachBut (Keeps past) number suites → suite_of suites number ≡ Some suite
-      → all_told suite.collector ≡ Tells past number → Asking fixed task Old (OrFresh fixed task cache past Old) past number suite → next suite.collector ≡ after → Leaves fixed task Old Loose past (gather_by task cache suites number after)
+      → all_told suite.collector ≡ Tells past number → Asking fixed task Old (OrFresh fixed task cache past Old.start) past number suite → next suite.collector ≡ after → Leaves fixed task Old Loose past (gather_by task cache suites number after)
   caused_gather past cache suites number suite (Short had wanting busy) are others there same asking is =
       caused_give_up past cache suites (short_cause number had wanting busy) (λ _. short_caused (OrFresh fixed task cache past Loose) past number suite.collector had wanting busy same is
       (elim asking.start [ inl old ↦ inl old | inr fresh ↦ inr (inr fresh, same ∙ fresh.untold) ]) asking.wide asking.wanted)
   caused_gather past cache suites number suite (Ask server asked) are others there same asking is =
-      (refl, (are, others, λ found at. subst (Asking fixed task Old (OrFresh fixed task cache past Old) past number) (same_Some suite found (sym there ∙ at)) asking))
+      (refl, (are, others, λ found at. subst (Asking fixed task Old (OrFresh fixed task cache past Old.start) past number) (same_Some suite found (sym there ∙ at)) asking))
   caused_gather past cache suites number suite (Current prefix dver members) are others there same asking is =
-      (refl, (are, others, λ found at. subst (Asking fixed task Old (OrFresh fixed task cache past Old) past number) (same_Some suite found (sym there ∙ at)) asking))
+      (refl, (are, others, λ found at. subst (Asking fixed task Old (OrFresh fixed task cache past Old.start) past number) (same_Some suite found (sym there ∙ at)) asking))
 
   -- what is gathered: a suite that is there, or a new one
   gathers : (past : List Exchange) (cache : Cache) (number : ℕ) (mode : LockMode) (found : Option Suite) → ((suite : Suite) → found ≡ Some suite → Keeps past number suite) → (found ≡ None → told_of number [] past ≡ []) → Wants fixed task Old past number mode
       → ((suite : Suite) (first : First) → found ≡ Some suite → suite.first ≡ Some first → mode ≡ Exclusive)
-      → Asking fixed task Old (OrFresh fixed task cache past Old) past number (raised_or_new fixed task cache number mode found)
+      → Asking fixed task Old (OrFresh fixed task cache past Old.start) past number (raised_or_new fixed task cache number mode found)
   gathers past cache number mode (Some suite) kept untold wants exclusive =
       let raised : Suite = record suite { collector = raise suite.collector } in
       let was = kept suite refl in
       let wanted : Wants fixed task Old past number raised.collector.mode =
       wants_raised suite.collector.widening (subst (Wants fixed task Old past number) (exclusive suite was.first.first refl was.first.was) wants) was.wanted in
-      let now = kept_same fixed task Old past number suite raised refl refl (λ w is. was.wide w is) wanted was in
-      record { start = inl now.start; first = inl now.first; wide = now.wide; wanted = wanted }
+      let now = kept_same fixed task Old past number suite raised refl refl was.content (λ w is. was.wide w is) wanted was in
+      record { start = inl now.start; first = inl now.first; content = now.content; wide = now.wide; wanted = wanted }
     where
       wants_raised : (w : Option collecting.Widening) → Wants fixed task Old past number Exclusive → Wants fixed task Old past number suite.collector.mode → Wants fixed task Old past number (collecting.raised w suite.collector.mode)
       wants_raised (Some w) now before = before
       wants_raised None now before = now
   gathers past cache number mode None kept untold wants exclusive =
-      asks_new fixed task Old past number (OrFresh fixed task cache past Old) mode Shared (start_from fixed task cache number) (untold refl) (inr (record { from = refl; untold = untold refl })) wants
+      asks_new fixed task Old past number (OrFresh fixed task cache past Old.start) mode Shared (start_from fixed task cache number) (untold refl) (inr (record { from = refl; untold = untold refl })) wants
 
   caused_widen_by : (past : List Exchange) (cache : Cache) (suites : Suites) (left : List ℕ) (granted : Granted) (number : ℕ) (collector : Collector) (after : Next) (go_on : Suites → Step)
-      → Stands fixed task Old (OrFresh fixed task cache past Old) (OrFresh fixed task cache past Loose) past suites (Widening left granted) → all_told collector ≡ Tells past number → next collector ≡ after → Old number collector.start
+      → StandsOn fixed task Old (OrFresh fixed task cache past Old.start) (OrFresh fixed task cache past Loose) past suites (Widening left granted) → all_told collector ≡ Tells past number → next collector ≡ after → Old.start number collector.start
       → ((w : collecting.Widening) → collector.widening ≡ Some w → Sets fixed task Old past number w.votes) → Wants fixed task Old past number collector.mode → Leaves fixed task Old Loose past (go_on suites) → Leaves fixed task Old Loose past (widen_by task cache suites (Widening left granted) number after go_on)
   caused_widen_by past cache suites left granted number collector (Current prefix dver members) go_on stands same is old wide wanted more = more
   caused_widen_by past cache suites left granted number collector (Ask server asked) go_on stands same is old wide wanted more = (refl, stands)
@@ -359,7 +335,7 @@ module _ (fixed : Fixed) (task : Task) (Old Loose : ℕ → Prefix → Type 0) w
   caused_widen_one past cache suites number left granted (Some suite) go_on there are each grants gets more =
       let now = widened granted.changes number suite in
       let was = each number suite there in
-      let kept = kept_same fixed task Old past number suite now refl refl (wide_widened fixed task Old past granted.changes granted.answers number suite grants (gets number (inl refl))) was.wanted was in
+      let kept = kept_same fixed task Old past number suite now refl refl was.content (wide_widened fixed task Old past granted.changes granted.answers number suite grants (gets number (inl refl))) was.wanted was in
       let are' = are_same (Tells past) suites number now are (sym (ap told_in there)) in
       let each' = each_with (Keeps past) number suites now (each_but (Keeps past) number suites each) kept in
       caused_widen_by past cache (with_suite number now suites) (number ∷ left) granted number now.collector (next now.collector) go_on (are', each', grants, gets) (told_there past suites number (Some suite) there are) refl kept.start kept.wide kept.wanted
@@ -372,7 +348,7 @@ module _ (fixed : Fixed) (task : Task) (Old Loose : ℕ → Prefix → Type 0) w
       caused_widen_one past cache suites number left granted (suite_of suites number) _ refl are each grants gets (λ suites are each. caused_widen past cache suites granted left are each grants (λ n has. gets n (inr has)))
 
   gathered : (past : List Exchange) (suites : Suites) → Each (Keeps past) suites → AllGathered Old past suites
-  gathered past suites each n suite there = let kept = each n suite there in (kept.start, kept.first)
+  gathered past suites each n suite there = let kept = each n suite there in (kept.start, kept.first, kept.content)
 
   caused_proceed : (past : List Exchange) (cache : Cache) (suites : Suites) (heard : Executed) → heard_on fixed task suites ≡ heard → Are (Tells past) suites → Each (Keeps past) suites → Leaves fixed task Old Loose past (proceed fixed task cache suites heard)
   caused_proceed past cache suites (exec.Need (Hold number mode)) is are each =
@@ -387,11 +363,17 @@ module _ (fixed : Fixed) (task : Task) (Old Loose : ℕ → Prefix → Type 0) w
       caused_widen past cache suites (record { answers = answers; changes = changes }) (to_widen changes) are each (record { suites = suites; gathered = gathered past suites each; done = is }) (λ n has. has)
   caused_proceed past cache suites (exec.Refused refusal) is are each = caused_prepare past cache suites (Err refusal) (locked_at suites)
 
-  pub caused_execute : (past : List Exchange) (all : Gathered) → Are (Tells past) all.suites → Each (Keeps past) all.suites → Leaves fixed task Old Loose past (execute fixed task all)
-  caused_execute past all are each =
+  pub caused_execute : (past : List Exchange) (all : Gathered) → FreeIn Old.content task all.cache → Are (Tells past) all.suites → Each (Keeps past) all.suites → Leaves fixed task Old Loose past (execute fixed task all)
+  caused_execute past all free are each =
       let open' = opened (length all.suites) fixed task all in
       caused_proceed past open'.cache open'.suites (heard_on fixed task open'.suites) refl (are_opened (Tells past) (length all.suites) fixed task all are)
-      (each_opened (Keeps past) (λ number suite content kept. kept_same fixed task Old past number suite (record suite { content = Some content }) refl refl (λ w is. kept.wide w is) kept.wanted kept) (length all.suites) fixed task all each)
+      (each_opened all.cache task (Keeps past) opens (length all.suites) fixed all (λ number dver. refl) each)
+    where
+      opens : (number : ℕ) (suite : Suite) (first : First) (content : Content) → suite.first ≡ Some first → Free task all.cache first number content → Keeps past number suite → Keeps past number (record suite { content = Some content })
+      opens number suite first content was found kept =
+          kept_same fixed task Old past number suite (record suite { content = Some content }) refl refl
+          (λ other at. (first, was, subst (Old.content number first) (same_Some content other at) (free number first content found)))
+          (λ w is. kept.wide w is) kept.wanted kept
 
   -- ---- a reply to a collector
 
@@ -399,10 +381,10 @@ module _ (fixed : Fixed) (task : Task) (Old Loose : ℕ → Prefix → Type 0) w
   record Hears (past : List Exchange) (cache : Cache) (suites : Suites) (phase : Phase) (number : ℕ) (go_on : Suites → Step) (now : Suite) : Type 0 where
     told : all_told now.collector ≡ Tells past number
     are : (it : Suite) → it.collector ≡ now.collector → Are (Tells past) (with_suite number it suites)
-    begun : Old number now.collector.start
+    begun : Old.start number now.collector.start
     wide : (w : collecting.Widening) → now.collector.widening ≡ Some w → Sets fixed task Old past number w.votes
     wanted : Wants fixed task Old past number now.collector.mode
-    asks : (who : ℕ) (what : Asked) → next now.collector ≡ Ask who what → Stands fixed task Old (OrFresh fixed task cache past Old) (OrFresh fixed task cache past Loose) past (with_suite number now suites) phase
+    asks : (who : ℕ) (what : Asked) → next now.collector ≡ Ask who what → StandsOn fixed task Old (OrFresh fixed task cache past Old.start) (OrFresh fixed task cache past Loose) past (with_suite number now suites) phase
     settles : (prefix : Prefix) (dver : ℕ) (members : List ℕ) → next now.collector ≡ Current prefix dver members → Keeps past number (settled prefix dver members now)
     more : (it : Suite) → Are (Tells past) (with_suite number it suites) → Keeps past number it → Leaves fixed task Old Loose past (go_on (with_suite number it suites))
 
@@ -415,11 +397,11 @@ module _ (fixed : Fixed) (task : Task) (Old Loose : ℕ → Prefix → Type 0) w
       hears.more (settled prefix dver members now) (hears.are (settled prefix dver members now) refl) (hears.settles prefix dver members is)
 
   caused_heard : (past : List Exchange) (cache : Cache) (suites : Suites) (phase : Phase) (number : ℕ) (found : Option Suite) (server : ℕ) (asked : Request) (said : Reply) (go_on : Suites → Step)
-      → Are (Tells past) suites → suite_of suites number ≡ found → asked_for task number found ≡ Some (server, asked) → ((suite : Suite) → found ≡ Some suite → Asking fixed task Old Old past number suite)
+      → Are (Tells past) suites → suite_of suites number ≡ found → asked_for task number found ≡ Some (server, asked) → ((suite : Suite) → found ≡ Some suite → Asking fixed task Old Old.start past number suite)
       → ((suite : Suite) (one : Told) → found ≡ Some suite → (heard : all_told (tell one suite.collector) ≡ Tells (push past server asked (Replied said)) number)
       → Are (Tells (push past server asked (Replied said))) (with_suite number (record suite { collector = tell one suite.collector }) suites)
-      → Asking fixed task Old Old (push past server asked (Replied said)) number (record suite { collector = tell one suite.collector })
-      → Stands fixed task Old (OrFresh fixed task cache (push past server asked (Replied said)) Old) (OrFresh fixed task cache (push past server asked (Replied said)) Loose) (push past server asked (Replied said)) (with_suite number (record suite { collector = tell one suite.collector }) suites) phase)
+      → Asking fixed task Old Old.start (push past server asked (Replied said)) number (record suite { collector = tell one suite.collector })
+      → StandsOn fixed task Old (OrFresh fixed task cache (push past server asked (Replied said)) Old.start) (OrFresh fixed task cache (push past server asked (Replied said)) Loose) (push past server asked (Replied said)) (with_suite number (record suite { collector = tell one suite.collector }) suites) phase)
       → ((it : Suite) → Are (Tells (push past server asked (Replied said))) (with_suite number it suites) → Keeps (push past server asked (Replied said)) number it → Leaves fixed task Old Loose (push past server asked (Replied said)) (go_on (with_suite number it suites)))
       → Leaves fixed task Old Loose (push past server asked (Replied said)) (heard_of task cache suites phase number found server asked said go_on)
   caused_heard past cache suites phase number None server asked said go_on are there is own keep more = cc
@@ -451,7 +433,7 @@ module _ (fixed : Fixed) (task : Task) (Old Loose : ℕ → Prefix → Type 0) w
               caused_collected (push past server asked (Replied said)) cache suites phase number go_on now (next now.collector) (record {
                 told = told;
                 are = areas;
-                begun = subst (Old number) (sym (tell_start one suite.collector)) asking.start;
+                begun = subst (Old.start number) (sym (tell_start one suite.collector)) asking.start;
                 wide = wide_told fixed task Old past number suite one (x ∷ []) asking.wide;
                 wanted = wants_told fixed task Old past number suite one (x ∷ []) asking.wanted;
                 asks = λ at what is. keep suite one refl told (areas now refl) (asks_on fixed task Old past number suite one x told who question asks asking at what is);
@@ -462,9 +444,9 @@ module _ (fixed : Fixed) (task : Task) (Old Loose : ℕ → Prefix → Type 0) w
   -- ---- other words
 
   caused_fetched : (past : List Exchange) (cache : Cache) (suites : Suites) (number : ℕ) (found : Option Suite) (server : ℕ) (asked : Request) (said : Reply) → Are (Tells past) suites → Each (Keeps past) suites → suite_of suites number ≡ found
-      → fetched_for task number found ≡ Some (server, asked) → Leaves fixed task Old Loose (push past server asked (Replied said)) (fetched fixed task cache suites number found server (given_in said))
-  caused_fetched past cache suites number None server asked said are each there is = cc
-  caused_fetched past cache suites number (Some suite) server asked said are each there is = of (given_in said) refl
+      → fetched_for task number found ≡ Some (server, asked) → GivenTo Old.content task server asked said → FreeIn Old.content task (fetched fixed task cache suites number found server (given_in said)).cache → Leaves fixed task Old Loose (push past server asked (Replied said)) (fetched fixed task cache suites number found server (given_in said))
+  caused_fetched past cache suites number None server asked said are each there is given free = cc
+  caused_fetched past cache suites number (Some suite) server asked said are each there is given free = of (given_in said) refl free
     where
       what : (first : Option First) → fetched_at task number first ≡ Some (server, asked) → request.Fetch task.t number ≡ asked
       what (Some first) is = asks_same first.source server (request.Fetch task.t number) asked is
@@ -473,25 +455,34 @@ module _ (fixed : Fixed) (task : Task) (Old Loose : ℕ → Prefix → Type 0) w
       x : Exchange
       x = record { server = server; request = asked; word = Replied said }
 
-      opens : (content : Content) → Keeps (past ++ x ∷ []) number (record suite { content = Some content })
-      opens content =
+      opens : (content : Content) → Knows Old.content number (record suite { content = Some content }) → Keeps (past ++ x ∷ []) number (record suite { content = Some content })
+      opens content knows =
           let kept = kept_more fixed task Old past number (x ∷ []) suite (each number suite there) in
-          kept_same fixed task Old (past ++ x ∷ []) number suite (record suite { content = Some content }) refl refl (λ w is. kept.wide w is) kept.wanted kept
+          kept_same fixed task Old (past ++ x ∷ []) number suite (record suite { content = Some content }) refl refl knows (λ w is. kept.wide w is) kept.wanted kept
 
-      kept : (content : Content) (first : Option First) → fetched_at task number first ≡ Some (server, asked) → Leaves fixed task Old Loose (push past server asked (Replied said)) (keep_content fixed task cache suites number suite content first server)
-      kept content None is = cc
-      kept content (Some first) is =
-          caused_execute (push past server asked (Replied said)) _
+      kept : (content : Content) (first : Option First) → suite.first ≡ first → fetched_at task number first ≡ Some (server, asked) → given_in said ≡ Some content
+          → FreeIn Old.content task (keep_content fixed task cache suites number suite content first server).cache → Leaves fixed task Old Loose (push past server asked (Replied said)) (keep_content fixed task cache suites number suite content first server)
+      kept content None was is told free = cc
+      kept content (Some first) was is told free =
+          let all : Gathered = record {
+            suites = with_suite number (record suite { content = Some content }) suites;
+            cache = put fixed.limits (record { site = task.site; suite = number; prefix = first.prefix; dver = first.dver; content = content }) cache;
+          } in
+          let said_is = given_is said content told in
+          let at : server ≡ first.source = sym (ap (λ (pair : ℕ × Request). pair.0) (same_Some (first.source, request.Fetch task.t number) (server, asked) is)) in
+          let knows : Knows Old.content number (record suite { content = Some content }) =
+          λ other is'. (first, was, subst (Old.content number first) (same_Some content other is') (given number first content said_is.0 at (sym (what (Some first) is)) said_is.1)) in
+          caused_execute (push past server asked (Replied said)) all (free_before Old.content fixed task all free)
           (are_same (Tells (push past server asked (Replied said))) suites number (record suite { content = Some content }) (are_quiet past suites server asked (Replied said) (λ number. ap (locks number) (sym (what (Some first) is))) are) (sym (ap told_in there)))
-          (each_with (Keeps (past ++ x ∷ [])) number suites (record suite { content = Some content }) (λ n other _ at. kept_more fixed task Old past n (x ∷ []) other (each n other at)) (opens content))
+          (each_with (Keeps (past ++ x ∷ [])) number suites (record suite { content = Some content }) (λ n other _ at. kept_more fixed task Old past n (x ∷ []) other (each n other at)) (opens content knows))
 
-      of : (given : Option Content) → given_in said ≡ given → Leaves fixed task Old Loose (push past server asked (Replied said)) (fetched fixed task cache suites number (Some suite) server given)
-      of (Some content) was = kept content suite.first is
-      of None was =
+      of : (given : Option Content) → given_in said ≡ given → FreeIn Old.content task (fetched fixed task cache suites number (Some suite) server given).cache → Leaves fixed task Old Loose (push past server asked (Replied said)) (fetched fixed task cache suites number (Some suite) server given)
+      of (Some content) was free = kept content suite.first refl is was free
+      of None was free =
           caused_give_up (push past server asked (Replied said)) cache suites (Lost server)
           (λ fine. was_now past server asked (Replied said) loses (subst (λ asked. fits asked said ≡ true → loses asked (Replied said) ≡ true) (what suite.first is) (λ fine. lost_fetch task.t number said fine was) (last_fits past server asked (Replied said) fine)))
 
-  caused_lack : (past : List Exchange) (cache : Cache) (suites : Suites) (phase : Phase) (server : ℕ) (asked : Request) (lacked : Lack) → request_in fixed task suites phase ≡ Some (server, asked) → Stands fixed task Old Old Loose past suites phase
+  caused_lack : (past : List Exchange) (cache : Cache) (suites : Suites) (phase : Phase) (server : ℕ) (asked : Request) (lacked : Lack) → request_in fixed task suites phase ≡ Some (server, asked) → StandsOn fixed task Old Old.start Loose past suites phase
       → Leaves fixed task Old Loose (push past server asked (Lacked lacked)) (after_lack task cache suites phase server lacked)
   caused_lack past cache suites (Gathering number) server asked lacked is stands =
       caused_give_up _ cache suites (lack_cause server lacked) (λ _. lack_caused _ past server asked lacked (asked_as is_finish false task number (suite_of suites number) server asked (λ _. refl) refl is))
@@ -526,22 +517,23 @@ module _ (fixed : Fixed) (task : Task) (Old Loose : ℕ → Prefix → Type 0) w
   decided_caused L past server t decision reply.Done fine = cc
   decided_caused L past server t decision (reply.Locked locks) fine = cc
 
-  pub caused_word : (past : List Exchange) (cache : Cache) (suites : Suites) (phase : Phase) (server : ℕ) (asked : Request) (word : Word) → request_in fixed task suites phase ≡ Some (server, asked) → Stands fixed task Old Old Loose past suites phase
+  pub caused_word : (past : List Exchange) (cache : Cache) (suites : Suites) (phase : Phase) (server : ℕ) (asked : Request) (word : Word) → request_in fixed task suites phase ≡ Some (server, asked) → StandsOn fixed task Old Old.start Loose past suites phase
+      → FreeIn Old.content task cache → GivenIn Old.content task server asked word → FreeIn Old.content task (after_word fixed (record { task = task; suites = suites; phase = phase }) cache server asked word).cache
       → Leaves fixed task Old Loose (push past server asked word) (after_word fixed (record { task = task; suites = suites; phase = phase }) cache server asked word)
-  caused_word past cache suites phase server asked (Lacked lacked) is stands = caused_lack past cache suites phase server asked lacked is stands
-  caused_word past cache suites (Gathering number) server asked (Replied said) is stands =
+  caused_word past cache suites phase server asked (Lacked lacked) is stands free given then' = caused_lack past cache suites phase server asked lacked is stands
+  caused_word past cache suites (Gathering number) server asked (Replied said) is stands free given then' =
       let x : Exchange = record { server = server; request = asked; word = Replied said } in
       let others : EachBut (Keeps (past ++ x ∷ [])) number suites = λ n suite other at. kept_more fixed task Old past n (x ∷ []) suite (stands.1 n suite other at) in
       caused_heard past cache suites (Gathering number) number (suite_of suites number) server asked said _ stands.0 refl is stands.2
       (λ suite one there heard are asking. (
         are,
         but_with (Keeps (past ++ x ∷ [])) number suites (record suite { collector = tell one suite.collector }) others,
-        λ found at. subst (Asking fixed task Old (OrFresh fixed task cache (past ++ x ∷ []) Old) (past ++ x ∷ []) number) (at_with number (record suite { collector = tell one suite.collector }) found suites at) (record { start = inl asking.start; first = asking.first; wide = asking.wide; wanted = asking.wanted }),
+        λ found at. subst (Asking fixed task Old (OrFresh fixed task cache (past ++ x ∷ []) Old.start) (past ++ x ∷ []) number) (at_with number (record suite { collector = tell one suite.collector }) found suites at) (record { start = inl asking.start; first = asking.first; content = asking.content; wide = asking.wide; wanted = asking.wanted }),
       ))
-      (λ it are kept. caused_execute (push past server asked (Replied said)) (record { suites = with_suite number it suites; cache = cache }) are (each_with (Keeps (past ++ x ∷ [])) number suites it others kept))
-  caused_word past cache suites (Fetching number) server asked (Replied said) is stands = caused_fetched past cache suites number (suite_of suites number) server asked said stands.0 stands.1 refl is
-  caused_word past cache suites (Widening [] granted) server asked (Replied said) is stands = cc
-  caused_word past cache suites (Widening (number ∷ left) granted) server asked (Replied said) is stands =
+      (λ it are kept. caused_execute (push past server asked (Replied said)) (record { suites = with_suite number it suites; cache = cache }) free are (each_with (Keeps (past ++ x ∷ [])) number suites it others kept))
+  caused_word past cache suites (Fetching number) server asked (Replied said) is stands free given then' = caused_fetched past cache suites number (suite_of suites number) server asked said stands.0 stands.1 refl is given then'
+  caused_word past cache suites (Widening [] granted) server asked (Replied said) is stands free given then' = cc
+  caused_word past cache suites (Widening (number ∷ left) granted) server asked (Replied said) is stands free given then' =
       let x : Exchange = record { server = server; request = asked; word = Replied said } in
       let others : EachBut (Keeps (past ++ x ∷ [])) number suites = λ n suite _ at. kept_more fixed task Old past n (x ∷ []) suite (stands.1 n suite at) in
       caused_heard past cache suites (Widening (number ∷ left) granted) number (suite_of suites number) server asked said _ stands.0 refl is (λ suite at. asking_of fixed task Old past number suite (stands.1 number suite at))
@@ -552,8 +544,8 @@ module _ (fixed : Fixed) (task : Task) (Old Loose : ℕ → Prefix → Type 0) w
         stands.3,
       ))
       (λ it are kept. caused_widen (push past server asked (Replied said)) cache (with_suite number it suites) granted left are (each_with (Keeps (past ++ x ∷ [])) number suites it others kept) (grants_more fixed task Old past (x ∷ []) granted.answers granted.changes stands.2) (λ n has. stands.3 n (inr has)))
-  caused_word past cache suites (Preparing [] outcome) server asked (Replied said) is stands = cc
-  caused_word past cache suites (Preparing (now ∷ left) outcome) server asked (Replied said) is stands =
+  caused_word past cache suites (Preparing [] outcome) server asked (Replied said) is stands free given then' = cc
+  caused_word past cache suites (Preparing (now ∷ left) outcome) server asked (Replied said) is stands free given then' =
       elim (is_prepared said) as (λ b. is_prepared said ≡ b → Leaves fixed task Old Loose (push past server asked (Replied said)) (cond b (prepare task cache suites outcome left) (give_up task cache suites (Lost server)))) [
         | true ↦ λ _. caused_prepare (push past server asked (Replied said)) cache suites outcome left
         | false ↦ λ not'. caused_give_up (push past server asked (Replied said)) cache suites (Lost server) (λ fine. was_now past server asked (Replied said) loses
@@ -562,11 +554,11 @@ module _ (fixed : Fixed) (task : Task) (Old Loose : ℕ → Prefix → Type 0) w
     where
       what : request.Prepare task.t (parts_at suites (changes_of outcome) now) ≡ asked
       what = asks_same now server (request.Prepare task.t (parts_at suites (changes_of outcome) now)) asked is
-  caused_word past cache suites (Deciding outcome) server asked (Replied said) is stands =
+  caused_word past cache suites (Deciding outcome) server asked (Replied said) is stands free given then' =
       caused_end (push past server asked (Replied said)) cache suites (verdict_in said verdict.Aborted) (ending_by (verdict_in said verdict.Aborted) (cause_of_abort said)) (locked_at suites)
       (λ fine. subst (λ asked. fits asked said ≡ true → EndIs fixed task Old (OrFresh fixed task cache (push past server asked (Replied said)) Loose) (push past server asked (Replied said)) (ending_by (verdict_in said verdict.Aborted) (cause_of_abort said)))
       (asks_same (home_of fixed.service task.t) server (request.Decide task.t (decision_of task outcome)) asked is)
       (decided_caused (OrFresh fixed task cache (push past server (request.Decide task.t (decision_of task outcome)) (Replied said)) Loose) past server task.t (decision_of task outcome) said) (last_fits past server asked (Replied said) fine))
-  caused_word past cache suites (Finishing [] v ending) server asked (Replied said) is stands = cc
-  caused_word past cache suites (Finishing (now ∷ left) v ending) server asked (Replied said) is stands =
+  caused_word past cache suites (Finishing [] v ending) server asked (Replied said) is stands free given then' = cc
+  caused_word past cache suites (Finishing (now ∷ left) v ending) server asked (Replied said) is stands free given then' =
       caused_end (push past server asked (Replied said)) cache suites v ending left (still_ended past cache server asked (Replied said) (λ number. ap (locks number) (sym (asks_same now server (request.Finish task.t v) asked is))) ending stands)

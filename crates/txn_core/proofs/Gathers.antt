@@ -10,6 +10,7 @@ use Rattle.std.proofs.lemmas.List.{append-nil, append_assoc}
 use Rattle.std.proofs.lemmas.Cmp.{nat_cmp_total}
 use Rattle.sorted_map.specs.Laws.{get-insert}
 use Rattle.vote_core.specs.Quorums.{Configuration}
+use Rattle.suite_content.specs.declared.content.Content.{Content}
 use Rattle.suite_prefix.specs.declared.copies.Prefix.{Prefix}
 use Rattle.suite_prefix.specs.declared.lock_mode.LockMode.{LockMode}
 use Rattle.file_ops.specs.declared.answer.Answer.{Answer}
@@ -146,6 +147,22 @@ gave_more start number past more first gave = record {
 
 -- ---- suites that were gathered
 
+-- what must be so of a suite from without: of the prefix from which it was gathered, and of the content that is known of it
+pub record Base : Type 1 where
+  pub start : ℕ → Prefix → Type 0
+  pub content : ℕ → First → Content → Type 0
+
+-- of a suite whose content is there: it had a Current, and this holds of what that gave and of the content
+abbrev pub Knows : (ℕ → First → Content → Type 0) → ℕ → Suite → Type 0
+Knows C number suite = (content : Content) → suite.content ≡ Some content → (first : First) × (suite.first ≡ Some first) × C number first content
+
+pub knows_settled : (C : ℕ → First → Content → Type 0) (number : ℕ) (suite : Suite) (prefix : Prefix) (dver : ℕ) (members : List ℕ) → Knows C number suite → Knows C number (settled prefix dver members suite)
+knows_settled C number suite prefix dver members knows content is =
+    let was = knows content is in (was.0, ap (λ first. first_or first (record { prefix = prefix; dver = dver; source = source_of suite.collector dver members })) was.1, was.2)
+
+pub knows_map : (C D : ℕ → First → Content → Type 0) (number : ℕ) (suite : Suite) → ((number : ℕ) (first : First) (content : Content) → C number first content → D number first content) → Knows C number suite → Knows D number suite
+knows_map C D number suite maps knows content is = let was = knows content is in (was.0, was.1, maps number was.0 content was.2)
+
 pub record FirstKept (past : List Exchange) (number : ℕ) (suite : Suite) : Type 0 where
   pub first : First
   pub was : suite.first ≡ Some first
@@ -155,25 +172,31 @@ first_more : (past more : List Exchange) (number : ℕ) (suite : Suite) → Firs
 first_more past more number suite kept = record { first = kept.first; was = kept.was; gave = gave_more suite.collector.start number past more kept.first kept.gave }
 
 -- all of them
-abbrev pub AllGathered : (ℕ → Prefix → Type 0) → List Exchange → Suites → Type 0
-AllGathered Old past suites = (n : ℕ) (suite : Suite) → suite_of suites n ≡ Some suite → Old n suite.collector.start × FirstKept past n suite
+abbrev pub AllGathered : Base → List Exchange → Suites → Type 0
+AllGathered Old past suites = (n : ℕ) (suite : Suite) → suite_of suites n ≡ Some suite → Old.start n suite.collector.start × FirstKept past n suite × Knows Old.content n suite
 
-gathered_more : (Old : ℕ → Prefix → Type 0) (past more : List Exchange) (suites : Suites) → AllGathered Old past suites → AllGathered Old (past ++ more) suites
-gathered_more Old past more suites gathered n suite there = let was = gathered n suite there in (was.0, first_more past more n suite was.1)
+gathered_more : (Old : Base) (past more : List Exchange) (suites : Suites) → AllGathered Old past suites → AllGathered Old (past ++ more) suites
+gathered_more Old past more suites gathered n suite there = let was = gathered n suite there in (was.0, first_more past more n suite was.1, was.2)
 
-gathered_map : (Old Old' : ℕ → Prefix → Type 0) (past : List Exchange) (suites : Suites) → ((n : ℕ) (start : Prefix) → Old n start → Old' n start) → AllGathered Old past suites → AllGathered Old' past suites
-gathered_map Old Old' past suites old gathered n suite there = let was = gathered n suite there in (old n suite.collector.start was.0, was.1)
+-- another of which all the same is so
+pub record Follows (Old Old' : Base) : Type 0 where
+  pub start : (n : ℕ) (start : Prefix) → Old.start n start → Old'.start n start
+  pub content : (n : ℕ) (first : First) (content : Content) → Old.content n first content → Old'.content n first content
+
+gathered_map : (Old Old' : Base) (past : List Exchange) (suites : Suites) → Follows Old Old' → AllGathered Old past suites → AllGathered Old' past suites
+gathered_map Old Old' past suites old gathered n suite there =
+    let was = gathered n suite there in (old.start n suite.collector.start was.0, was.1, knows_map Old.content Old'.content n suite old.content was.2)
 
 -- ---- modes that are wanted
 
-pub record Wants (fixed : Fixed) (task : Task) (Old : ℕ → Prefix → Type 0) (past : List Exchange) (number : ℕ) (mode : LockMode) : Type 0 where
+pub record Wants (fixed : Fixed) (task : Task) (Old : Base) (past : List Exchange) (number : ℕ) (mode : LockMode) : Type 0 where
   pub suites : Suites
   pub gathered : AllGathered Old past suites
   pub needs : heard_on fixed task suites ≡ exec.Need (Hold number mode)
 
 -- ---- votes that are set
 
-pub record Sets (fixed : Fixed) (task : Task) (Old : ℕ → Prefix → Type 0) (past : List Exchange) (number : ℕ) (votes : Configuration) : Type 0 where
+pub record Sets (fixed : Fixed) (task : Task) (Old : Base) (past : List Exchange) (number : ℕ) (votes : Configuration) : Type 0 where
   pub suites : Suites
   pub gathered : AllGathered Old past suites
   pub answers : List Answer
@@ -183,12 +206,12 @@ pub record Sets (fixed : Fixed) (task : Task) (Old : ℕ → Prefix → Type 0) 
   pub are : option_map (λ (change : Change). change.row.votes) (change_of changes number) ≡ Some votes
 
 -- what the executor has set
-pub record Grants (fixed : Fixed) (task : Task) (Old : ℕ → Prefix → Type 0) (past : List Exchange) (answers : List Answer) (changes : Changes) : Type 0 where
+pub record Grants (fixed : Fixed) (task : Task) (Old : Base) (past : List Exchange) (answers : List Answer) (changes : Changes) : Type 0 where
   pub suites : Suites
   pub gathered : AllGathered Old past suites
   pub done : heard_on fixed task suites ≡ exec.Done answers changes
 
-module _ (fixed : Fixed) (task : Task) (Old : ℕ → Prefix → Type 0) (past more : List Exchange) where
+module _ (fixed : Fixed) (task : Task) (Old : Base) (past more : List Exchange) where
   pub wants_more : (number : ℕ) (mode : LockMode) → Wants fixed task Old past number mode → Wants fixed task Old (past ++ more) number mode
   wants_more number mode wants = record { suites = wants.suites; gathered = gathered_more Old past more wants.suites wants.gathered; needs = wants.needs }
 
@@ -206,7 +229,7 @@ module _ (fixed : Fixed) (task : Task) (Old : ℕ → Prefix → Type 0) (past m
   pub grants_more : (answers : List Answer) (changes : Changes) → Grants fixed task Old past answers changes → Grants fixed task Old (past ++ more) answers changes
   grants_more answers changes grants = record { suites = grants.suites; gathered = gathered_more Old past more grants.suites grants.gathered; done = grants.done }
 
-module _ (fixed : Fixed) (task : Task) (Old Old' : ℕ → Prefix → Type 0) (past : List Exchange) (old : (n : ℕ) (start : Prefix) → Old n start → Old' n start) where
+module _ (fixed : Fixed) (task : Task) (Old Old' : Base) (past : List Exchange) (old : Follows Old Old') where
   pub wants_map : (number : ℕ) (mode : LockMode) → Wants fixed task Old past number mode → Wants fixed task Old' past number mode
   wants_map number mode wants = record { suites = wants.suites; gathered = gathered_map Old Old' past wants.suites old wants.gathered; needs = wants.needs }
 
@@ -240,13 +263,14 @@ listed_change (one ∷ changes) number has = of (is_at (nat_cmp number) one.0) r
 
 -- ---- what is kept of a suite
 
-abbrev pub Wide : Fixed → Task → (ℕ → Prefix → Type 0) → List Exchange → ℕ → Suite → Type 0
+abbrev pub Wide : Fixed → Task → Base → List Exchange → ℕ → Suite → Type 0
 Wide fixed task Old past number suite = (w : Widening) → suite.collector.widening ≡ Some w → Sets fixed task Old past number w.votes
 
 -- a suite that had a Current
-pub record Kept (fixed : Fixed) (task : Task) (Old : ℕ → Prefix → Type 0) (past : List Exchange) (number : ℕ) (suite : Suite) : Type 0 where
-  pub start : Old number suite.collector.start
+pub record Kept (fixed : Fixed) (task : Task) (Old : Base) (past : List Exchange) (number : ℕ) (suite : Suite) : Type 0 where
+  pub start : Old.start number suite.collector.start
   pub first : FirstKept past number suite
+  pub content : Knows Old.content number suite
   pub wide : Wide fixed task Old past number suite
   pub wanted : Wants fixed task Old past number suite.collector.mode
 
@@ -261,9 +285,10 @@ FirstOrAsks past number suite =
     × ((server : ℕ) (asked : Asked) → next suite.collector ≡ Ask server asked → NoneYet suite.collector.start suite.collector.mode number past))
 
 -- a suite that is gathered
-pub record Asking (fixed : Fixed) (task : Task) (Old Start : ℕ → Prefix → Type 0) (past : List Exchange) (number : ℕ) (suite : Suite) : Type 0 where
+pub record Asking (fixed : Fixed) (task : Task) (Old : Base) (Start : ℕ → Prefix → Type 0) (past : List Exchange) (number : ℕ) (suite : Suite) : Type 0 where
   pub start : Start number suite.collector.start
   pub first : FirstOrAsks past number suite
+  pub content : Knows Old.content number suite
   pub wide : Wide fixed task Old past number suite
   pub wanted : Wants fixed task Old past number suite.collector.mode
 
@@ -271,7 +296,7 @@ pub record Asking (fixed : Fixed) (task : Task) (Old Start : ℕ → Prefix → 
 first_same : (past : List Exchange) (number : ℕ) (suite other : Suite) → other.collector.start ≡ suite.collector.start → other.first ≡ suite.first → FirstKept past number suite → FirstKept past number other
 first_same past number suite other start first kept = record { first = kept.first; was = first ∙ kept.was; gave = subst (λ start. FirstGave start number past kept.first) (sym start) kept.gave }
 
-module _ (fixed : Fixed) (task : Task) (Old : ℕ → Prefix → Type 0) (past : List Exchange) where
+module _ (fixed : Fixed) (task : Task) (Old : Base) (past : List Exchange) where
   pub wide_told : (number : ℕ) (suite : Suite) (one : Told) (more : List Exchange) → Wide fixed task Old past number suite → Wide fixed task Old (past ++ more) number (record suite { collector = tell one suite.collector })
   wide_told number suite one more wide after is =
       let was = tell_votes one suite.collector after is in subst (Sets fixed task Old (past ++ more) number) was.2 (sets_more fixed task Old past more number was.0.votes (wide was.0 was.1))
@@ -305,26 +330,28 @@ none_same : (start other : Prefix) (mode another : LockMode) (number : ℕ) (pas
 none_same start other mode another number past same_start same_mode none early rest parts current =
     none early rest parts (subst (λ mode. IsCurrent (next (gathered_from start mode number early))) same_mode (subst (λ start. IsCurrent (next (gathered_from start another number early))) same_start current))
 
-module _ (fixed : Fixed) (task : Task) (Old : ℕ → Prefix → Type 0) (past : List Exchange) (number : ℕ) where
-  pub kept_same : (suite other : Suite) → other.collector.start ≡ suite.collector.start → other.first ≡ suite.first → Wide fixed task Old past number other → Wants fixed task Old past number other.collector.mode → Kept fixed task Old past number suite → Kept fixed task Old past number other
-  kept_same suite other start first wide wanted kept = record { start = subst (Old number) (sym start) kept.start; first = first_same past number suite other start first kept.first; wide = wide; wanted = wanted }
+module _ (fixed : Fixed) (task : Task) (Old : Base) (past : List Exchange) (number : ℕ) where
+  pub kept_same : (suite other : Suite) → other.collector.start ≡ suite.collector.start → other.first ≡ suite.first → Knows Old.content number other → Wide fixed task Old past number other → Wants fixed task Old past number other.collector.mode → Kept fixed task Old past number suite → Kept fixed task Old past number other
+  kept_same suite other start first content wide wanted kept = record { start = subst (Old.start number) (sym start) kept.start; first = first_same past number suite other start first kept.first; content = content; wide = wide; wanted = wanted }
 
   pub kept_more : (more : List Exchange) (suite : Suite) → Kept fixed task Old past number suite → Kept fixed task Old (past ++ more) number suite
   kept_more more suite kept = record {
     start = kept.start;
     first = first_more past more number suite kept.first;
+    content = kept.content;
     wide = λ w is. sets_more fixed task Old past more number w.votes (kept.wide w is);
     wanted = wants_more fixed task Old past more number suite.collector.mode kept.wanted;
   }
 
-  pub asking_of : (suite : Suite) → Kept fixed task Old past number suite → Asking fixed task Old Old past number suite
-  asking_of suite kept = record { start = kept.start; first = inl kept.first; wide = kept.wide; wanted = kept.wanted }
+  pub asking_of : (suite : Suite) → Kept fixed task Old past number suite → Asking fixed task Old Old.start past number suite
+  asking_of suite kept = record { start = kept.start; first = inl kept.first; content = kept.content; wide = kept.wide; wanted = kept.wanted }
 
   -- a suite that is new
   pub asks_new : (Start : ℕ → Prefix → Type 0) (mode another : LockMode) (start : Prefix) → told_of number [] past ≡ [] → Start number start → Wants fixed task Old past number mode → Asking fixed task Old Start past number (record { collector = collect mode start; first = None; mode = another; content = None })
   asks_new Start mode another start untold old wanted = record {
     start = old;
     first = inr (refl, refl, λ server asked is early rest parts current. asks_not server asked (next (gathered_from start mode number early)) (nothing early rest parts ∙ is) current);
+    content = λ content is. cc;
     wide = λ w is. cc;
     wanted = wanted;
   }
@@ -345,21 +372,23 @@ module _ (fixed : Fixed) (task : Task) (Old : ℕ → Prefix → Type 0) (past :
 
     pub kept_told : Kept fixed task Old past number suite → Kept fixed task Old (past ++ x ∷ []) number now
     kept_told kept = record {
-      start = subst (Old number) (sym (tell_start one suite.collector)) kept.start;
+      start = subst (Old.start number) (sym (tell_start one suite.collector)) kept.start;
       first = first_told kept.first;
+      content = kept.content;
       wide = wide_told fixed task Old past number suite one (x ∷ []) kept.wide;
       wanted = wants_told fixed task Old past number suite one (x ∷ []) kept.wanted;
     }
 
-    module _ (server : ℕ) (asked : Asked) (asks : next suite.collector ≡ Ask server asked) (asking : Asking fixed task Old Old past number suite) where
+    module _ (server : ℕ) (asked : Asked) (asks : next suite.collector ≡ Ask server asked) (asking : Asking fixed task Old Old.start past number suite) where
       none_now : NoneYet suite.collector.start suite.collector.mode number past → NoneYet now.collector.start now.collector.mode number past
       none_now = none_same suite.collector.start now.collector.start suite.collector.mode now.collector.mode number past (tell_start one suite.collector) (tell_mode one suite.collector)
 
       -- and asks on
-      pub asks_on : (who : ℕ) (what : Asked) → next now.collector ≡ Ask who what → Asking fixed task Old Old (past ++ x ∷ []) number now
+      pub asks_on : (who : ℕ) (what : Asked) → next now.collector ≡ Ask who what → Asking fixed task Old Old.start (past ++ x ∷ []) number now
       asks_on who what is = record {
-        start = subst (Old number) (sym (tell_start one suite.collector)) asking.start;
+        start = subst (Old.start number) (sym (tell_start one suite.collector)) asking.start;
         first = of asking.first;
+        content = asking.content;
         wide = wide_told fixed task Old past number suite one (x ∷ []) asking.wide;
         wanted = wants_told fixed task Old past number suite one (x ∷ []) asking.wanted;
       }
@@ -375,8 +404,9 @@ module _ (fixed : Fixed) (task : Task) (Old : ℕ → Prefix → Type 0) (past :
       -- or is Current
       pub settles_on : (prefix : Prefix) (dver : ℕ) (members : List ℕ) → next now.collector ≡ Current prefix dver members → Kept fixed task Old (past ++ x ∷ []) number (settled prefix dver members now)
       settles_on prefix dver members is = record {
-        start = subst (Old number) (sym (tell_start one suite.collector)) asking.start;
+        start = subst (Old.start number) (sym (tell_start one suite.collector)) asking.start;
         first = of asking.first;
+        content = knows_settled Old.content number now prefix dver members asking.content;
         wide = wide_told fixed task Old past number suite one (x ∷ []) asking.wide;
         wanted = wants_told fixed task Old past number suite one (x ∷ []) asking.wanted;
       }

@@ -1,19 +1,13 @@
 -- Which contents a transaction knows.
-use Rattle.std.proofs.Common.{◌≡◌, ℕ, zero, suc, ◌+◌, Bool, true, false, cond, ◌⊎◌, inl, inr, List, [], ◌∷◌, ◌++◌, Option, Some, None, Ok, Err, refl, sym, ap, subst, ◌∙◌}
-use Rattle.std.specs.Prelude.{◌==◌, ◌&&◌, nat_lt, length, Contains}
-use Rattle.std.proofs.lemmas.Bool.{eqb-true}
+use Rattle.std.proofs.Common.{◌≡◌, ℕ, ◌+◌, Bool, true, false, cond, List, [], ◌∷◌, ◌++◌, Option, Some, None, Ok, Err, refl, sym, ap, subst, ◌∙◌}
+use Rattle.std.specs.Prelude.{◌&&◌, nat_lt, length}
 use Rattle.std.proofs.lemmas.Option.{same_Some}
 use Rattle.std.proofs.lemmas.List.{append-nil, append_assoc}
-use Rattle.std.proofs.lemmas.List.Elements.{Contains-append_left, Contains-push}
 use Rattle.suite_content.specs.declared.content.Content.{Content}
-use Rattle.suite_content.specs.Contents.{empty_content}
-use Rattle.suite_prefix.specs.Copies.{held_by}
-use Rattle.suite_prefix.specs.declared.copies.Prefix.{Prefix}
 use Rattle.suite_prefix.specs.declared.lock_mode.LockMode.{LockMode}
 use Rattle.rep_core.specs.declared.request.Request.{Request}
 use Rattle.rep_core.specs.declared.request.Request.TheVariants as request
 use Rattle.rep_core.specs.declared.reply.Reply.{Reply}
-use Rattle.rep_core.specs.declared.reply.Reply.TheVariants as reply
 use Rattle.rep_core.specs.declared.reply.Verdict.{Verdict}
 use Rattle.rep_core.specs.declared.reply.Verdict.TheVariants as verdict
 use Rattle.rep_core.specs.declared.stamped.Lack.{Lack}
@@ -24,9 +18,7 @@ use Rattle.file_exec.specs.declared.executor.Outcome.TheVariants as exec
 use Rattle.suite_collect.specs.declared.told.Said.{Said}
 use Rattle.suite_collect.specs.Collecting.{tell, mode_of, Next, Ask, Current, Short, next}
 use Rattle.weak_cache.specs.Entries.{Cache}
-use Rattle.weak_cache.specs.Cache.{content_at, searched}
-use Rattle.weak_cache.proofs.Origins.{search_keeps_all}
-use Rattle.txn_core.specs.Suites.{First, Suite, Suites, suite_of, with_suite, first_or, settled, source_of}
+use Rattle.txn_core.specs.Suites.{First, Suite, Suites, suite_of, with_suite, settled}
 use Rattle.txn_core.specs.declared.word.Word.{Word}
 use Rattle.txn_core.specs.declared.word.Word.TheVariants.{Replied, Lacked}
 use Rattle.txn_core.specs.declared.ending.Cause.{Cause}
@@ -35,84 +27,25 @@ use Rattle.txn_core.specs.declared.ending.Ending.{Ending}
 use Rattle.txn_core.specs.declared.job.Job.{Job}
 use Rattle.txn_core.specs.declared.job.Job.TheVariants.{Transaction, Sweep}
 use Rattle.txn_core.specs.Doing.{Granted, Fixed, Task, Outcome, Phase, Gathering, Fetching, Widening, Preparing, Deciding, Finishing, Course, Round, Doing, Running, Rounding, After, GoesOn, Ends}
-use Rattle.txn_core.specs.Transactions.{Step, Gathered, tell_end, give_up, prepare, locked_at, short_cause, gather_by, widen_by, widen_one, widened, widen_all, opened, or_all, open_needed, open_suite, open_first, opened_with, free_content, after_search, heard_on, raised_or_new, keep_content, heard_of, said_to, proceed, execute, collected, hear, fetched, fetched_at, fetched_for, after_lack, after_word, given_in, lack_cause, verdict_in, ending_by, cause_of_abort, request_in}
+use Rattle.txn_core.specs.Transactions.{Step, Gathered, tell_end, give_up, prepare, locked_at, short_cause, gather_by, widen_by, widen_one, widened, widen_all, opened, heard_on, raised_or_new, keep_content, heard_of, said_to, proceed, execute, collected, hear, fetched, fetched_at, fetched_for, after_lack, after_word, given_in, lack_cause, verdict_in, ending_by, cause_of_abort, request_in}
 use Rattle.txn_core.specs.Sweeps as sweep
 use Rattle.txn_core.specs.Agents.{Agent, Event, Take, Forget, next_in, next_of, left, take_in, begin, started, is_idle, has_sense, max_jobs, after_all}
-use Rattle.txn_core.specs.Laws.{Exchange, exchange_of, of_job, task_of}
-use Rattle.txn_core.specs.Caching.{IsContentOf, KnowsContents}
+use Rattle.txn_core.specs.Laws.{exchange_of, of_job, task_of}
+use Rattle.txn_core.specs.Caching.{KnowsContents}
 use Rattle.txn_core.proofs.Asks.{asks_same}
-use Rattle.txn_core.proofs.Gathers.{Each, each_but, each_with}
-use Rattle.txn_core.proofs.Cached.{same_proceed, given_is}
+use Rattle.txn_core.proofs.Gathers.{Each, each_but, each_with, Knows, knows_settled}
+use Rattle.txn_core.proofs.Cached.{given_is}
+use Rattle.txn_core.proofs.Contents.{Free, each_opened, FreeIn, free_before, GivenTo, GivenIn, Content_of, content_more, free_now, given_now}
 use Rattle.txn_core.proofs.Upheld.{after-append, exchanges-take, exchanges-forget}
-
--- ---- a search keeps what is found
-
-opened_finds : (n : ℕ) (fixed : Fixed) (task : Task) (all : Gathered) (number dver : ℕ) → content_at (opened n fixed task all).cache task.site number dver ≡ content_at all.cache task.site number dver
-opened_finds zero fixed task all number dver = refl
-opened_finds (suc n) fixed task all number dver = of (heard_on fixed task all.suites) (λ more. opened_finds n fixed task more number dver)
-  where
-    or' : (found : Option Gathered) → ((more : Gathered) → found ≡ Some more → content_at more.cache task.site number dver ≡ content_at all.cache task.site number dver)
-        → ((more : Gathered) → content_at (opened n fixed task more).cache task.site number dver ≡ content_at more.cache task.site number dver)
-        → content_at (or_all all found (λ all. opened n fixed task all)).cache task.site number dver ≡ content_at all.cache task.site number dver
-    or' (Some more) same later = later more ∙ same more refl
-    or' None same later = refl
-
-    with_content : (other : ℕ) (suite : Suite) (first : First) (content : Option Content) (more : Gathered) → opened_with task all other suite first content ≡ Some more → content_at more.cache task.site number dver ≡ content_at all.cache task.site number dver
-    with_content other suite first (Some content) more is = subst (λ (more : Gathered). content_at more.cache task.site number dver ≡ content_at all.cache task.site number dver) (same_Some _ more is) (at (first.dver == 0))
-      where
-        at : (b : Bool) → content_at (cond b all.cache (searched task.site other first.dver all.cache)) task.site number dver ≡ content_at all.cache task.site number dver
-        at true = refl
-        at false = search_keeps_all.content task.site other first.dver task.site number dver all.cache
-    with_content other suite first None more is = cc
-
-    at_first : (other : ℕ) (suite : Suite) (first : Option First) (more : Gathered) → open_first task all other suite first ≡ Some more → content_at more.cache task.site number dver ≡ content_at all.cache task.site number dver
-    at_first other suite (Some first) more is = with_content other suite first (free_content task all.cache other first) more is
-    at_first other suite None more is = cc
-
-    at_suite : (other : ℕ) (found : Option Suite) (more : Gathered) → open_suite task all other found ≡ Some more → content_at more.cache task.site number dver ≡ content_at all.cache task.site number dver
-    at_suite other (Some suite) more is = at_first other suite suite.first more is
-    at_suite other None more is = cc
-
-    needed' : (heard : Executed) (more : Gathered) → open_needed task all heard ≡ Some more → content_at more.cache task.site number dver ≡ content_at all.cache task.site number dver
-    needed' (exec.Need (Know other)) more is = at_suite other (suite_of all.suites other) more is
-    needed' (exec.Need (Hold other mode)) more is = cc
-    needed' (exec.Done answers changes) more is = cc
-    needed' (exec.Refused refusal) more is = cc
-
-    of : (heard : Executed) → ((more : Gathered) → content_at (opened n fixed task more).cache task.site number dver ≡ content_at more.cache task.site number dver)
-        → content_at (or_all all (open_needed task all heard) (λ all. opened n fixed task all)).cache task.site number dver ≡ content_at all.cache task.site number dver
-    of heard later = or' (open_needed task all heard) (needed' heard) later
 
 -- ---- what is known of each suite
 
--- of a suite whose content is there: it had a Current, and this holds of what that gave and of the content
-abbrev Knows : (ℕ → First → Content → Type 0) → ℕ → Suite → Type 0
-Knows C number suite = (content : Content) → suite.content ≡ Some content → (first : First) × (suite.first ≡ Some first) × C number first content
-
--- a content that is to be had without asking
-abbrev Free : Task → Cache → First → ℕ → Content → Type 0
-Free task cache first number content = ((first.dver ≡ 0) × (content ≡ empty_content (held_by first.prefix.kind))) ⊎ (content_at cache task.site number first.dver ≡ Some content)
-
-free_is : (task : Task) (cache : Cache) (number : ℕ) (first : First) (content : Content) → free_content task cache number first ≡ Some content → Free task cache first number content
-free_is task cache number first content is = of (first.dver == 0) refl is
-  where
-    of : (b : Bool) → (first.dver == 0) ≡ b → cond b (Some (empty_content (held_by first.prefix.kind))) (content_at cache task.site number first.dver) ≡ Some content → Free task cache first number content
-    of true none is = inl (eqb-true first.dver 0 none, sym (same_Some (empty_content (held_by first.prefix.kind)) content is))
-    of false some is = inr is
-
 module _ (C : ℕ → First → Content → Type 0) where
-  knows_settled : (number : ℕ) (suite : Suite) (prefix : Prefix) (dver : ℕ) (members : List ℕ) → Knows C number suite → Knows C number (settled prefix dver members suite)
-  knows_settled number suite prefix dver members knows content is =
-      let was = knows content is in (was.0, ap (λ first. first_or first (record { prefix = prefix; dver = dver; source = source_of suite.collector dver members })) was.1, was.2)
-
   module _ (task : Task) where
     -- what is left of a step
     abbrev pub KnowsAfter : After Course → Type 0
     KnowsAfter (GoesOn course) = (course.task ≡ task) × Each (Knows C) course.suites
     KnowsAfter (Ends ending) = Unit {0}
-
-    abbrev pub FreeIn : Cache → Type 0
-    FreeIn cache = (number : ℕ) (first : First) (content : Content) → Free task cache first number content → C number first content
 
     knows_end : (cache : Cache) (suites : Suites) (v : Verdict) (ending : Ending) (servers : List ℕ) → Each (Knows C) suites → KnowsAfter (tell_end task cache suites v ending servers).after
     knows_end cache suites v ending [] each = tt
@@ -161,99 +94,40 @@ module _ (C : ℕ → First → Content → Type 0) where
     knows_proceed fixed cache suites (exec.Done answers changes) each = knows_widen cache suites (record { answers = answers; changes = changes }) _ each
     knows_proceed fixed cache suites (exec.Refused refusal) each = knows_prepare cache suites (Err refusal) (locked_at suites) each
 
-    -- contents are opened as they are found from the start on
-    knows_opened : (start : Cache) → FreeIn start → (n : ℕ) (fixed : Fixed) (all : Gathered) → ((number dver : ℕ) → content_at all.cache task.site number dver ≡ content_at start task.site number dver) → Each (Knows C) all.suites
-        → Each (Knows C) (opened n fixed task all).suites
-    knows_opened start free zero fixed all same each = each
-    knows_opened start free (suc n) fixed all same each = of (heard_on fixed task all.suites) (λ more same each. knows_opened start free n fixed more same each)
-      where
-        or' : (found : Option Gathered)
-            → ((more : Gathered) → found ≡ Some more → ((number dver : ℕ) → content_at more.cache task.site number dver ≡ content_at start task.site number dver) × Each (Knows C) more.suites)
-            → ((more : Gathered) → ((number dver : ℕ) → content_at more.cache task.site number dver ≡ content_at start task.site number dver) → Each (Knows C) more.suites → Each (Knows C) (opened n fixed task more).suites)
-            → Each (Knows C) (or_all all found (λ all. opened n fixed task all)).suites
-        or' (Some more) both later = let now = both more refl in later more now.0 now.1
-        or' None both later = each
-
-        finds : (other : ℕ) (first : First) (number dver : ℕ) → content_at (after_search task all.cache other first) task.site number dver ≡ content_at start task.site number dver
-        finds other first number dver = at (first.dver == 0) ∙ same number dver
-          where
-            at : (b : Bool) → content_at (cond b all.cache (searched task.site other first.dver all.cache)) task.site number dver ≡ content_at all.cache task.site number dver
-            at true = refl
-            at false = search_keeps_all.content task.site other first.dver task.site number dver all.cache
-
-        back : (first : First) (number : ℕ) (content : Content) → Free task all.cache first number content → Free task start first number content
-        back first number content (inl none) = inl none
-        back first number content (inr found) = inr (sym (same number first.dver) ∙ found)
-
-        with_content : (number : ℕ) (suite : Suite) (first : First) (content : Option Content) (more : Gathered) → suite_of all.suites number ≡ Some suite → suite.first ≡ Some first → free_content task all.cache number first ≡ content
-            → opened_with task all number suite first content ≡ Some more → ((number dver : ℕ) → content_at more.cache task.site number dver ≡ content_at start task.site number dver) × Each (Knows C) more.suites
-        with_content number suite first (Some content) more there was given is =
-            let new : Suite = record suite { content = Some content } in
-            let knows : Knows C number new = λ found at. (first, was, subst (C number first) (same_Some content found at) (free number first content (back first number content (free_is task all.cache number first content given)))) in
-            subst (λ (more : Gathered). ((number dver : ℕ) → content_at more.cache task.site number dver ≡ content_at start task.site number dver) × Each (Knows C) more.suites) (same_Some _ more is)
-            (finds number first, each_with (Knows C) number all.suites new (each_but (Knows C) number all.suites each) knows)
-        with_content number suite first None more there was given is = cc
-
-        at_first : (number : ℕ) (suite : Suite) (first : Option First) (more : Gathered) → suite_of all.suites number ≡ Some suite → suite.first ≡ first → open_first task all number suite first ≡ Some more
-            → ((number dver : ℕ) → content_at more.cache task.site number dver ≡ content_at start task.site number dver) × Each (Knows C) more.suites
-        at_first number suite (Some first) more there was is = with_content number suite first (free_content task all.cache number first) more there was refl is
-        at_first number suite None more there was is = cc
-
-        at_suite : (number : ℕ) (found : Option Suite) (more : Gathered) → suite_of all.suites number ≡ found → open_suite task all number found ≡ Some more
-            → ((number dver : ℕ) → content_at more.cache task.site number dver ≡ content_at start task.site number dver) × Each (Knows C) more.suites
-        at_suite number (Some suite) more there is = at_first number suite suite.first more there refl is
-        at_suite number None more there is = cc
-
-        needed' : (heard : Executed) (more : Gathered) → open_needed task all heard ≡ Some more → ((number dver : ℕ) → content_at more.cache task.site number dver ≡ content_at start task.site number dver) × Each (Knows C) more.suites
-        needed' (exec.Need (Know number)) more is = at_suite number (suite_of all.suites number) more refl is
-        needed' (exec.Need (Hold number mode)) more is = cc
-        needed' (exec.Done answers changes) more is = cc
-        needed' (exec.Refused refusal) more is = cc
-
-        of : (heard : Executed)
-            → ((more : Gathered) → ((number dver : ℕ) → content_at more.cache task.site number dver ≡ content_at start task.site number dver) → Each (Knows C) more.suites → Each (Knows C) (opened n fixed task more).suites)
-            → Each (Knows C) (or_all all (open_needed task all heard) (λ all. opened n fixed task all)).suites
-        of heard later = or' (open_needed task all heard) (needed' heard) later
-
-    pub knows_execute : (fixed : Fixed) (all : Gathered) → FreeIn (execute fixed task all).cache → Each (Knows C) all.suites → KnowsAfter (execute fixed task all).after
+    pub knows_execute : (fixed : Fixed) (all : Gathered) → FreeIn C task (execute fixed task all).cache → Each (Knows C) all.suites → KnowsAfter (execute fixed task all).after
     knows_execute fixed all free each =
         let open' = opened (length all.suites) fixed task all in
-        let finds : (number dver : ℕ) → content_at (execute fixed task all).cache task.site number dver ≡ content_at all.cache task.site number dver = λ number dver.
-        ap (λ cache. content_at cache task.site number dver) (same_proceed fixed task open'.cache open'.suites (heard_on fixed task open'.suites)) ∙ opened_finds (length all.suites) fixed task all number dver in
-        let free' : FreeIn all.cache = λ number first content is. free number first content (elim is [ inl none ↦ inl none | inr found ↦ inr (finds number first.dver ∙ found) ]) in
-        knows_proceed fixed open'.cache open'.suites (heard_on fixed task open'.suites) (knows_opened all.cache free' (length all.suites) fixed all (λ number dver. refl) each)
+        let opens : (number : ℕ) (suite : Suite) (first : First) (content : Content) → suite.first ≡ Some first → Free task all.cache first number content → Knows C number suite → Knows C number (record suite { content = Some content }) =
+        λ number suite first content was found _ other at. (first, was, subst (C number first) (same_Some content other at) (free_before C fixed task all free number first content found)) in
+        knows_proceed fixed open'.cache open'.suites (heard_on fixed task open'.suites) (each_opened all.cache task (Knows C) opens (length all.suites) fixed all (λ number dver. refl) each)
 
     -- ---- words
 
     knows_heard : (cache : Cache) (suites : Suites) (phase : Phase) (number : ℕ) (found : Option Suite) (server : ℕ) (asked : Request) (said : Reply) (go_on : Suites → Step) → suite_of suites number ≡ found → Each (Knows C) suites
-        → FreeIn (heard_of task cache suites phase number found server asked said go_on).cache → ((suites : Suites) → FreeIn (go_on suites).cache → Each (Knows C) suites → KnowsAfter (go_on suites).after)
+        → FreeIn C task (heard_of task cache suites phase number found server asked said go_on).cache → ((suites : Suites) → FreeIn C task (go_on suites).cache → Each (Knows C) suites → KnowsAfter (go_on suites).after)
         → KnowsAfter (heard_of task cache suites phase number found server asked said go_on).after
     knows_heard cache suites phase number None server asked said go_on there each free more = knows_give_up cache suites (Lost server) each
     knows_heard cache suites phase number (Some suite) server asked said go_on there each free more = of (said_to asked said) free
       where
-        at : (now : Suite) (after : Next) → Knows C number now → FreeIn (collected task cache suites phase number now after (λ suite. go_on (with_suite number suite suites))).cache
+        at : (now : Suite) (after : Next) → Knows C number now → FreeIn C task (collected task cache suites phase number now after (λ suite. go_on (with_suite number suite suites))).cache
             → KnowsAfter (collected task cache suites phase number now after (λ suite. go_on (with_suite number suite suites))).after
         at now (Ask who what) knows free = (refl, each_with (Knows C) number suites now (each_but (Knows C) number suites each) knows)
         at now (Short got needed busy) knows free = knows_give_up cache (with_suite number now suites) (short_cause number got needed busy) (each_with (Knows C) number suites now (each_but (Knows C) number suites each) knows)
         at now (Current prefix dver members) knows free =
             more (with_suite number (settled prefix dver members now) suites) free
-            (each_with (Knows C) number suites (settled prefix dver members now) (each_but (Knows C) number suites each) (knows_settled number now prefix dver members knows))
+            (each_with (Knows C) number suites (settled prefix dver members now) (each_but (Knows C) number suites each) (knows_settled C number now prefix dver members knows))
 
-        of : (heard : Option Said) → FreeIn (hear task cache suites phase number suite server asked heard (λ suite. go_on (with_suite number suite suites))).cache
+        of : (heard : Option Said) → FreeIn C task (hear task cache suites phase number suite server asked heard (λ suite. go_on (with_suite number suite suites))).cache
             → KnowsAfter (hear task cache suites phase number suite server asked heard (λ suite. go_on (with_suite number suite suites))).after
         of None free = knows_give_up cache suites (Lost server) each
         of (Some heard) free = let now : Suite = record suite { collector = tell (record { server = server; mode = mode_of asked; said = heard }) suite.collector } in at now (next now.collector) (each number suite there) free
 
-    -- what a Given told
-    abbrev pub GivenTo : ℕ → Request → Reply → Type 0
-    GivenTo server asked said = (number : ℕ) (first : First) (content : Content) (dver : ℕ) → server ≡ first.source → asked ≡ request.Fetch task.t number → said ≡ reply.Given dver content → C number first content
-
-    knows_fetched : (fixed : Fixed) (cache : Cache) (suites : Suites) (number : ℕ) (server : ℕ) (asked : Request) (said : Reply) → request_in fixed task suites (Fetching number) ≡ Some (server, asked) → Each (Knows C) suites → GivenTo server asked said
-        → FreeIn (fetched fixed task cache suites number (suite_of suites number) server (given_in said)).cache → KnowsAfter (fetched fixed task cache suites number (suite_of suites number) server (given_in said)).after
+    knows_fetched : (fixed : Fixed) (cache : Cache) (suites : Suites) (number : ℕ) (server : ℕ) (asked : Request) (said : Reply) → request_in fixed task suites (Fetching number) ≡ Some (server, asked) → Each (Knows C) suites → GivenTo C task server asked said
+        → FreeIn C task (fetched fixed task cache suites number (suite_of suites number) server (given_in said)).cache → KnowsAfter (fetched fixed task cache suites number (suite_of suites number) server (given_in said)).after
     knows_fetched fixed cache suites number server asked said is each given free = of (suite_of suites number) refl is (given_in said) refl free
       where
         kept : (suite : Suite) (content : Content) (first : Option First) → suite_of suites number ≡ Some suite → suite.first ≡ first → fetched_at task number first ≡ Some (server, asked) → given_in said ≡ Some content
-            → FreeIn (keep_content fixed task cache suites number suite content first server).cache → KnowsAfter (keep_content fixed task cache suites number suite content first server).after
+            → FreeIn C task (keep_content fixed task cache suites number suite content first server).cache → KnowsAfter (keep_content fixed task cache suites number suite content first server).after
         kept suite content None there was is told free = knows_give_up cache suites (Lost server) each
         kept suite content (Some first) there was is told free =
             let new : Suite = record suite { content = Some content } in
@@ -267,7 +141,7 @@ module _ (C : ℕ → First → Content → Type 0) where
             ) in
             knows_execute fixed _ free (each_with (Knows C) number suites new (each_but (Knows C) number suites each) knows)
 
-        of : (found : Option Suite) → suite_of suites number ≡ found → fetched_for task number found ≡ Some (server, asked) → (content : Option Content) → given_in said ≡ content → FreeIn (fetched fixed task cache suites number found server content).cache
+        of : (found : Option Suite) → suite_of suites number ≡ found → fetched_for task number found ≡ Some (server, asked) → (content : Option Content) → given_in said ≡ content → FreeIn C task (fetched fixed task cache suites number found server content).cache
             → KnowsAfter (fetched fixed task cache suites number found server content).after
         of (Some suite) there is (Some content) told free = kept suite content suite.first there refl is told free
         of (Some suite) there is None told free = knows_give_up cache suites (Lost server) each
@@ -283,12 +157,8 @@ module _ (C : ℕ → First → Content → Type 0) where
     knows_lack cache suites (Finishing [] v ending) server lacked each = tt
     knows_lack cache suites (Finishing (now ∷ left) v ending) server lacked each = knows_end cache suites v ending left each
 
-    abbrev pub GivenIn : ℕ → Request → Word → Type 0
-    GivenIn server asked (Replied said) = GivenTo server asked said
-    GivenIn server asked (Lacked lacked) = Unit {0}
-
-    pub knows_word : (fixed : Fixed) (cache : Cache) (suites : Suites) (phase : Phase) (server : ℕ) (asked : Request) (word : Word) → request_in fixed task suites phase ≡ Some (server, asked) → Each (Knows C) suites → GivenIn server asked word
-        → FreeIn (after_word fixed (record { task = task; suites = suites; phase = phase }) cache server asked word).cache → KnowsAfter (after_word fixed (record { task = task; suites = suites; phase = phase }) cache server asked word).after
+    pub knows_word : (fixed : Fixed) (cache : Cache) (suites : Suites) (phase : Phase) (server : ℕ) (asked : Request) (word : Word) → request_in fixed task suites phase ≡ Some (server, asked) → Each (Knows C) suites → GivenIn C task server asked word
+        → FreeIn C task (after_word fixed (record { task = task; suites = suites; phase = phase }) cache server asked word).cache → KnowsAfter (after_word fixed (record { task = task; suites = suites; phase = phase }) cache server asked word).after
     knows_word fixed cache suites phase server asked (Lacked lacked) is each given free = knows_lack cache suites phase server lacked each
     knows_word fixed cache suites (Gathering number) server asked (Replied said) is each given free =
         knows_heard cache suites (Gathering number) number (suite_of suites number) server asked said _ refl each free (λ suites free each. knows_execute fixed (record { suites = suites; cache = cache }) free each)
@@ -310,38 +180,16 @@ module _ (C : ℕ → First → Content → Type 0) where
 -- ---- after each event
 
 module _ (fixed : Fixed) (agent : Agent) (job : Job) where
-  abbrev Content_of : List Event → ℕ → ℕ → First → Content → Type 0
-  Content_of events site number first content = IsContentOf fixed agent job events site number first content
-
   abbrev DoingKnows : List Event → Option Doing → Type 0
-  DoingKnows events (Some (Running course)) = Each (Knows (Content_of events course.task.site)) course.suites
+  DoingKnows events (Some (Running course)) = Each (Knows (Content_of fixed agent job events course.task.site)) course.suites
   DoingKnows events (Some (Rounding round)) = Unit {0}
   DoingKnows events None = Unit {0}
-
-  -- what is so stays so
-  content_more : (events : List Event) (event : Event) (one : List Exchange) → of_job fixed agent job (events ++ event ∷ []) ≡ of_job fixed agent job events ++ one → (site number : ℕ) (first : First) (content : Content)
-      → Content_of events site number first content → Content_of (events ++ event ∷ []) site number first content
-  content_more events event one told site number first content (inl none) = inl none
-  content_more events event one told site number first content (inr (inl cached)) =
-      inr (inl (record { before = cached.before; later = cached.later ++ event ∷ []; parts = ap (λ events. events ++ event ∷ []) cached.parts ∙ append_assoc cached.before cached.later (event ∷ []); found = cached.found }))
-  content_more events event one told site number first content (inr (inr given)) = inr (inr (record {
-    t = given.t;
-    dver = given.dver;
-    there = subst (λ past. Contains past (record { server = first.source; request = request.Fetch given.t number; word = Replied (reply.Given given.dver content) })) (sym told)
-        (Contains-append_left (of_job fixed agent job events) one _ given.there);
-  }))
 
   map_each : (C D : ℕ → First → Content → Type 0) (suites : Suites) → ((number : ℕ) (first : First) (content : Content) → C number first content → D number first content) → Each (Knows C) suites → Each (Knows D) suites
   map_each C D suites maps each number suite there content is = let was = each number suite there content is in (was.0, was.1, maps number was.0 content was.2)
 
-  -- what is found in the cache after an event
-  free_now : (events : List Event) (task : Task) (cache : Cache) → (after_all fixed (begin fixed agent job) events).cache ≡ cache → FreeIn (Content_of events task.site) task cache
-  free_now events task cache is number first content (inl none) = inl none
-  free_now events task cache is number first content (inr found) =
-      inr (inl (record { before = events; later = []; parts = sym (append-nil events); found = ap (λ cache. content_at cache task.site number first.dver) is ∙ found }))
-
-  left_knows : (events : List Event) (task : Task) (after : After Course) → KnowsAfter (Content_of events task.site) task after → DoingKnows events (left Running after)
-  left_knows events task (GoesOn course) knows = subst (λ (other : Task). Each (Knows (Content_of events other.site)) course.suites) (sym knows.0) knows.1
+  left_knows : (events : List Event) (task : Task) (after : After Course) → KnowsAfter (Content_of fixed agent job events task.site) task after → DoingKnows events (left Running after)
+  left_knows events task (GoesOn course) knows = subst (λ (other : Task). Each (Knows (Content_of fixed agent job events other.site)) course.suites) (sym knows.0) knows.1
   left_knows events task (Ends ending) knows = tt
 
   round_knows : (events : List Event) (after : After Round) → DoingKnows events (left Rounding after)
@@ -356,25 +204,12 @@ module _ (fixed : Fixed) (agent : Agent) (job : Job) where
       let step = after_word fixed running (after_all fixed (begin fixed agent job) events).cache asked.0 asked.1 word in
       let site = running.task.site in
       left_knows (events ++ Take word ∷ []) running.task step.after
-      (knows_word (Content_of (events ++ Take word ∷ []) site) running.task fixed (after_all fixed (begin fixed agent job) events).cache running.suites running.phase asked.0 asked.1 word is
-      (map_each (Content_of events site) (Content_of (events ++ Take word ∷ []) site) running.suites (content_more events (Take word) (exchange_of (Some asked) word) told site) knows)
-      (given word told) (free_now (events ++ Take word ∷ []) running.task step.cache (ap (λ (agent : Agent). agent.cache) after)))
-    where
-      given : (heard : Word) → of_job fixed agent job (events ++ Take word ∷ []) ≡ of_job fixed agent job events ++ exchange_of (Some asked) heard → GivenIn (Content_of (events ++ Take word ∷ []) running.task.site) running.task asked.0 asked.1 heard
-      given (Lacked lacked) told = tt
-      given (Replied said) told = λ number first content dver at what says.
-          let with' : ℕ → Request → Reply → Exchange = λ server asked said. record { server = server; request = asked; word = Replied said } in
-          let same : with' asked.0 asked.1 said ≡ with' first.source (request.Fetch running.task.t number) (reply.Given dver content) =
-          ap (λ server. with' server asked.1 said) at ∙ ap (λ asked. with' first.source asked said) what ∙ ap (with' first.source (request.Fetch running.task.t number)) says in
-          let there : Contains (of_job fixed agent job events ++ with' asked.0 asked.1 said ∷ []) (with' asked.0 asked.1 said) = Contains-push (of_job fixed agent job events) (with' asked.0 asked.1 said) in
-          inr (inr (record {
-            t = running.task.t;
-            dver = dver;
-            there = subst (Contains (of_job fixed agent job (events ++ Take word ∷ []))) same (subst (λ past. Contains past (with' asked.0 asked.1 said)) (sym told) there);
-          }))
+      (knows_word (Content_of fixed agent job (events ++ Take word ∷ []) site) running.task fixed (after_all fixed (begin fixed agent job) events).cache running.suites running.phase asked.0 asked.1 word is
+      (map_each (Content_of fixed agent job events site) (Content_of fixed agent job (events ++ Take word ∷ []) site) running.suites (content_more fixed agent job events (Take word) (exchange_of (Some asked) word) told site) knows)
+      (given_now fixed agent job events (events ++ Take word ∷ []) running.task asked.0 asked.1 word told) (free_now fixed agent job (events ++ Take word ∷ []) running.task step.cache (ap (λ (agent : Agent). agent.cache) after)))
   knows_take events word (Some (Running running)) None was is told after knows =
       subst (DoingKnows (events ++ Take word ∷ [])) (sym was)
-      (map_each (Content_of events running.task.site) (Content_of (events ++ Take word ∷ []) running.task.site) running.suites (content_more events (Take word) [] told running.task.site) knows)
+      (map_each (Content_of fixed agent job events running.task.site) (Content_of fixed agent job (events ++ Take word ∷ []) running.task.site) running.suites (content_more fixed agent job events (Take word) [] told running.task.site) knows)
   knows_take events word (Some (Rounding round)) (Some asked) was is told after knows = round_knows (events ++ Take word ∷ []) (sweep.after_word fixed.service round asked.0 word)
   knows_take events word (Some (Rounding round)) None was is told after knows = cc
   knows_take events word None (Some asked) was is told after knows = cc
@@ -382,8 +217,8 @@ module _ (fixed : Fixed) (agent : Agent) (job : Job) where
 
   knows_forget : (events : List Event) (site : ℕ) (doing : Option Doing) → DoingKnows events doing → DoingKnows (events ++ Forget site ∷ []) doing
   knows_forget events site (Some (Running running)) knows =
-      map_each (Content_of events running.task.site) (Content_of (events ++ Forget site ∷ []) running.task.site) running.suites
-      (content_more events (Forget site) [] (exchanges-forget fixed (begin fixed agent job) events site ∙ sym (append-nil (of_job fixed agent job events))) running.task.site) knows
+      map_each (Content_of fixed agent job events running.task.site) (Content_of fixed agent job (events ++ Forget site ∷ []) running.task.site) running.suites
+      (content_more fixed agent job events (Forget site) [] (exchanges-forget fixed (begin fixed agent job) events site ∙ sym (append-nil (of_job fixed agent job events))) running.task.site) knows
   knows_forget events site (Some (Rounding round)) knows = tt
   knows_forget events site None knows = tt
 
@@ -414,7 +249,7 @@ module _ (fixed : Fixed) (agent : Agent) (job : Job) where
       begun (Transaction caller site ops) is =
           let task = task_of agent caller site ops in
           let step = execute fixed task (record { suites = []; cache = agent.cache }) in
-          left_knows [] task step.after (knows_execute (Content_of [] site) task fixed (record { suites = []; cache = agent.cache }) (free_now [] task step.cache (ap (λ (agent : Agent). agent.cache) is)) (λ number suite there. cc))
+          left_knows [] task step.after (knows_execute (Content_of fixed agent job [] site) task fixed (record { suites = []; cache = agent.cache }) (free_now fixed agent job [] task step.cache (ap (λ (agent : Agent). agent.cache) is)) (λ number suite there. cc))
 
       of : (b : Bool) → (is_idle agent.doing && has_sense fixed job && nat_lt agent.count max_jobs) ≡ b → (j : Job) → job ≡ j → DoingKnows [] (begin fixed agent job).doing
       of true is j same =

@@ -39,10 +39,11 @@ use Rattle.txn_core.specs.Transactions.{heard_on, to_widen, after_word, lack_cau
 use Rattle.txn_core.specs.Sweeps as sweep
 use Rattle.txn_core.specs.Agents.{Agent, Event, Take, next_in, next_of, end_of, take_in, begin, after_all}
 use Rattle.txn_core.specs.Laws.{Exchange, of_job, exchange_of, told_of, fits_word, all_fit, has_said, holding, refusing, down, task_of, IsStart}
+use Rattle.txn_core.specs.Caching.{IsContentOf}
 use Rattle.txn_core.specs.Undecided.{WereGathered, IsWanted, SetsVotes, IsShort, Was, WasLost, DidNotServe, says_down, is_lack, IsCaused, EndsAreCaused}
-use Rattle.txn_core.proofs.Gathers.{AllGathered, Wants, Sets}
+use Rattle.txn_core.proofs.Gathers.{Base, AllGathered, Wants, Sets}
 use Rattle.txn_core.proofs.Causes.{push, Begun, ShortBy, CausedBy, EndIs, OrFresh, LeftOf, was_now, last_fits}
-use Rattle.txn_core.proofs.Upheld.{Begins, Started, started_is, untold_is, begins_more, started_more, fresh_begins, map_cause, DoingStands, after-append, exchanges-take, word_leaves, stands_after}
+use Rattle.txn_core.proofs.Upheld.{Begins, Started, Base_of, started_is, untold_is, begins_more, started_more, fresh_begins, map_cause, DoingStands, after-append, exchanges-take, word_leaves, stands_after}
 use Rattle.txn_core.proofs.Shown.{told_said, busy_said, votes_same, tells_busy, kind_of}
 
 -- ---- sweeps
@@ -143,8 +144,16 @@ module _ (fixed : Fixed) (agent : Agent) (job : Job) (events : List Event) where
     transaction : job ≡ Transaction caller site ops
     task_is : task ≡ task_of agent caller site ops
 
-  gathers : (suites : Suites) → AllGathered (Started fixed agent job events) past suites → WereGathered fixed agent job events suites
-  gathers suites gathered number suite there =
+  -- the site of the transaction is one
+  site_is : (task : Task) → IsOf task → (caller : Identity) (site : ℕ) (ops : List Op) → job ≡ Transaction caller site ops → task.site ≡ site
+  site_is task own caller site ops transaction =
+      let same : Transaction own.caller own.site own.ops ≡ Transaction caller site ops = sym own.transaction ∙ transaction in
+      let sites : own.site ≡ site = cc in
+      ap (λ (task : Task). task.site) own.task_is ∙ sites
+
+  gathers : (task : Task) → IsOf task → (suites : Suites) → AllGathered (Base_of fixed agent job events events task.site) past suites → WereGathered fixed agent job events suites
+  unfolding started_is
+  gathers task own suites gathered number suite there =
       let was = gathered number suite there in
       record {
         start = suite.collector.start;
@@ -152,27 +161,32 @@ module _ (fixed : Fixed) (agent : Agent) (job : Job) (events : List Event) where
         first = was.1.first;
         was = was.1.was;
         gave = was.1.gave;
+        content = λ content is.
+            let knows = was.2 content is in
+            let first_is : knows.0 ≡ was.1.first = same_Some knows.0 was.1.first (sym knows.1 ∙ was.1.was) in
+            subst (λ site. IsContentOf fixed agent job events site number was.1.first content) (site_is task own was.0.begins.caller was.0.begins.site was.0.begins.ops was.0.begins.transaction)
+            (subst (λ first. IsContentOf fixed agent job events task.site number first content) first_is knows.2);
       }
 
-  is_wanted : (task : Task) → IsOf task → (number : ℕ) (mode : LockMode) → Wants fixed task (Started fixed agent job events) past number mode → IsWanted fixed agent job events number mode
+  is_wanted : (task : Task) → IsOf task → (number : ℕ) (mode : LockMode) → Wants fixed task (Base_of fixed agent job events events task.site) past number mode → IsWanted fixed agent job events number mode
   is_wanted task own number mode wants = record {
     caller = own.caller;
     site = own.site;
     ops = own.ops;
     transaction = own.transaction;
     suites = wants.suites;
-    gathered = gathers wants.suites wants.gathered;
+    gathered = gathers task own wants.suites wants.gathered;
     needs = ap (λ task. heard_on fixed task wants.suites) (sym own.task_is) ∙ wants.needs;
   }
 
-  sets : (task : Task) → IsOf task → (number : ℕ) (votes : Configuration) → Sets fixed task (Started fixed agent job events) past number votes → SetsVotes fixed agent job events number votes
+  sets : (task : Task) → IsOf task → (number : ℕ) (votes : Configuration) → Sets fixed task (Base_of fixed agent job events events task.site) past number votes → SetsVotes fixed agent job events number votes
   sets task own number votes set = record {
     caller = own.caller;
     site = own.site;
     ops = own.ops;
     transaction = own.transaction;
     suites = set.suites;
-    gathered = gathers set.suites set.gathered;
+    gathered = gathers task own set.suites set.gathered;
     answers = set.answers;
     changes = set.changes;
     done = ap (λ task. heard_on fixed task set.suites) (sym own.task_is) ∙ set.done;
@@ -180,7 +194,7 @@ module _ (fixed : Fixed) (agent : Agent) (job : Job) (events : List Event) where
     are = set.are;
   }
 
-  module _ (task : Task) (own : IsOf task) (suite had wanting : ℕ) (busy : Option (ℕ × ℕ)) (by : ShortBy fixed task (Started fixed agent job events) (Begins fixed agent job events) past suite had wanting busy) where
+  module _ (task : Task) (own : IsOf task) (suite had wanting : ℕ) (busy : Option (ℕ × ℕ)) (by : ShortBy fixed task (Base_of fixed agent job events events task.site) (Begins fixed agent job events) past suite had wanting busy) where
     said_of : (kind : LockMode → Said → Bool) (server : ℕ) → has_told (kind_of kind) (all_told by.collector) server ≡ has_said past suite kind server
     said_of kind server = ap (λ told. has_told (kind_of kind) told server) by.told ∙ told_said kind suite server [] past
 
@@ -194,7 +208,7 @@ module _ (fixed : Fixed) (agent : Agent) (job : Job) (events : List Event) where
     which None is = inl (
       ap (λ w. votes_or w (newest by.collector.start by.collector.told)) is
           ∙ ap (λ told. (newest by.collector.start told).votes) (sym (ap (λ w. told_since w ++ by.collector.told) is) ∙ by.told),
-      is_wanted task own suite (wanted by.collector) (subst (Wants fixed task (Started fixed agent job events) past suite) (sym (ap (λ w. mode_or w by.collector.mode) is)) by.wanted),
+      is_wanted task own suite (wanted by.collector) (subst (Wants fixed task (Base_of fixed agent job events events task.site) past suite) (sym (ap (λ w. mode_or w by.collector.mode) is)) by.wanted),
     )
     which (Some w) is = inr (
       ap (λ w. mode_or w by.collector.mode) is,
@@ -222,7 +236,7 @@ module _ (fixed : Fixed) (agent : Agent) (job : Job) (events : List Event) where
           all_down = λ none server refused. sym (said_of down server) ∙ short.all_down none server (said_of refusing server ∙ refused);
         }
 
-  caused : (task : Task) → IsOf task → (cause : Cause) → CausedBy fixed task (Started fixed agent job events) (Begins fixed agent job events) past cause → IsCaused fixed agent job events cause
+  caused : (task : Task) → IsOf task → (cause : Cause) → CausedBy fixed task (Base_of fixed agent job events events task.site) (Begins fixed agent job events) past cause → IsCaused fixed agent job events cause
   caused task own (Unavailable suite had wanting) by = is_short task own suite had wanting None by
   caused task own (Busy server holder) by = (by.0, by.1, by.2, is_short task own by.0 by.1 by.2 (Some (server, holder)) by.3)
   caused task own (Lost server) by = subst (λ job. WasLost past job server) (sym own.transaction) by
@@ -242,7 +256,7 @@ module _ (fixed : Fixed) (agent : Agent) (job : Job) (events : List Event) where
 
 -- ---- all words
 
-course_ends : (fixed : Fixed) (task : Task) (Old Loose : ℕ → Prefix → Type 0) (px : List Exchange) (cache : Cache) (after : After Course) (cause : Cause) → LeftOf fixed task Old Loose px cache after → end_of after ≡ Some (Undecided cause) → all_fit px ≡ true
+course_ends : (fixed : Fixed) (task : Task) (Old : Base) (Loose : ℕ → Prefix → Type 0) (px : List Exchange) (cache : Cache) (after : After Course) (cause : Cause) → LeftOf fixed task Old Loose px cache after → end_of after ≡ Some (Undecided cause) → all_fit px ≡ true
     → CausedBy fixed task Old (OrFresh fixed task cache px Loose) px cause
 course_ends fixed task Old Loose px cache (GoesOn course) cause left is fine = cc
 course_ends fixed task Old Loose px cache (Ends ending) cause left is fine = subst (EndIs fixed task Old (OrFresh fixed task cache px Loose) px) (same_Some ending (Undecided cause) is) (left fine)
@@ -265,15 +279,16 @@ module _ (fixed : Fixed) (agent : Agent) (job : Job) (events : List Event) (word
       let step = after_word fixed running now.cache asked.0 asked.1 word in
       let px = push (of_job fixed agent job events) asked.0 asked.1 word in
       let fine' : all_fit px ≡ true = ap all_fit (sym told) ∙ fine in
-      let by = course_ends fixed running.task (Started fixed agent job events) (Begins fixed agent job events) px step.cache step.after cause (word_leaves fixed agent job events word running asked is stands) end' fine' in
+      let by = course_ends fixed running.task (Base_of fixed agent job events then' running.task.site) (Begins fixed agent job events) px step.cache step.after cause
+      (word_leaves fixed agent job events word running asked is told (ap (λ (agent : Agent). agent.cache) after) stands) end' fine' in
       let loose : (n : ℕ) (start : Prefix) → OrFresh fixed running.task step.cache px (Begins fixed agent job events) n start → Begins fixed agent job then' n start = λ n start begun. elim begun [
         | inl before ↦ begins_more fixed agent job events (Take word ∷ []) n start before
         | inr fresh ↦ fresh_begins fixed agent job stands.caller stands.site stands.ops stands.transaction running.task stands.task px step.cache then' told (ap (λ (agent : Agent). agent.cache) after) n start fresh
       ] in
-      let mapped = map_cause fixed running.task (Started fixed agent job events) (OrFresh fixed running.task step.cache px (Begins fixed agent job events)) (Started fixed agent job then') (Begins fixed agent job then') px
-      (started_more fixed agent job events (Take word ∷ [])) loose cause by in
+      let mapped = map_cause fixed running.task (Base_of fixed agent job events then' running.task.site) (OrFresh fixed running.task step.cache px (Begins fixed agent job events)) (Base_of fixed agent job then' then' running.task.site) (Begins fixed agent job then') px
+      (record { start = started_more fixed agent job events (Take word ∷ []); content = λ n first content is. is }) loose cause by in
       caused fixed agent job then' running.task (record { caller = stands.caller; site = stands.site; ops = stands.ops; transaction = stands.transaction; task_is = stands.task }) cause
-      (subst (λ past. CausedBy fixed running.task (Started fixed agent job then') (Begins fixed agent job then') past cause) (sym told) mapped)
+      (subst (λ past. CausedBy fixed running.task (Base_of fixed agent job then' then' running.task.site) (Begins fixed agent job then') past cause) (sym told) mapped)
   ends (Some (Running running)) None was is told after fine stands end' = cc
   ends (Some (Rounding round)) (Some asked) was is told after fine stands end' =
       let px = push (of_job fixed agent job events) asked.0 asked.1 word in

@@ -5,13 +5,14 @@ use Rattle.std.proofs.lemmas.List.{append-nil, append_assoc}
 use Rattle.std.proofs.lemmas.Option.{none-some}
 use Rattle.acl_core.specs.Identity.{Identity}
 use Rattle.file_ops.specs.declared.operation.Op.{Op}
+use Rattle.suite_content.specs.declared.content.Content.{Content}
 use Rattle.suite_prefix.specs.declared.copies.Prefix.{Prefix}
 use Rattle.rep_core.specs.declared.lock.Lock.{Lock}
 use Rattle.rep_core.specs.declared.request.Request.{Request}
 use Rattle.rep_core.specs.declared.reply.Reply.{Reply}
 use Rattle.rep_core.specs.declared.reply.Reply.TheVariants as reply
 use Rattle.weak_cache.specs.Entries.{Cache}
-use Rattle.txn_core.specs.Suites.{Suite, Suites, suite_of}
+use Rattle.txn_core.specs.Suites.{First, Suite, Suites, suite_of}
 use Rattle.txn_core.specs.declared.word.Word.{Word}
 use Rattle.txn_core.specs.declared.word.Word.TheVariants.{Replied, Lacked}
 use Rattle.txn_core.specs.declared.ending.Cause.{Cause}
@@ -21,13 +22,14 @@ use Rattle.txn_core.specs.declared.ending.Ending.TheVariants.{Answered, Refused,
 use Rattle.txn_core.specs.declared.job.Job.{Job}
 use Rattle.txn_core.specs.declared.job.Job.TheVariants.{Transaction, Sweep}
 use Rattle.txn_core.specs.Doing.{home_of, Fixed, Task, Phase, Gathering, Fetching, Widening, Preparing, Deciding, Finishing, Course, Sweeping, Listing, Resolving, Telling, Breaking, Round, Doing, Running, Rounding, After, GoesOn, Ends}
-use Rattle.txn_core.specs.Transactions.{Step, start_from, execute, after_word, request_in, request_of}
+use Rattle.txn_core.specs.Transactions.{Step, Gathered, start_from, execute, after_word, request_in, request_of}
 use Rattle.txn_core.specs.Sweeps as sweep
 use Rattle.txn_core.specs.Agents.{Agent, Event, Take, Forget, next_in, next_of, left, take_in, take, begin, started, forget, is_idle, has_sense, max_jobs, after_event, after_all}
 use Rattle.txn_core.specs.Laws.{Exchange, exchange_of, exchanges, of_job, told_of, locks, task_of, asks_for, IsStart}
 use Rattle.txn_core.proofs.Locks.{are_nil, asks_lock}
-use Rattle.txn_core.proofs.Gathers.{self, wants_map, sets_map, grants_map, Kept}
-use Rattle.txn_core.proofs.Causes.{push, ShortBy, CausedBy, EndIs, Stands, Fresh, OrFresh, LeftOf, Leaves, caused_execute, caused_word}
+use Rattle.txn_core.proofs.Gathers.{self, Base, Follows, knows_map, wants_map, sets_map, grants_map, Kept}
+use Rattle.txn_core.proofs.Contents.{FreeIn, free_before, Content_of, content_more, free_now, given_now}
+use Rattle.txn_core.proofs.Causes.{push, ShortBy, CausedBy, EndIs, StandsOn, started_from, Stands, Fresh, OrFresh, LeftOf, Leaves, caused_execute, caused_word}
 
 -- ---- events
 
@@ -87,7 +89,7 @@ module _ (fixed : Fixed) (agent : Agent) (job : Job) (events more : List Event) 
   unfolding begins_more
   started_more was = record { begins = begins_more was.begins; asks = was.asks }
 
-pub started_is : (fixed : Fixed) (agent : Agent) (job : Job) (events : List Event) (n : ℕ) (start : Prefix) → Started fixed agent job events n start → IsStart fixed agent job events n start
+unfoldable pub started_is : (fixed : Fixed) (agent : Agent) (job : Job) (events : List Event) (n : ℕ) (start : Prefix) → Started fixed agent job events n start → IsStart fixed agent job events n start
 started_is fixed agent job events n start started = record {
   caller = started.begins.caller;
   site = started.begins.site;
@@ -115,13 +117,18 @@ untold_is fixed agent job events n start begins none = record {
   from = begins.from;
 }
 
--- ---- the same of other starts
+-- what is so of the suites of a transaction: of their starts after some events, of their contents after some more
+abbrev pub Base_of : Fixed → Agent → Job → (begun events : List Event) → ℕ → Base
+Base_of fixed agent job begun events site = record { start = Started fixed agent job begun; content = Content_of fixed agent job events site }
 
-module _ (fixed : Fixed) (task : Task) (Old Loose Old' Loose' : ℕ → Prefix → Type 0) (past : List Exchange) (old : (n : ℕ) (start : Prefix) → Old n start → Old' n start) (loose : (n : ℕ) (start : Prefix) → Loose n start → Loose' n start) where
+-- ---- the same of other starts and contents
+
+module _ (fixed : Fixed) (task : Task) (Old : Base) (Loose : ℕ → Prefix → Type 0) (Old' : Base) (Loose' : ℕ → Prefix → Type 0) (past : List Exchange) (old : Follows Old Old') (loose : (n : ℕ) (start : Prefix) → Loose n start → Loose' n start) where
   map_kept : (n : ℕ) (suite : Suite) → Kept fixed task Old past n suite → Kept fixed task Old' past n suite
   map_kept n suite kept = record {
-    start = old n suite.collector.start kept.start;
+    start = old.start n suite.collector.start kept.start;
     first = kept.first;
+    content = knows_map Old.content Old'.content n suite old.content kept.content;
     wide = λ w is. sets_map fixed task Old Old' past old n w.votes (kept.wide w is);
     wanted = wants_map fixed task Old Old' past old n suite.collector.mode kept.wanted;
   }
@@ -131,7 +138,7 @@ module _ (fixed : Fixed) (task : Task) (Old Loose Old' Loose' : ℕ → Prefix �
     collector = by.collector;
     told = by.told;
     short = by.short;
-    begun = elim by.begun [ inl is ↦ inl (old suite by.collector.start is) | inr is ↦ inr (loose suite by.collector.start is.0, is.1) ];
+    begun = elim by.begun [ inl is ↦ inl (old.start suite by.collector.start is) | inr is ↦ inr (loose suite by.collector.start is.0, is.1) ];
     wide = λ w is. sets_map fixed task Old Old' past old suite w.votes (by.wide w is);
     wanted = wants_map fixed task Old Old' past old suite by.collector.mode by.wanted;
   }
@@ -151,7 +158,7 @@ module _ (fixed : Fixed) (task : Task) (Old Loose Old' Loose' : ℕ → Prefix �
   map_end (Refused refusal) is = tt
   map_end (Swept broken finished left) is = tt
 
-  pub map_stands : (Now : ℕ → Prefix → Type 0) (suites : Suites) (phase : Phase) → ((n : ℕ) (start : Prefix) → phase ≡ Gathering n → Now n start → Old' n start) → Stands fixed task Old Now Loose past suites phase → Stands fixed task Old' Old' Loose' past suites phase
+  pub map_stands : (Now : ℕ → Prefix → Type 0) (suites : Suites) (phase : Phase) → ((n : ℕ) (start : Prefix) → phase ≡ Gathering n → Now n start → Old'.start n start) → StandsOn fixed task Old Now Loose past suites phase → StandsOn fixed task Old' Old'.start Loose' past suites phase
   map_stands Now suites (Gathering number) now stands = (
     stands.0,
     λ n suite other at. map_kept n suite (stands.1 n suite other at),
@@ -160,6 +167,7 @@ module _ (fixed : Fixed) (task : Task) (Old Loose Old' Loose' : ℕ → Prefix �
         record {
           start = now number suite.collector.start refl asking.start;
           first = asking.first;
+          content = knows_map Old.content Old'.content number suite old.content asking.content;
           wide = λ w is. sets_map fixed task Old Old' past old number w.votes (asking.wide w is);
           wanted = wants_map fixed task Old Old' past old number suite.collector.mode asking.wanted;
         },
@@ -170,13 +178,22 @@ module _ (fixed : Fixed) (task : Task) (Old Loose Old' Loose' : ℕ → Prefix �
   map_stands Now suites (Deciding outcome) now stands = tt
   map_stands Now suites (Finishing servers v ending) now stands = λ fine. map_end ending (stands fine)
 
+-- where nothing is said of contents
+no_contents : (fixed : Fixed) (task : Task) (Old : Base) (Loose : ℕ → Prefix → Type 0) (past : List Exchange) (suites : Suites) (phase : Phase) → StandsOn fixed task Old Old.start Loose past suites phase → Stands fixed task Old.start Old.start Loose past suites phase
+no_contents fixed task Old Loose past suites phase stands =
+    map_stands fixed task Old Loose (started_from Old.start) Loose past (record { start = λ n start is. is; content = λ n first content is. tt }) (λ n start is. is) Old.start suites phase (λ n start _ is. is) stands
+
 -- ---- what a begin leaves
 
-none_kept : (fixed : Fixed) (task : Task) (n : ℕ) (suite : Suite) → suite_of [] n ≡ Some suite → Kept fixed task (λ _ _. ⊥) [] n suite
-none_kept fixed task n suite there = absurd (none-some suite there)
+-- no suite was gathered
+abbrev none_yet : (ℕ → First → Content → Type 0) → Base
+none_yet C = record { start = λ _ _. ⊥; content = C }
 
-begin_leaves : (fixed : Fixed) (task : Task) (cache : Cache) → Leaves fixed task (λ _ _. ⊥) (λ _ _. ⊥) [] (execute fixed task (record { suites = []; cache = cache }))
-begin_leaves fixed task cache = caused_execute fixed task (λ _ _. ⊥) (λ _ _. ⊥) [] (record { suites = []; cache = cache }) are_nil (none_kept fixed task)
+none_kept : (C : ℕ → First → Content → Type 0) (fixed : Fixed) (task : Task) (n : ℕ) (suite : Suite) → suite_of [] n ≡ Some suite → Kept fixed task (none_yet C) [] n suite
+none_kept C fixed task n suite there = absurd (none-some suite there)
+
+begin_leaves : (C : ℕ → First → Content → Type 0) (fixed : Fixed) (task : Task) (cache : Cache) → FreeIn C task cache → Leaves fixed task (none_yet C) (λ _ _. ⊥) [] (execute fixed task (record { suites = []; cache = cache }))
+begin_leaves C fixed task cache free = caused_execute fixed task (none_yet C) (λ _ _. ⊥) [] (record { suites = []; cache = cache }) free are_nil (none_kept C fixed task)
 
 -- ---- after each event
 
@@ -191,8 +208,23 @@ module _ (fixed : Fixed) (agent : Agent) (job : Job) where
     pub ops : List Op
     pub transaction : job ≡ Transaction caller site ops
     pub task : course.task ≡ task_of agent caller site ops
+    pub stands_on : (asked : ℕ × Request) → request_of fixed course ≡ Some asked
+        → StandsOn fixed course.task (Base_of fixed agent job events events course.task.site) (Started fixed agent job events) (Begins fixed agent job events) (of_job fixed agent job events) course.suites course.phase
     pub stands : (asked : ℕ × Request) → request_of fixed course ≡ Some asked
         → Stands fixed course.task (Started fixed agent job events) (Started fixed agent job events) (Begins fixed agent job events) (of_job fixed agent job events) course.suites course.phase
+
+  runs_of : (events : List Event) (course : Course) (caller : Identity) (site : ℕ) (ops : List Op) → job ≡ Transaction caller site ops → course.task ≡ task_of agent caller site ops
+      → ((asked : ℕ × Request) → request_of fixed course ≡ Some asked
+      → StandsOn fixed course.task (Base_of fixed agent job events events course.task.site) (Started fixed agent job events) (Begins fixed agent job events) (of_job fixed agent job events) course.suites course.phase) → Runs events course
+  runs_of events course caller site ops transaction task stands_on = record {
+    caller = caller;
+    site = site;
+    ops = ops;
+    transaction = transaction;
+    task = task;
+    stands_on = stands_on;
+    stands = λ asked is. no_contents fixed course.task (Base_of fixed agent job events events course.task.site) (Begins fixed agent job events) (of_job fixed agent job events) course.suites course.phase (stands_on asked is);
+  }
 
   abbrev pub DoingStands : List Event → Option Doing → Type 0
   DoingStands events (Some (Running course)) = Runs events course
@@ -214,31 +246,26 @@ module _ (fixed : Fixed) (agent : Agent) (job : Job) where
       from = fresh.from ∙ ap (λ task. start_from fixed task cache n) task_is ∙ ap (λ cache. start_from fixed (task_of agent caller site ops) cache n) (sym cache_is);
     }
 
-    convert : (Old Loose : ℕ → Prefix → Type 0) (after : After Course) → (After_all events).doing ≡ left Running after → ((n : ℕ) (start : Prefix) → Old n start → Started fixed agent job events n start)
+    convert : (Old : Base) (Loose : ℕ → Prefix → Type 0) (after : After Course) → (After_all events).doing ≡ left Running after → ((n : ℕ) (start : Prefix) → Old.start n start → Started fixed agent job events n start)
+        → ((n : ℕ) (first : First) (content : Content) → Old.content n first content → Content_of fixed agent job events task.site n first content)
         → ((n : ℕ) (start : Prefix) → Loose n start → Begins fixed agent job events n start) → LeftOf fixed task Old Loose px cache after → DoingStands events (left Running after)
     unfolding fresh_begins
-    convert Old Loose (Ends ending) doing old loose leaves = tt
-    convert Old Loose (GoesOn course) doing old loose leaves = record {
-      caller = caller;
-      site = site;
-      ops = ops;
-      transaction = transaction;
-      task = leaves.0 ∙ task_is;
-      stands = λ asked is.
-          let now : (n : ℕ) (start : Prefix) → course.phase ≡ Gathering n → OrFresh fixed task cache px Old n start → Started fixed agent job events n start = λ n start phase begun. elim begun [
-            | inl was ↦ old n start was
-            | inr fresh ↦
-                let asks : locks n asked.1 ≡ true = asks_lock course.task n (suite_of course.suites n) asked.0 asked.1 (ap (request_in fixed course.task course.suites) (sym phase) ∙ is) n ∙ self n in
-                record { begins = fresh_begins n start fresh; asks = ap (λ doing. asks_for n (next_in fixed doing)) doing ∙ ap (asks_for n) is ∙ asks }
-          ] in
-          let also : (n : ℕ) (start : Prefix) → OrFresh fixed task cache px Loose n start → Begins fixed agent job events n start = λ n start begun. elim begun [
-            | inl was ↦ loose n start was
-            | inr fresh ↦ fresh_begins n start fresh
-          ] in
-          let mapped = map_stands fixed task Old (OrFresh fixed task cache px Loose) (Started fixed agent job events) (Begins fixed agent job events) px old also (OrFresh fixed task cache px Old) course.suites course.phase now leaves.1 in
-          subst (λ past. Stands fixed course.task (Started fixed agent job events) (Started fixed agent job events) (Begins fixed agent job events) past course.suites course.phase) (sym told)
-          (subst (λ task. Stands fixed task (Started fixed agent job events) (Started fixed agent job events) (Begins fixed agent job events) px course.suites course.phase) (sym leaves.0) mapped);
-    }
+    convert Old Loose (Ends ending) doing old contents loose leaves = tt
+    convert Old Loose (GoesOn course) doing old contents loose leaves = runs_of events course caller site ops transaction (leaves.0 ∙ task_is) (λ asked is.
+        let now : (n : ℕ) (start : Prefix) → course.phase ≡ Gathering n → OrFresh fixed task cache px Old.start n start → Started fixed agent job events n start = λ n start phase begun. elim begun [
+          | inl was ↦ old n start was
+          | inr fresh ↦
+              let asks : locks n asked.1 ≡ true = asks_lock course.task n (suite_of course.suites n) asked.0 asked.1 (ap (request_in fixed course.task course.suites) (sym phase) ∙ is) n ∙ self n in
+              record { begins = fresh_begins n start fresh; asks = ap (λ doing. asks_for n (next_in fixed doing)) doing ∙ ap (asks_for n) is ∙ asks }
+        ] in
+        let also : (n : ℕ) (start : Prefix) → OrFresh fixed task cache px Loose n start → Begins fixed agent job events n start = λ n start begun. elim begun [
+          | inl was ↦ loose n start was
+          | inr fresh ↦ fresh_begins n start fresh
+        ] in
+        let base = Base_of fixed agent job events events task.site in
+        let mapped = map_stands fixed task Old (OrFresh fixed task cache px Loose) base (Begins fixed agent job events) px (record { start = old; content = contents }) also (OrFresh fixed task cache px Old.start) course.suites course.phase now leaves.1 in
+        subst (λ past. StandsOn fixed course.task (Base_of fixed agent job events events course.task.site) (Started fixed agent job events) (Begins fixed agent job events) past course.suites course.phase) (sym told)
+        (subst (λ (task : Task). StandsOn fixed task (Base_of fixed agent job events events task.site) (Started fixed agent job events) (Begins fixed agent job events) px course.suites course.phase) (sym leaves.0) mapped))
 
   -- a sweep stays at its server
   swept_on : (events : List Event) (round : Round) (locks : List Lock) → job ≡ Sweep round.server → DoingStands events (left Rounding (sweep.sweep_on round locks))
@@ -264,10 +291,21 @@ module _ (fixed : Fixed) (agent : Agent) (job : Job) where
   round_stands events round server (Lacked lacked) same = tt
 
   -- what a word leaves of a transaction
-  pub word_leaves : (events : List Event) (word : Word) (running : Course) (asked : ℕ × Request) → request_of fixed running ≡ Some asked → Runs events running
-      → Leaves fixed running.task (Started fixed agent job events) (Begins fixed agent job events) (push (of_job fixed agent job events) asked.0 asked.1 word) (after_word fixed running (After_all events).cache asked.0 asked.1 word)
-  word_leaves events word running asked is runs =
-      caused_word fixed running.task (Started fixed agent job events) (Begins fixed agent job events) (of_job fixed agent job events) (After_all events).cache running.suites running.phase asked.0 asked.1 word is (runs.stands asked is)
+  pub word_leaves : (events : List Event) (word : Word) (running : Course) (asked : ℕ × Request) → request_of fixed running ≡ Some asked
+      → of_job fixed agent job (events ++ Take word ∷ []) ≡ push (of_job fixed agent job events) asked.0 asked.1 word
+      → (After_all (events ++ Take word ∷ [])).cache ≡ (after_word fixed running (After_all events).cache asked.0 asked.1 word).cache → Runs events running
+      → Leaves fixed running.task (Base_of fixed agent job events (events ++ Take word ∷ []) running.task.site) (Begins fixed agent job events) (push (of_job fixed agent job events) asked.0 asked.1 word) (after_word fixed running (After_all events).cache asked.0 asked.1 word)
+  word_leaves events word running asked is told cache_is runs =
+      let more = events ++ Take word ∷ [] in
+      let task = running.task in
+      let base = Base_of fixed agent job events more task.site in
+      let goes_on = content_more fixed agent job events (Take word) (record { server = asked.0; request = asked.1; word = word } ∷ []) told task.site in
+      let mapped = map_stands fixed task (Base_of fixed agent job events events task.site) (Begins fixed agent job events) base (Begins fixed agent job events) (of_job fixed agent job events) (record { start = λ n start is. is; content = goes_on }) (λ n start is. is)
+      (Started fixed agent job events) running.suites running.phase (λ n start _ is. is) (runs.stands_on asked is) in
+      caused_word fixed task base (Begins fixed agent job events) (of_job fixed agent job events) (After_all events).cache running.suites running.phase asked.0 asked.1 word is mapped
+      (λ n first content found. goes_on n first content (free_now fixed agent job events task (After_all events).cache refl n first content found))
+      (given_now fixed agent job events more task asked.0 asked.1 word told)
+      (free_now fixed agent job more task (after_word fixed running (After_all events).cache asked.0 asked.1 word).cache cache_is)
 
   stands_take : (events : List Event) (word : Word) (doing : Option Doing) (asked : Option (ℕ × Request)) → (After_all events).doing ≡ doing → next_in fixed doing ≡ asked
       → of_job fixed agent job (events ++ Take word ∷ []) ≡ of_job fixed agent job events ++ exchange_of asked word → After_all (events ++ Take word ∷ []) ≡ (take_in fixed (After_all events) word doing asked).agent
@@ -275,14 +313,16 @@ module _ (fixed : Fixed) (agent : Agent) (job : Job) where
   stands_take events word (Some (Running running)) (Some asked) was is told after stands =
       let step = after_word fixed running (After_all events).cache asked.0 asked.1 word in
       convert stands.caller stands.site stands.ops stands.transaction running.task stands.task (push (of_job fixed agent job events) asked.0 asked.1 word) step.cache (events ++ Take word ∷ []) told (ap (λ (agent : Agent). agent.cache) after)
-      (Started fixed agent job events) (Begins fixed agent job events) step.after (ap (λ (agent : Agent). agent.doing) after)
-      (started_more fixed agent job events (Take word ∷ [])) (begins_more fixed agent job events (Take word ∷ [])) (word_leaves events word running asked is stands)
+      (Base_of fixed agent job events (events ++ Take word ∷ []) running.task.site) (Begins fixed agent job events) step.after (ap (λ (agent : Agent). agent.doing) after)
+      (started_more fixed agent job events (Take word ∷ [])) (λ n first content is. is) (begins_more fixed agent job events (Take word ∷ []))
+      (word_leaves events word running asked is told (ap (λ (agent : Agent). agent.cache) after) stands)
   stands_take events word (Some (Running running)) None was is told after stands = subst (DoingStands (events ++ Take word ∷ [])) (sym was) (record {
     caller = stands.caller;
     site = stands.site;
     ops = stands.ops;
     transaction = stands.transaction;
     task = stands.task;
+    stands_on = λ asked asks. cc;
     stands = λ asked asks. cc;
   })
   stands_take events word (Some (Rounding round)) (Some asked) was is told after stands = round_stands (events ++ Take word ∷ []) round asked.0 word stands
@@ -291,19 +331,14 @@ module _ (fixed : Fixed) (agent : Agent) (job : Job) where
   stands_take events word None None was is told after stands = subst (DoingStands (events ++ Take word ∷ [])) (sym was) tt
 
   stands_forget : (events : List Event) (site : ℕ) (doing : Option Doing) → DoingStands events doing → DoingStands (events ++ Forget site ∷ []) doing
-  stands_forget events site (Some (Running running)) stands = record {
-    caller = stands.caller;
-    site = stands.site;
-    ops = stands.ops;
-    transaction = stands.transaction;
-    task = stands.task;
-    stands = λ asked is.
-        subst (λ past. Stands fixed running.task (Started fixed agent job (events ++ Forget site ∷ [])) (Started fixed agent job (events ++ Forget site ∷ [])) (Begins fixed agent job (events ++ Forget site ∷ [])) past running.suites running.phase)
-        (sym (exchanges-forget fixed (begin fixed agent job) events site))
-        (map_stands fixed running.task (Started fixed agent job events) (Begins fixed agent job events) (Started fixed agent job (events ++ Forget site ∷ [])) (Begins fixed agent job (events ++ Forget site ∷ [])) (of_job fixed agent job events)
-        (started_more fixed agent job events (Forget site ∷ [])) (begins_more fixed agent job events (Forget site ∷ [])) (Started fixed agent job events) running.suites running.phase
-        (λ n start _ started. started_more fixed agent job events (Forget site ∷ []) n start started) (stands.stands asked is));
-  }
+  stands_forget events site (Some (Running running)) stands = runs_of (events ++ Forget site ∷ []) running stands.caller stands.site stands.ops stands.transaction stands.task (λ asked is.
+      let more = events ++ Forget site ∷ [] in
+      let same = exchanges-forget fixed (begin fixed agent job) events site in
+      let goes_on = content_more fixed agent job events (Forget site) [] (same ∙ sym (append-nil (of_job fixed agent job events))) running.task.site in
+      subst (λ past. StandsOn fixed running.task (Base_of fixed agent job more more running.task.site) (Started fixed agent job more) (Begins fixed agent job more) past running.suites running.phase) (sym same)
+      (map_stands fixed running.task (Base_of fixed agent job events events running.task.site) (Begins fixed agent job events) (Base_of fixed agent job more more running.task.site) (Begins fixed agent job more) (of_job fixed agent job events)
+      (record { start = started_more fixed agent job events (Forget site ∷ []); content = goes_on }) (begins_more fixed agent job events (Forget site ∷ [])) (Started fixed agent job events) running.suites running.phase
+      (λ n start _ started. started_more fixed agent job events (Forget site ∷ []) n start started) (stands.stands_on asked is)))
   stands_forget events site (Some (Rounding round)) stands = stands
   stands_forget events site None stands = tt
 
@@ -321,9 +356,9 @@ module _ (fixed : Fixed) (agent : Agent) (job : Job) where
       subst (λ events. DoingStands events (After_all events).doing) (append_assoc events (event ∷ []) more) (all_stand (events ++ event ∷ []) more (stands_more events event stands))
 
   first_stands : (caller : Identity) (site : ℕ) (ops : List Op) → job ≡ Transaction caller site ops → (task : Task) → task ≡ task_of agent caller site ops → (step : Step) → (After_all []).cache ≡ step.cache → (After_all []).doing ≡ left Running step.after
-      → Leaves fixed task (λ _ _. ⊥) (λ _ _. ⊥) [] step → DoingStands [] (left Running step.after)
+      → Leaves fixed task (none_yet (Content_of fixed agent job [] task.site)) (λ _ _. ⊥) [] step → DoingStands [] (left Running step.after)
   first_stands caller site ops same task task_is step cache doing leaves =
-      convert caller site ops same task task_is [] step.cache [] refl cache (λ _ _. ⊥) (λ _ _. ⊥) step.after doing (λ n start no. absurd no) (λ n start no. absurd no) leaves
+      convert caller site ops same task task_is [] step.cache [] refl cache (none_yet (Content_of fixed agent job [] task.site)) (λ _ _. ⊥) step.after doing (λ n start no. absurd no) (λ n first content is. is) (λ n start no. absurd no) leaves
 
   begin_stands : is_idle agent.doing ≡ true → DoingStands [] (begin fixed agent job).doing
   begin_stands idle = of (is_idle agent.doing && has_sense fixed job && nat_lt agent.count max_jobs) refl job refl
@@ -336,8 +371,11 @@ module _ (fixed : Fixed) (agent : Agent) (job : Job) where
       begun (Sweep server) same is = same
       begun (Transaction caller site ops) same is =
           let task = task_of agent caller site ops in
-          first_stands caller site ops same task refl (execute fixed task (record { suites = []; cache = agent.cache })) (ap (λ (agent : Agent). agent.cache) is) (ap (λ (agent : Agent). agent.doing) is)
-          (begin_leaves fixed task agent.cache)
+          let all : Gathered = record { suites = []; cache = agent.cache } in
+          let C = Content_of fixed agent job [] site in
+          let free = free_before C fixed task all (free_now fixed agent job [] task (execute fixed task all).cache (ap (λ (agent : Agent). agent.cache) is)) in
+          first_stands caller site ops same task refl (execute fixed task all) (ap (λ (agent : Agent). agent.cache) is) (ap (λ (agent : Agent). agent.doing) is)
+          (begin_leaves C fixed task agent.cache free)
 
       of : (b : Bool) → (is_idle agent.doing && has_sense fixed job && nat_lt agent.count max_jobs) ≡ b → (j : Job) → job ≡ j → DoingStands [] (begin fixed agent job).doing
       of true is j same =

@@ -6,6 +6,7 @@ use Rattle.file_ops.specs.declared.answer.Answer.{Answer}
 use Rattle.file_exec.specs.declared.need.Need.TheVariants.{Hold}
 use Rattle.file_exec.specs.declared.executor.Outcome.TheVariants as exec
 use Rattle.vote_core.specs.Quorums.{Representative, Configuration, votes_in}
+use Rattle.suite_content.specs.declared.content.Content.{Content}
 use Rattle.suite_prefix.specs.declared.copies.Prefix.{Prefix}
 use Rattle.suite_prefix.specs.declared.lock_mode.LockMode.{LockMode}
 use Rattle.suite_prefix.specs.declared.lock_mode.LockMode.TheVariants.{Exclusive}
@@ -30,17 +31,19 @@ use Rattle.txn_core.specs.Doing.{Changes, Fixed}
 use Rattle.txn_core.specs.Transactions.{heard_on, to_widen}
 use Rattle.txn_core.specs.Agents.{Agent, Event, Take, take, begin, is_idle, after_all}
 use Rattle.txn_core.specs.Laws.{Exchange, of_job, is_decide, told_of, has_said, holding, refusing, down, first_busy_in, task_of, IsStart, all_fit}
-use Rattle.txn_core.specs.Caching.{FirstGave}
+use Rattle.txn_core.specs.Caching.{FirstGave, IsContentOf}
 
 -- ---- on what a transaction executes
 
--- A suite that it gathered: the prefix and the version that are known of it are those that its first Current gave.
+-- A suite that it gathered: the prefix and the version that are known of it are those that its first Current gave; and whatever content is
+-- known of it is the empty one, one that the site's cache had at this version, or the one that was fetched.
 pub record WasGathered (fixed : Fixed) (agent : Agent) (job : Job) (events : List Event) (number : ℕ) (suite : Suite) : Type 0 where
   pub start : Prefix
   pub gathered : IsStart fixed agent job events number start
   pub first : First
   pub was : suite.first ≡ Some first
   pub gave : FirstGave start number (of_job fixed agent job events) first
+  pub content : (content : Content) → suite.content ≡ Some content → IsContentOf fixed agent job events gathered.site number first content
 
 abbrev pub WereGathered : Fixed → Agent → Job → List Event → Suites → Type 0
 WereGathered fixed agent job events suites = (number : ℕ) (suite : Suite) → suite_of suites number ≡ Some suite → WasGathered fixed agent job events number suite

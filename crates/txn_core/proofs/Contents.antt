@@ -1,0 +1,200 @@
+-- Which contents are to be had: without asking, or as a server gave them.
+use Rattle.std.proofs.Common.{◌≡◌, ℕ, zero, suc, Bool, true, false, cond, ◌⊎◌, inl, inr, List, [], ◌∷◌, ◌++◌, Option, Some, None, refl, sym, ap, subst, ◌∙◌}
+use Rattle.std.specs.Prelude.{◌==◌, length, Contains}
+use Rattle.std.proofs.lemmas.Bool.{eqb-true}
+use Rattle.std.proofs.lemmas.Option.{same_Some}
+use Rattle.std.proofs.lemmas.List.{append-nil, append_assoc}
+use Rattle.std.proofs.lemmas.List.Elements.{Contains-append_left, Contains-push}
+use Rattle.suite_content.specs.declared.content.Content.{Content}
+use Rattle.suite_content.specs.Contents.{empty_content}
+use Rattle.suite_prefix.specs.Copies.{held_by}
+use Rattle.rep_core.specs.declared.request.Request.{Request}
+use Rattle.rep_core.specs.declared.request.Request.TheVariants as request
+use Rattle.rep_core.specs.declared.reply.Reply.{Reply}
+use Rattle.rep_core.specs.declared.reply.Reply.TheVariants as reply
+use Rattle.file_exec.specs.declared.need.Need.TheVariants.{Hold, Know}
+use Rattle.file_exec.specs.declared.executor.Outcome.{Outcome as Executed}
+use Rattle.file_exec.specs.declared.executor.Outcome.TheVariants as exec
+use Rattle.weak_cache.specs.Entries.{Cache}
+use Rattle.weak_cache.specs.Cache.{content_at, searched}
+use Rattle.weak_cache.proofs.Origins.{search_keeps_all}
+use Rattle.txn_core.specs.Suites.{First, Suite, suite_of}
+use Rattle.txn_core.specs.declared.word.Word.{Word}
+use Rattle.txn_core.specs.declared.word.Word.TheVariants.{Replied, Lacked}
+use Rattle.txn_core.specs.declared.job.Job.{Job}
+use Rattle.txn_core.specs.Doing.{Fixed, Task}
+use Rattle.txn_core.specs.Transactions.{Gathered, opened, or_all, open_needed, open_suite, open_first, opened_with, free_content, after_search, heard_on, execute}
+use Rattle.txn_core.specs.Agents.{Agent, Event, begin, after_all}
+use Rattle.txn_core.specs.Laws.{Exchange, of_job}
+use Rattle.txn_core.specs.Caching.{IsContentOf}
+use Rattle.txn_core.proofs.Gathers.{Each, each_but, each_with}
+use Rattle.txn_core.proofs.Cached.{same_proceed}
+
+-- ---- a search keeps what is found
+
+pub opened_finds : (n : ℕ) (fixed : Fixed) (task : Task) (all : Gathered) (number dver : ℕ) → content_at (opened n fixed task all).cache task.site number dver ≡ content_at all.cache task.site number dver
+opened_finds zero fixed task all number dver = refl
+opened_finds (suc n) fixed task all number dver = of (heard_on fixed task all.suites) (λ more. opened_finds n fixed task more number dver)
+  where
+    or' : (found : Option Gathered) → ((more : Gathered) → found ≡ Some more → content_at more.cache task.site number dver ≡ content_at all.cache task.site number dver)
+        → ((more : Gathered) → content_at (opened n fixed task more).cache task.site number dver ≡ content_at more.cache task.site number dver)
+        → content_at (or_all all found (λ all. opened n fixed task all)).cache task.site number dver ≡ content_at all.cache task.site number dver
+    or' (Some more) same later = later more ∙ same more refl
+    or' None same later = refl
+
+    with_content : (other : ℕ) (suite : Suite) (first : First) (content : Option Content) (more : Gathered) → opened_with task all other suite first content ≡ Some more → content_at more.cache task.site number dver ≡ content_at all.cache task.site number dver
+    with_content other suite first (Some content) more is = subst (λ (more : Gathered). content_at more.cache task.site number dver ≡ content_at all.cache task.site number dver) (same_Some _ more is) (at (first.dver == 0))
+      where
+        at : (b : Bool) → content_at (cond b all.cache (searched task.site other first.dver all.cache)) task.site number dver ≡ content_at all.cache task.site number dver
+        at true = refl
+        at false = search_keeps_all.content task.site other first.dver task.site number dver all.cache
+    with_content other suite first None more is = cc
+
+    at_first : (other : ℕ) (suite : Suite) (first : Option First) (more : Gathered) → open_first task all other suite first ≡ Some more → content_at more.cache task.site number dver ≡ content_at all.cache task.site number dver
+    at_first other suite (Some first) more is = with_content other suite first (free_content task all.cache other first) more is
+    at_first other suite None more is = cc
+
+    at_suite : (other : ℕ) (found : Option Suite) (more : Gathered) → open_suite task all other found ≡ Some more → content_at more.cache task.site number dver ≡ content_at all.cache task.site number dver
+    at_suite other (Some suite) more is = at_first other suite suite.first more is
+    at_suite other None more is = cc
+
+    needed' : (heard : Executed) (more : Gathered) → open_needed task all heard ≡ Some more → content_at more.cache task.site number dver ≡ content_at all.cache task.site number dver
+    needed' (exec.Need (Know other)) more is = at_suite other (suite_of all.suites other) more is
+    needed' (exec.Need (Hold other mode)) more is = cc
+    needed' (exec.Done answers changes) more is = cc
+    needed' (exec.Refused refusal) more is = cc
+
+    of : (heard : Executed) → ((more : Gathered) → content_at (opened n fixed task more).cache task.site number dver ≡ content_at more.cache task.site number dver)
+        → content_at (or_all all (open_needed task all heard) (λ all. opened n fixed task all)).cache task.site number dver ≡ content_at all.cache task.site number dver
+    of heard later = or' (open_needed task all heard) (needed' heard) later
+
+-- ---- contents that are opened
+
+-- a content that is to be had without asking
+abbrev pub Free : Task → Cache → First → ℕ → Content → Type 0
+Free task cache first number content = ((first.dver ≡ 0) × (content ≡ empty_content (held_by first.prefix.kind))) ⊎ (content_at cache task.site number first.dver ≡ Some content)
+
+pub free_is : (task : Task) (cache : Cache) (number : ℕ) (first : First) (content : Content) → free_content task cache number first ≡ Some content → Free task cache first number content
+free_is task cache number first content is = of (first.dver == 0) refl is
+  where
+    of : (b : Bool) → (first.dver == 0) ≡ b → cond b (Some (empty_content (held_by first.prefix.kind))) (content_at cache task.site number first.dver) ≡ Some content → Free task cache first number content
+    of true none is = inl (eqb-true first.dver 0 none, sym (same_Some (empty_content (held_by first.prefix.kind)) content is))
+    of false some is = inr is
+
+-- contents are opened as they are found from the start on
+pub each_opened : (start : Cache) (task : Task) (K : ℕ → Suite → Type 0)
+    → ((number : ℕ) (suite : Suite) (first : First) (content : Content) → suite.first ≡ Some first → Free task start first number content → K number suite → K number (record suite { content = Some content }))
+    → (n : ℕ) (fixed : Fixed) (all : Gathered) → ((number dver : ℕ) → content_at all.cache task.site number dver ≡ content_at start task.site number dver) → Each K all.suites → Each K (opened n fixed task all).suites
+each_opened start task K opens zero fixed all same each = each
+each_opened start task K opens (suc n) fixed all same each = of (heard_on fixed task all.suites) (λ more same each. each_opened start task K opens n fixed more same each)
+  where
+    or' : (found : Option Gathered)
+        → ((more : Gathered) → found ≡ Some more → ((number dver : ℕ) → content_at more.cache task.site number dver ≡ content_at start task.site number dver) × Each K more.suites)
+        → ((more : Gathered) → ((number dver : ℕ) → content_at more.cache task.site number dver ≡ content_at start task.site number dver) → Each K more.suites → Each K (opened n fixed task more).suites)
+        → Each K (or_all all found (λ all. opened n fixed task all)).suites
+    or' (Some more) both later = let now = both more refl in later more now.0 now.1
+    or' None both later = each
+
+    finds : (other : ℕ) (first : First) (number dver : ℕ) → content_at (after_search task all.cache other first) task.site number dver ≡ content_at start task.site number dver
+    finds other first number dver = at (first.dver == 0) ∙ same number dver
+      where
+        at : (b : Bool) → content_at (cond b all.cache (searched task.site other first.dver all.cache)) task.site number dver ≡ content_at all.cache task.site number dver
+        at true = refl
+        at false = search_keeps_all.content task.site other first.dver task.site number dver all.cache
+
+    back : (first : First) (number : ℕ) (content : Content) → Free task all.cache first number content → Free task start first number content
+    back first number content (inl none) = inl none
+    back first number content (inr found) = inr (sym (same number first.dver) ∙ found)
+
+    with_content : (number : ℕ) (suite : Suite) (first : First) (content : Option Content) (more : Gathered) → suite_of all.suites number ≡ Some suite → suite.first ≡ Some first → free_content task all.cache number first ≡ content
+        → opened_with task all number suite first content ≡ Some more → ((number dver : ℕ) → content_at more.cache task.site number dver ≡ content_at start task.site number dver) × Each K more.suites
+    with_content number suite first (Some content) more there was given is =
+        subst (λ (more : Gathered). ((number dver : ℕ) → content_at more.cache task.site number dver ≡ content_at start task.site number dver) × Each K more.suites) (same_Some _ more is) (
+          finds number first,
+          each_with K number all.suites (record suite { content = Some content }) (each_but K number all.suites each)
+              (opens number suite first content was (back first number content (free_is task all.cache number first content given)) (each number suite there)),
+        )
+    with_content number suite first None more there was given is = cc
+
+    at_first : (number : ℕ) (suite : Suite) (first : Option First) (more : Gathered) → suite_of all.suites number ≡ Some suite → suite.first ≡ first → open_first task all number suite first ≡ Some more
+        → ((number dver : ℕ) → content_at more.cache task.site number dver ≡ content_at start task.site number dver) × Each K more.suites
+    at_first number suite (Some first) more there was is = with_content number suite first (free_content task all.cache number first) more there was refl is
+    at_first number suite None more there was is = cc
+
+    at_suite : (number : ℕ) (found : Option Suite) (more : Gathered) → suite_of all.suites number ≡ found → open_suite task all number found ≡ Some more
+        → ((number dver : ℕ) → content_at more.cache task.site number dver ≡ content_at start task.site number dver) × Each K more.suites
+    at_suite number (Some suite) more there is = at_first number suite suite.first more there refl is
+    at_suite number None more there is = cc
+
+    needed' : (heard : Executed) (more : Gathered) → open_needed task all heard ≡ Some more → ((number dver : ℕ) → content_at more.cache task.site number dver ≡ content_at start task.site number dver) × Each K more.suites
+    needed' (exec.Need (Know number)) more is = at_suite number (suite_of all.suites number) more refl is
+    needed' (exec.Need (Hold number mode)) more is = cc
+    needed' (exec.Done answers changes) more is = cc
+    needed' (exec.Refused refusal) more is = cc
+
+    of : (heard : Executed)
+        → ((more : Gathered) → ((number dver : ℕ) → content_at more.cache task.site number dver ≡ content_at start task.site number dver) → Each K more.suites → Each K (opened n fixed task more).suites)
+        → Each K (or_all all (open_needed task all heard) (λ all. opened n fixed task all)).suites
+    of heard later = or' (open_needed task all heard) (needed' heard) later
+
+-- all that is to be had without asking is so
+abbrev pub FreeIn : (ℕ → First → Content → Type 0) → Task → Cache → Type 0
+FreeIn C task cache = (number : ℕ) (first : First) (content : Content) → Free task cache first number content → C number first content
+
+-- a step that executes leaves what is found as it was
+pub free_before : (C : ℕ → First → Content → Type 0) (fixed : Fixed) (task : Task) (all : Gathered) → FreeIn C task (execute fixed task all).cache → FreeIn C task all.cache
+free_before C fixed task all free number first content is =
+    let open' = opened (length all.suites) fixed task all in
+    let finds : (number dver : ℕ) → content_at (execute fixed task all).cache task.site number dver ≡ content_at all.cache task.site number dver = λ number dver.
+    ap (λ cache. content_at cache task.site number dver) (same_proceed fixed task open'.cache open'.suites (heard_on fixed task open'.suites)) ∙ opened_finds (length all.suites) fixed task all number dver in
+    free number first content (elim is [ inl none ↦ inl none | inr found ↦ inr (finds number first.dver ∙ found) ])
+
+-- ---- contents that are given
+
+-- what a Given told
+abbrev pub GivenTo : (ℕ → First → Content → Type 0) → Task → ℕ → Request → Reply → Type 0
+GivenTo C task server asked said = (number : ℕ) (first : First) (content : Content) (dver : ℕ) → server ≡ first.source → asked ≡ request.Fetch task.t number → said ≡ reply.Given dver content → C number first content
+
+abbrev pub GivenIn : (ℕ → First → Content → Type 0) → Task → ℕ → Request → Word → Type 0
+GivenIn C task server asked (Replied said) = GivenTo C task server asked said
+GivenIn C task server asked (Lacked lacked) = Unit {0}
+
+-- ---- after each event
+
+module _ (fixed : Fixed) (agent : Agent) (job : Job) where
+  abbrev pub Content_of : List Event → ℕ → ℕ → First → Content → Type 0
+  Content_of events site number first content = IsContentOf fixed agent job events site number first content
+
+  -- what is so stays so
+  pub content_more : (events : List Event) (event : Event) (one : List Exchange) → of_job fixed agent job (events ++ event ∷ []) ≡ of_job fixed agent job events ++ one → (site number : ℕ) (first : First) (content : Content)
+      → Content_of events site number first content → Content_of (events ++ event ∷ []) site number first content
+  content_more events event one told site number first content (inl none) = inl none
+  content_more events event one told site number first content (inr (inl cached)) =
+      inr (inl (record { before = cached.before; later = cached.later ++ event ∷ []; parts = ap (λ events. events ++ event ∷ []) cached.parts ∙ append_assoc cached.before cached.later (event ∷ []); found = cached.found }))
+  content_more events event one told site number first content (inr (inr given)) = inr (inr (record {
+    t = given.t;
+    dver = given.dver;
+    there = subst (λ past. Contains past (record { server = first.source; request = request.Fetch given.t number; word = Replied (reply.Given given.dver content) })) (sym told)
+        (Contains-append_left (of_job fixed agent job events) one _ given.there);
+  }))
+
+  -- what is found in the cache after an event
+  pub free_now : (events : List Event) (task : Task) (cache : Cache) → (after_all fixed (begin fixed agent job) events).cache ≡ cache → FreeIn (Content_of events task.site) task cache
+  free_now events task cache is number first content (inl none) = inl none
+  free_now events task cache is number first content (inr found) =
+      inr (inl (record { before = events; later = []; parts = sym (append-nil events); found = ap (λ cache. content_at cache task.site number first.dver) is ∙ found }))
+
+  -- what was given is so once it was told
+  pub given_now : (events more : List Event) (task : Task) (server : ℕ) (asked : Request) (heard : Word) → of_job fixed agent job more ≡ of_job fixed agent job events ++ record { server = server; request = asked; word = heard } ∷ []
+      → GivenIn (Content_of more task.site) task server asked heard
+  given_now events more task server asked (Lacked lacked) told = tt
+  given_now events more task server asked (Replied said) told = λ number first content dver at what says.
+      let with' : ℕ → Request → Reply → Exchange = λ server asked said. record { server = server; request = asked; word = Replied said } in
+      let same : with' server asked said ≡ with' first.source (request.Fetch task.t number) (reply.Given dver content) =
+      ap (λ server. with' server asked said) at ∙ ap (λ asked. with' first.source asked said) what ∙ ap (with' first.source (request.Fetch task.t number)) says in
+      let there : Contains (of_job fixed agent job events ++ with' server asked said ∷ []) (with' server asked said) = Contains-push (of_job fixed agent job events) (with' server asked said) in
+      inr (inr (record {
+        t = task.t;
+        dver = dver;
+        there = subst (Contains (of_job fixed agent job more)) same (subst (λ past. Contains past (with' server asked said)) (sym told) there);
+      }))
