@@ -2,3 +2,4 @@ pub mod Merges
 pub mod Weaves
 pub mod Shown
 pub mod Certified
+pub mod code

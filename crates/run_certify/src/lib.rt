@@ -10,6 +10,8 @@
 mod decided;
 mod entry;
 mod fault;
+mod heads;
+mod unused;
 
 pub use decided::{Decided, Decision};
 pub use entry::{Entry, Transcript, Transcripts};
