@@ -139,11 +139,11 @@ module _ (given : Opening) (accepted : IsAccepted given) (world : World) (jobs :
         (same_or n number)
 
     begun_now : (job : Job) → job_at later number ≡ Some job → (agent : Agent) → agent.index ≡ number → number < 64 → Has fixed (IsOfJob later) (record (started fixed agent job) { count = agent.count + 1 })
-    begun_now (Sweep server) begins agent index small = λ task is. absurd (none-some task is)
-    begun_now (Transaction caller site ops) begins agent index small =
+    begun_now (Sweep server) last agent index small = λ task is. absurd (none-some task is)
+    begun_now (Transaction caller site ops) last agent index small =
         let task : Task = record { t = 64 * agent.count + agent.index; caller = caller; site = site; ops = ops } in
         on_course fixed (IsOfJob later) task (execute fixed task (record { suites = []; cache = agent.cache })).after (stays_begin fixed task agent.cache)
-        (ap (job_at later) (ap (λ i. (64 * agent.count + i) % 64) index ∙ rest_of agent.count number small) ∙ begins)
+        (ap (job_at later) (ap (λ i. (64 * agent.count + i) % 64) index ∙ rest_of agent.count number small) ∙ last)
 
     begins_so : (actor : Actor) → actor_at world number ≡ Some actor → Has fixed (IsOfJob later) (begin fixed actor.agent job)
     begins_so actor there =
