@@ -12,6 +12,7 @@ mod entry;
 mod fault;
 mod heads;
 mod unused;
+mod votes;
 
 pub use decided::{Decided, Decision};
 pub use entry::{Entry, Transcript, Transcripts};
