@@ -1,3 +1,6 @@
+pub mod Lists
+pub mod Picking
+pub mod Least
 pub mod Deciding
 pub mod Lengths
 pub mod Promised

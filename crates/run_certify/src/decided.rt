@@ -32,9 +32,9 @@ pub struct Decided {
 
 impl Model for Decided {
     ghost use Rattle.std.specs.Prelude.{List};
-    ghost use Rattle.run_core.specs.Decisions as decisions;
+    ghost use Rattle.run_core.specs.Decisions.{Decided as Made};
 
-    ghost Value = { List decisions.Decided };
+    ghost Value = { List Made };
 
     ghost view = { λ decided. decided.decisions.items };
 }

@@ -10,6 +10,9 @@
 mod decided;
 mod entry;
 mod fault;
+mod heads;
+mod unused;
+mod votes;
 
 pub use decided::{Decided, Decision};
 pub use entry::{Entry, Transcript, Transcripts};
