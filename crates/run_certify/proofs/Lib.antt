@@ -4,3 +4,5 @@ pub mod Least
 pub mod Deciding
 pub mod Lengths
 pub mod Promised
+pub mod Facts
+pub mod Counted
