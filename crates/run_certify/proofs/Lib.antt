@@ -1,6 +1,12 @@
 pub mod Lists
 pub mod Picking
 pub mod Least
+pub mod Steps
+pub mod Weaving
+pub mod Ends
+pub mod Refuting
+pub mod Moves
+pub mod Bridge
 pub mod Deciding
 pub mod Lengths
 pub mod Promised
