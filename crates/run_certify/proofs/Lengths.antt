@@ -84,8 +84,7 @@ so_many_actors start (suc count) = ap suc (so_many_actors (start + 1) count)
 
 pub counts : (given : Opening) (world : World) (jobs : List (Option Job)) → IsPlayed given world jobs → (length world.servers ≡ given.servers) × (length world.agents ≡ given.agents)
 counts given world jobs played =
-    let all = many_in_all (fixed_of given) (opening given) played.events in
-    (
+    let all = many_in_all (fixed_of given) (opening given) played.events in (
       ap (λ (world : World). length world.servers) played.is ∙ all.0 ∙ so_many_servers given 0 given.servers,
       ap (λ (world : World). length world.agents) played.is ∙ all.1 ∙ so_many_actors 0 given.agents,
     )

@@ -10,3 +10,5 @@ pub mod Bridge
 pub mod Deciding
 pub mod Lengths
 pub mod Promised
+pub mod Facts
+pub mod Counted

@@ -1,5 +1,5 @@
 -- What a step decides, as it shows: in what was served, and in the job that its agent began last.
-use Rattle.std.specs.Prelude.{◌≡◌, ℕ, ◌<◌, ◌%◌, length, List, slice_index_or, slice_set, Option, Some, None, Result}
+use Rattle.std.specs.Prelude.{◌≡◌, ℕ, ◌+◌, ◌<◌, ◌%◌, length, List, slice_index_or, slice_set, Option, Some, None, Result}
 use Rattle.suite_prefix.specs.SettingsRules.{Opening}
 use Rattle.file_ops.specs.declared.answer.Answer.{Answer}
 use Rattle.file_ops.specs.declared.refusal.Refusal.{Refusal}
@@ -56,3 +56,20 @@ decision_as job t answer = None
 abbrev pub decision_by : Option Job → Option Served → Option Decided
 decision_by job (Some what) = decision_as job (to_decide what.request.value) (answer_in what.reply.value)
 decision_by job None = None
+
+-- ---- how many jobs each agent began
+
+abbrev pub count_at : List ℕ → ℕ → ℕ
+count_at counts agent = slice_index_or counts agent 0
+
+abbrev pub counts_after : List ℕ → Event → List ℕ
+counts_after counts (Begin agent job) = slice_set counts agent (count_at counts agent + 1)
+counts_after counts other = counts
+
+abbrev pub IsCounted : List ℕ → Event → Type 0
+IsCounted counts (Begin agent job) = agent < length counts
+IsCounted counts other = Unit {0}
+
+-- so many are begun in a world
+abbrev pub AreCounted : World → List ℕ → Type 0
+AreCounted world counts = (number : ℕ) (actor : Actor) → actor_at world number ≡ Some actor → actor.agent.count ≡ count_at counts number
