@@ -7,6 +7,7 @@ use Rattle.run_core.specs.Decisions.{Decided, decisions_from}
 use Rattle.run_core.specs.Worlds.{World, opening}
 use Rattle.server_lock.specs.declared.item.Item.{Item}
 use Rattle.run_certify.specs.declared.entry.Entry.{Entry}
+use Rattle.run_certify.specs.declared.entry.Entry.TheVariants.{Asked}
 use Rattle.run_certify.specs.Certified.{AreOfRun}
 use Rattle.run_certify.specs.Deciding.{AreCounted, IsPlayed, count_at}
 use Rattle.run_certify.specs.Merges.{ItemAt, IsMerge}
@@ -62,7 +63,7 @@ Fails was taken = IsSound was → (total : List Decided) → IsOfRun was taken t
 -- it is used, and nothing else has changed
 pub record IsUse (was : Walked) (agent : ℕ) (entry : Entry) (now : Walked) : Type 0 where
   pub used : AreUsed was.unused agent (entry ∷ []) now.unused
-  pub else : now ≡ record was { unused = now.unused }
+  pub kept : now ≡ record was { unused = now.unused }
 
 -- an agent's entry that was used is played
 abbrev pub EntryGoes : ℕ → Entry → Walked → Walked → Type 0
@@ -77,6 +78,13 @@ pub record IsShorter (old : Walked) (agent : ℕ) (new : Walked) : Type 0 where
   pub rest : List Entry
   pub set : new.unused ≡ slice_set old.unused agent rest
   pub short : length rest ≤ length (transcript_of old.unused agent)
+
+-- a step of an agent is played, which was told a stamp by a server: what is served is the item that was taken
+abbrev pub AskedGoes : ℕ → ℕ → ℕ → ItemAt → Walked → Walked → Type 0
+AskedGoes agent server stamp one old new = (was : Walked) → IsUse was agent (Asked server stamp) old → Goes was (one ∷ []) new []
+
+abbrev pub AskedFails : ℕ → ℕ → ℕ → ItemAt → Walked → Type 0
+AskedFails agent server stamp one old = (was : Walked) → IsUse was agent (Asked server stamp) old → Fails was (one ∷ [])
 
 -- ---- the start
 
