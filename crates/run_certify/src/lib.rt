@@ -11,6 +11,7 @@ mod decided;
 mod entry;
 mod fault;
 mod heads;
+mod operator;
 mod unused;
 mod votes;
 
