@@ -1,13 +1,14 @@
 //! The walk through histories and transcripts.
 
-ghost use Rattle.std.specs.Prelude.{◌≡◌, ℕ, ◌+◌, ◌<◌, ◌≤◌, ◌∷◌, [], length, true, false, IfOk, IsTrue, Err, None, Some, OnOk};
+ghost use Rattle.std.specs.Prelude.{◌≡◌, ℕ, ◌+◌, ◌<◌, ◌≤◌, ◌∷◌, ◌++◌, [], length, true, false, IfOk, IsTrue, Err, None, Some, OnOk};
 ghost use Rattle.txn_core.specs.Agents as agents;
 ghost use Rattle.txn_core.specs.Agents.{fixed_of};
 ghost use Rattle.run_core.specs.declared.event.Event.TheVariants.{Begin};
 ghost use Rattle.run_core.specs.Senses as senses;
-ghost use Rattle.run_certify.specs.declared.entry.Entry.TheVariants.{Asked, Begun, Forgot, Lacked};
+ghost use Rattle.run_certify.specs.declared.entry.Entry.TheVariants as entries;
 ghost use Rattle.run_certify.specs.declared.fault.CertifyFault.TheVariants.{Mismatch};
-ghost use Rattle.run_certify.specs.Deciding.{count_at};
+ghost use Rattle.run_certify.specs.Deciding.{count_at, decision_by, job_at};
+ghost use Rattle.std.specs.List.{cons_option};
 ghost use Rattle.run_certify.specs.Weaves.{transcript_of};
 ghost use Rattle.run_certify.specs.code.Firsts.{AreAllPlayed, at_server};
 ghost use Rattle.run_certify.specs.code.Turns.{is_asked};
@@ -24,7 +25,7 @@ use crate::sense::{begin_event, has_sense};
 use crate::unused::Unused;
 use crate::verdicts::decision_of;
 use rep_core::Lack;
-use run_core::{Event, World};
+use run_core::{Event, Served, World};
 use server_lock::{History, Item};
 use std::alloc::{AllocError, Global};
 use std::marker::Model;
@@ -164,10 +165,18 @@ impl<'a> Walk<'a> {
         if !is_item(served, server, item) || told != (served.server, served.reply.stamp) {
             return Err(CertifyFault::Mismatch);
         }
+        self.decide(agent, served)?;
+        self.unused.end(agent, &done.outcome)
+    }
+
+    /// Puts down what was decided, if what was served decided the transaction of an agent.
+    fn decide(&mut self, agent: u8, served: &Served) -> Result<(), AllocError>
+        ensures { OnOk result (self.new ≡ record self.old { made = self.old.made ++ cons_option (decision_by (job_at self.old.begun.jobs agent) (Some served.now)) [] }) }
+    {
         if let Some(decision) = decision_of(self.begun.job(agent), served)? {
             self.decisions.push(decision)?;
         }
-        self.unused.end(agent, &done.outcome)
+        Ok(())
     }
 
     /// Plays what is left of the transcripts, which asks no server.
@@ -186,8 +195,8 @@ impl<'a> Walk<'a> {
 
     /// Plays what is left of a transcript, where nothing is left of those before it.
     fn rest_of(&mut self, agent: usize) -> Result<(), CertifyFault>
-        requires { AreAllPlayed self.old.histories }
-        requires { (i : ℕ) → i < agent → transcript_of self.old.unused i ≡ [] }
+        requires played { AreAllPlayed self.old.histories }
+        requires before { (i : ℕ) → i < agent → transcript_of self.old.unused i ≡ [] }
         ensures ok { OnOk result (Goes self.old [] self.new []) }
         ensures used { OnOk result ((i : ℕ) → i < agent + 1 → transcript_of self.new.unused i ≡ []) }
         ensures long { OnOk result (length self.new.unused ≡ length self.old.unused) }
@@ -223,9 +232,9 @@ impl<'a> Walk<'a> {
 
     /// An agent begins a job.
     fn begin(&mut self, agent: u8, job: &'a Job) -> Result<(), CertifyFault>
-        ensures ok { OnOk result (EntryGoes agent (Begun job.now) self.old self.new) }
+        ensures ok { OnOk result (EntryGoes agent (entries.Begun job.now) self.old self.new) }
         ensures shorter { OnOk result (IsShorter self.old agent self.new) }
-        ensures mismatch { result ≡ Err Mismatch → EntryFails agent (Begun job.now) self.old }
+        ensures mismatch { result ≡ Err Mismatch → EntryFails agent (entries.Begun job.now) self.old }
     {
         if !self.may_begin(agent, job) {
             return Err(CertifyFault::Mismatch);
@@ -248,9 +257,9 @@ impl<'a> Walk<'a> {
 
     /// An agent is told what a server lacked.
     fn lack(&mut self, agent: u8, server: u8, lack: Lack) -> Result<(), CertifyFault>
-        ensures ok { OnOk result (EntryGoes agent (Lacked server lack) self.old self.new) }
+        ensures ok { OnOk result (EntryGoes agent (entries.Lacked server lack) self.old self.new) }
         ensures shorter { OnOk result (IsShorter self.old agent self.new) }
-        ensures mismatch { result ≡ Err Mismatch → EntryFails agent (Lacked server lack) self.old }
+        ensures mismatch { result ≡ Err Mismatch → EntryFails agent (entries.Lacked server lack) self.old }
     {
         if self.world.asked(agent) != Some(server) {
             return Err(CertifyFault::Mismatch);
@@ -261,9 +270,9 @@ impl<'a> Walk<'a> {
 
     /// An agent forgets what its cache keeps for a site.
     fn forget(&mut self, agent: u8, site: u8) -> Result<(), CertifyFault>
-        ensures ok { OnOk result (EntryGoes agent (Forgot site) self.old self.new) }
+        ensures ok { OnOk result (EntryGoes agent (entries.Forgot site) self.old self.new) }
         ensures shorter { OnOk result (IsShorter self.old agent self.new) }
-        ensures mismatch { result ≡ Err Mismatch → EntryFails agent (Forgot site) self.old }
+        ensures mismatch { result ≡ Err Mismatch → EntryFails agent (entries.Forgot site) self.old }
     {
         if usize::from(agent) >= self.settings.agents() || site >= MAX_SITES {
             return Err(CertifyFault::Mismatch);
@@ -274,7 +283,7 @@ impl<'a> Walk<'a> {
 
     /// What was decided.
     pub(crate) fn into_decided(self) -> Decided
-        ensures { result ≡ self.made }
+        ensures { result ≡ self.entry.made }
     {
         let Walk { decisions, .. } = self;
         Decided::from_vec(decisions)
