@@ -12,3 +12,4 @@ pub mod Lengths
 pub mod Promised
 pub mod Facts
 pub mod Counted
+pub mod Equal

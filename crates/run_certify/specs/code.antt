@@ -1,3 +1,5 @@
+pub mod Begins
 pub mod Firsts
 pub mod Uses
 pub mod ValidVotes
+pub mod Walks

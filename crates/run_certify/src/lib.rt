@@ -7,11 +7,15 @@
 //! holds of every run holds of what the threads did.
 #![tactic(auto)]
 
+mod begun;
 mod decided;
 mod entry;
 mod fault;
 mod heads;
+mod same;
+mod sense;
 mod unused;
+mod verdicts;
 mod votes;
 
 pub use decided::{Decided, Decision};
