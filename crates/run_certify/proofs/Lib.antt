@@ -7,6 +7,7 @@ pub mod Ends
 pub mod Refuting
 pub mod Moves
 pub mod Bridge
+pub mod Walking
 pub mod Deciding
 pub mod Lengths
 pub mod Promised

@@ -17,13 +17,8 @@ use Rattle.run_certify.proofs.Lists.{long_set, no_cons, same_head, set_again, se
 use Rattle.run_certify.proofs.Picking.{picked, picks}
 use Rattle.run_certify.proofs.Refuting as refuting
 use Rattle.run_certify.proofs.Steps.{AreOf, Fits, FitsOperator, decided_in, goes_back, goes_on, items_in, no_sense, operator_back, operator_on, puts_first, serves_first}
-use Rattle.run_certify.proofs.Weaving.{is_asked, weave_asked, weave_operator, weave_other}
-
--- an entry without a stamp is the next event, whatever items are left
-abbrev pub IsTurn : List ItemAt → List (List Item) → List (List Entry) → ℕ → Type 0
-IsTurn taken histories unused agent =
-    (y : Entry) (ys : List Entry) → transcript_of unused agent ≡ y ∷ ys → is_asked y ≡ false → (items : List ItemAt) → IsMerge histories items
-    → weave (taken ++ items) unused ≡ cons_option (event_of agent y) (weave (taken ++ items) (slice_set unused agent ys))
+use Rattle.run_certify.specs.code.Turns.{IsTurn, is_asked}
+use Rattle.run_certify.proofs.Weaving.{weave_asked, weave_operator, weave_other}
 
 pub turn_of_item : (one : ItemAt) (histories : List (List Item)) (unused : List (List Entry)) (agent : ℕ) → one.item.agent ≡ Some agent → agent < length unused → IsTurn (one ∷ []) histories unused agent
 turn_of_item one histories unused agent of low = λ y ys at other items merge. weave_other one items unused agent y ys of low at other

@@ -12,11 +12,8 @@ use Rattle.rep_core.specs.declared.request.Request.TheVariants as request
 use Rattle.run_certify.specs.Merges.{ItemAt}
 use Rattle.run_certify.specs.Weaves.{event_of, events_of, events_at, operated, past_stamp, rest_from, transcript_of, unused_at, up_to_stamp, weave}
 use Rattle.run_certify.specs.Shown.{asker}
+use Rattle.run_certify.specs.code.Turns.{is_asked}
 use Rattle.run_certify.proofs.Lists.{cons_append, same_or, set_again, set_apart, set_here}
-
-abbrev pub is_asked : Entry → Bool
-is_asked (Asked server stamp) = true
-is_asked other = false
 
 -- ---- an agent's next entry
 

@@ -49,17 +49,16 @@ impl<'a> Unused<'a> {
     }
 
     /// The next entry of an agent, which is used; none where none is left.
-    pub(crate) fn next(&mut self, agent: u8) -> Option<&'a Entry>
+    pub(crate) fn next(&mut self, agent: usize) -> Option<&'a Entry>
         ensures none { IfNone result (transcript_of self.old agent ≡ []) }
         ensures same { IfNone result (self.new ≡ self.old) }
         ensures used { IfSome result (λ entry. AreUsed self.old agent (entry.now ∷ []) self.new) }
     {
-        let place = usize::from(agent);
-        if place >= self.transcripts.len() {
+        if agent >= self.transcripts.len() {
             return None;
         }
-        let (entry, later) = self.transcripts[place].split_first()?;
-        self.transcripts[place] = later;
+        let (entry, later) = self.transcripts[agent].split_first()?;
+        self.transcripts[agent] = later;
         Some(entry)
     }
 
@@ -72,7 +71,7 @@ impl<'a> Unused<'a> {
         let Some(outcome) = outcome else {
             return Ok(());
         };
-        let Some(entry) = self.next(agent) else {
+        let Some(entry) = self.next(usize::from(agent)) else {
             return Err(CertifyFault::Mismatch);
         };
         if is_end(entry, outcome) {
