@@ -13,3 +13,4 @@ pub mod Lengths
 pub mod Promised
 pub mod Facts
 pub mod Counted
+pub mod Equal

@@ -7,14 +7,21 @@
 //! holds of every run holds of what the threads did.
 #![tactic(auto)]
 
+mod begun;
 mod decided;
 mod entry;
 mod fault;
 mod heads;
+mod judging;
 mod operator;
+mod same;
+mod sense;
 mod unused;
+mod verdicts;
 mod votes;
+mod walk;
 
 pub use decided::{Decided, Decision};
 pub use entry::{Entry, Transcript, Transcripts};
 pub use fault::CertifyFault;
+pub use judging::certify;

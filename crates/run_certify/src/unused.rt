@@ -1,10 +1,14 @@
 //! The entries of transcripts, as they are used.
 
-ghost use Rattle.std.specs.Prelude.{◌≡◌, [], ◌∷◌, length, IfOk, IfNone, IfSome, MatchOption};
+ghost use Rattle.std.specs.Prelude.{◌≡◌, ◌≢◌, ◌↔◌, [], ◌∷◌, length, IfOk, IfNone, IfSome, IsTrue, MatchOption, OnErr, OnOk, Err};
 ghost use Rattle.run_certify.specs.Weaves.{transcript_of};
-ghost use Rattle.run_certify.specs.code.Uses.{AreUsed};
+ghost use Rattle.run_certify.specs.code.Uses.{AreUsed, EndsOtherwise, HasEnded};
+ghost use Rattle.run_certify.specs.declared.entry.Entry.TheVariants.{Ended};
+ghost use Rattle.run_certify.specs.declared.fault.CertifyFault.TheVariants.{Memory};
 
 use crate::entry::{Entry, Transcript};
+use crate::fault::CertifyFault;
+use run_core::Outcome;
 use std::alloc::{AllocError, Global};
 use std::marker::Model;
 
@@ -56,5 +60,34 @@ impl<'a> Unused<'a> {
         let (entry, later) = self.transcripts[agent].split_first()?;
         self.transcripts[agent] = later;
         Some(entry)
+    }
+
+    /// That a job ended is used, if one did: it has to come next.
+    pub(crate) fn end(&mut self, agent: u8, outcome: &Option<Outcome>) -> Result<(), CertifyFault>
+        ensures ok { OnOk result (HasEnded self.old agent outcome.now self.new) }
+        ensures mismatch { OnErr result (EndsOtherwise self.old agent outcome.now) }
+        ensures memory { result ≢ Err Memory }
+    {
+        let Some(outcome) = outcome else {
+            return Ok(());
+        };
+        let Some(entry) = self.next(usize::from(agent)) else {
+            return Err(CertifyFault::Mismatch);
+        };
+        if is_end(entry, outcome) {
+            Ok(())
+        } else {
+            Err(CertifyFault::Mismatch)
+        }
+    }
+}
+
+/// Whether an entry says that a job ended so.
+fn is_end(entry: &Entry, outcome: &Outcome) -> bool
+    ensures { IsTrue result ↔ (entry.now ≡ Ended outcome.now) }
+{
+    match entry {
+        Entry::Ended(told) => told == outcome,
+        _ => false,
     }
 }
