@@ -1,14 +1,24 @@
 //! Whether what was served is an item.
 
-ghost use Rattle.std.specs.Prelude.{◌≡◌, ◌↔◌, IsTrue};
-ghost use Rattle.run_certify.specs.Shown.{item_by};
+ghost use Rattle.std.specs.Prelude.{◌≡◌, ◌↔◌, IsTrue, Some};
+ghost use Rattle.run_certify.specs.Shown.{item_by, served_as};
 ghost use Rattle.run_certify.specs.code.Firsts.{at_server};
 
-use run_core::Served;
+use run_core::{Done, Served};
 use server_lock::Item;
 
+/// Whether something was served in an event, and is this item of a server.
+pub(crate) fn is_served(done: &Done, server: usize, item: &Item) -> bool
+    ensures { IsTrue result ↔ (served_as item.now.agent done.now.served ≡ Some (at_server server item.now)) }
+{
+    match &done.served {
+        Some(served) => is_item(served, server, item),
+        None => false,
+    }
+}
+
 /// Whether what was served is this item of a server, whoever asked.
-pub(crate) fn is_item(served: &Served, server: usize, item: &Item) -> bool
+fn is_item(served: &Served, server: usize, item: &Item) -> bool
     ensures { IsTrue result ↔ (item_by item.now.agent served.now ≡ at_server server item.now) }
 {
     let here = usize::from(served.server) == server;

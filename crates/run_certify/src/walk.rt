@@ -19,13 +19,13 @@ use crate::decided::{Decided, Decision};
 use crate::entry::{Entry, Transcript};
 use crate::fault::CertifyFault;
 use crate::heads::Heads;
-use crate::same::is_item;
+use crate::same::is_served;
 use crate::operator::operator_event;
 use crate::sense::{begin_event, has_sense};
 use crate::unused::Unused;
 use crate::verdicts::decision_of;
 use rep_core::Lack;
-use run_core::{Event, Served, World};
+use run_core::{Done, Event, World};
 use server_lock::{History, Item};
 use std::alloc::{AllocError, Global};
 use std::marker::Model;
@@ -117,9 +117,10 @@ impl<'a> Walk<'a> {
             return Err(CertifyFault::Mismatch);
         };
         let done = self.world.step(&event)?;
-        match &done.served {
-            Some(served) if is_item(served, server, item) => Ok(()),
-            _ => Err(CertifyFault::Mismatch),
+        if is_served(&done, server, item) {
+            Ok(())
+        } else {
+            Err(CertifyFault::Mismatch)
         }
     }
 
@@ -158,23 +159,25 @@ impl<'a> Walk<'a> {
         ensures mismatch { result ≡ Err Mismatch → AskedFails agent told.0 told.1 (at_server server item.now) self.old }
         ensures histories { OnOk result (self.new.histories ≡ self.old.histories) }
     {
-        let done = self.world.step(&Event::Step { agent })?;
-        let Some(served) = &done.served else {
-            return Err(CertifyFault::Mismatch);
-        };
-        if !is_item(served, server, item) || told != (served.server, served.reply.stamp) {
+        if usize::from(told.0) != server || told.1 != item.stamp {
             return Err(CertifyFault::Mismatch);
         }
-        self.decide(agent, served)?;
+        let done = self.world.step(&Event::Step { agent })?;
+        if !is_served(&done, server, item) {
+            return Err(CertifyFault::Mismatch);
+        }
+        self.decide(agent, &done)?;
         self.unused.end(agent, &done.outcome)
     }
 
     /// Puts down what was decided, if what was served decided the transaction of an agent.
-    fn decide(&mut self, agent: u8, served: &Served) -> Result<(), AllocError>
-        ensures { OnOk result (self.new ≡ record self.old { made = self.old.made ++ cons_option (decision_by (job_at self.old.begun.jobs agent) (Some served.now)) [] }) }
+    fn decide(&mut self, agent: u8, done: &Done) -> Result<(), AllocError>
+        ensures { OnOk result (self.new ≡ record self.old { made = self.old.made ++ cons_option (decision_by (job_at self.old.begun.jobs agent) done.now.served) [] }) }
     {
-        if let Some(decision) = decision_of(self.begun.job(agent), served)? {
-            self.decisions.push(decision)?;
+        if let Some(served) = &done.served {
+            if let Some(decision) = decision_of(self.begun.job(agent), served)? {
+                self.decisions.push(decision)?;
+            }
         }
         Ok(())
     }
