@@ -14,3 +14,4 @@ pub mod Promised
 pub mod Facts
 pub mod Counted
 pub mod Equal
+pub mod Playing

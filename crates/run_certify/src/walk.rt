@@ -249,10 +249,11 @@ impl<'a> Walk<'a> {
         ensures value { IsSound self.now → result ≡ senses.has_sense (fixed_of self.now.given) self.now.world (Begin agent job.now) }
         ensures few { IsTrue result → count_at self.now.begun.counts agent < agents.max_jobs }
     {
-        self.world.idle(agent)
-            && usize::from(agent) < self.settings.agents()
-            && has_sense(self.settings, job)
-            && self.begun.count(agent) < MAX_JOBS
+        let idle = self.world.idle(agent);
+        let there = usize::from(agent) < self.settings.agents();
+        let sense = has_sense(self.settings, job);
+        let few = self.begun.count(agent) < MAX_JOBS;
+        idle & there & sense & few
     }
 
     /// An agent is told what a server lacked.
