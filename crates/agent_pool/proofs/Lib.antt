@@ -1,0 +1,4 @@
+pub mod Lines
+pub mod Zips
+pub mod Apart
+pub mod Begins

@@ -1,0 +1,11 @@
+use Rattle.std.proofs.Common.{◌≡◌}
+use Rattle.crossbeam_channel.specs.Claims.{view, IsSeatAt}
+use Rattle.crossbeam_channel.specs.Ends.{sends_on}
+use Rattle.agent_pool.specs.Line.{feeder}
+use Rattle.agent_pool.proofs.line.feed.Given as goal
+
+abbrev pub invariant-loop-place : goal.invariant-loop-place
+invariant-loop-place g l = IsSeatAt (sends_on l.sender) l.ticket × (view l.ticket ≡ feeder l.place)
+
+abbrev pub invariant-loop : goal.invariant-loop
+invariant-loop g l = IsSeatAt (sends_on l.sender) l.ticket
