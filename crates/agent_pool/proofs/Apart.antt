@@ -7,7 +7,8 @@ use Rattle.std.proofs.lemmas.List.Elements.{Contains-append_left, Contains-appen
 use Rattle.agent_pool.specs.declared.work.Done.{Done}
 use Rattle.agent_pool.specs.declared.outcome.JobOutcome.{JobOutcome}
 use Rattle.agent_pool.specs.Working.{RiseBetween}
-use Rattle.agent_pool.specs.Pools.{AreApart, AreApartIn, AreBelow, AreDistinct, AreNone, AreOfThese, IsPut, StayApart}
+use Rattle.agent_pool.specs.Pools.{AreApart, AreApartIn, AreBelow, AreNone, AreOfThese, IsPut, StayApart}
+use Rattle.agent_pool.specs.Seats.{AreDistinct}
 
 same_or : (j i : ℕ) → (j ≡ i) ⊎ (j ≢ i)
 same_or zero zero = inl refl

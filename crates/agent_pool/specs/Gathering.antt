@@ -10,13 +10,13 @@ use Rattle.agent_pool.specs.declared.workshop.NamedJob.{NamedJob}
 use Rattle.agent_pool.specs.Pools.{AreApart, AreNone, AreOutcomes, passes_of, players_of}
 
 -- a place for each job, none filled, and room for the outcomes and the agents
-pub record HasRoom (jobs agents : ℕ) (room : Room) : Type 0 where
+pub record HasRoom (jobs players : ℕ) (room : Room) : Type 0 where
   pub none : AreNone room.slots.items
   pub long : length room.slots.items ≡ jobs
   pub no_outcome : room.outcomes.items ≡ []
   pub outcomes : jobs ≤ vec_capacity room.outcomes
   pub no_agent : room.agents.items ≡ []
-  pub agents : agents ≤ vec_capacity room.agents
+  pub agents : players ≤ vec_capacity room.agents
 
 -- all agents ran whatever they took
 abbrev pub AllRan : List Worked → Type 0

@@ -1,5 +1,5 @@
 -- The passes of a pool's agents.
-use Rattle.std.specs.Prelude.{◌≡◌, ◌≢◌, ℕ, List, [], ◌∷◌, ◌++◌, All, map, slice_get, Option, Some}
+use Rattle.std.specs.Prelude.{◌≡◌, ◌≢◌, ℕ, List, [], ◌∷◌, ◌++◌, map, slice_get, Option, Some}
 use Rattle.std.specs.List.{AllZip}
 use Rattle.server_lock.specs.Counts.{passes_by}
 use Rattle.server_lock.specs.Passes.{Held}
@@ -23,7 +23,8 @@ HasPass passes player = passes_for (number_of player) passes ≢ []
 
 -- it is no agent of these: another, or the operator
 abbrev pub IsOther : List Played → Option ℕ → Type 0
-IsOther players asker = All (λ (player : Played). asker ≢ Some (number_of player)) players
+IsOther [] asker = Unit {0}
+IsOther (player ∷ players) asker = (asker ≢ Some (number_of player)) × IsOther players asker
 
 -- an agent's pass, the last of its passes, was taken out
 pub record IsTakenOut (agent : ℕ) (old new : List Held) (pass : Held) : Type 0 where
@@ -45,7 +46,7 @@ pub record WentOn (old new : List Held) (was now : Played) : Type 0 where
 
 -- an agent has its pass
 pub record IsSeated (old left : List Held) (player : Played) (seat : Seat) : Type 0 where
-  pub player : seat.player ≡ player
+  pub sits : seat.player ≡ player
   pub own : passes_for (number_of player) old ≡ passes_for (number_of player) left ++ seat.pass ∷ []
   pub of : seat.pass.agent ≡ Some (number_of player)
 

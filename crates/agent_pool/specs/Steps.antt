@@ -23,12 +23,16 @@ told_by server (Ok reply) = Some (record { entry = Asked server reply.stamp; wor
 told_by server (Err (Lack lack)) = Some (record { entry = AskedInVain server lack; word = NotServed lack })
 told_by server (Err Stale) = None
 
+-- how a job of an agent ended, as it is written down
+abbrev pub end_entry : ℕ → ℕ → ℕ → Ending → Entry
+end_entry number count steps ending = Ended (record { agent = number; count = count; steps = steps; ending = ending })
+
 -- An agent, whose job was begun at so many entries, did this: it asked servers, and where its job ended, that is written down last.
 abbrev pub Leaves : ℕ → Played → List Entry → Played → Came → Type 0
 Leaves begun old rest new came.On = AreAsks rest
 Leaves begun old rest new (came.Ended ran) =
     (asked : List Entry) × (ending : Ending) × AreAsks asked
-    × (rest ≡ asked ++ Ended (record { agent = number_of old; count = ran.count; steps = length old.entries + length asked - begun; ending = ending }) ∷ [])
+    × (rest ≡ asked ++ end_entry (number_of old) ran.count (length old.entries + length asked - begun) ending ∷ [])
     × (ran.at ≡ length old.entries + length asked) × (ran.count ≡ begins old.entries - 1) × IsIdle new
 Leaves begun old rest new came.Stuck = AreAsks rest
 Leaves begun old rest new came.Lacked = AreAsks rest
@@ -37,7 +41,7 @@ Leaves begun old rest new came.Lacked = AreAsks rest
 abbrev pub HearsOn : ℕ → ℕ → Told → Standing → List Entry → Standing → List Entry → Came → Type 0
 HearsOn number begun told old entries new more (came.Ended ran) =
     (ending : Ending)
-    × (more ≡ entries ++ told.entry ∷ Ended (record { agent = number; count = ran.count; steps = length entries + 1 - begun; ending = ending }) ∷ [])
+    × (more ≡ entries ++ told.entry ∷ end_entry number ran.count (length entries + 1 - begun) ending ∷ [])
     × (ran.at ≡ length entries + 1) × (ran.count ≡ old.state.count - 1) × (is_idle new.state.doing ≡ true)
 HearsOn number begun told old entries new more _ = more ≡ entries ++ told.entry ∷ []
 

@@ -1,7 +1,7 @@
 -- Agents with their transcripts.
 use Rattle.std.specs.Prelude.{◌≡◌, ℕ, zero, suc, ◌+◌, ◌-◌, ◌≤◌, ◌<◌, Bool, true, false, List, [], ◌∷◌, ◌++◌, All, length}
 use Rattle.suite_prefix.specs.SettingsRules.{Opening}
-use Rattle.server_lock.specs.Passes.{Held, after_item, front_at}
+use Rattle.server_lock.specs.Passes.{Held, after_item, front_at, sent_stamp}
 use Rattle.txn_core.specs.declared.ending.Ending.{Ending}
 use Rattle.txn_core.specs.declared.job.Job.{Job}
 use Rattle.txn_core.specs.Agents as agents
@@ -68,12 +68,12 @@ pub record IsLonger (old new : Played) : Type 0 where
   pub rest : List Entry
   pub entries : new.entries ≡ old.entries ++ rest
 
--- A pass after its agent did this: an item more for each server that was asked and gave a stamp, each with a higher one.
+-- A pass after its agent did this: an item more for each server that was asked and gave a stamp, a higher one than it was asked with.
 abbrev pub GoesOn : List Entry → Held → Held → Type 0
 GoesOn [] old new = new ≡ old
 GoesOn (Begun job ∷ entries) old new = GoesOn entries old new
 GoesOn (Asked server stamp ∷ entries) old new =
-    (before : ℕ) × (front_at old server ≤ before) × (old.stamp < stamp) × GoesOn entries (after_item old server before stamp) new
+    (before : ℕ) × (front_at old server ≤ before) × (sent_stamp old < stamp) × GoesOn entries (after_item old server before stamp) new
 GoesOn (Lacked server lack ∷ entries) old new = GoesOn entries old new
 GoesOn (Forgot site ∷ entries) old new = GoesOn entries old new
 GoesOn (Ended outcome ∷ entries) old new = GoesOn entries old new

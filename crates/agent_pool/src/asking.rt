@@ -12,14 +12,14 @@ use server_lock::{Answer, Miss};
 use txn_core::{Agent, Word};
 
 /// Where a job ended: the count of its agent's jobs before it, and the place of its end in the transcript.
-#[derive(Clone, Copy, Debug)]
+#[derive(Clone, Copy)]
 pub struct Ran {
     pub count: u64,
     pub at: usize,
 }
 
 /// What came of a request, or of a job.
-#[derive(Clone, Copy, Debug)]
+#[derive(Clone, Copy)]
 pub enum Came {
     /// The job goes on.
     On,

@@ -176,10 +176,10 @@ fn outcomes_of(
     ensures each { IfOk result (λ outcomes. (players : List Played) → AllZip (IsFilled players) jobs.now slots.now → AreOutcomes players jobs.now outcomes.items) }
     ensures apart { IfOk result (λ outcomes. length slots.now ≡ length jobs.now → AreApartIn slots.now → AreApart outcomes.items) }
 {
-    for (place, named) in jobs.iter().enumerate() {
+    for place in 0..jobs.len() {
         match slots.get(place) {
             Some(Some(outcome)) => room.push_reserved(*outcome),
-            _ => return Err(PoolFault::Missing(named.number)),
+            _ => return Err(PoolFault::Missing(jobs[place].number)),
         }
     }
     Ok(room)

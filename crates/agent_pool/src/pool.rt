@@ -104,7 +104,7 @@ fn work_in_threads<R: Threads + Wait + Sync, G: Gate + Sync>(
             requires seat { IsSeatAt (sends_on sender) ticket × (view ticket ≡ feeder 0) }
             requires same { receives_on shop.receiver ≡ sends_on sender }
             requires idle { AreIdle seats.items }
-            ensures { IfOk result (λ worked. AllZip (IsWorkOf shop.jobs.now) seats.items worked.items) }
+            ensures { IfOk result (λ worked. AllZip (IsWorkOf shop.entry.jobs.now) seats.items worked.items) }
         { in_scope(rt, scope, &shop, &sender, &mut ticket, seats) },
     )
 }

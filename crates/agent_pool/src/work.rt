@@ -17,14 +17,14 @@ use std::snapshot::Snapshot;
 use std::sync::Wait;
 
 /// A job that was done: its place among those that were handed in, and where it ended.
-#[derive(Clone, Copy, Debug)]
+#[derive(Clone, Copy)]
 pub struct Done {
     pub place: usize,
     pub ran: Ran,
 }
 
 /// Why an agent runs nothing more.
-#[derive(Clone, Copy, Debug)]
+#[derive(Clone, Copy)]
 pub enum Halt {
     /// Memory was refused to it.
     Lacked,
@@ -87,9 +87,8 @@ impl Worked {
             mut done,
             ..
         } = self;
-        let mut halt = None;
         if done.reserve(1).is_err() {
-            halt = Some(Halt::Lacked);
+            let halt = Some(Halt::Lacked);
             return Worked {
                 player,
                 pass,
@@ -98,16 +97,24 @@ impl Worked {
             };
         }
         let (pass, came) = run(rt, shop, &mut player, pass, named);
-        match came {
-            Came::Ended(ran) => done.push_reserved(Done { place, ran }),
-            Came::Lacked => halt = Some(Halt::Lacked),
-            Came::Stuck | Came::On => halt = Some(Halt::Stuck(named.number)),
-        }
+        let halt = match came {
+            Came::Ended(ran) => {
+                done.push_reserved(Done { place, ran });
+                return Worked {
+                    player,
+                    pass,
+                    done,
+                    halt: None,
+                };
+            }
+            Came::Lacked => Halt::Lacked,
+            Came::Stuck | Came::On => Halt::Stuck(named.number),
+        };
         Worked {
             player,
             pass,
             done,
-            halt,
+            halt: Some(halt),
         }
     }
 }
@@ -141,17 +148,16 @@ fn go_on<R: Wait, G: Gate>(
     ensures { DidMore (length player.old.entries) player.old player.new pass result.0 result.1 }
 {
     let begun = player.entries().len();
-    let mut pass = pass;
-    let mut came = Came::On;
+    let mut current = pass;
     for _ in rt.forever() {
-        let (next, now) = player.step(rt, shop, pass, begun);
-        pass = next;
-        came = now;
-        if !matches!(came, Came::On) {
-            break;
+        let (next, came) = player.step(rt, shop, current, begun);
+        current = next;
+        match came {
+            Came::On => {}
+            _ => return (current, came),
         }
     }
-    (pass, came)
+    (current, Came::On)
 }
 
 /// Takes jobs until an end mark comes.

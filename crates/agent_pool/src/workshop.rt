@@ -7,7 +7,7 @@ use std::sync::atomic::AtomicU64;
 use txn_core::Job;
 
 /// A job, with its number.
-#[derive(Debug, Drop)]
+#[derive(Drop)]
 pub struct NamedJob {
     pub number: u64,
     pub job: Job,
