@@ -1,5 +1,5 @@
 -- Agents with their passes, which are taken out and come back.
-use Rattle.std.proofs.Common.{◌≡◌, ◌≢◌, ℕ, zero, suc, ◌+◌, ◌<◌, ◌≤◌, Bool, true, false, true≢false, cond, List, [], ◌∷◌, ◌++◌, length, map, take, drop, subst, refl, ap, ◌∙◌, sym, arith, append_assoc, append-nil}
+use Rattle.std.proofs.Common.{◌≡◌, ◌≢◌, ℕ, zero, suc, ◌+◌, ◌-◌, ◌<◌, ◌≤◌, Bool, true, false, true≢false, cond, List, [], ◌∷◌, ◌++◌, length, map, take, drop, subst, refl, ap, ◌∙◌, sym, arith, append_assoc, append-nil}
 use Rattle.std.specs.Prelude.{All, slice_get, slice_index_or, Option, Some, None, ◌==◌}
 use Rattle.std.specs.List.{AllZip, filter, remove}
 use Rattle.std.proofs.lemmas.Option.{same_Some}
@@ -137,3 +137,15 @@ pub none_left : (old mid : List Held) (players : List Played) (seats : List Seat
     → passes_for (number_of x) mid ≡ [] → ⊥
 none_left old mid players seats x zs distinct all was none =
     all_middle (HasPass old) players x zs all (sym (was.others (Some (number_of x)) (others_before players x zs distinct)) ∙ none)
+
+same_at : (xs : List Held) (k : ℕ) (d e : Held) → k < length xs → slice_index_or xs k d ≡ slice_index_or xs k e
+same_at [] k d e low = absurd (omega arith)
+same_at (x ∷ xs) zero d e low = refl
+same_at (x ∷ xs) (suc k) d e low = same_at xs k d e (omega arith)
+
+-- the pass that was looked at is the one that is taken out
+pub taken_at : (agent at : ℕ) (x seen : Held) (xs new : List Held) → at - 1 < length xs → 0 < at → x ≡ slice_index_or xs (at - 1) x → seen ≡ slice_index_or xs (at - 1) seen → seen.agent ≡ Some agent → passes_for agent (drop at xs) ≡ []
+    → new ≡ remove xs (at - 1) → IsTakenOut agent xs new x
+taken_at agent at x seen xs new low above is saw of last cut =
+    let next : suc (at - 1) ≡ at = omega arith in
+    taken_out agent (at - 1) x xs new low (sym is) (ap (λ (p : Held). p.agent) (is ∙ same_at xs (at - 1) x seen low ∙ sym saw) ∙ of) (ap (λ n. passes_for agent (drop n xs)) next ∙ last) cut

@@ -51,8 +51,9 @@ pub(crate) fn begin_thread<'s, E, R: Threads + Wait + Sync, G: Gate + Sync>(
     ensures { IsStart shop.now.jobs.now seat result }
 {
     let number = u64::from(seat.player.number());
+    let jobs = shop.jobs;
     let works = Works {
-        jobs: shop.jobs,
+        jobs,
         was: Snapshot::of(&seat),
     };
     let spawned = scope.spawn_with(
@@ -60,12 +61,12 @@ pub(crate) fn begin_thread<'s, E, R: Threads + Wait + Sync, G: Gate + Sync>(
         move || -> Worked
             requires ticket { IsSeatAt (receives_on shop.now.receiver) ticket × ((view ticket).puts ≡ false) }
             requires idle { IsIdle seat.player }
-            ensures { IsWorkOf shop.entry.now.jobs.now seat result }
+            ensures { IsWorkOf jobs.entry.now seat result }
         {
             if shop.refused.load(Ordering::SeqCst) == number {
-                Worked::new(shop.alloc, seat, shop.jobs)
+                Worked::new(shop.alloc, seat, jobs)
             } else {
-                work(rt, shop, ticket, seat)
+                work(rt, shop, jobs, ticket, seat)
             }
         },
     );

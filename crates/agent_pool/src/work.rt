@@ -69,16 +69,17 @@ impl Worked {
         self,
         rt: &R,
         shop: &Workshop<'_, G>,
+        jobs: &[NamedJob],
         place: usize,
         was: &Snapshot<Seat>,
     ) -> Worked
-        requires { IsWorkOf shop.now.jobs.now was.now.value self }
-        ensures { IsWorkOf shop.now.jobs.now was.now.value result }
+        requires { IsWorkOf jobs.now was.now.value self }
+        ensures { IsWorkOf jobs.now was.now.value result }
     {
         if self.halt.is_some() {
             return self;
         }
-        let Some(named) = shop.jobs.get(place) else {
+        let Some(named) = jobs.get(place) else {
             return self;
         };
         let Worked {
@@ -164,18 +165,19 @@ fn go_on<R: Wait, G: Gate>(
 pub(crate) fn work<R: Wait, G: Gate>(
     rt: &R,
     shop: &Workshop<'_, G>,
+    jobs: &[NamedJob],
     mut ticket: Ticket,
     seat: Seat,
 ) -> Worked
     requires ticket { IsSeatAt (receives_on shop.now.receiver) ticket × ((view ticket).puts ≡ false) }
     requires idle { IsIdle seat.player }
-    ensures { IsWorkOf shop.now.jobs.now seat result }
+    ensures { IsWorkOf jobs.now seat result }
 {
     let was = Snapshot::of(&seat);
-    let mut worked = Worked::new(shop.alloc, seat, shop.jobs);
+    let mut worked = Worked::new(shop.alloc, seat, jobs);
     for _ in rt.forever() {
         match take(rt, &shop.receiver, &mut ticket) {
-            Ok(Item::Job(place)) => worked = worked.carry_out(rt, shop, place, &was),
+            Ok(Item::Job(place)) => worked = worked.carry_out(rt, shop, jobs, place, &was),
             Ok(Item::End) => break,
             Err(_) => break,
         }

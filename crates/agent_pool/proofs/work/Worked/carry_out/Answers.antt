@@ -18,7 +18,7 @@ returns-then-is_err g c = works_longer _ _ c.args.self _ (longer_same c.args.sel
 pub returns-in-Ended : goal.returns-in-Ended
 returns-in-Ended g c =
     let named = c.in-Some.named.now in
-    let at = slice_get-get_or c.args.shop.now.jobs.now c.args.place named (ltb-true _ _ (sym c.in-Some.ensures.lookup.0)) ∙ ap (λ (it : NamedJob). Some it) (sym c.in-Some.ensures.lookup.1) in
+    let at = slice_get-get_or c.args.jobs.now c.args.place named (ltb-true _ _ (sym c.in-Some.ensures.lookup.0)) ∙ ap (λ (it : NamedJob). Some it) (sym c.in-Some.ensures.lookup.1) in
     works_more _ _ c.args.self _ (record { place = c.args.place; ran = c.in-Ended.ran }) named c.requires
     (subst (λ (what : Came). DidJob named.job c.args.self.player c.run-pass.new.player c.args.self.pass c.run-pass.result.0 what) c.in-Ended.is c.run-pass.ensures)
     (c.push_reserved.ensures.items ∙ ap (λ ds. ds ++ record { place = c.args.place; ran = c.in-Ended.ran } ∷ []) c.reserve.ensures.items) at refl
@@ -26,10 +26,10 @@ returns-in-Ended g c =
 pub returns : goal.returns
 returns g c =
     let named = c.in-Some.named.now in
-    let at = slice_get-get_or c.args.shop.now.jobs.now c.args.place named (ltb-true _ _ (sym c.in-Some.ensures.lookup.0)) ∙ ap (λ (it : NamedJob). Some it) (sym c.in-Some.ensures.lookup.1) in
+    let at = slice_get-get_or c.args.jobs.now c.args.place named (ltb-true _ _ (sym c.in-Some.ensures.lookup.0)) ∙ ap (λ (it : NamedJob). Some it) (sym c.in-Some.ensures.lookup.1) in
     let player = c.run-pass.new.player in
     works_longer _ _ c.args.self _ c.run-pass.ensures.longer c.requires c.run-pass.ensures.went c.reserve.ensures.items
     (elim c.match-came.branch [
-      in-Lacked w ↦ subst (λ (h : Halt). IsHalted c.args.shop.now.jobs.now player (Some h)) (sym w.halt-is) tt
-      | in-Stuck w ↦ subst (λ (h : Halt). IsHalted c.args.shop.now.jobs.now player (Some h)) (sym w.halt-is) (number_there c.args.shop.now.jobs.now c.args.place named at)
+      in-Lacked w ↦ subst (λ (h : Halt). IsHalted c.args.jobs.now player (Some h)) (sym w.halt-is) tt
+      | in-Stuck w ↦ subst (λ (h : Halt). IsHalted c.args.jobs.now player (Some h)) (sym w.halt-is) (number_there c.args.jobs.now c.args.place named at)
     ])
