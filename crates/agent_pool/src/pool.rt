@@ -13,13 +13,13 @@ ghost use Rattle.agent_pool.specs.Transcripts.{IsIdle};
 
 use crate::fault::PoolFault;
 use crate::gather::{Room, gather};
-use crate::line::{EachOnce, Hand, Item, Sender, Taking, Ticket, feed};
+use crate::line::{EachOnce, Hand, Item, Receiver, Sender, Taking, Ticket, feed};
 use crate::outcome::JobOutcome;
 use crate::passes::seats;
 use crate::player::Player;
 use crate::start::{Start, begin_thread, join_all};
 use crate::work::{Seat, Worked};
-use crate::workshop::{NamedJob, Workshop};
+use crate::workshop::NamedJob;
 use crossbeam_channel::bounded_with;
 use server_lock::{Gate, Pass, Servers};
 use std::alloc::{AllocError, Global};
@@ -89,23 +89,30 @@ fn work_in_threads<R: Threads + Wait + Sync, G: Gate + Sync>(
 {
     let (sender, receiver, mut ticket) =
         bounded_with::<Item, Hand, EachOnce, Global>(alloc, seats.len())?;
-    let shop = Workshop {
-        alloc,
-        gate,
-        servers,
-        jobs,
-        receiver,
-        refused: AtomicU64::new(u64::MAX),
-    };
+    let refused = AtomicU64::new(u64::MAX);
     thread::scope(
         thread::scope_env(),
         rt,
         |scope| -> Result<Vec<Worked>, AllocError>
             requires seat { IsSeatAt (sends_on sender) ticket × (view ticket ≡ feeder 0) }
-            requires same { receives_on shop.receiver ≡ sends_on sender }
+            requires same { receives_on receiver ≡ sends_on sender }
             requires idle { AreIdle seats.items }
-            ensures { IfOk result (λ worked. AllZip (IsWorkOf shop.entry.jobs.now) seats.items worked.items) }
-        { in_scope(rt, scope, &shop, &sender, &mut ticket, seats) },
+            ensures { IfOk result (λ worked. AllZip (IsWorkOf jobs.entry.now) seats.items worked.items) }
+        {
+            in_scope(
+                rt,
+                scope,
+                alloc,
+                gate,
+                servers,
+                jobs,
+                &sender,
+                &receiver,
+                &refused,
+                &mut ticket,
+                seats,
+            )
+        },
     )
 }
 
@@ -113,22 +120,29 @@ fn work_in_threads<R: Threads + Wait + Sync, G: Gate + Sync>(
 fn in_scope<'s, E, R: Threads + Wait + Sync, G: Gate + Sync>(
     rt: &'s R,
     scope: &Scope<'s, E>,
-    shop: &'s Workshop<'s, G>,
+    alloc: Global,
+    gate: &'s G,
+    servers: &'s Servers,
+    jobs: &'s [NamedJob],
     sender: &Sender,
+    receiver: &'s Receiver,
+    refused: &'s AtomicU64,
     ticket: &mut Ticket,
     seats: Vec<Seat>,
 ) -> Result<Vec<Worked>, AllocError>
     requires seat { IsSeatAt (sends_on sender.now) ticket.old × (view ticket.old ≡ feeder 0) }
-    requires same { receives_on shop.now.receiver ≡ sends_on sender.now }
+    requires same { receives_on receiver.now ≡ sends_on sender.now }
     requires idle { AreIdle seats.items }
-    ensures { IfOk result (λ worked. AllZip (IsWorkOf shop.now.jobs.now) seats.items worked.items) }
+    ensures { IfOk result (λ worked. AllZip (IsWorkOf jobs.now) seats.items worked.items) }
 {
-    let mut starts = Vec::with_capacity(shop.alloc, seats.len())?;
-    let room = Vec::with_capacity(shop.alloc, seats.len())?;
+    let mut starts = Vec::with_capacity(alloc, seats.len())?;
+    let room = Vec::with_capacity(alloc, seats.len())?;
     let mut started = 0;
     for seat in seats {
         let taker = sender.another::<Taking>(ticket);
-        let start = begin_thread(rt, scope, shop, taker, seat);
+        let start = begin_thread(
+            rt, scope, alloc, gate, servers, jobs, receiver, refused, taker, seat,
+        );
         if let Start::Started(_) = &start {
             started += 1;
         }
@@ -137,6 +151,6 @@ fn in_scope<'s, E, R: Threads + Wait + Sync, G: Gate + Sync>(
     if started == 0 {
         return Err(AllocError);
     }
-    let _fed = feed(rt, sender, ticket, shop.jobs.len(), started);
+    let _fed = feed(rt, sender, ticket, jobs.len(), started);
     Ok(join_all(rt, starts, room))
 }

@@ -7,14 +7,16 @@ ghost use Rattle.crossbeam_channel.specs.Claims.{view, IsSeatAt};
 ghost use Rattle.crossbeam_channel.specs.Ends.{receives_on};
 ghost use Rattle.agent_pool.specs.Starts.{Comes, IsStart, IsWorkOf};
 ghost use Rattle.agent_pool.specs.Transcripts.{IsIdle};
+ghost use Rattle.agent_pool.specs.Working.{IsWorked};
 
-use crate::line::Ticket;
+use crate::line::{Receiver, Ticket};
 use crate::work::{Seat, Worked, work};
 use crate::workshop::{NamedJob, Workshop};
-use server_lock::Gate;
+use server_lock::{Gate, Servers};
+use std::alloc::Global;
 use std::snapshot::Snapshot;
 use std::sync::Wait;
-use std::sync::atomic::Ordering;
+use std::sync::atomic::{AtomicU64, Ordering};
 use std::thread::{Promise, PromisedHandle, Scope, Threads};
 
 /// That an agent went on from where it was, and did jobs of these.
@@ -42,38 +44,48 @@ pub(crate) enum Start<'a> {
 pub(crate) fn begin_thread<'s, E, R: Threads + Wait + Sync, G: Gate + Sync>(
     rt: &'s R,
     scope: &Scope<'s, E>,
-    shop: &'s Workshop<'s, G>,
+    alloc: Global,
+    gate: &'s G,
+    servers: &'s Servers,
+    jobs: &'s [NamedJob],
+    receiver: &'s Receiver,
+    refused: &'s AtomicU64,
     ticket: Ticket,
     seat: Seat,
 ) -> Start<'s>
-    requires ticket { IsSeatAt (receives_on shop.now.receiver) ticket × ((view ticket).puts ≡ false) }
+    requires ticket { IsSeatAt (receives_on receiver.now) ticket × ((view ticket).puts ≡ false) }
     requires idle { IsIdle seat.player }
-    ensures { IsStart shop.now.jobs.now seat result }
+    ensures { IsStart jobs.now seat result }
 {
     let number = u64::from(seat.player.number());
-    let jobs = shop.jobs;
     let works = Works {
         jobs,
         was: Snapshot::of(&seat),
     };
+    let Seat { player, pass } = seat;
     let spawned = scope.spawn_with(
         works,
         move || -> Worked
-            requires ticket { IsSeatAt (receives_on shop.now.receiver) ticket × ((view ticket).puts ≡ false) }
-            requires idle { IsIdle seat.player }
-            ensures { IsWorkOf jobs.entry.now seat result }
+            requires { IsSeatAt (receives_on receiver.now) ticket × ((view ticket).puts ≡ false) × IsIdle player }
+            ensures { IsWorked jobs.entry.now player pass result }
         {
-            if shop.refused.load(Ordering::SeqCst) == number {
-                Worked::new(shop.alloc, seat, jobs)
+            let seat = Seat { player, pass };
+            if refused.load(Ordering::SeqCst) == number {
+                Worked::new(alloc, seat, jobs)
             } else {
-                work(rt, shop, jobs, ticket, seat)
+                let shop = Workshop {
+                    alloc,
+                    gate,
+                    servers,
+                };
+                work(rt, &shop, jobs, receiver, ticket, seat)
             }
         },
     );
     match spawned {
         Ok(handle) => Start::Started(handle),
         Err(back) => {
-            shop.refused.store(number, Ordering::SeqCst);
+            refused.store(number, Ordering::SeqCst);
             Start::Rested((back.value)())
         }
     }

@@ -8,7 +8,7 @@ ghost use Rattle.agent_pool.specs.Steps.{DidJob, DidMore};
 ghost use Rattle.agent_pool.specs.Transcripts.{IsIdle};
 
 use crate::asking::{Came, Ran};
-use crate::line::{Item, Ticket, take};
+use crate::line::{Item, Receiver, Ticket, take};
 use crate::player::Player;
 use crate::workshop::{NamedJob, Workshop};
 use server_lock::{Gate, Pass};
@@ -166,17 +166,18 @@ pub(crate) fn work<R: Wait, G: Gate>(
     rt: &R,
     shop: &Workshop<'_, G>,
     jobs: &[NamedJob],
+    receiver: &Receiver,
     mut ticket: Ticket,
     seat: Seat,
 ) -> Worked
-    requires ticket { IsSeatAt (receives_on shop.now.receiver) ticket × ((view ticket).puts ≡ false) }
+    requires ticket { IsSeatAt (receives_on receiver.now) ticket × ((view ticket).puts ≡ false) }
     requires idle { IsIdle seat.player }
     ensures { IsWorkOf jobs.now seat result }
 {
     let was = Snapshot::of(&seat);
     let mut worked = Worked::new(shop.alloc, seat, jobs);
     for _ in rt.forever() {
-        match take(rt, &shop.receiver, &mut ticket) {
+        match take(rt, receiver, &mut ticket) {
             Ok(Item::Job(place)) => worked = worked.carry_out(rt, shop, jobs, place, &was),
             Ok(Item::End) => break,
             Err(_) => break,

@@ -17,7 +17,7 @@ work_in_threads-requires-clause-some g c =
     omega arith
 
 pub work_in_threads-requires-clause-idle : goal.work_in_threads-requires-clause-idle
-work_in_threads-requires-clause-idle g c k d low = seats_idle _ _ c.args.agents.items c.in-Ok-seats.seats.items c.in-Ok-seats.ensures.each c.requires.idle k d low
+work_in_threads-requires-clause-idle g c κs within = seats_idle _ _ c.args.agents.items c.in-Ok-seats.seats.items c.in-Ok-seats.ensures.each c.requires.idle
 
 pub gather-requires-clause-worked : goal.gather-requires-clause-worked
 gather-requires-clause-worked g c = all_worked c.args.jobs.now c.in-Ok-seats.seats.items c.in-Ok-work_in_threads.worked.items c.in-Ok-work_in_threads.ensures
