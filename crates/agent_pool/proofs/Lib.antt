@@ -9,3 +9,4 @@ pub mod Seating
 pub mod Returning
 pub mod Filling
 pub mod Pooling
+pub mod Firsts
