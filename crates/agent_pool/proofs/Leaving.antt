@@ -58,7 +58,7 @@ leaves_on begun a b c rest more (came.Ended ran) number is all after =
     let longs = length-append rest asked in
     let steps : length b.entries + length asked - begun ≡ length a.entries + length (rest ++ asked) - begun = omega arith in
     let end : end_entry (number_of b) ran.count (length b.entries + length asked - begun) ending ≡ end_entry (number_of a) ran.count (length a.entries + length (rest ++ asked) - begun) ending =
-        ap (λ n. end_entry n ran.count (length b.entries + length asked - begun) ending) number ∙ ap (λ n. end_entry (number_of a) ran.count n ending) steps in
+    ap (λ n. end_entry n ran.count (length b.entries + length asked - begun) ending) number ∙ ap (λ n. end_entry (number_of a) ran.count n ending) steps in
     let none = no_begins rest all in
     let counted : begins b.entries ≡ begins a.entries = ap begins is ∙ begins-append a.entries rest ∙ omega arith in (
       rest ++ asked,
@@ -117,10 +117,10 @@ ran_to job old mid new rest (came.Ended ran) same began number more leaves =
     let steps : length mid.entries + length asked - length mid.entries ≡ length asked = omega arith in
     let end = end_entry (number_of new) ran.count (length asked) ending in
     let ends : end_entry (number_of mid) ran.count (length mid.entries + length asked - length mid.entries) ending ≡ end =
-        ap (λ n. end_entry (number_of mid) ran.count n ending) steps ∙ ap (λ n. end_entry n ran.count (length asked) ending) (sym number) in
+    ap (λ n. end_entry (number_of mid) ran.count n ending) steps ∙ ap (λ n. end_entry n ran.count (length asked) ending) (sym number) in
     let rests : rest ≡ asked ++ end ∷ [] = leaves.3 ∙ ap (λ e. asked ++ e ∷ []) ends in
     let split : new.entries ≡ old.entries ++ Begun job ∷ (asked ++ end ∷ []) =
-        more ∙ ap (λ es. es ++ rest) began ∙ append_assoc old.entries (Begun job ∷ []) rest ∙ ap (λ es. old.entries ++ Begun job ∷ es) rests in
+    more ∙ ap (λ es. es ++ rest) began ∙ append_assoc old.entries (Begun job ∷ []) rest ∙ ap (λ es. old.entries ++ Begun job ∷ es) rests in
     let none = no_begins asked leaves.2 in
     let some : begins mid.entries ≡ begins old.entries + 1 = ap begins began ∙ begins-append old.entries (Begun job ∷ []) in
     let all = ap begins split in

@@ -26,8 +26,8 @@ told_longer a b job ran longer told =
     let same : end ≡ end_entry (number_of b) ran.count (length told.asked) told.ending = ap (λ n. end_entry n ran.count (length told.asked) told.ending) (sym longer.number) in
     let rest = longer.rest in
     let split : b.entries ≡ told.before ++ Begun job ∷ (told.asked ++ end ∷ (told.after ++ rest)) =
-        longer.entries ∙ ap (λ es. es ++ rest) told.split ∙ append_assoc told.before (Begun job ∷ (told.asked ++ end ∷ told.after)) rest
-        ∙ ap (λ es. told.before ++ Begun job ∷ es) (append_assoc told.asked (end ∷ told.after) rest) in
+    longer.entries ∙ ap (λ es. es ++ rest) told.split ∙ append_assoc told.before (Begun job ∷ (told.asked ++ end ∷ told.after)) rest
+    ∙ ap (λ es. told.before ++ Begun job ∷ es) (append_assoc told.asked (end ∷ told.after) rest) in
     record {
       before = told.before;
       asked = told.asked;

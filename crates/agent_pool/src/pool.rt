@@ -87,8 +87,10 @@ fn work_in_threads<R: Threads + Wait + Sync, G: Gate + Sync>(
     requires idle { AreIdle seats.items }
     ensures { IfOk result (λ worked. AllZip (IsWorkOf jobs.now) seats.items worked.items) }
 {
-    let (sender, receiver, mut ticket) =
-        bounded_with::<Item, Hand, EachOnce, Global>(alloc, seats.len())?;
+    let (sender, receiver, mut ticket) = bounded_with::<Item, Hand, EachOnce, Global>(
+        alloc,
+        seats.len(),
+    )?;
     let refused = AtomicU64::new(u64::MAX);
     thread::scope(
         thread::scope_env(),

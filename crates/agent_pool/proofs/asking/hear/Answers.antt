@@ -25,7 +25,7 @@ returns c =
       (
         ending,
         c.push_reserved-2.ensures.items ∙ ap (λ es. es ++ end ∷ []) c.push_reserved.ensures.items ∙ append_assoc entries (c.args.told.entry ∷ []) (end ∷ [])
-        ∙ ap (λ n. entries ++ c.args.told.entry ∷ end_entry c.args.number count n ending ∷ []) steps,
+            ∙ ap (λ n. entries ++ c.args.told.entry ∷ end_entry c.args.number count n ending ∷ []) steps,
         at,
         (let a = c.saturating_sub-count.ensures in let b = c.count.ensures in omega arith),
         ap (λ (s : Standing). is_idle s.state.doing) took ∙ take_idle agent.fixed agent.state word ending (sym c.in-Ok.ensures.ok ∙ c.in-Some.is),

@@ -11,7 +11,7 @@ use Rattle.agent_pool.proofs.gather.gather.Goals as goal
 pub returns : goal.returns
 returns c =
     let filled = subst (λ (slots : List (Option JobOutcome)). AllZip (IsFilled (players_of c.args.worked.items)) c.args.jobs.now slots) (sym c.deref-3.ensures.value)
-        (subst (λ (ws : List Worked). AllZip (IsFilled (players_of ws)) c.args.jobs.now c.fill.new.slots.items) c.deref-2.ensures.value c.in_ok-fill.ensures.filled) in
+    (subst (λ (ws : List Worked). AllZip (IsFilled (players_of ws)) c.args.jobs.now c.fill.new.slots.items) c.deref-2.ensures.value c.in_ok-fill.ensures.filled) in
     let apart = subst (λ (slots : List (Option JobOutcome)). AreApartIn slots) (sym c.deref-3.ensures.value) c.in_ok-fill.ensures.apart in
     record {
       agents = c.pool_of.ensures.agents;

@@ -18,6 +18,6 @@ loop-preserved g c = (
   tt,
   c.loop.invariant.2,
   did_more _ _ c.loop.player _ _ c.loop.current _ _ c.loop.invariant.3
-  (subst (λ (what : Came). DidMore (length c.args.player.now.entries) c.loop.player c.step-next.new.self c.loop.current c.step-next.result.0 what) c.in-On.is
-  (subst (λ (n : ℕ). DidMore n c.loop.player c.step-next.new.self c.loop.current c.step-next.result.0 c.step-next.result.1) c.loop.invariant.2 c.step-next.ensures)),
+      (subst (λ (what : Came). DidMore (length c.args.player.now.entries) c.loop.player c.step-next.new.self c.loop.current c.step-next.result.0 what) c.in-On.is
+      (subst (λ (n : ℕ). DidMore n c.loop.player c.step-next.new.self c.loop.current c.step-next.result.0 c.step-next.result.1) c.loop.invariant.2 c.step-next.ensures)),
 )

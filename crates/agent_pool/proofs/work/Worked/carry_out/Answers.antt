@@ -30,6 +30,6 @@ returns g c =
     let player = c.run-pass.new.player in
     works_longer _ _ c.args.self _ c.run-pass.ensures.longer c.requires c.run-pass.ensures.went c.reserve.ensures.items
     (elim c.match-came.branch [
-      in-Lacked w ↦ subst (λ (h : Halt). IsHalted c.args.jobs.now player (Some h)) (sym w.halt-is) tt
+      | in-Lacked w ↦ subst (λ (h : Halt). IsHalted c.args.jobs.now player (Some h)) (sym w.halt-is) tt
       | in-Stuck w ↦ subst (λ (h : Halt). IsHalted c.args.jobs.now player (Some h)) (sym w.halt-is) (number_there c.args.jobs.now c.args.place named at)
     ])
