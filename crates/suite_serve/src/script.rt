@@ -21,9 +21,9 @@ use txn_core::Job;
 /// What a script asks for: the settings of its servers, its jobs, and how many of these stand above `together`.
 #[derive(Drop)]
 pub struct JobScript {
-    settings: Settings,
-    jobs: Vec<Job>,
-    alone: usize,
+    pub(crate) settings: Settings,
+    pub(crate) jobs: Vec<Job>,
+    pub(crate) alone: usize,
 }
 
 impl Model for JobScript {
