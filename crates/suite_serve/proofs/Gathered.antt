@@ -12,7 +12,7 @@ use Rattle.suite_serve.specs.declared.command.Command.{Command}
 use Rattle.suite_serve.specs.declared.command.Command.TheVariants.{Job, Together}
 
 -- the jobs that were gathered, with those of the lines that are left, and how many stand above `together`
-pub jobs_after : List jobs.Job → Option ℕ → List Command → List jobs.Job × ℕ
+abbrev pub jobs_after : List jobs.Job → Option ℕ → List Command → List jobs.Job × ℕ
 jobs_after gathered alone [] = (gathered, unwrap_or alone (length gathered))
 jobs_after gathered alone (Job job ∷ more) = jobs_after (gathered ++ job ∷ []) alone more
 jobs_after gathered alone (Together ∷ more) = jobs_after gathered (Some (unwrap_or alone (length gathered))) more
@@ -32,7 +32,7 @@ after_are gathered alone (Together ∷ more) =
     ∙ ap (λ (n : ℕ). (gathered ++ jobs_of more, n)) (no_more alone (length gathered))
 
 pub all_are : (given : Result (List Command) ScriptFault) → ok_map (jobs_after [] None) given ≡ ok_map jobs_and_alone given
-all_are (Ok lines) = ap Ok (after_are [] None lines)
+all_are (Ok lines) = ap Ok (after_are [] None lines) ∙ ap (λ (n : ℕ). Ok (jobs_of lines, n)) (omega arith)
 all_are (Err fault) = refl
 
 -- ---- one line more

@@ -1,5 +1,5 @@
 -- From the jobs of a script's lines to what the script asks for.
-use Rattle.std.proofs.Common.{◌≡◌, ◌∙◌, ap, ap₂, sym, refl, ℕ, List, [], ◌∷◌, map, Option, Some, None, Result, Ok, Err, ◌<◌, ◌≤◌, nat_lt, suc, ◌-◌}
+use Rattle.std.proofs.Common.{arith, ◌≡◌, ◌∙◌, ap, ap₂, sym, refl, ℕ, List, [], ◌∷◌, map, Option, Some, None, Result, Ok, Err, ◌<◌, ◌≤◌, nat_lt, suc, ◌-◌}
 use Rattle.std.specs.Prelude.{if◌then◌else◌}
 use Rattle.std.proofs.lemmas.Bool.Decides.{nat_tests}
 use Rattle.file_ops.specs.Steps.{ok_map}
@@ -8,10 +8,13 @@ use Rattle.suite_prefix.specs.SettingsRules.{Opening}
 use Rattle.txn_core.specs.declared.job.Job as jobs
 use Rattle.suite_script.proofs.Seen.{owns_seen}
 use Rattle.suite_script.specs.Scripts.{Headed, Pending, Script, owns, script_of, scripted}
+use Rattle.suite_script.specs.declared.fault.ScriptError.{ScriptError}
+use Rattle.suite_script.specs.declared.fault.ScriptError.TheVariants as script
 use Rattle.suite_script.specs.declared.fault.ScriptFault.{ScriptFault}
+use Rattle.suite_serve.specs.Readings.{GivesScript}
 use Rattle.suite_serve.specs.Scripts.{Plan, above_together, at_line, jobs_of, language, plan_of, said_once}
 use Rattle.suite_serve.specs.code.Kept.{commands, kept_command, kept_plan}
-use Rattle.suite_serve.specs.code.Reading.{jobs_and_alone}
+use Rattle.suite_serve.specs.code.Reading.{GivesJobs, first_error, jobs_and_alone}
 use Rattle.suite_serve.specs.declared.command.Command.{Command}
 use Rattle.suite_serve.specs.declared.command.Command.TheVariants.{Job, Together}
 use Rattle.suite_serve.specs.declared.language.JobLines.{JobLines}
@@ -77,10 +80,17 @@ same_fault : (given : Result (Script Opening Command) ScriptFault) (fault : Scri
 same_fault (Ok script) fault is = cc
 same_fault (Err other) fault is = let same : Err other ≡ Err fault = is in cc
 
-pub faulty_before : (line : ℕ) (given : Result (Script Opening Command) ScriptFault) (fault : ScriptFault) → planned given ≡ Err fault → fault.line ≤ line
-    → planned (said_once (Some line) given) ≡ Err fault
-faulty_before line given fault is first = rw (same_fault given fault is) (ap (λ b. Err (if b then at_line line else fault)) (grind (arith, nat_tests)))
+-- a script that is faulty in any case
+pub faulty : (second : Option ℕ) (error : ScriptError) (given : Result (Script Opening Command) ScriptFault) → GivesScript {A = Plan} (Err error) (planned given)
+    → GivesScript {A = Plan} (Err (first_error second error)) (planned (said_once second given))
+faulty None (script.Faulty fault) given is = is
+faulty (Some line) (script.Faulty fault) given is = ap (λ r. planned (said_once (Some line) r)) (same_fault given fault is)
+faulty None script.Memory given is = tt
+faulty (Some line) script.Memory given is = tt
 
-pub faulty_after : (line : ℕ) (given : Result (Script Opening Command) ScriptFault) (fault : ScriptFault) → planned given ≡ Err fault → line < fault.line
-    → planned (said_once (Some line) given) ≡ Err (at_line line)
-faulty_after line given fault is first = rw (same_fault given fault is) (ap (λ b. Err (if b then at_line line else fault)) (grind (arith, nat_tests)))
+-- a line was faulty, or memory ran out at it
+pub faulty_jobs : (settings : Opening) (rest : Pending) (lines : JobLines) (header : Result (Headed Opening) ScriptFault) (error : ScriptError)
+    → lines ≡ record { last_server = settings.servers - 1 } → header ≡ Ok (record { value = settings; rest = rest }) → GivesJobs (Err error) (owns (commands lines) rest)
+    → GivesScript {A = Plan} (Err error) (planned (script_of language header))
+faulty_jobs settings rest lines header (script.Faulty fault) places is wrong = faulty_lines settings rest lines header fault places is wrong
+faulty_jobs settings rest lines header script.Memory places is wrong = tt

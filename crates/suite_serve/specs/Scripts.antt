@@ -32,7 +32,7 @@ begins_together [] = false
 begins_together (first ∷ words) = bytes_eq first (codes "together")
 
 -- the numbers of the lines that begin with `together`, from a line on, which has this number
-pub togethers_from : ℕ → List (List ℕ) → List ℕ
+abbrev pub togethers_from : ℕ → List (List ℕ) → List ℕ
 togethers_from number [] = []
 togethers_from number (line ∷ more) =
     if begins_together (words line) then number ∷ togethers_from (number + 1) more else togethers_from (number + 1) more
@@ -61,13 +61,13 @@ script_in agents text = said_once (second_together text) (script_of language (he
 -- ---- jobs
 
 -- the jobs of some lines, in their order
-pub jobs_of : List Command → List jobs.Job
+abbrev pub jobs_of : List Command → List jobs.Job
 jobs_of [] = []
 jobs_of (Job job ∷ more) = job ∷ jobs_of more
 jobs_of (Together ∷ more) = jobs_of more
 
 -- how many of them stand above `together`: all, where no line says it
-pub above_together : List Command → ℕ
+abbrev pub above_together : List Command → ℕ
 above_together [] = 0
 above_together (Job job ∷ more) = suc (above_together more)
 above_together (Together ∷ more) = 0

@@ -4,9 +4,9 @@ ghost use Rattle.std.specs.Prelude.{◌≡◌, ◌<◌, ◌≤◌, ◌+◌, ◌^
 ghost use Rattle.file_ops.specs.Steps.{ok_map};
 ghost use Rattle.suite_script.specs.Scripts.{owns, script_of, whole};
 ghost use Rattle.suite_serve.specs.Readings.{GivesScript};
-ghost use Rattle.suite_serve.specs.Scripts.{begins_together, header, language, plan_in, plan_of, second_together, togethers_from};
+ghost use Rattle.suite_serve.specs.Scripts.{at_line, begins_together, header, language, plan_in, plan_of, second_together, togethers_from};
 ghost use Rattle.suite_serve.specs.code.Kept.{commands, kept_plan};
-ghost use Rattle.suite_serve.specs.code.Reading.{FindsTogether, GivesJobs};
+ghost use Rattle.suite_serve.specs.code.Reading.{FindsTogether, GivesJobs, first_error};
 
 use crate::command::Command;
 use crate::header::read_header;
@@ -66,17 +66,33 @@ pub fn read_script(alloc: Global, text: &[u8], agents: usize) -> Result<JobScrip
     requires agents { (1 ≤ agents) × (agents ≤ MAX_AGENTS) }
     ensures { GivesScript result (ok_map kept_plan (plan_in agents text.now)) }
 {
-    let read = read_lines(alloc, text, agents);
-    let Some(line) = second_together(text) else {
-        return read;
-    };
-    match read {
-        Err(ScriptError::Memory) => Err(ScriptError::Memory),
-        Err(ScriptError::Faulty(fault)) if fault.line <= line => Err(ScriptError::Faulty(fault)),
-        _ => Err(ScriptError::Faulty(ScriptFault {
-            line,
-            fault: LineFault::Form,
-        })),
+    let second = second_together(text);
+    match read_lines(alloc, text, agents) {
+        Ok(script) => match second {
+            None => Ok(script),
+            Some(line) => Err(twice_at(line)),
+        },
+        Err(error) => Err(first_of(second, error)),
+    }
+}
+
+/// The fault of a line that says `together` once more.
+fn twice_at(line: u64) -> ScriptError
+    ensures { result ≡ ScriptError.Faulty (at_line line) }
+{
+    ScriptError::Faulty(ScriptFault {
+        line,
+        fault: LineFault::Form,
+    })
+}
+
+/// Of a script's first fault and of a line that says `together` once more the one that stands first.
+fn first_of(second: Option<u64>, error: ScriptError) -> ScriptError
+    ensures { result ≡ first_error second error }
+{
+    match (second, error) {
+        (Some(line), ScriptError::Faulty(fault)) if line < fault.line => twice_at(line),
+        _ => error,
     }
 }
 

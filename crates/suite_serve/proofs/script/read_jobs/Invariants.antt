@@ -5,9 +5,9 @@ use Rattle.suite_serve.specs.code.Kept.{commands}
 use Rattle.suite_serve.proofs.Gathered.{jobs_after}
 use Rattle.suite_serve.proofs.script.read_jobs.Given as goal
 
-abbrev pub invariant-loop : goal.invariant-loop
-invariant-loop l =
-    ok_map (jobs_after l.jobs.items l.alone) (owns (commands l.lines.now) l.script) ≡ ok_map (jobs_after [] None) (owns (commands l.lines.now) l.fn.script)
+abbrev pub invariant-loop-jobs : goal.invariant-loop-jobs
+invariant-loop-jobs l =
+    ok_map (jobs_after l.jobs.items l.alone) (owns (commands l.lines) l.script) ≡ ok_map (jobs_after [] None) (owns (commands l.lines) l.fn.script)
 
-abbrev pub decreases-loop : goal.decreases-loop
-decreases-loop l = length l.script.lines
+abbrev pub decreases-loop-jobs : goal.decreases-loop-jobs
+decreases-loop-jobs l = length l.script.lines
