@@ -99,7 +99,7 @@ def main():
     sources.make_folder()
     with console.alone(os.path.join(sources.KEPT, "prove.lock"), console.Teller()):
         teller, now = console.Teller(), sources.Sources()
-        if choose.is_fresh("proved", now, kit):
+        if choose.is_fresh("proved", now, kit, True):
             teller.say("the program of these sources is proved and built")
             return 0
         teller.say(f"proving and building {len(now.crates)} crates, once (docs/PERFORMANCE.md says how long it takes)")

@@ -1,11 +1,11 @@
 #!/usr/bin/env python3
 """Chooses the program that `./suites` runs, and prints of what kind it is and where.
 
-`proved`: it was proved and built of these sources (`tools/build.py`). `checked`: it was compiled of the same code without a
+`proved`: it was proved and built of this code with these claims (`tools/build.py`). `checked`: it was compiled of the same code without a
 proof, with its checks at run time, which is done here where it is wanting. `trial`: the kit gives no such build, so
 `rt try` is run each time. The choice is kept in out/choice.sh with all files that it was made from, so that
 `./suites` makes it again only where one of them has changed. With the word --is-fresh: status 0 where the proved
-program is that of these sources.
+program is that of these sources, and their proofs are those that proved it.
 """
 import json
 import os
@@ -33,7 +33,8 @@ def path_of(kind):
 def record_of(kind, now, kit):
     """What is kept of a build: the sources and the kit that it was made with, and the program's own sum."""
     return {
-        "sources": now.all if kind == "proved" else now.code,
+        "sources": now.claims if kind == "proved" else now.code,
+        "proofs": now.all if kind == "proved" else None,
         "kit": kit.name,
         "program": None if kind == "trial" else sources.sum_of(path_of(kind)),
     }
@@ -43,10 +44,16 @@ def keep_record(kind, now, kit):
     sources.write_whole(os.path.join(KEPT, f"{kind}.json"), json.dumps(record_of(kind, now, kit)))
 
 
-def is_fresh(kind, now, kit):
-    """Whether a build of this kind is there, and is that of these sources. With no kit at hand it may be of any."""
+def is_fresh(kind, now, kit, with_proofs=False):
+    """Whether a build of this kind is there, and is that of these sources. With no kit at hand it may be of any.
+
+    What was proved stays so where a proof is written anew: that the proofs too are those of the build is wanted only
+    where that is asked.
+    """
     kept = sources.read_json(os.path.join(KEPT, f"{kind}.json"))
     wanted = record_of(kind, now, kit)
+    if not with_proofs:
+        wanted["proofs"] = kept.get("proofs")
     if not kit.name:
         wanted["kit"] = kept.get("kit")
     return kept == wanted and os.path.exists(path_of(kind))
@@ -103,7 +110,7 @@ def build():
 
 def main():
     if sys.argv[1:] == ["--is-fresh"]:
-        return 0 if is_fresh("proved", sources.Sources(), sources.Kit()) else 1
+        return 0 if is_fresh("proved", sources.Sources(), sources.Kit(), True) else 1
     kind = choose()
     while not kind:
         build()

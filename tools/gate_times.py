@@ -2,17 +2,21 @@
 """What the steps of the gate cost: processor seconds by crate and kind of step.
 
     SUITES_GATE_TIMES=times.csv .ci/run        the gate, which keeps its times in a file
-    tools/gate_times.py times.csv              the same as a table for docs/PERFORMANCE.md
-    tools/gate_times.py --bounds times.csv     a quarter more for each crate, for docs/gate-bounds.csv
+    tools/gate_times.py times.csv..            the same as a table for docs/PERFORMANCE.md
+    tools/gate_times.py --bounds times.csv..   a quarter more for each crate, for docs/gate-bounds.csv
 
 tools/gate.py reads the times from the provers that run. The kinds: `proof` is a crate's own proof, with the builds of
 a program; `seed` its proof from nothing for its wrong bodies, with the look whether it still stands after them;
-`edits` the wrong bodies themselves, and `tests` the proof of the crate with its tests.
+`edits` the wrong bodies themselves, and `tests` the proof of the crate with its tests. Of several files, where a gate
+was run in pieces, the most counts that a step of a crate took in one of them: a piece that finds a crate proved looks
+at it again, and one that was broken off had a part.
 """
-import argparse, csv, os, threading
+import argparse, csv, glob, os, threading
 
 KINDS = ("proof", "seed", "edits", "tests")
-BOUNDS = os.path.join(os.path.dirname(os.path.abspath(__file__)), "..", "docs", "gate-bounds.csv")
+HEADS = ("Own proof", "Seed", "Wrong bodies", "Tests", "All")
+TOP = os.path.dirname(os.path.dirname(os.path.abspath(__file__)))
+BOUNDS = os.path.join(TOP, "docs", "gate-bounds.csv")
 ALL = "all"
 EVERY = 0.5
 TICKS = os.sysconf("SC_CLK_TCK")
@@ -120,6 +124,21 @@ def read(path):
         return {row["crate"]: {kind: float(row[kind]) for kind in KINDS} for row in csv.DictReader(file) if row["crate"] != ALL}
 
 
+def merged(pieces):
+    """The times of a gate that was run in pieces."""
+    found = {}
+    for times in pieces:
+        for crate, row in times.items():
+            before = found.get(crate, dict.fromkeys(KINDS, 0.0))
+            found[crate] = {kind: max(before[kind], row[kind]) for kind in KINDS}
+    return found
+
+
+def edits_of(crate):
+    """How many wrong bodies of a crate the gate tries."""
+    return len(glob.glob(os.path.join(TOP, "crates", crate, "must-fail", "*.edit")))
+
+
 def bounds():
     """The most seconds that each crate is to cost, and all of them."""
     try:
@@ -144,21 +163,33 @@ def lines(times, most):
             yield f"warning: {name} has no bound in docs/gate-bounds.csv; it took {spent:.0f} s of processor time"
 
 
+def bound_lines(rows):
+    """A bound for each crate, a quarter more than it took. That of all of them stays as it is."""
+    yield "crate,seconds"
+    for name, *_, spent in sorted(rows[:-1]):
+        yield f"{name},{-(-spent * 5 // 40) * 10:.0f}"
+    yield f"{ALL},{bounds().get(ALL, 0):.0f}"
+
+
+def table_lines(rows):
+    """The table of a document; behind the seconds of wrong bodies stands how many there are."""
+    yield f"| Crate | {' | '.join(HEADS)} |"
+    yield f"|---|{'---:|' * len(HEADS)}"
+    for name, *seconds in rows:
+        cells = [f"{it:.0f}" if it >= 0.5 else "" for it in seconds]
+        count = edits_of("*" if name == ALL else name)
+        cells[KINDS.index("edits")] += f" ({count})" if count else ""
+        yield f"| {name if name == ALL else f'`{name}`'} | {' | '.join(cell.strip() for cell in cells)} |"
+
+
 def main():
     head, _, more = __doc__.partition("\n\n")
     given = argparse.ArgumentParser(description=head, epilog=more, formatter_class=argparse.RawDescriptionHelpFormatter)
-    given.add_argument("times", help="what the gate kept")
+    given.add_argument("times", nargs="+", help="what the gate kept, or its pieces")
     given.add_argument("--bounds", action="store_true", help="bounds in place of a table")
     given = given.parse_args()
-    rows = rows_of(read(given.times))
-    if given.bounds:
-        print("crate,seconds")
-        for row in sorted(rows[:-1]) + rows[-1:]:
-            print(f"{row[0]},{-(-row[-1] * 5 // 40) * 10:.0f}")
-        return
-    print(f"| Crate | {' | '.join((*KINDS, ALL))} |\n|---|{'---:|' * (len(KINDS) + 1)}")
-    for name, *seconds in rows:
-        print(f"| {name if name == ALL else f'`{name}`'} | {' | '.join(f'{it:.0f}' if it else '' for it in seconds)} |")
+    rows = rows_of(merged(map(read, given.times)))
+    print("\n".join(bound_lines(rows) if given.bounds else table_lines(rows)))
 
 
 if __name__ == "__main__":

@@ -20,8 +20,8 @@ PROGRAM = "suites"
 LIST = "crates.txt"
 KEPT = os.path.join(TOP, "out")
 SUMS = os.path.join(KEPT, "sums.json")
-# The folders of a crate: what a checked build is made of, and what is proved besides.
-CODE, CLAIMS = "src", ("specs", "proofs")
+# The folders of a crate: what a checked build is made of, what its contracts cite besides, and what proves them.
+CODE, CLAIMS, PROOFS = "src", "specs", "proofs"
 # A comment stands at the start of a line or after a space; a string with such marks is none, nor is a character.
 # The rarer `/* */` and `{- -}` count as text.
 RUST = re.compile(r"""(?<!\w)[bc]?r(#*)".*?"\1|"(?:[^"\\]|\\.)*"|'(?:\\[^'\n]+|[^\\'\n]|\\')'|(?:^|(?<=\s))//[^\n]*""", re.S | re.M)
@@ -130,14 +130,16 @@ class Kit:
 
 
 class Sources:
-    """The sources as they are now: `code` is the sum of what a checked build is made of, `all` of what is proved."""
+    """The sources as they are now: the sums of the code, of code and claims, and of all with the proofs."""
 
     def __init__(self):
         self.crates = crates_below(PROGRAM)
-        self.sums = self.summed([f"crates/{name}/{part}" for name in self.crates for part in (CODE, *CLAIMS)])
+        self.sums = self.summed([f"crates/{name}/{part}" for name in self.crates for part in (CODE, CLAIMS, PROOFS)])
         self.files = sorted(self.sums)
         self.code_files = [file for file in self.files if file.split("/")[2] == CODE]
+        self.claim_files = [file for file in self.files if file.split("/")[2] != PROOFS]
         self.code = self.total(self.code_files)
+        self.claims = self.total(self.claim_files)
         self.all = self.total(self.files)
 
     def summed(self, folders):
@@ -167,5 +169,5 @@ class Sources:
 
     def looked_at(self, is_proved):
         """What is looked at before each run of the program: the code, and where a proved program is at stake its claims too, with the folders in which a new file may matter."""
-        files = self.files if is_proved else self.code_files
-        return [*sorted({os.path.dirname(file) for file in files if file.split("/")[2] != "proofs"}), *files]
+        files = self.claim_files if is_proved else self.code_files
+        return [*sorted({os.path.dirname(file) for file in files}), *files]

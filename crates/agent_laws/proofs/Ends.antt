@@ -28,7 +28,7 @@ use Rattle.txn_core.specs.Laws.{Exchange, exchange_of, exchanges, of_job, among,
 use Rattle.txn_core.proofs.Bound.{ends_in_time}
 use Rattle.txn_core.proofs.Swept.{sweep_ends_in_time}
 use Rattle.txn_core.proofs.Upheld.{exchanges-take}
-use Rattle.agent_laws.specs.Steps.{agent_after, VotesAreValid, AsksUntilItEnds, names, names_in, is_known, AsksWhomItKnows, steps_in, names_next, EndsWithin, SweepEndsWithin, JobsEnd}
+use Rattle.agent_laws.specs.Steps.{agent_after, VotesAreValid, AsksUntilItEnds, names, names_in, is_known, AsksWhomItKnows, steps_in, names_next, EndsWithin, SweepEndsWithin, CachesStayValid, JobsEnd}
 use Rattle.agent_laws.proofs.Collectors.{AllReps}
 use Rattle.agent_laws.proofs.Walk.{Goes, CacheFine}
 use Rattle.agent_laws.proofs.Words.{WordSo, AsksSo}
@@ -127,7 +127,7 @@ module _ (fixed : Fixed) (agent : Agent) (past : List Exchange) (valid : VotesAr
   word_so one at named = of one.word refl
     where
       said : (r : Reply) → one.word ≡ Replied r → WordSo fixed V S goes (Replied r)
-      said (reply.Held prefix dver) is = (valid.replied one prefix dver at is, λ server is'. named server (ap (λ word. names_in word server) is ∙ is'))
+      said (reply.Held prefix dver) is = (valid.replied one (reply.Held prefix dver) at is, λ server is'. named server (ap (λ word. names_in word server) is ∙ is'))
       said (reply.Busy holder prepared) is = tt
       said (reply.Given dver content) is = tt
       said reply.Prepared is = tt
@@ -181,12 +181,19 @@ module _ (fixed : Fixed) (agent : Agent) (job : Job) (events : List Event) (idle
   whom : (asked : ℕ × Request) → next_of fixed (agent_after fixed agent job events) ≡ Some asked → S asked.0
   whom asked is = whom_now fixed V' S goes' (agent_after fixed agent job events) asked way.kept is
 
+  keeps : (entry : Entry) → Contains (agent_after fixed agent job events).cache entry → IsValid entry.prefix.votes
+  keeps entry at = (way.kept.cached entry (origins.has_from (agent_after fixed agent job events).cache entry at)).0
+
 asks_until_it_ends : AsksUntilItEnds
 asks_until_it_ends fixed agent job events idle valid busy = some_asked fixed agent job events idle valid (λ server. is_known fixed agent (of_job fixed agent job events) server ≡ true) (λ server is. is) busy
 
 asks_whom_it_knows : AsksWhomItKnows
 asks_whom_it_knows fixed agent job events server asked idle valid is =
     whom fixed agent job events idle valid (λ server. is_known fixed agent (of_job fixed agent job events) server ≡ true) (λ server is. is) (server, asked) is
+
+caches_stay_valid : CachesStayValid
+caches_stay_valid fixed agent job events entry idle valid at =
+    keeps fixed agent job events idle valid (λ server. is_known fixed agent (of_job fixed agent job events) server ≡ true) (λ server is. is) entry at
 
 -- ---- the bound: one step more could be taken
 
@@ -322,4 +329,4 @@ sweep_ends_within fixed agent server events idle busy =
 -- ----
 
 pub jobs_end : JobsEnd
-jobs_end = record { asks = asks_until_it_ends; known = asks_whom_it_knows; within = ends_within; sweeps = sweep_ends_within }
+jobs_end = record { asks = asks_until_it_ends; known = asks_whom_it_knows; within = ends_within; sweeps = sweep_ends_within; cached = caches_stay_valid }

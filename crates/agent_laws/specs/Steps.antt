@@ -4,9 +4,10 @@ use Rattle.std.specs.List.{list_any}
 use Rattle.acl_core.specs.Identity.{Identity}
 use Rattle.vote_core.specs.Quorums.{Configuration}
 use Rattle.vote_core.specs.Validity.{IsValid, IsAccepted}
-use Rattle.suite_prefix.specs.declared.copies.Prefix.{Prefix}
+use Rattle.suite_prefix.specs.SettingsRules.{Opening}
 use Rattle.file_ops.specs.declared.operation.Op.{Op}
 use Rattle.rep_core.specs.declared.request.Request.{Request}
+use Rattle.rep_core.specs.declared.reply.Reply.{Reply}
 use Rattle.rep_core.specs.declared.reply.Reply.TheVariants as reply
 use Rattle.weak_cache.specs.Entries.{Entry}
 use Rattle.txn_core.specs.declared.word.Word.{Word}
@@ -21,13 +22,18 @@ use Rattle.txn_core.specs.Laws.{Exchange, of_job, among, names_of, names_only, l
 abbrev pub agent_after : Fixed → Agent → Job → List Event → Agent
 agent_after fixed agent job events = after_all fixed (begin fixed agent job) events
 
+-- the votes that a reply shows are valid
+abbrev pub ShowsValidVotes : Reply → Type 0
+ShowsValidVotes (reply.Held prefix dver) = IsValid prefix.votes
+ShowsValidVotes _ = Unit {0}
+
 -- The votes that it meets are valid, as all votes are by their type: those of its cache at the begin, and those of the job's replies. There is a
 -- server, and the votes that the service opens with name none but those that there are, as its settings ask for.
 pub record VotesAreValid (fixed : Fixed) (agent : Agent) (past : List Exchange) : Type 0 where
   pub servers : 0 < fixed.service.servers
   pub opening : IsAccepted fixed.service.servers fixed.service.c0
   pub cached : (entry : Entry) → Contains agent.cache entry → IsValid entry.prefix.votes
-  pub replied : (one : Exchange) (prefix : Prefix) (dver : ℕ) → Contains past one → one.word ≡ Replied (reply.Held prefix dver) → IsValid prefix.votes
+  pub replied : (one : Exchange) (said : Reply) → Contains past one → one.word ≡ Replied said → ShowsValidVotes said
 
 -- ---- it asks
 
@@ -93,6 +99,19 @@ SweepEndsWithin =
     → is_idle (agent_after fixed agent (Sweep server) events).doing ≡ false
     → steps_in events < 1 + 2 * listed (of_job fixed agent (Sweep server) events)
 
+-- ---- the next job meets valid votes, too
+
+-- What its cache keeps has valid votes still. A new agent keeps nothing, so whatever jobs it began, its cache has such.
+abbrev pub CachesStayValid : Type 0
+CachesStayValid =
+    (fixed : Fixed) (agent : Agent) (job : Job) (events : List Event) (entry : Entry) → is_idle agent.doing ≡ true
+    → VotesAreValid fixed agent (of_job fixed agent job events)
+    → Contains (agent_after fixed agent job events).cache entry → IsValid entry.prefix.votes
+
+-- settings have a server, and open with valid votes at servers that there are
+abbrev pub OpensWithValidVotes : Opening → Type 0
+OpensWithValidVotes given = (0 < given.servers) × IsAccepted given.servers given.c0
+
 -- ---- all of it
 
 pub record JobsEnd : Type 0 where
@@ -100,3 +119,4 @@ pub record JobsEnd : Type 0 where
   pub known : AsksWhomItKnows
   pub within : EndsWithin
   pub sweeps : SweepEndsWithin
+  pub cached : CachesStayValid

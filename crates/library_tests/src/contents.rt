@@ -132,11 +132,15 @@ fn has_lengths(rt: &(impl Abort + AllocGlobal), list: &NameList, want: &[usize])
     assert!(rt; lengths.as_slice() == want);
 }
 
+fn are_same(rt: &impl Abort, list: &NameList, other: &NameList, about: &str) {
+    holds(rt, list == other, about);
+}
+
 #[test]
 fn a_list_has_the_names_alone(rt: HostRuntime) {
     let list = list_of(&rt, &folder(&rt, "bb a"));
-    holds(&rt, list == other_list(&rt), "the numbers");
-    holds(&rt, had(&rt, list.clone()) == list, "a clone");
+    are_same(&rt, &list, &other_list(&rt), "the numbers");
+    are_same(&rt, &had(&rt, list.clone()), &list, "a clone");
     has_lengths(&rt, &list, &[1, 2]);
     holds(&rt, list.len() == 2, "how many");
     holds(&rt, !list.is_empty(), "names");

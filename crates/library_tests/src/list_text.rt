@@ -4,8 +4,8 @@ use crate::checks::{case, had, holds, push, same, tells};
 use crate::fixtures::{lists, mode};
 use acl_core::{Lists, Perms, Tag};
 use acl_text::{
-    NameError, Names, append_acl, append_short, append_tag, permission_text, read_acl, write_acl,
-    write_short,
+    NameError, Names, TextFault, append_acl, append_short, append_tag, permission_text, read_acl,
+    write_acl, write_short,
 };
 use std::process::Abort;
 
@@ -95,11 +95,13 @@ fn has_short(rt: &(impl Abort + AllocGlobal), lists: &Lists, want: &str) {
 fn means(rt: &(impl Abort + AllocGlobal), text: &str, want: &str) {
     match read_acl(rt.alloc(), text.as_bytes(), &known(rt)) {
         Ok(lists) => has_short(rt, &lists, want),
-        Err(fault) => {
-            let told = had(rt, format!(in rt.alloc(); "{fault}"));
-            tells(rt, &told, want, text);
-        }
+        Err(fault) => has_fault(rt, &fault, text, want),
     }
+}
+
+fn has_fault(rt: &(impl Abort + AllocGlobal), fault: &TextFault, text: &str, want: &str) {
+    let told = had(rt, format!(in rt.alloc(); "{fault}"));
+    tells(rt, &told, want, text);
 }
 
 fn mean(rt: &(impl Abort + AllocGlobal), cases: &str) {

@@ -8,7 +8,7 @@ mod asking;
 mod uses;
 
 use self::asking::{add, file, request, server};
-use crate::checks::{case, had, holds, number, tells};
+use crate::checks::{case, had, holds, number, push, tells};
 use rep_core::{
     Lack, Part, Parts, Reply, Request, Server, Stamped, Take, busy_names_the_least,
     consistency_is_kept, copies_are_valid, exclusive_stands_alone, finish_keeps_effect,
@@ -17,7 +17,7 @@ use rep_core::{
     suites_are_few, verdicts_are_written_once,
 };
 use std::process::Abort;
-use suite_prefix::{LockMode, Replica};
+use suite_prefix::{LockMode, Prefix, Replica};
 
 /// What is answered, in words.
 fn words(rt: &(impl Abort + AllocGlobal), outcome: &Result<Stamped<Reply>, Lack>) -> String {
@@ -28,24 +28,31 @@ fn words(rt: &(impl Abort + AllocGlobal), outcome: &Result<Stamped<Reply>, Lack>
 }
 
 fn reply_words(rt: &(impl Abort + AllocGlobal), stamp: u64, reply: &Reply) -> String {
-    let made = match reply {
-        Reply::Held { prefix, dver } => {
-            let (kind, pver) = (prefix.kind, prefix.pver);
-            format!(in rt.alloc(); "{stamp}: Held {kind:?} {pver} {dver}")
-        }
-        Reply::Busy { holder, prepared } => {
-            format!(in rt.alloc(); "{stamp}: Busy {holder} {prepared}")
-        }
-        Reply::Given { dver, content } => {
-            format!(in rt.alloc(); "{stamp}: Given {dver} {content:?}")
-        }
-        Reply::Locked(locks) => {
-            let count = locks.as_slice().len();
-            format!(in rt.alloc(); "{stamp}: Locked {count}")
-        }
-        other => format!(in rt.alloc(); "{stamp}: {other:?}"),
-    };
-    had(rt, made)
+    let mut text = had(rt, format!(in rt.alloc(); "{stamp}: "));
+    push(rt, &mut text, value_words(rt, reply).as_str());
+    text
+}
+
+/// Of locks how many there are, of a prefix its kind and its version.
+fn value_words(rt: &(impl Abort + AllocGlobal), reply: &Reply) -> String {
+    match reply {
+        Reply::Held { prefix, dver } => held_words(rt, prefix, *dver),
+        Reply::Locked(locks) => locked_words(rt, locks.as_slice().len()),
+        other => other_words(rt, other),
+    }
+}
+
+fn held_words(rt: &(impl Abort + AllocGlobal), prefix: &Prefix, dver: u64) -> String {
+    let (kind, pver) = (prefix.kind, prefix.pver);
+    had(rt, format!(in rt.alloc(); "Held {kind:?} {pver} {dver}"))
+}
+
+fn locked_words(rt: &(impl Abort + AllocGlobal), count: usize) -> String {
+    had(rt, format!(in rt.alloc(); "Locked {count}"))
+}
+
+fn other_words(rt: &(impl Abort + AllocGlobal), reply: &Reply) -> String {
+    had(rt, format!(in rt.alloc(); "{reply:?}"))
 }
 
 /// A request with the stamp that it comes with.
@@ -94,7 +101,7 @@ fn play(rt: &(impl Abort + AllocGlobal), server: &mut Server, text: &str) {
 
 static RUN: &str = "
 0 poll 5 0 S = 1: Held Folder 1 1
-9 poll 6 0 X = 10: Busy 5 false
+9 poll 6 0 X = 10: Busy { holder: 5, prepared: false }
 0 fetch 6 0 = 11: Lost
 0 upgrade 5 0 = 12: Held Folder 1 1
 0 prepare 5 0 X keep = 13: Prepared
@@ -102,7 +109,7 @@ static RUN: &str = "
 0 fetch 5 0 = 15: Down
 0 return = 16: Done
 0 break 5 0 = 17: Done
-0 poll 6 0 S = 18: Busy 5 true
+0 poll 6 0 S = 18: Busy { holder: 5, prepared: true }
 0 resolve 5 = 19: Verdict(Aborted)
 0 answer 5 = 20: Verdict(Aborted)
 0 aborted 5 = 21: Done
@@ -119,7 +126,7 @@ fn requests_are_answered_with_their_stamps(rt: HostRuntime) {
 static CHANGES: &str = "
 0 poll 7 9 X = 1: Held Absent 0 0
 0 prepare 7 9 X 1/1 = 2: Prepared
-0 fetch 7 9 = 3: Given 0 Bytes(FileBytes { shared: None })
+0 fetch 7 9 = 3: Given { dver: 0, content: Bytes(FileBytes { shared: None }) }
 0 prepare 7 9 S keep = 4: Prepared
 0 answered 7 = 5: Done
 0 poll 8 9 S = 6: Held File 1 1
@@ -167,10 +174,18 @@ static DENIED: &str = "
 0 deny 6 = 4: Down
 0 return = 5: Done";
 
+fn told_words(rt: &(impl Abort + AllocGlobal), server: &Server, ask: &str) -> String {
+    words(rt, &server.answer(&stamped(rt, 0, ask)))
+}
+
+fn served_words(rt: &(impl Abort + AllocGlobal), server: &mut Server, ask: &str) -> String {
+    words(rt, &served(rt, server, 0, ask))
+}
+
 /// What is answered to the same request by `answer` and by `serve` is the same.
 fn told_is_served(rt: &(impl Abort + AllocGlobal), server: &mut Server, ask: &str) {
-    let told = words(rt, &server.answer(&stamped(rt, 0, ask)));
-    let served = words(rt, &served(rt, server, 0, ask));
+    let told = told_words(rt, server, ask);
+    let served = served_words(rt, server, ask);
     tells(rt, &told, served.as_str(), ask);
 }
 
@@ -232,11 +247,14 @@ fn the_laws_are_called(rt: HostRuntime) {
     laws_of_copies();
 }
 
+fn asked(server: &mut Server, value: Request) -> Result<Stamped<Reply>, Lack> {
+    server.serve(Stamped { stamp: 0, value })
+}
+
 /// Locks a suite.
 fn lock(rt: &impl Abort, server: &mut Server, t: u64, suite: u64) {
     let mode = LockMode::Exclusive;
-    let value = Request::Poll { t, suite, mode };
-    let outcome = server.serve(Stamped { stamp: 0, value });
+    let outcome = asked(server, Request::Poll { t, suite, mode });
     holds(rt, outcome.is_ok(), "a lock");
 }
 
@@ -276,8 +294,7 @@ fn take_files(
     count: u16,
 ) -> String {
     let parts = lock_and_take(rt, server, t, first, count);
-    let value = Request::Prepare { t, parts };
-    words(rt, &server.serve(Stamped { stamp: 0, value }))
+    words(rt, &asked(server, Request::Prepare { t, parts }))
 }
 
 static LAST_PLACE: &str = "
@@ -290,7 +307,7 @@ static LAST_PLACE: &str = "
 0 poll 5 0 X = 4103: Held Folder 1 1
 0 prepare 5 0 X 2:folder = 4104: Prepared
 0 aborted 2 = 4105: Done
-0 poll 6 8001 S = 4106: Busy 4 true
+0 poll 6 8001 S = 4106: Busy { holder: 4, prepared: true }
 0 poll 6 8002 X = 4107: Held Absent 0 0
 0 prepare 6 8002 X 1/1 = 4108: Prepared";
 

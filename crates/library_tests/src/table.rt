@@ -189,12 +189,25 @@ fn are_cloned(rt: &impl Abort, replies: &Answers) {
     holds(rt, had(rt, replies.clone()) == *replies, "a clone");
 }
 
+fn differ(rt: &impl Abort, reply: &Answer, other: &Answer) {
+    holds(rt, *reply != *other, "another reply");
+}
+
+fn are_fewer(rt: &impl Abort, replies: &Answers, all: &Answers) {
+    holds(rt, *replies != *all, "fewer replies");
+}
+
 #[test]
 fn replies_are_shared(rt: HostRuntime) {
-    is_cloned(&rt, &read(&rt));
-    is_cloned(&rt, &voted(&rt));
-    holds(&rt, read(&rt) != voted(&rt), "another reply");
-    are_cloned(&rt, &replies(&rt, true));
-    let are_same = replies(&rt, true) == replies(&rt, false);
-    holds(&rt, !are_same, "fewer replies");
+    let (read, voted) = (read(&rt), voted(&rt));
+    is_cloned(&rt, &read);
+    is_cloned(&rt, &voted);
+    differ(&rt, &read, &voted);
+}
+
+#[test]
+fn lists_of_replies_are_shared(rt: HostRuntime) {
+    let all = replies(&rt, true);
+    are_cloned(&rt, &all);
+    are_fewer(&rt, &replies(&rt, false), &all);
 }
