@@ -1,6 +1,7 @@
 //! What the jobs of a script came to.
 
 ghost use Rattle.std.specs.Prelude.{◌≡◌, ◌++◌, ◌+◌, ◌^◌, ◌<◌, All, IfSome, OnOk, true, is_some, map, option_map, [], codes, decimal};
+ghost use Rattle.std.specs.List.{list_all};
 ghost use Rattle.suite_script.specs.Gathering.{Prints};
 ghost use Rattle.suite_serve.specs.Served.{Stands, end_in, items_in, job_lines, named_end, told_line};
 
@@ -86,7 +87,7 @@ fn push_told(
     job: u64,
     told: Option<&Outcome>,
 ) -> Result<(), AllocError>
-    ensures { OnOk result (text.new.items ≡ text.old.items ++ told_line job (option_map (λ told. told.now) told)) }
+    ensures { OnOk result (text.new.items ≡ text.old.items ++ told_line job (option_map (λ told. told.now) told.entry)) }
 {
     let Some(outcome) = told else {
         return Ok(());
@@ -101,14 +102,11 @@ fn push_told(
 
 /// Whether the ends of all jobs stand in the transcripts.
 fn all_stand(transcripts: &Transcripts, outcomes: &[JobOutcome]) -> bool
-    ensures { result ≡ true → All (λ outcome. is_some (named_end transcripts.now outcome) ≡ true) outcomes.now }
+    ensures { result ≡ list_all (λ outcome. is_some (named_end transcripts.now outcome)) outcomes.now }
 {
-    for outcome in outcomes {
-        if ended(transcripts, outcome).is_none() {
-            return false;
-        }
-    }
-    true
+    outcomes
+        .iter()
+        .all(|outcome| ended(transcripts, outcome).is_some())
 }
 
 /// How a job ended, where that stands in its agent's transcript.
