@@ -71,7 +71,7 @@ stays_prepares task cache suites outcome = stays_prepare task cache suites outco
 stays_early : (task : Task) (suites : Suites) (phase : Phase) → IsEarly phase → Stays task (GoesOn (record { task = task; suites = suites; phase = phase }))
 stays_early task suites phase is = refl
 
-stays_begin : (fixed : Fixed) (task : Task) (cache : Cache) → Stays task (execute fixed task (record { suites = []; cache = cache })).after
+pub stays_begin : (fixed : Fixed) (task : Task) (cache : Cache) → Stays task (execute fixed task (record { suites = []; cache = cache })).after
 stays_begin fixed task cache = goes_execute task (Stays task) (stays_early task) (stays_give_up task) (stays_prepares task) fixed (record { suites = []; cache = cache })
 
 stays_prepared : (task : Task) (cache : Cache) (suites : Suites) (outcome : Outcome) (server : ℕ) (left : List ℕ) (said : Reply) → Stays task (prepared task cache suites outcome server left said).after
@@ -105,13 +105,13 @@ stays_word fixed task cache suites (Finishing (now ∷ left) told ending) server
 -- ---- what holds of the task of each agent, after an event too
 
 module _ (fixed : Fixed) (Q : Task → Type 0) where
-  abbrev Has : Agent → Type 0
+  abbrev pub Has : Agent → Type 0
   Has agent = (task : Task) → task_of agent.doing ≡ Some task → Q task
 
-  abbrev AllHave : World → Type 0
+  abbrev pub AllHave : World → Type 0
   AllHave world = (n : ℕ) (actor : Actor) → actor_at world n ≡ Some actor → Has actor.agent
 
-  on_course : (was : Task) (after : After Course) → Stays was after → Q was → (task : Task) → task_of (left_doing Running after) ≡ Some task → Q task
+  pub on_course : (was : Task) (after : After Course) → Stays was after → Q was → (task : Task) → task_of (left_doing Running after) ≡ Some task → Q task
   on_course was (GoesOn more) stays has task is = subst Q (sym stays ∙ same_Some more.task task is) has
   on_course was (Ends ending) stays has task is = absurd (none-some task is)
 
@@ -172,11 +172,11 @@ module _ (fixed : Fixed) (Q : Task → Type 0) where
     operates_all i asked (Some st) = operated_all st (serve i st (record { stamp = 0; value = asked }))
     operates_all i asked None = all
 
-    becomes_all : (number : ℕ) (change : Agent → Agent) → ((actor : Actor) → actor_at world number ≡ Some actor → Has (change actor.agent)) → (o : Option Actor) → actor_at world number ≡ o → AllHave (becomes world number change o).world
+    pub becomes_all : (number : ℕ) (change : Agent → Agent) → ((actor : Actor) → actor_at world number ≡ Some actor → Has (change actor.agent)) → (o : Option Actor) → actor_at world number ≡ o → AllHave (becomes world number change o).world
     becomes_all number change keeps (Some actor) there = set number actor (record actor { agent = change actor.agent }) there (keeps actor there)
     becomes_all number change keeps None there = all
 
-    event_all : (event : Event) → ((number : ℕ) (job : Job) (actor : Actor) → event ≡ Begin number job → actor_at world number ≡ Some actor → Has (begin fixed actor.agent job)) → AllHave (step fixed world event).world
+    pub event_all : (event : Event) → ((number : ℕ) (job : Job) (actor : Actor) → event ≡ Begin number job → actor_at world number ≡ Some actor → Has (begin fixed actor.agent job)) → AllHave (step fixed world event).world
     event_all (Begin number job) begins = becomes_all number (λ agent. begin fixed agent job) (λ actor there. begins number job actor refl there) (actor_at world number) refl
     event_all (Step number) begins = step_all number (actor_at world number) refl
     event_all (Crash server) begins = operates_all server request.Crash (server_at world server)

@@ -12,7 +12,8 @@ mod witnesses;
 ghost use Rattle.headline.specs.Laws.{AnswersAreTheTables, AuditIsTheDenials, AnsweredBefore, RevocationsAreMet, LocksStand, RowsHaveVersions, RowsAreTheRegisters, KnowledgeWas, AgentsKeepSides, FirstsAreGiven};
 
 pub use promises::{
-    all_votes_are_valid, decided_as_begun, opens_a_run, plays_on, promise, votes_are_valid,
+    all_votes_are_valid, decided_as_begun, job_is_valid, opens_a_run, plays_on, promise,
+    votes_are_valid,
 };
 pub use witnesses::{some_run_holds_locks, some_run_moves_votes, some_run_revokes};
 

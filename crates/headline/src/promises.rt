@@ -52,7 +52,8 @@ pub fn votes_are_valid(event: &Event)
     }
 }
 
-fn job_is_valid(job: &Job)
+/// A law: the votes that a job has are valid, by their type. It does nothing.
+pub fn job_is_valid(job: &Job)
     ensures { JobGivesValidVotes job.now }
 {
     if let Job::Transaction { ops, .. } = job {

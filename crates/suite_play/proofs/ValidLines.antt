@@ -16,11 +16,15 @@ use Rattle.suite_script.specs.Operations.{operations}
 use Rattle.suite_script.specs.Scripts.{Pending, owns}
 use Rattle.suite_script.specs.Words.{Word, at_end, caller, number}
 use Rattle.suite_script.specs.declared.fault.ScriptFault.{ScriptFault}
-use Rattle.suite_play.specs.Commands.{begin_in, last_site, said_after, said_by, server_in, steps_in, verb_in}
+use Rattle.run_core.specs.declared.event.Event.TheVariants as event
+use Rattle.txn_core.specs.declared.job.Job.{Job}
+use Rattle.txn_core.specs.declared.job.Job.TheVariants.{Transaction, Sweep}
+use Rattle.suite_play.specs.Commands.{begin_in, last_site, said_after, said_by, server_in, steps_in, transaction_in, verb_in}
 use Rattle.suite_play.specs.Outputs.{language, places_of}
 use Rattle.suite_play.specs.Playing.{endless}
 use Rattle.suite_play.specs.Promised.{events_in, events_of, steps_of}
 use Rattle.suite_play.specs.declared.command.Command.{Command}
+use Rattle.suite_play.specs.declared.command.Command.TheVariants.{Event}
 use Rattle.suite_play.specs.declared.places.Places.{Places}
 use Rattle.suite_play.specs.declared.verb.Verb as lines
 use Rattle.suite_play.specs.declared.verb.Verb.TheVariants as line
@@ -48,10 +52,24 @@ steps_valid agent (suc more) = (tt, steps_valid agent more)
 abbrev LineIsValid : Command → Type 0
 LineIsValid command = VotesAreValid (events_in command)
 
+-- what a job gives
+abbrev JobIsValid : Job → Type 0
+JobIsValid (Transaction caller site ops) = AllGiveValidVotes ops
+JobIsValid (Sweep server) = Unit {0}
+
+valid_transaction : (names : Tables) (words : List Word) → IfOk (transaction_in names words) JobIsValid
+valid_transaction names words =
+    after_any _ (caller words) _ (λ caller. after_any _ (number last_site caller.rest) _ (λ site.
+    then_holds AllHaveValidVotes _ (operations names site.rest) _ (valid_operations names (slice_split is_semicolon site.rest)) (λ ops all. all_give ops all)))
+
+begun_valid : (agent : ℕ) (job : Job) → JobIsValid job → LineIsValid (Event (event.Begin agent job))
+begun_valid agent (Transaction caller site ops) valid = (valid, tt)
+begun_valid agent (Sweep server) valid = (tt, tt)
+
 valid_begin : (places : Places) (names : Tables) (words : List Word) → IfOk (begin_in places names words) LineIsValid
 valid_begin places names words =
-    after_any _ (number places.last_agent words) _ (λ agent. after_any _ (caller agent.rest) _ (λ caller. after_any _ (number last_site caller.rest) _ (λ site.
-    then_holds AllHaveValidVotes _ (operations names site.rest) _ (valid_operations names (slice_split is_semicolon site.rest)) (λ ops all. (all_give ops all, tt)))))
+    after_any _ (number places.last_agent words) _ (λ agent.
+    then_holds JobIsValid _ (transaction_in names agent.rest) _ (valid_transaction names agent.rest) (λ job valid. begun_valid agent.value job valid))
 
 valid_said : (places : Places) (names : Tables) (verb : lines.Verb) (words : List Word) → IfOk (said_by places names verb words) LineIsValid
 valid_said places names line.Begin words = valid_begin places names words

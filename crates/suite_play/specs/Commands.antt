@@ -4,6 +4,7 @@ use Rattle.std.specs.List.{find}
 use Rattle.std.specs.Str.{bytes_eq}
 use Rattle.acl_text.specs.Tables.{Tables}
 use Rattle.file_ops.specs.Steps.{◌>>=◌, ◌>>◌}
+use Rattle.txn_core.specs.declared.job.Job.{Job}
 use Rattle.txn_core.specs.declared.job.Job.TheVariants.{Transaction, Sweep}
 use Rattle.run_core.specs.declared.event.Event.TheVariants as event
 use Rattle.suite_script.specs.declared.fault.LineFault.{LineFault}
@@ -44,14 +45,20 @@ max_steps = 1000000
 abbrev pub last_site : ℕ
 last_site = 15
 
--- a transaction that an agent begins, for a caller, at a site
+-- a transaction, for a caller, at a site
+abbrev pub transaction_in : Tables → List Word → Result Job LineFault
+transaction_in names words = do
+  caller ← caller words
+  site ← number last_site caller.rest
+  ops ← operations names site.rest
+  Ok (Transaction caller.value site.value ops)
+
+-- a transaction that an agent begins
 abbrev pub begin_in : Places → Tables → List Word → Result Command LineFault
 begin_in places names words = do
   agent ← number places.last_agent words
-  caller ← caller agent.rest
-  site ← number last_site caller.rest
-  ops ← operations names site.rest
-  Ok (Event (event.Begin agent.value (Transaction caller.value site.value ops)))
+  job ← transaction_in names agent.rest
+  Ok (Event (event.Begin agent.value job))
 
 -- a sweep of a server that an agent begins
 abbrev pub sweep_in : Places → List Word → Result Command LineFault

@@ -72,17 +72,16 @@ is_header text =
 abbrev pub is_known : Word → Bool
 is_known text = is_header text || is_command text
 
-abbrev pub header : Pending → Result (Headed Opening) ScriptFault
-header script = do
-  servers ← headed is_known (codes "servers") (count_in max_servers) script
-  agents ← headed is_known (codes "agents") (count_in max_agents) servers.rest
-  votes ← headed is_known (codes "votes") (opening_votes servers.value) agents.rest
+-- what a header tells after how many servers and agents there are, in a script whose lines begin with these words
+abbrev pub opening_lines : (Word → Bool) → ℕ → ℕ → Pending → Result (Headed Opening) ScriptFault
+opening_lines is_known servers agents script = do
+  votes ← headed is_known (codes "votes") (opening_votes servers) script
   root ← headed is_known (codes "root") root_in votes.rest
   caches ← headed is_known (codes "cache") caches_in root.rest
   Ok (record {
     value = record {
-      servers = servers.value;
-      agents = agents.value;
+      servers = servers;
+      agents = agents;
       c0 = votes.value;
       root_owner = root.value.owner;
       root_group = root.value.group;
@@ -93,3 +92,9 @@ header script = do
     };
     rest = caches.rest;
   })
+
+abbrev pub header : Pending → Result (Headed Opening) ScriptFault
+header script = do
+  servers ← headed is_known (codes "servers") (count_in max_servers) script
+  agents ← headed is_known (codes "agents") (count_in max_agents) servers.rest
+  opening_lines is_known servers.value agents.value agents.rest

@@ -1,7 +1,7 @@
-//! The header of a script of events.
+//! The header of a script of events, and the lines of it that the scripts of other commands share.
 
 ghost use Rattle.std.specs.Prelude.{◌≡◌, ◌≤◌, ◌<◌, All, IfOk, codes};
-ghost use Rattle.suite_play.specs.Headers.{caches_in, count, count_in, header, is_known, limit, opening_votes};
+ghost use Rattle.suite_play.specs.Headers.{caches_in, count, count_in, header, limit, opening_lines, opening_votes};
 ghost use Rattle.suite_script.specs.Progress.{Heads};
 ghost use Rattle.suite_script.specs.Scripts.{headed};
 
@@ -11,22 +11,46 @@ use script_text::{Words, read_number};
 use std::alloc::Global;
 use suite_prefix::{MAX_AGENTS, MAX_CACHE, MAX_SLOTS, Settings, SettingsFault};
 use suite_script::{
-    LineError, LineFault, Root, ScriptError, ScriptReader, at_end, next_word, read_root, read_votes,
+    Language, LineError, LineFault, Root, ScriptError, ScriptReader, at_end, next_word, read_root,
+    read_votes,
 };
 use vote_core::{MAX_SERVERS, Votes};
 
-/// The header of a script.
+/// The header of a script of events.
 pub(crate) fn read_header(
     alloc: Global,
     script: &mut ScriptReader<'_>,
 ) -> Result<Settings, ScriptError>
     ensures { Heads result script.new (header script.old) }
 {
-    let servers = read_count(script, b"servers", MAX_SERVERS)?;
-    let agents = read_count(script, b"agents", MAX_AGENTS)?;
-    let c0 = read_opening_votes(script, servers)?;
-    let root = read_root::<Places>(alloc, script)?;
-    let caches = read_caches(script)?;
+    let servers = read_servers::<Places>(script)?;
+    let agents = read_count::<Places>(script, b"agents", MAX_AGENTS)?;
+    read_opening::<Places>(alloc, script, servers, agents)
+}
+
+/// The next line, which tells how many servers there are: 1 to 16.
+pub fn read_servers<L: Language>(script: &mut ScriptReader<'_>) -> Result<usize, ScriptError>
+    ensures count { Heads result script.new (headed L.is_known (codes "servers") (count_in MAX_SERVERS) script.old) }
+    ensures range { IfOk result (λ count. (1 ≤ count) × (count ≤ MAX_SERVERS)) }
+{
+    read_count::<L>(script, b"servers", MAX_SERVERS)
+}
+
+/// The lines of a header after those that tell how many servers and agents there are: the opening votes, the root folder,
+/// and the limits of the caches.
+pub fn read_opening<L: Language>(
+    alloc: Global,
+    script: &mut ScriptReader<'_>,
+    servers: usize,
+    agents: usize,
+) -> Result<Settings, ScriptError>
+    requires servers { (1 ≤ servers) × (servers ≤ MAX_SERVERS) }
+    requires agents { (1 ≤ agents) × (agents ≤ MAX_AGENTS) }
+    ensures { Heads result script.new (opening_lines L.is_known servers agents script.old) }
+{
+    let c0 = read_opening_votes::<L>(script, servers)?;
+    let root = read_root::<L>(alloc, script)?;
+    let caches = read_caches::<L>(script)?;
     Ok(settings_of(servers, agents, c0, root, caches))
 }
 
@@ -63,11 +87,15 @@ fn settings_of(servers: usize, agents: usize, c0: Votes, root: Root, caches: Cac
 }
 
 /// The next line, which begins with this word and tells how many there are.
-fn read_count(script: &mut ScriptReader<'_>, word: &[u8], most: usize) -> Result<usize, ScriptError>
-    ensures count { Heads result script.new (headed is_known word.now (count_in most) script.old) }
+fn read_count<L: Language>(
+    script: &mut ScriptReader<'_>,
+    word: &[u8],
+    most: usize,
+) -> Result<usize, ScriptError>
+    ensures count { Heads result script.new (headed L.is_known word.now (count_in most) script.old) }
     ensures range { IfOk result (λ count. (1 ≤ count) × (count ≤ most)) }
 {
-    let mut line = script.header_line::<Places>(word)?;
+    let mut line = script.header_line::<L>(word)?;
     match count_of(&mut line.words, most) {
         Ok(count) => Ok(count),
         Err(fault) => Err(LineError::Faulty(fault).at(line.number)),
@@ -98,11 +126,14 @@ fn judged_count(word: &[u8], most: usize) -> Result<usize, LineFault>
 }
 
 /// The next line, which has the opening votes.
-fn read_opening_votes(script: &mut ScriptReader<'_>, servers: usize) -> Result<Votes, ScriptError>
-    ensures votes { Heads result script.new (headed is_known (codes "votes") (opening_votes servers) script.old) }
+fn read_opening_votes<L: Language>(
+    script: &mut ScriptReader<'_>,
+    servers: usize,
+) -> Result<Votes, ScriptError>
+    ensures votes { Heads result script.new (headed L.is_known (codes "votes") (opening_votes servers) script.old) }
     ensures known { IfOk result (λ votes. All (λ rep. rep.0 < servers) votes.reps) }
 {
-    let mut line = script.header_line::<Places>(b"votes")?;
+    let mut line = script.header_line::<L>(b"votes")?;
     match votes_of(&mut line.words, servers) {
         Ok(votes) => Ok(votes),
         Err(fault) => Err(LineError::Faulty(fault).at(line.number)),
@@ -119,11 +150,11 @@ fn votes_of(words: &mut Words<'_>, servers: usize) -> Result<Votes, LineFault>
 }
 
 /// The next line, which has the limits of the caches.
-fn read_caches(script: &mut ScriptReader<'_>) -> Result<Caches, ScriptError>
-    ensures caches { Heads result script.new (headed is_known (codes "cache") caches_in script.old) }
+fn read_caches<L: Language>(script: &mut ScriptReader<'_>) -> Result<Caches, ScriptError>
+    ensures caches { Heads result script.new (headed L.is_known (codes "cache") caches_in script.old) }
     ensures range { IfOk result (λ caches. (caches.budget ≤ MAX_CACHE) × (caches.quota ≤ MAX_CACHE) × (caches.slots ≤ MAX_SLOTS)) }
 {
-    let mut line = script.header_line::<Places>(b"cache")?;
+    let mut line = script.header_line::<L>(b"cache")?;
     match caches_of(&mut line.words) {
         Ok(caches) => Ok(caches),
         Err(fault) => Err(LineError::Faulty(fault).at(line.number)),

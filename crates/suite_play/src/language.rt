@@ -3,9 +3,9 @@
 ghost use Rattle.std.specs.Prelude.{◌≡◌};
 ghost use Rattle.file_ops.specs.Steps.{found_or, ok_map};
 ghost use Rattle.script_text.specs.Numbers.{number_up_to};
-ghost use Rattle.suite_play.specs.Commands.{audit_in, begin_in, crash_in, forget_in, max_steps, return_in, run_in, said_by, server_in, step_in, sweep_in};
+ghost use Rattle.suite_play.specs.Commands.{audit_in, begin_in, crash_in, forget_in, max_steps, return_in, run_in, said_by, server_in, step_in, sweep_in, transaction_in};
 ghost use Rattle.suite_play.specs.Headers.{is_header};
-ghost use Rattle.suite_play.specs.code.Kept.{kept_command};
+ghost use Rattle.suite_play.specs.code.Kept.{kept_command, kept_job};
 ghost use Rattle.suite_script.specs.Readings.{Gives};
 
 use crate::command::Command;
@@ -105,7 +105,7 @@ fn read_command(
 }
 
 /// The number of one of those that are numbered from 0 to a last one.
-fn read_place(word: &[u8], last: u8) -> Result<u8, LineFault>
+pub fn read_place(word: &[u8], last: u8) -> Result<u8, LineFault>
     ensures { result ≡ found_or (number_up_to last word.now) LineFault.Form }
 {
     match read_number(word, u64::from(last)) {
@@ -114,7 +114,23 @@ fn read_place(word: &[u8], last: u8) -> Result<u8, LineFault>
     }
 }
 
-/// A transaction that an agent begins, for a caller, at a site, so far as it is kept.
+/// A transaction, for a caller, at a site, so far as it is kept: of its operations one more than there may be, which make
+/// the same transaction as all.
+pub fn read_transaction(
+    alloc: Global,
+    names: &Names,
+    mut words: Words<'_>,
+) -> Result<Job, LineError>
+    ensures { Gives result (ok_map kept_job (transaction_in names.now words.entry)) }
+{
+    let uid = read_id(next_word(&mut words)?)?;
+    let caller = read_caller(uid, next_word(&mut words)?)?;
+    let site = read_place(next_word(&mut words)?, LAST_SITE)?;
+    let ops = Ops::from_vec(read_operations(alloc, names, words)?)?;
+    Ok(Job::Transaction { caller, site, ops })
+}
+
+/// A transaction that an agent begins, so far as it is kept.
 fn read_begin(
     alloc: Global,
     places: Places,
@@ -124,11 +140,7 @@ fn read_begin(
     ensures { Gives result (ok_map kept_command (begin_in places names.now words.entry)) }
 {
     let agent = read_place(next_word(&mut words)?, places.last_agent)?;
-    let uid = read_id(next_word(&mut words)?)?;
-    let caller = read_caller(uid, next_word(&mut words)?)?;
-    let site = read_place(next_word(&mut words)?, LAST_SITE)?;
-    let ops = Ops::from_vec(read_operations(alloc, names, words)?)?;
-    let job = Job::Transaction { caller, site, ops };
+    let job = read_transaction(alloc, names, words)?;
     Ok(Command::Event(Event::Begin { agent, job }))
 }
 

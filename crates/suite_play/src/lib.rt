@@ -1,4 +1,7 @@
 //! The command `play`: a script of events, played on a world of servers and agents.
+//!
+//! What the scripts of other commands over servers and agents share with it is public too: lines of headers, transactions
+//! as words, and how the end of a job is printed.
 #![tactic(auto)]
 
 mod caches;
@@ -11,5 +14,8 @@ mod places;
 mod player;
 mod verb;
 
+pub use header::{read_opening, read_servers};
+pub use language::{read_place, read_transaction};
 pub use laws::{lines_are_events, run_is_until_idle};
+pub use outcome::push_ending;
 pub use player::play_events;

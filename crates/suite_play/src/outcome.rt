@@ -28,7 +28,8 @@ pub(crate) fn push_outcome(
     text.extend_from_slice(b"\n")
 }
 
-fn push_ending(alloc: Global, text: &mut Vec<u8>, ending: &Ending) -> Result<(), AllocError>
+/// How a job has ended, as a command's line tells it.
+pub fn push_ending(alloc: Global, text: &mut Vec<u8>, ending: &Ending) -> Result<(), AllocError>
     ensures { OnOk result (text.new.items ≡ text.old.items ++ ending_text ending.now) }
 {
     match ending {

@@ -1,15 +1,12 @@
 -- What is found beside a new entry.
-use Rattle.std.proofs.Common.{◌≡◌, ℕ, ◌+◌, ◌-◌, ◌≤◌, ◌<◌, leb, ltb, Bool, true, false, cond, not, ◌&&◌, Option, None, Some, [], ◌∷◌, get_or, refl, sym, ap, ◌∙◌, arith, eq-eqb}
-use Rattle.std.specs.Prelude.{◌==◌, filter, find, IsTrue}
-use Rattle.std.specs.List.{position_from}
-use Rattle.std.proofs.lemmas.Bool.{eqb-true, false≢true, le-leb, lt-ltb}
-use Rattle.weak_cache.specs.Entries.{Entry, Cache, size_of, sum_of, is_of, list_of, forgotten, entry_of, without}
-use Rattle.weak_cache.specs.Cache.{Limits, has_room, put, within_quota, within_budget}
-use Rattle.weak_cache.specs.code.Beside.{stays}
-use Rattle.weak_cache.proofs.Counting.{got_at}
-use Rattle.weak_cache.proofs.Cuts.{first_of}
-use Rattle.weak_cache.proofs.Fewer.{Fewer, fewer_filter, list_fewer, sum_fewer}
-use Rattle.weak_cache.proofs.Keeping.{quota_fits}
+use Rattle.std.proofs.Common.{◌≡◌, ℕ, ◌-◌, ◌≤◌, ◌<◌, leb, ltb, Bool, true, false, cond, not, ◌&&◌, ◌⊎◌, inl, inr, zero, suc, Option, None, Some, [], ◌∷◌, length, refl, sym, ap, ◌∙◌, arith, eq-eqb}
+use Rattle.std.specs.Prelude.{◌==◌, filter, find, is_some, IsSome, IsTrue}
+use Rattle.std.proofs.lemmas.Bool.{eqb-true, false≢true, le-leb, lt-ltb, leb-true, ltb-true}
+use Rattle.weak_cache.specs.Entries.{Entry, Cache, size_of, sum_of, is_at, is_of, list_of, forgotten, entry_of, without}
+use Rattle.weak_cache.specs.Cache.{Limits, has_room, put, at_version, content_at, in_front, used, searched, within_quota, within_budget}
+use Rattle.weak_cache.specs.code.Beside.{stays, room_after}
+use Rattle.weak_cache.proofs.Fewer.{Fewer, fewer_filter, list_fewer, sum_fewer, length_fewer}
+use Rattle.weak_cache.proofs.Keeping.{both, quota_fits, budget_fits}
 use Rattle.weak_cache.proofs.Found.{find_kept, find_gone, of_same}
 use Rattle.weak_cache.proofs.Puts.{put_none}
 
@@ -52,54 +49,100 @@ kept_other limits n c site suite none other =
     let kept : entry_of (without n.site n.suite c) site suite ≡ entry_of c site suite = find_kept (is_of site suite) (λ x. not (is_of n.site n.suite x)) (λ x here. ap not (of_same site suite n.site n.suite x here ∙ key_turned site suite n ∙ other)) c in
     sym (left limits n c site suite none ∙ kept)
 
--- ---- entries that have room in bytes
+pub none_is_none : (o : Option Entry) → o ≡ None → IsSome o → ⊥
+none_is_none o none some = absurd (false≢true (sym (ap is_some none) ∙ some))
 
-position_above : (p : Entry → Bool) (from at : ℕ) (c : Cache) → position_from p from c ≡ Some at → from ≤ at
-position_above p from at c h = omega (arith, (first_of p from c at h).4)
+-- where nothing is kept of a suite, nothing goes with it
+pub without_none : (site suite : ℕ) (c : Cache) → entry_of c site suite ≡ None → without site suite c ≡ c
+without_none site suite [] h = refl
+without_none site suite (e ∷ c) h =
+    elim (is_of site suite e) as (λ t. cond t (Some e) (entry_of c site suite) ≡ None → cond (not t) (e ∷ without site suite c) (without site suite c) ≡ e ∷ c) [
+      | true ↦ λ h. absurd (cc h)
+      | false ↦ λ h. ap (λ l. e ∷ l) (without_none site suite c h)
+    ] h
 
-some_same : (a b : ℕ) → Some a ≡ Some b → a ≡ b
-some_same a b h = cc h
+-- ---- entries that all have room
 
--- one that stands at a place below the slots stays
-slots_found : (p r : Entry → Bool) → ((x : Entry) → p x ≡ true → r x ≡ true) → (room slots from at : ℕ) (c : Cache) → sum_of (filter r c) ≤ room → position_from p from c ≡ Some at → at < from + slots → find p (within_budget room slots (filter r c)) ≡ find p c
-slots_found p r keeps room slots from at [] sum place below = refl
-slots_found p r keeps room slots from at (e ∷ c) sum place below =
-    elim (p e) as (λ t. p e ≡ t → cond t (Some from) (position_from p (from + 1) c) ≡ Some at → find p (within_budget room slots (filter r (e ∷ c))) ≡ cond t (Some e) (find p c)) [
-      | true ↦ λ own place.
-          let kept : r e ≡ true = keeps e own in
-          let sum' : size_of e.content ≤ room = omega (arith, sum, ap (λ t. sum_of (cond t (e ∷ filter r c) (filter r c))) kept) in
-          let fits : leb (size_of e.content) room ≡ true = le-leb _ _ sum' in
-          let slot : ltb 0 slots ≡ true = lt-ltb 0 slots (omega (arith, below, some_same _ _ place)) in
-          rw (kept, fits, slot, own) refl
-      | false ↦ λ other place.
-          let above : from + 1 ≤ at = position_above p (from + 1) at c place in
-          elim (r e) as (λ t. sum_of (cond t (e ∷ filter r c) (filter r c)) ≤ room → find p (within_budget room slots (cond t (e ∷ filter r c) (filter r c))) ≡ find p c) [
-            | true ↦ λ sum.
-                let fits : leb (size_of e.content) room ≡ true = le-leb _ _ (omega (arith, sum)) in
-                let slot : ltb 0 slots ≡ true = lt-ltb 0 slots (omega (arith, below, above)) in
-                rw (fits, slot, other) (slots_found p r keeps (room - size_of e.content) (slots - 1) (from + 1) at c (omega (arith, sum)) place (omega (arith, below, above)))
-            | false ↦ λ sum. slots_found p r keeps room slots (from + 1) at c sum place (omega (arith, below))
-          ] sum
-    ] refl place
-
--- so it is found beside an entry of another key
-pub place_stays : (site suite new_site new_suite quota budget slots at : ℕ) (c : Cache) → ((new_site == site) && (new_suite == suite)) ≡ false → sum_of c ≤ budget → sum_of (list_of new_site c) ≤ quota → position_from (is_of site suite) 0 c ≡ Some at → at < slots
-    → entry_of (stays new_site new_suite quota budget slots c) site suite ≡ entry_of c site suite
-place_stays site suite new_site new_suite quota budget slots at c apart sum own_sum place below =
-    let p : Entry → Bool = is_of site suite in
+-- where no entry goes, what was kept is kept
+pub all_stay : (site suite new_site new_suite quota budget slots : ℕ) (c : Cache) → ((new_site == site) && (new_suite == suite)) ≡ false → (sum_of c ≤ budget) × (sum_of (list_of new_site c) ≤ quota) × (length c ≤ slots)
+    → entry_of c site suite ≡ entry_of (stays new_site new_suite quota budget slots c) site suite
+all_stay site suite new_site new_suite quota budget slots c other room =
     let r : Entry → Bool = λ x. not (is_of new_site new_suite x) in
     let w : Cache = filter r c in
     let fewer : Fewer w c = fewer_filter r c in
-    let turned : ((site == new_site) && (suite == new_suite)) ≡ false = ap (λ b. b && (suite == new_suite)) (same_number_turned site new_site) ∙ ap (λ b. (new_site == site) && b) (same_number_turned suite new_suite) ∙ apart in
-    let keeps : (x : Entry) → p x ≡ true → r x ≡ true = λ x here. ap not (of_same site suite new_site new_suite x here ∙ turned) in
-    let in_quota : within_quota new_site quota w ≡ w = quota_fits new_site quota w (omega (arith, own_sum, list_fewer new_site w c fewer)) in
-    ap (λ l. find p (within_budget budget slots l)) in_quota ∙ slots_found p r keeps budget slots 0 at c (omega (arith, sum, sum_fewer w c fewer)) place (omega (arith, below))
+    let turned : ((site == new_site) && (suite == new_suite)) ≡ false = ap (λ b. b && (suite == new_suite)) (same_number_turned site new_site) ∙ ap (λ b. (new_site == site) && b) (same_number_turned suite new_suite) ∙ other in
+    let in_quota : within_quota new_site quota w ≡ w = quota_fits new_site quota w (omega (arith, room.1, list_fewer new_site w c fewer)) in
+    let in_budget : within_budget budget slots w ≡ w = budget_fits budget slots w (omega (arith, room.0, sum_fewer w c fewer)) (omega (arith, room.2, length_fewer w c fewer)) in
+    sym (ap (λ l. find (is_of site suite) (within_budget budget slots l)) in_quota ∙ ap (find (is_of site suite)) in_budget ∙ find_kept (is_of site suite) r (λ x here. ap not (of_same site suite new_site new_suite x here ∙ turned)) c)
 
--- and it is what stands there
-pub stays_there : (site suite new_site new_suite quota budget slots at : ℕ) (c : Cache) (d : Entry) → ((new_site == site) && (new_suite == suite)) ≡ false → (sum_of c ≤ budget) × (sum_of (list_of new_site c) ≤ quota) → position_from (is_of site suite) 0 c ≡ Some at → at < slots → d ≡ get_or c at d
-    → Some d ≡ entry_of (stays new_site new_suite quota budget slots c) site suite
-stays_there site suite new_site new_suite quota budget slots at c d apart room place below is =
-    let cut = first_of (is_of site suite) 0 c at place in
-    ap Some (got_at c cut.0 cut.1 cut.2 at d cut.3.parts (omega (arith, cut.4)) is)
-    ∙ sym cut.3.found
-    ∙ sym (place_stays site suite new_site new_suite quota budget slots at c apart room.0 room.1 place below)
+-- ---- a search
+
+pub search_none : (site suite dver : ℕ) (c : Cache) → content_at c site suite dver ≡ None → (false ≡ is_some (content_at c site suite dver)) × (c ≡ searched site suite dver c)
+search_none site suite dver c none = (sym (ap is_some none), sym (ap (λ o. cond (is_some o) (used site suite c) c) none))
+
+pub search_some : (site suite dver : ℕ) (c : Cache) (e : Entry) → entry_of c site suite ≡ Some e → (e.dver == dver) ≡ true → (true ≡ is_some (content_at c site suite dver)) × (searched site suite dver c ≡ e ∷ without site suite c)
+search_some site suite dver c e found version =
+    let content : content_at c site suite dver ≡ Some e.content = ap (at_version dver) found ∙ ap (λ t. cond t (Some e.content) None) version in
+    (sym (ap is_some content), ap (λ o. cond (is_some o) (used site suite c) c) content ∙ ap (λ o. in_front o site suite c) found)
+
+-- ---- a walk
+
+above_zero : (n : ℕ) → (n ≡ 0 → ⊥) → 0 < n
+above_zero zero some = absurd (some refl)
+above_zero (suc n) some = omega arith
+
+pub nothing_left : (site suite new_site budget slots : ℕ) (room : Option ℕ) → None ≡ entry_of (within_budget budget slots (within_room new_site room [])) site suite
+nothing_left site suite new_site budget slots None = refl
+nothing_left site suite new_site budget slots (Some room) = refl
+
+pub no_room : (o : Option ℕ) → is_some o ≡ false → o ≡ None
+no_room None h = refl
+no_room (Some room) h = absurd (false≢true (sym h))
+
+pub some_room : (o : Option ℕ) → is_some o ≡ true → o ≡ None → ⊥
+some_room o h none = absurd (false≢true (sym (ap is_some none) ∙ h))
+
+module _ (site suite : ℕ) (e : Entry) (c : Cache) where
+  -- of the key that is put
+  pub walk_own : is_of site suite e ≡ true → without site suite (e ∷ c) ≡ without site suite c
+  walk_own own = rw own refl
+
+  pub walk_past : is_of site suite e ≡ false → without site suite (e ∷ c) ≡ e ∷ without site suite c
+  walk_past other = rw other refl
+
+module _ (site : ℕ) (e : Entry) (c : Cache) where
+  -- without room in the quota
+  pub walk_gone : (room : Option ℕ) → is_at site e ≡ true → room_after room (size_of e.content) ≡ None → within_room site room (e ∷ c) ≡ within_room site None c
+  walk_gone None at none = rw at refl
+  walk_gone (Some room) at none =
+      elim (leb (size_of e.content) room) as (λ t. cond t (Some (room - size_of e.content)) None ≡ None → cond (is_at site e) (cond t (e ∷ within_quota site (room - size_of e.content) c) (forgotten site c)) (e ∷ within_quota site room c) ≡ forgotten site c) [
+        | true ↦ λ none. absurd (cc none)
+        | false ↦ λ _. rw at refl
+      ] none
+
+  -- and with room there
+  pub walk_kept : (room left : Option ℕ) → is_at site e ≡ true → room_after room (size_of e.content) ≡ left → (left ≡ None → ⊥) → within_room site room (e ∷ c) ≡ e ∷ within_room site left c
+  walk_kept None left at is some = absurd (some (sym is))
+  walk_kept (Some room) left at is some =
+      elim (leb (size_of e.content) room) as (λ t. cond t (Some (room - size_of e.content)) None ≡ left → cond (is_at site e) (cond t (e ∷ within_quota site (room - size_of e.content) c) (forgotten site c)) (e ∷ within_quota site room c) ≡ e ∷ within_room site left c) [
+        | true ↦ λ is. rw (at, sym is) refl
+        | false ↦ λ is. absurd (some (sym is))
+      ] is
+
+  pub walk_other : (room : Option ℕ) → is_at site e ≡ false → within_room site room (e ∷ c) ≡ e ∷ within_room site room c
+  walk_other None other = rw other refl
+  walk_other (Some room) other = rw other refl
+
+-- without room in the budget or slots
+pub walk_ends : (site suite budget slots : ℕ) (e : Entry) (c : Cache) → (slots ≡ 0) ⊎ (budget < size_of e.content) → entry_of (within_budget budget slots (e ∷ c)) site suite ≡ None
+walk_ends site suite budget slots e c ends =
+    elim (leb (size_of e.content) budget && ltb 0 slots) as (λ t. (leb (size_of e.content) budget && ltb 0 slots) ≡ t → entry_of (cond t (e ∷ within_budget (budget - size_of e.content) (slots - 1) c) []) site suite ≡ None) [
+      | true ↦ λ h. let fits = both (leb (size_of e.content) budget) (ltb 0 slots) h in absurd (elim ends [ inl none ↦ omega (arith, none, ltb-true 0 slots fits.1) | inr above ↦ omega (arith, above, leb-true _ _ fits.0) ])
+      | false ↦ λ _. refl
+    ] refl
+
+pub walk_on : (site suite budget slots : ℕ) (e : Entry) (c : Cache) → (slots ≡ 0 → ⊥) → size_of e.content ≤ budget → entry_of (within_budget budget slots (e ∷ c)) site suite ≡ cond (is_of site suite e) (Some e) (entry_of (within_budget (budget - size_of e.content) (slots - 1) c) site suite)
+walk_on site suite budget slots e c some fits =
+    let in_budget : leb (size_of e.content) budget ≡ true = le-leb _ _ fits in
+    let slot : ltb 0 slots ≡ true = lt-ltb 0 slots (above_zero slots some) in
+    rw (in_budget, slot) refl

@@ -46,6 +46,9 @@ of_same site suite other number x own =
     let key = both (x.site == site) (x.suite == suite) own in
     ap (λ s. (s == other) && (x.suite == number)) (eqb-true x.site site key.0) ∙ ap (λ u. (site == other) && (u == number)) (eqb-true x.suite suite key.1)
 
+pub key_own : (e : Entry) → is_of e.site e.suite e ≡ true
+key_own e = both_true (same_number e.site) (same_number e.suite)
+
 none_is_no_entry : (e : Entry) → None ≡ Some e → ⊥
 none_is_no_entry e h = cc h
 

@@ -1,11 +1,10 @@
 -- What is left where the oldest entries go.
-use Rattle.std.proofs.Common.{◌≡◌, ℕ, ◌+◌, ◌-◌, ◌<◌, ◌≤◌, leb, ltb, Bool, true, false, cond, not, ◌&&◌, ◌⊎◌, inl, inr, [], ◌∷◌, ◌++◌, length, refl, sym, ap, ◌∙◌, arith, append-nil, length-append}
+use Rattle.std.proofs.Common.{◌≡◌, ℕ, ◌+◌, ◌-◌, ◌<◌, ◌≤◌, leb, ltb, Bool, true, false, cond, not, ◌&&◌, ◌⊎◌, inl, inr, [], ◌∷◌, ◌++◌, length, refl, sym, ap, ◌∙◌, arith, append-nil}
 use Rattle.std.specs.Prelude.{filter}
 use Rattle.std.proofs.lemmas.List.Elements.{filter-append}
 use Rattle.std.proofs.lemmas.Bool.{le-leb, leb-true, lt-ltb, ltb-true}
 use Rattle.weak_cache.specs.Entries.{Entry, Cache, size_of, sum_of, is_at, list_of, forgotten}
 use Rattle.weak_cache.specs.Cache.{within_quota, within_budget}
-use Rattle.weak_cache.specs.code.Places.{EndsAt}
 use Rattle.weak_cache.proofs.Fewer.{Fewer, fewer_same, fewer_none, fewer_more, fewer_without, fewer_filter}
 
 abbrev with' : Entry → Cache → Cache
@@ -144,10 +143,13 @@ budget_sum room slots (e ∷ c) =
       | false ↦ λ _. (omega arith, omega arith)
     ] refl
 
--- ---- steps of the loops
+-- a list that is cut at an entry of a site, behind which there is none of the site
+pub record EndsAt (site : ℕ) (cache newer : Cache) (entry : Entry) (older : Cache) : Type 0 where
+  pub parts : cache ≡ newer ++ entry ∷ older
+  pub own : is_at site entry ≡ true
+  pub last : list_of site older ≡ []
 
-pub place_within : (c newer : Cache) (e : Entry) (older : Cache) (at : ℕ) → c ≡ newer ++ e ∷ older → at ≡ length newer → at < length c
-place_within c newer e older at parts place = omega (arith, place, ap length parts, length-append newer (e ∷ older))
+-- ---- steps of the loops
 
 pub quota_step : (site room : ℕ) (before after newer : Cache) (e : Entry) (older : Cache) → EndsAt site before newer e older → after ≡ newer ++ older → room < sum_of (list_of site before) → within_quota site room after ≡ within_quota site room before
 quota_step site room before after newer e older cut left above =
@@ -158,10 +160,6 @@ pub budget_step : (room slots : ℕ) (before after newer : Cache) (e : Entry) �
 budget_step room slots before after newer e parts left above =
     let above' : (room < sum_of (newer ++ e ∷ [])) ⊎ (slots < length (newer ++ e ∷ [])) = elim above [ inl sum ↦ inl (omega (arith, sum, ap sum_of parts)) | inr count ↦ inr (omega (arith, count, ap length parts)) ] in
     rw (parts, left, append-nil newer) (sym (budget_evicts room slots newer e above'))
-
-pub above_some : (room slots : ℕ) (c : Cache) → (room < sum_of c) ⊎ (slots < length c) → 0 < length c
-above_some room slots [] above = absurd (elim above [ inl sum ↦ omega (arith, sum) | inr count ↦ omega (arith, count) ])
-above_some room slots (e ∷ c) above = omega arith
 
 pub forgotten_step : (site : ℕ) (before after newer : Cache) (e : Entry) (older : Cache) → EndsAt site before newer e older → after ≡ newer ++ older → forgotten site after ≡ forgotten site before
 forgotten_step site before after newer e older cut left =

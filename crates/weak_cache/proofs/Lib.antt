@@ -1,12 +1,13 @@
 pub mod Fewer
 pub mod Keeping
-pub mod Cuts
 pub mod Puts
 pub mod Found
 pub mod LettingGo
 pub mod SiteLists
 pub mod Beside
-pub mod Room
 pub mod Origins
 pub mod Counting
-pub mod Falling
+pub mod Shelving
+pub mod Oldest
+pub mod Answered
+pub mod Searched

@@ -1,5 +1,5 @@
 -- What a cache is after a put.
-use Rattle.std.proofs.Common.{◌≡◌, ℕ, ◌-◌, ◌≤◌, leb, ltb, true, false, cond, not, ◌&&◌, [], ◌∷◌, ◌++◌, length, refl, ap, arith, eq-eqb}
+use Rattle.std.proofs.Common.{◌≡◌, ℕ, ◌-◌, ◌≤◌, leb, ltb, true, false, cond, not, ◌&&◌, [], ◌∷◌, ◌++◌, length, refl, sym, ap, ◌∙◌, arith, eq-eqb}
 use Rattle.std.specs.Prelude.{◌==◌, filter}
 use Rattle.std.proofs.lemmas.Bool.{leb-true, ltb-true, eqb-true}
 use Rattle.weak_cache.specs.Entries.{Entry, Cache, size_of, sum_of, is_at, is_of, list_of, without}
@@ -23,6 +23,11 @@ put_is limits e c room =
     let a = both (leb (size_of e.content) limits.budget && leb (size_of e.content) limits.quota) (ltb 0 limits.slots) room in
     let b = both (leb (size_of e.content) limits.budget) (leb (size_of e.content) limits.quota) a.0 in
     rw (room, same_number e.site, b.1, b.0, a.1) refl
+
+-- the same, step by step
+pub put_steps : (limits : Limits) (e : Entry) (c : Cache) → has_room limits e.content ≡ true → within_budget limits.budget limits.slots (within_quota e.site limits.quota (e ∷ without e.site e.suite c)) ≡ e ∷ beside limits e c
+put_steps limits e c room =
+    sym (ap (λ t. cond t (within_budget limits.budget limits.slots (within_quota e.site limits.quota (e ∷ without e.site e.suite c))) (without e.site e.suite c)) room) ∙ put_is limits e c room
 
 pub put_none : (limits : Limits) (e : Entry) (c : Cache) → has_room limits e.content ≡ false → put limits e c ≡ without e.site e.suite c
 put_none limits e c room = rw room refl

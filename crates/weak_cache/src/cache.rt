@@ -1,13 +1,13 @@
 //! The cache of an agent's sites.
 
-ghost use Rattle.std.specs.Prelude.{◌≡◌, ◌-◌, ◌<◌, ◌≤◌, IfOk, OnOk, OnErr, IsOk, IsSome, IsTrue, [], length, false};
+ghost use Rattle.std.specs.Prelude.{◌≡◌, ◌-◌, ◌<◌, ◌≤◌, IfOk, OnOk, OnErr, IsOk, IsSome, IsTrue, None, [], false};
 ghost use Rattle.std.specs.Option.{option_copied, SomeIff};
 ghost use Rattle.std.specs.Borrow.{sem};
 ghost use Rattle.weak_cache.specs.Entries.{is_of};
 ghost use Rattle.weak_cache.specs.NewEntry.{new_entry};
 
 use crate::entry::{SizedEntry, size_within};
-use crate::list::{Beside, Entries, EntryList};
+use crate::stock::{Beside, Entries, Stock};
 use std::alloc::{AllocError, Global};
 use std::marker::Model;
 use suite_content::Content;
@@ -23,7 +23,7 @@ pub struct WeakCache {
     budget: usize,
     quota: usize,
     slots: usize,
-    entries: EntryList,
+    entries: Stock,
 }
 
 /// An entry that may be put: of which site and suite, with which prefix, and a content at its version.
@@ -62,7 +62,7 @@ impl WeakCache {
     ) -> Result<WeakCache, AllocError>
         ensures { IfOk result (λ cache. cache ≡ record { limits = record { budget = budget; quota = quota; slots = slots }; entries = [] }) }
     {
-        let entries = EntryList::new(alloc, slots)?;
+        let entries = Stock::new(alloc, slots)?;
         Ok(WeakCache {
             budget,
             quota,
@@ -98,9 +98,10 @@ impl WeakCache {
         ensures* after { sem 𝓛 (EndsWith self.entry (searched site suite dver self.old.entries)) }
         ensures value { option_copied result ≡ content_at self.old.entries site suite dver }
     {
-        let at = self.entries.place_at(site, suite, dver)?;
-        self.entries.to_front(at);
-        Some(self.entries.newest().content())
+        if !self.entries.search(site, suite, dver) {
+            return None;
+        }
+        Some(self.entries.newest()?.content())
     }
 
     /// The content that a site keeps of a suite, if it is of this version. Nothing moves.
@@ -154,8 +155,9 @@ impl WeakCache {
 
     /// Keeps a prefix and a content for a site, as the newest, in place of what it kept of the suite; if
     /// they are too large for that, nothing of the suite is kept. What has no room beside them is let go,
-    /// the oldest first. Memory is taken only where the entry can add to their number. An error leaves the cache
-    /// as it was.
+    /// the oldest first. Memory is taken only where the site kept nothing of the suite: for a slot more, and for
+    /// the index, which may want it even where an old entry goes for the new one. An error leaves the cache as it
+    /// was.
     pub fn put(
         &mut self,
         site: u8,
@@ -168,14 +170,13 @@ impl WeakCache {
         ensures ok { OnOk result (self.new ≡ record self.old { entries = put self.old.limits (record { site = site; suite = suite; prefix = prefix; dver = dver; content = content }) self.old.entries }) }
         ensures err { OnErr result (self.new ≡ self.old) }
         ensures too_large { has_room self.old.limits content ≡ false → IsOk result }
-        ensures full { length self.old.entries ≡ self.old.limits.slots → IsOk result }
+        ensures memory { OnErr result (IsTrue (has_room self.old.limits content) × (entry_of self.old.entries site suite ≡ None)) }
         ensures kept { IsSome (entry_of self.old.entries site suite) → IsOk result }
     {
         let Some(size) = self.size_in_room(&content) else {
             self.entries.remove(site, suite);
             return Ok(());
         };
-        let beside = self.beside(site, suite, size);
         let entry = SizedEntry {
             site,
             suite,
@@ -184,7 +185,7 @@ impl WeakCache {
             content,
             size,
         };
-        self.entries.put(entry, beside)
+        self.entries.put(entry, self.quota, self.budget, self.slots)
     }
 
     /// The room beside an entry of this size that is put.

@@ -8,7 +8,8 @@
 //! In a contract a cache is its limits and the list of its entries, the newest first
 //! (`specs/Entries.antt`). What each call finds and leaves are functions of that list (`specs/Cache.antt`).
 //! All entries together are within the budget and the slots, those of a site within the quota, by the
-//! type ([`WeakCache::is_within`]). A content and a prefix are shared with whoever gave them: storing and
+//! type ([`WeakCache::is_within`]). The entries stand on a [`recency::Shelf`], and an index has the slot of each
+//! site and suite: a call costs a look-up, and constant work for each entry that moves or goes. A content and a prefix are shared with whoever gave them: storing and
 //! lending copies none.
 //!
 //! What would be found once an entry was put can be asked before it is put
@@ -17,13 +18,13 @@
 //! What a caller owes: the number of a site that puts is below [`MAX_SITES`].
 #![tactic(auto)]
 
-mod buckets;
 mod cache;
 mod entry;
+mod kept;
 mod laws;
-mod list;
+mod stock;
 mod tally;
 
 pub use cache::{MAX_SITES, NewEntry, WeakCache};
 pub use laws::{a_search_keeps_all, entries_come_from_puts, found_was_put, oldest_go, site_lists};
-pub use list::Entries;
+pub use stock::Entries;

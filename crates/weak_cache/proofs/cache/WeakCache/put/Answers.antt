@@ -1,10 +1,9 @@
-use Rattle.std.proofs.Common.{◌≡◌, ◌∷◌, true, refl, ◌∙◌, ap}
-use Rattle.weak_cache.specs.Entries.{Entry, Cache}
+use Rattle.std.proofs.Common.{◌≡◌, ◌∷◌, true, ◌∙◌, ap}
+use Rattle.weak_cache.specs.Entries.{Entry}
 use Rattle.weak_cache.specs.Cache.{Limits, Limited, has_room}
-use Rattle.weak_cache.specs.code.Beside.{stays}
 use Rattle.weak_cache.proofs.Fewer.{fewer_filter, within_fewer}
-use Rattle.weak_cache.proofs.Puts.{beside, within_put}
-use Rattle.weak_cache.proofs.Room.{either}
+use Rattle.weak_cache.proofs.Puts.{beside, put_steps, within_put}
+use Rattle.weak_cache.proofs.Answered.{either}
 use Rattle.weak_cache.proofs.cache.WeakCache.put.Goals as goal
 
 pub invariant_of-self : goal.invariant_of-self
@@ -17,7 +16,5 @@ invariant_of-self-2 c =
     let entry : Entry = record { site = c.args.site; suite = c.args.suite; prefix = c.args.prefix; dver = c.args.dver; content = c.args.content } in
     let room : has_room limits c.args.content ≡ true = ap (λ (v : Limited). has_room v.limits c.args.content) c.self.view_is ∙ c.in-Some.ensures.0 in
     either c.put.result _ _ (λ all.
-    let b = c.beside-beside.result in
-    let stay : stays b.site b.suite b.quota b.budget b.slots items ≡ beside limits entry items = rw (c.beside-beside.ensures, ← c.self.view_is, c.in-Some.ensures.1) refl in
-    let kept : c.put.new.self ≡ entry ∷ beside limits entry items = all ∙ ap (λ (l : Cache). entry ∷ l) stay in
+    let kept : c.put.new.self ≡ entry ∷ beside limits entry items = all ∙ put_steps limits entry items room in
     rw kept (within_put limits entry items room c.self.invariant)) c.put.ensures.ok _ (λ same. rw same c.self.invariant) c.put.ensures.err

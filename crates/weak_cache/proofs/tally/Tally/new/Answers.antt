@@ -1,15 +1,13 @@
 use Rattle.std.proofs.Common.{ℕ, refl}
 use Rattle.std.proofs.lemmas.List.{get_or-replicate, length-replicate}
-use Rattle.weak_cache.proofs.Falling.{no_counts}
 use Rattle.weak_cache.proofs.tally.Tally.new.Goals as goal
 
 pub returns : goal.returns
 returns c =
     let none : ℕ = 0 in
     record {
+      count = refl;
       sum = refl;
       sites = λ site small. get_or-replicate 256 site none none small;
       all = length-replicate 256 none;
-      keys = no_counts c.in_ok-keys.keys c.in_ok-keys.ensures.none;
-      some = c.in_ok-keys.ensures.some;
     }

@@ -1,0 +1,432 @@
+-- The entries of a shelf, as its rings and its values make them.
+use Rattle.std.proofs.Common.{◌≡◌, ℕ, zero, suc, ◌+◌, ◌-◌, ◌<◌, ◌≤◌, Bool, true, false, not, cond, List, [], ◌∷◌, ◌++◌, length, length-append, map, filter, find, get_or, set, Option, Some, None, option_map, is_some, sym, refl, ◌∙◌, subst, ap, inl, inr, eq-eqb, ne_eqb, arith, true≢false, get_or-set_same, get_or-set_other, length-set}
+use Rattle.std.specs.List.{cons_option}
+use Rattle.core.proofs.slice.Lists.{any-default}
+use Rattle.recency.specs.Paths.{In, Once, without}
+use Rattle.recency.specs.Order.{Mark, Listed, keys, is_of_site, of_site, without_slot, touched, first_of, older_than, last_of, Sited}
+use Rattle.recency.specs.Shelf.{Entry, is_in, is_of, entry_of, value_of, entry_with, entries_of}
+use Rattle.recency.specs.Shelf as shelf
+use Rattle.recency.specs.Held.{IsHeld}
+use Rattle.recency.proofs.Paths.{by_equal, in-without, once-without, length-without, without-none, without-same, without-other}
+use Rattle.recency.proofs.Order.{length_keys, keys_without, of_site_same, of_site_other, without_slot_same, without_slot_other, site_without, sited_without, in_all, in_some, last_map}
+use Rattle.recency.proofs.Steps.{touched_is}
+
+by_flag : (X : Type 0) (t : Bool) → (t ≡ true → X) → (t ≡ false → X) → X
+by_flag X true f g = f refl
+by_flag X false f g = g refl
+
+pub length_map : {X Y : Type 0} (f : X → Y) (xs : List X) → length (map f xs) ≡ length xs
+length_map f [] = refl
+length_map f (x ∷ xs) = let h = length_map f xs in omega arith
+
+pub filter_map_is : {X Y : Type 0} (f : X → Y) (p : Y → Bool) (xs : List X) → filter p (map f xs) ≡ map f (filter (λ x. p (f x)) xs)
+filter_map_is f p [] = refl
+filter_map_is f p (x ∷ xs) =
+    by_flag (filter p (map f (x ∷ xs)) ≡ map f (filter (λ x. p (f x)) (x ∷ xs))) (p (f x))
+    (λ e. ap (λ (t : Bool). cond t (f x ∷ filter p (map f xs)) (filter p (map f xs))) e ∙ ap (λ l. f x ∷ l) (filter_map_is f p xs) ∙ sym (ap (λ (t : Bool). map f (cond t (x ∷ filter (λ x. p (f x)) xs) (filter (λ x. p (f x)) xs))) e))
+    (λ e. ap (λ (t : Bool). cond t (f x ∷ filter p (map f xs)) (filter p (map f xs))) e ∙ filter_map_is f p xs ∙ sym (ap (λ (t : Bool). map f (cond t (x ∷ filter (λ x. p (f x)) xs) (filter (λ x. p (f x)) xs))) e))
+
+pub length_filter : {X : Type 0} (p : X → Bool) (xs : List X) → length (filter p xs) ≤ length xs
+length_filter p [] = omega arith
+length_filter p (x ∷ xs) =
+    by_flag (length (filter p (x ∷ xs)) ≤ length (x ∷ xs)) (p x)
+    (λ e. let h = ap (λ (t : Bool). length (cond t (x ∷ filter p xs) (filter p xs))) e in let k = length_filter p xs in omega arith)
+    (λ e. let h = ap (λ (t : Bool). length (cond t (x ∷ filter p xs) (filter p xs))) e in let k = length_filter p xs in omega arith)
+
+-- ---- marks of one site
+
+pub once_site : (t : ℕ) (order : List Mark) → Once (keys order) → Once (keys (of_site t order))
+once_site t [] o = tt
+once_site t (e ∷ es) o =
+    by_equal (Once (keys (of_site t (e ∷ es)))) e.1 t
+    (λ q. subst (λ (l : List Mark). Once (keys l)) (sym (of_site_same t e es q)) (λ i. o.0 (in_all t e.0 es i), once_site t es o.1))
+    (λ differs. subst (λ (l : List Mark). Once (keys l)) (sym (of_site_other t e es differs)) (once_site t es o.1))
+
+pub one_site : (x t u : ℕ) (order : List Mark) → Once (keys order) → In x (keys (of_site t order)) → In x (keys (of_site u order)) → t ≡ u
+one_site x t u [] o i j = absurd i
+one_site x t u (e ∷ es) o i j =
+    by_equal (t ≡ u) e.0 x
+    (λ q.
+    let out : (v : ℕ) → In x (keys (of_site v (e ∷ es))) → e.1 ≡ v = λ v k. by_equal (e.1 ≡ v) e.1 v (λ s. s)
+    (λ differs. absurd (o.0 (subst (λ (m : ℕ). In m (keys es)) (sym q) (in_all v x es (subst (λ (l : List Mark). In x (keys l)) (of_site_other v e es differs) k))))) in
+    sym (out t i) ∙ out u j)
+    (λ differs.
+    let on : (v : ℕ) → In x (keys (of_site v (e ∷ es))) → In x (keys (of_site v es)) = λ v k. by_equal (In x (keys (of_site v es))) e.1 v
+    (λ s. elim (subst (λ (l : List Mark). In x (keys l)) (of_site_same v e es s) k) [ inl w ↦ absurd (differs (sym w)) | inr m ↦ m ])
+    (λ other. subst (λ (l : List Mark). In x (keys l)) (of_site_other v e es other) k) in
+    one_site x t u es o.1 (on t i) (on u j))
+
+-- how many marks a site has without one
+pub site_shorter : (x t : ℕ) (order : List Mark) → In x (keys (of_site t order)) → Once (keys order) → length (of_site t (without_slot x order)) + 1 ≡ length (of_site t order)
+site_shorter x t order i o =
+    let a = length-without x (keys (of_site t order)) i (once_site t order o) in
+    let b = length_keys (of_site t order) in let c = length_keys (of_site t (without_slot x order)) in let d = ap length (site_without t x order) in omega arith
+
+pub site_same : (x t : ℕ) (order : List Mark) → (In x (keys (of_site t order)) → ⊥) → length (of_site t (without_slot x order)) ≡ length (of_site t order)
+site_same x t order out =
+    let b = length_keys (of_site t order) in let c = length_keys (of_site t (without_slot x order)) in let d = ap length (site_without t x order ∙ without-none x (keys (of_site t order)) out) in omega arith
+
+pub in_keep : (k x : ℕ) (ys : List ℕ) → In k ys → (k ≡ x → ⊥) → In k (without x ys)
+in_keep k x [] i differs = absurd i
+in_keep k x (y ∷ ys) i differs =
+    by_equal (In k (without x (y ∷ ys))) x y
+    (λ e. subst (In k) (sym (without-same x y ys e)) (elim i [ inl q ↦ absurd (differs (q ∙ sym e)) | inr j ↦ in_keep k x ys j differs ]))
+    (λ out. subst (In k) (sym (without-other x y ys out)) (elim i [ inl q ↦ inl q | inr j ↦ inr (in_keep k x ys j differs) ]))
+
+pub map_map : {X Y Z : Type 0} (g : Y → Z) (f : X → Y) (xs : List X) → map g (map f xs) ≡ map (λ x. g (f x)) xs
+map_map g f [] = refl
+map_map g f (x ∷ xs) = ap (λ l. g (f x) ∷ l) (map_map g f xs)
+
+pub sited_in : (order : List Mark) (s : ℕ) → Sited order → In s (map (λ (e : Mark). e.1) order) → s < 16
+sited_in [] s h i = absurd i
+sited_in (e ∷ es) s h (inl q) = subst (λ (k : ℕ). k < 16) (sym q) h.0
+sited_in (e ∷ es) s h (inr j) = sited_in es s h.1 j
+
+unmarked : (x : ℕ) (order : List Mark) → (In x (keys order) → ⊥) → without_slot x order ≡ order
+unmarked x [] out = refl
+unmarked x (e ∷ es) out = without_slot_other x e es (λ q. out (inl (sym q))) ∙ ap (λ (l : List Mark). e ∷ l) (unmarked x es (λ i. out (inr i)))
+
+module _ {V : Type 0} where
+  pub by_some : (o : Option V) → is_some o ≡ true → (v : V) × (o ≡ Some v)
+  by_some (Some v) e = (v, refl)
+  by_some None e = absurd (true≢false (sym e))
+
+  abbrev pub value_at : List (Option V) → ℕ → Option V
+  value_at values k = get_or values k None
+
+  abbrev pub marked : Entry V → Mark
+  marked entry = (entry.slot, entry.site)
+
+  abbrev pub entry : ℕ → ℕ → V → Entry V
+  entry slot site v = record { slot = slot; site = site; value = v }
+
+  pub entries_cons : (values : List (Option V)) (e : Mark) (es : List Mark) (v : V) → value_at values e.0 ≡ Some v → entries_of values (e ∷ es) ≡ entry e.0 e.1 v ∷ entries_of values es
+  entries_cons values e es v h = ap (λ (w : Option V). cons_option (entry_with e w) (entries_of values es)) h
+
+  abbrev pub AllHeld : List (Option V) → List Mark → Type 0
+  AllHeld values order = (k : ℕ) → In k (keys order) → is_some (value_at values k) ≡ true
+
+  -- the entries' slots and sites are the marks
+  pub marks_of : (values : List (Option V)) (order : List Mark) → AllHeld values order → map marked (entries_of values order) ≡ order
+  marks_of values [] h = refl
+  marks_of values (e ∷ es) h =
+      let w = by_some (value_at values e.0) (h e.0 (inl refl)) in
+      ap (map marked) (entries_cons values e es w.0 w.1) ∙ ap (λ (l : List Mark). e ∷ l) (marks_of values es (λ k i. h k (inr i)))
+
+  pub length_entries : (values : List (Option V)) (order : List Mark) → AllHeld values order → length (entries_of values order) ≡ length order
+  length_entries values order h = sym (length_map marked (entries_of values order)) ∙ ap length (marks_of values order h)
+
+  pub sites_of : (values : List (Option V)) (order : List Mark) (t : ℕ) → AllHeld values order → of_site t order ≡ map marked (shelf.of_site t (entries_of values order))
+  sites_of values order t h = ap (of_site t) (sym (marks_of values order h)) ∙ filter_map_is marked (is_of_site t) (entries_of values order)
+
+  twice : (o : Option (Entry V)) → option_map (λ (e : Mark). e.0) (option_map marked o) ≡ option_map (λ (e : Entry V). e.slot) o
+  twice None = refl
+  twice (Some e) = refl
+
+  pub oldest_entry : (xs : List (Entry V)) → option_map (λ (e : Mark). e.0) (last_of (map marked xs)) ≡ option_map (λ (e : Entry V). e.slot) (last_of xs)
+  oldest_entry xs = ap (option_map (λ (e : Mark). e.0)) (last_map marked xs) ∙ twice (last_of xs)
+
+  pub newest_entry : (xs : List (Entry V)) → option_map (λ (e : Mark). e.0) (first_of (map marked xs)) ≡ option_map (λ (e : Entry V). e.slot) (first_of xs)
+  newest_entry [] = refl
+  newest_entry (x ∷ xs) = refl
+
+  pub older_entry : (k : ℕ) (xs : List (Entry V)) → option_map (λ (e : Mark). e.0) (older_than k (map marked xs)) ≡ option_map (λ (e : Entry V). e.slot) (shelf.older_than k xs)
+  older_entry k [] = refl
+  older_entry k (x ∷ xs) =
+      by_flag (option_map (λ (e : Mark). e.0) (older_than k (map marked (x ∷ xs))) ≡ option_map (λ (e : Entry V). e.slot) (shelf.older_than k (x ∷ xs))) (is_in k x)
+      (λ q. ap (λ (b : Bool). option_map (λ (e : Mark). e.0) (cond b (first_of (map marked xs)) (older_than k (map marked xs)))) q ∙ newest_entry xs
+      ∙ sym (ap (λ (b : Bool). option_map (λ (e : Entry V). e.slot) (cond b (first_of xs) (shelf.older_than k xs))) q))
+      (λ q. ap (λ (b : Bool). option_map (λ (e : Mark). e.0) (cond b (first_of (map marked xs)) (older_than k (map marked xs)))) q ∙ older_entry k xs
+      ∙ sym (ap (λ (b : Bool). option_map (λ (e : Entry V). e.slot) (cond b (first_of xs) (shelf.older_than k xs))) q))
+
+  -- ---- a value that changes
+
+  pub entries_set : (values : List (Option V)) (x : ℕ) (w : Option V) (order : List Mark) → (In x (keys order) → ⊥) → entries_of (set values x w) order ≡ entries_of values order
+  entries_set values x w [] out = refl
+  entries_set values x w (e ∷ es) out =
+      ap (λ (o : Option V). cons_option (entry_with e o) (entries_of (set values x w) es)) (get_or-set_other values x e.0 w None (λ q. out (inl (sym q))))
+      ∙ ap (cons_option (entry_with e (value_at values e.0))) (entries_set values x w es (λ i. out (inr i)))
+
+  drop_one : (x : ℕ) (e : Mark) (o : Option V) (rest : List (Entry V)) → e.0 ≡ x → shelf.without x (cons_option (entry_with e o) rest) ≡ shelf.without x rest
+  drop_one x e None rest q = refl
+  drop_one x e (Some v) rest q = ap (λ (t : Bool). cond (not t) (entry e.0 e.1 v ∷ shelf.without x rest) (shelf.without x rest)) (eq-eqb e.0 x q)
+
+  keep_one : (x : ℕ) (e : Mark) (o : Option V) (rest : List (Entry V)) → (e.0 ≡ x → ⊥) → shelf.without x (cons_option (entry_with e o) rest) ≡ cons_option (entry_with e o) (shelf.without x rest)
+  keep_one x e None rest differs = refl
+  keep_one x e (Some v) rest differs = ap (λ (t : Bool). cond (not t) (entry e.0 e.1 v ∷ shelf.without x rest) (shelf.without x rest)) (ne_eqb e.0 x differs)
+
+  pub entries_without : (values : List (Option V)) (x : ℕ) (order : List Mark) → entries_of values (without_slot x order) ≡ shelf.without x (entries_of values order)
+  entries_without values x [] = refl
+  entries_without values x (e ∷ es) =
+      by_equal (entries_of values (without_slot x (e ∷ es)) ≡ shelf.without x (entries_of values (e ∷ es))) e.0 x
+      (λ q. ap (entries_of values) (without_slot_same x e es q) ∙ entries_without values x es ∙ sym (drop_one x e (value_at values e.0) (entries_of values es) q))
+      (λ differs. ap (entries_of values) (without_slot_other x e es differs) ∙ ap (cons_option (entry_with e (value_at values e.0))) (entries_without values x es) ∙ sym (keep_one x e (value_at values e.0) (entries_of values es) differs))
+
+  -- ---- what is found
+
+  find_past : (x : ℕ) (e : Mark) (o : Option V) (rest : List (Entry V)) → (e.0 ≡ x → ⊥) → find (is_in x) (cons_option (entry_with e o) rest) ≡ find (is_in x) rest
+  find_past x e None rest differs = refl
+  find_past x e (Some v) rest differs = ap (λ (t : Bool). cond t (Some (entry e.0 e.1 v)) (find (is_in x) rest)) (ne_eqb e.0 x differs)
+
+  pub find_none : (values : List (Option V)) (x : ℕ) (order : List Mark) → (In x (keys order) → ⊥) → entry_of x (entries_of values order) ≡ None
+  find_none values x [] out = refl
+  find_none values x (e ∷ es) out = find_past x e (value_at values e.0) (entries_of values es) (λ q. out (inl (sym q))) ∙ find_none values x es (λ i. out (inr i))
+
+  pub find_held : (values : List (Option V)) (x t : ℕ) (v : V) (order : List Mark) → In x (keys (of_site t order)) → Once (keys order) → value_at values x ≡ Some v → entry_of x (entries_of values order) ≡ Some (entry x t v)
+  find_held values x t v [] i o h = absurd i
+  find_held values x t v (e ∷ es) i o h =
+      by_equal (entry_of x (entries_of values (e ∷ es)) ≡ Some (entry x t v)) e.0 x
+      (λ q.
+      ap (entry_of x) (entries_cons values e es v (ap (value_at values) q ∙ h))
+      ∙ ap (λ (b : Bool). cond b (Some (entry e.0 e.1 v)) (find (is_in x) (entries_of values es))) (eq-eqb e.0 x q)
+      ∙ by_equal (Some (entry e.0 e.1 v) ≡ Some (entry x t v)) e.1 t
+      (λ s. λ j. Some (entry (q j) (s j) v))
+      (λ differs. absurd (o.0 (subst (λ (k : ℕ). In k (keys es)) (sym q) (in_all t x es (subst (λ (os : List Mark). In x (keys os)) (of_site_other t e es differs) i))))))
+      (λ differs. find_past x e (value_at values e.0) (entries_of values es) differs
+      ∙ find_held values x t v es (by_equal (In x (keys (of_site t es))) e.1 t
+      (λ s. elim (subst (λ (os : List Mark). In x (keys os)) (of_site_same t e es s) i) [ inl w ↦ absurd (differs (sym w)) | inr j ↦ j ])
+      (λ other. subst (λ (os : List Mark). In x (keys os)) (of_site_other t e es other) i)) o.1 h)
+
+  pub is_none : (o : Option V) → is_some o ≡ false → o ≡ None
+  is_none None e = refl
+  is_none (Some v) e = absurd (true≢false e)
+
+  none_is : (o : Option V) → is_some o ≡ false → o ≡ None
+  none_is None e = refl
+  none_is (Some v) e = absurd (true≢false e)
+
+  -- the same slots in use, in another order
+  held_as : (rings : Listed) (values : List (Option V)) (counts : List ℕ) → IsHeld rings values counts → (to : List Mark) (now : Listed) → now.order ≡ to → now.slots ≡ rings.slots → length to ≤ rings.slots → Once (keys to)
+      → ((k : ℕ) → In k (keys to) → In k (keys rings.order)) → Sited to → ((k : ℕ) → In k (keys rings.order) → In k (keys to)) → ((u : ℕ) → length (of_site u to) ≡ length (of_site u rings.order)) → IsHeld now values counts
+  held_as rings values counts h to now is same room once old sited new many =
+      let build : (order : List Mark) → order ≡ to → IsHeld (record { slots = rings.slots; order = order; free = now.free }) values counts =
+      λ order e. subst (λ (o : List Mark). IsHeld (record { slots = rings.slots; order = o; free = now.free }) values counts) (sym e) (record {
+        len = h.len;
+        room = room;
+        once = once;
+        below = λ k i. h.below k (old k i);
+        sited = sited;
+        held = λ k i. h.held k (old k i);
+        only = λ k e. new k (h.only k e);
+        many = h.many;
+        counted = λ t lt. h.counted t lt ∙ sym (many t);
+      }) in
+      subst (λ (s : ℕ). IsHeld (record { slots = s; order = now.order; free = now.free }) values counts) (sym same) (build now.order is)
+
+  -- ---- the calls
+
+  module _ (rings : Listed) (values : List (Option V)) (counts : List ℕ) (h : IsHeld rings values counts) where
+    abbrev order : List Mark
+    order = rings.order
+
+    abbrev entries : List (Entry V)
+    entries = entries_of values order
+
+    pub none_there : (x : ℕ) → is_some (value_at values x) ≡ false → entry_of x entries ≡ None
+    none_there x e = find_none values x order (λ i. true≢false (sym (h.held x i) ∙ e))
+
+    pub some_there : (x : ℕ) → is_some (value_at values x) ≡ true → (t : ℕ) × (v : V) × (t < 16) × In x (keys (of_site t order)) × (value_at values x ≡ Some v) × (entry_of x entries ≡ Some (entry x t v))
+    some_there x e =
+        let w = in_some x order (h.only x e) h.sited in
+        let v = by_some (value_at values x) e in
+        (w.0, v.0, w.1, w.2, v.1, find_held values x w.0 v.0 order w.2 h.once v.1)
+
+    -- what a slot holds
+    pub value_is : (x : ℕ) → value_at values x ≡ value_of x entries
+    value_is x =
+        by_flag (value_at values x ≡ value_of x entries) (is_some (value_at values x))
+        (λ e. let w = some_there x e in w.4 ∙ sym (ap (option_map (λ (n : Entry V). n.value)) w.5))
+        (λ e. none_is (value_at values x) e ∙ sym (ap (option_map (λ (n : Entry V). n.value)) (none_there x e)))
+
+    pub is_there : (x : ℕ) → is_some (value_at values x) ≡ is_some (entry_of x entries)
+    is_there x =
+        by_flag (is_some (value_at values x) ≡ is_some (entry_of x entries)) (is_some (value_at values x))
+        (λ e. e ∙ sym (ap is_some (some_there x e).5))
+        (λ e. e ∙ sym (ap is_some (none_there x e)))
+
+    pub touched_entries : (x : ℕ) → is_some (value_at values x) ≡ true → entries_of values (touched x order) ≡ shelf.touched x entries
+    touched_entries x e =
+        let w = some_there x e in
+        ap (entries_of values) (touched_is x w.0 order w.3 h.once) ∙ entries_cons values (x, w.0) (without_slot x order) w.1 w.4
+        ∙ ap (λ (l : List (Entry V)). entry x w.0 w.1 ∷ l) (entries_without values x order)
+        ∙ sym (ap (λ (o : Option (Entry V)). shelf.in_front o x entries) w.5)
+
+    pub untouched_entries : (x : ℕ) → is_some (value_at values x) ≡ false → shelf.touched x entries ≡ entries
+    untouched_entries x e = ap (λ (o : Option (Entry V)). shelf.in_front o x entries) (none_there x e)
+
+    pub touched_held : (slots : ℕ) → rings.slots ≡ slots → (x : ℕ) → is_some (value_at values x) ≡ true → (now : Listed) → now.order ≡ touched x order → now.slots ≡ rings.slots → IsHeld now values counts
+    touched_held slots s x e now is same =
+        let w = some_there x e in
+        let o : now.order ≡ (x, w.0) ∷ without_slot x order = is ∙ touched_is x w.0 order w.3 h.once in
+        let to : List Mark = (x, w.0) ∷ without_slot x order in
+        let ks : keys to ≡ x ∷ without x (keys order) = ap (λ (l : List ℕ). x ∷ l) (keys_without x order) in
+        let old : (k : ℕ) → In k (keys to) → In k (keys order) =
+        λ k i. elim (subst (λ (l : List ℕ). In k l) ks i) [ inl q ↦ subst (λ (m : ℕ). In m (keys order)) (sym q) (in_all w.0 x order w.3) | inr j ↦ (in-without k x (keys order) j).0 ] in
+        let longer : length to ≡ length order = (let a = length-without x (keys order) (in_all w.0 x order w.3) h.once in let b = length_keys order in let c = length_keys (without_slot x order) in let d = ap length (keys_without x order) in omega arith) in
+        held_as rings values counts h to now o same (let a = h.room in let b = longer in omega arith)
+        (subst Once (sym ks) (λ i. (in-without x x (keys order) i).1 refl, once-without x (keys order) h.once))
+        old (w.2, sited_without x order h.sited)
+        (λ k i. subst (λ (l : List ℕ). In k l) (sym ks) (by_equal (In k (x ∷ without x (keys order))) k x (λ q. inl q) (λ differs. inr (in_keep k x (keys order) i differs))))
+        (λ u. by_equal (length (of_site u to) ≡ length (of_site u order)) w.0 u
+        (λ q. let a = ap length (of_site_same u (x, w.0) (without_slot x order) q) in let b = site_shorter x u order (subst (λ (v : ℕ). In x (keys (of_site v order))) q w.3) h.once in omega arith)
+        (λ differs. ap length (of_site_other u (x, w.0) (without_slot x order) differs) ∙ site_same x u order (λ i. differs (one_site x w.0 u order h.once w.3 i))))
+
+    pub untaken : (x : ℕ) → is_some (value_at values x) ≡ false → shelf.without x entries ≡ entries
+    untaken x e =
+        let out : In x (keys order) → ⊥ = λ i. true≢false (sym (h.held x i) ∙ e) in
+        sym (entries_without values x order) ∙ ap (entries_of values) (unmarked x order out)
+
+    -- ---- a put
+
+    module _ (x s : ℕ) (v : V) (w : Option V) (now : Listed) (site : s < 16) (lt : x < rings.slots) (out : In x (keys order) → ⊥) (room : length order < rings.slots) (wrote : w ≡ Some v) (is : now.order ≡ (x, s) ∷ order) (same : now.slots ≡ rings.slots) where
+      there : value_at (set values x w) x ≡ Some v
+      there = get_or-set_same values x w None (let e = h.len in omega arith) ∙ wrote
+
+      else_there : (k : ℕ) → (k ≡ x → ⊥) → value_at (set values x w) k ≡ value_at values k
+      else_there k differs = get_or-set_other values x k w None differs
+
+      pub put_view : shelf.shelf_in now (set values x w) ≡ record { slots = rings.slots; entries = entry x s v ∷ entries }
+      put_view =
+          let e : entries_of (set values x w) now.order ≡ entry x s v ∷ entries =
+          ap (entries_of (set values x w)) is ∙ entries_cons (set values x w) (x, s) order v there ∙ ap (λ (l : List (Entry V)). entry x s v ∷ l) (entries_set values x w order out) in
+          λ i. record { slots = same i; entries = e i }
+
+      pub put_held : IsHeld now (set values x w) (set counts s (get_or counts s 0 + 1))
+      put_held =
+          let to : List Mark = (x, s) ∷ order in
+          let build : (o : List Mark) (n : ℕ) → o ≡ to → n ≡ rings.slots → IsHeld (record { slots = n; order = o; free = now.free }) (set values x w) (set counts s (get_or counts s 0 + 1)) =
+          λ o n eo en. subst (λ (os : List Mark). IsHeld (record { slots = n; order = os; free = now.free }) (set values x w) (set counts s (get_or counts s 0 + 1))) (sym eo)
+          (subst (λ (m : ℕ). IsHeld (record { slots = m; order = to; free = now.free }) (set values x w) (set counts s (get_or counts s 0 + 1))) (sym en) (record {
+            len = length-set values x w ∙ h.len;
+            room = let r = room in omega arith;
+            once = (out, h.once);
+            below = λ k i. elim i [ inl q ↦ subst (λ (m : ℕ). m < rings.slots) (sym q) lt | inr j ↦ h.below k j ];
+            sited = (site, h.sited);
+            held = λ k i. by_equal (is_some (value_at (set values x w) k) ≡ true) k x
+                (λ q. ap (λ (m : ℕ). is_some (value_at (set values x w) m)) q ∙ ap is_some there)
+                (λ differs. ap is_some (else_there k differs) ∙ elim i [ inl q ↦ absurd (differs q) | inr j ↦ h.held k j ]);
+            only = λ k e. by_equal (In k (keys to)) k x (λ q. inl q) (λ differs. inr (h.only k (sym (ap is_some (else_there k differs)) ∙ e)));
+            many = length-set counts s (get_or counts s 0 + 1) ∙ h.many;
+            counted = λ t lt'. by_equal (get_or (set counts s (get_or counts s 0 + 1)) t 0 ≡ length (of_site t to)) t s
+                (λ q.
+                let a = ap (λ (k : ℕ). get_or (set counts s (get_or counts s 0 + 1)) k 0) q in
+                let b = get_or-set_same counts s (get_or counts s 0 + 1) 0 (let m = h.many in omega arith) in
+                let c = h.counted s site in let d = ap length (of_site_same t (x, s) order (sym q)) in let f = ap (λ (k : ℕ). length (of_site k order)) q in omega arith)
+                (λ differs. get_or-set_other counts s t (get_or counts s 0 + 1) 0 differs ∙ h.counted t lt' ∙ sym (ap length (of_site_other t (x, s) order (λ q. differs (sym q)))));
+          })) in
+          build now.order now.slots is same
+
+    -- ---- a take
+
+    module _ (x t : ℕ) (w : Option V) (now : Listed) (site : t < 16) (i : In x (keys (of_site t order))) (wrote : w ≡ None) (is : now.order ≡ without_slot x order) (same : now.slots ≡ rings.slots) where
+      lt' : x < length values
+      lt' = let b = h.below x (in_all t x order i) in let e = h.len in omega arith
+
+      out_of : In x (keys (without_slot x order)) → ⊥
+      out_of j = (in-without x x (keys order) (subst (In x) (keys_without x order) j)).1 refl
+
+      else_there' : (k : ℕ) → (k ≡ x → ⊥) → value_at (set values x w) k ≡ value_at values k
+      else_there' k differs = get_or-set_other values x k w None differs
+
+      gone : value_at (set values x w) x ≡ None
+      gone = get_or-set_same values x w None lt' ∙ wrote
+
+      pub take_view : shelf.shelf_in now (set values x w) ≡ record { slots = rings.slots; entries = shelf.without x entries }
+      take_view =
+          let e : entries_of (set values x w) now.order ≡ shelf.without x entries =
+          ap (entries_of (set values x w)) is ∙ entries_set values x w (without_slot x order) out_of ∙ entries_without values x order in
+          λ j. record { slots = same j; entries = e j }
+
+      shorter : length (without_slot x order) ≤ length order
+      shorter = let a = length_keys order in let b = length_keys (without_slot x order) in let c = ap length (keys_without x order) in let d = length-without x (keys order) (in_all t x order i) h.once in omega arith
+
+      pub take_held : IsHeld now (set values x w) (set counts t (get_or counts t 0 - 1))
+      take_held =
+          let to : List Mark = without_slot x order in
+          let build : (o : List Mark) (n : ℕ) → o ≡ to → n ≡ rings.slots → IsHeld (record { slots = n; order = o; free = now.free }) (set values x w) (set counts t (get_or counts t 0 - 1)) =
+          λ o n eo en. subst (λ (os : List Mark). IsHeld (record { slots = n; order = os; free = now.free }) (set values x w) (set counts t (get_or counts t 0 - 1))) (sym eo)
+          (subst (λ (m : ℕ). IsHeld (record { slots = m; order = to; free = now.free }) (set values x w) (set counts t (get_or counts t 0 - 1))) (sym en) (record {
+            len = length-set values x w ∙ h.len;
+            room = let a = shorter in let b = h.room in omega arith;
+            once = subst Once (sym (keys_without x order)) (once-without x (keys order) h.once);
+            below = λ k j. h.below k (in-without k x (keys order) (subst (In k) (keys_without x order) j)).0;
+            sited = sited_without x order h.sited;
+            held = λ k j. let m = in-without k x (keys order) (subst (In k) (keys_without x order) j) in ap is_some (else_there' k m.1) ∙ h.held k m.0;
+            only = λ k e. by_equal (In k (keys to)) k x
+                (λ q. absurd (true≢false (sym e ∙ ap (λ (m : ℕ). is_some (value_at (set values x w) m)) q ∙ ap is_some gone)))
+                (λ differs. subst (In k) (sym (keys_without x order)) (in_keep k x (keys order) (h.only k (sym (ap is_some (else_there' k differs)) ∙ e)) differs));
+            many = length-set counts t (get_or counts t 0 - 1) ∙ h.many;
+            counted = λ u lu. by_equal (get_or (set counts t (get_or counts t 0 - 1)) u 0 ≡ length (of_site u to)) u t
+                (λ q.
+                let a = ap (λ (k : ℕ). get_or (set counts t (get_or counts t 0 - 1)) k 0) q in
+                let b = get_or-set_same counts t (get_or counts t 0 - 1) 0 (let m = h.many in omega arith) in
+                let c = h.counted t site in let d = site_shorter x t order i h.once in let f = ap (λ (k : ℕ). length (of_site k to)) q in omega arith)
+                (λ differs. get_or-set_other counts t u (get_or counts t 0 - 1) 0 differs ∙ h.counted u lu ∙ sym (site_same x u order (λ j. differs (one_site x u t order h.once j i))));
+          })) in
+          build now.order now.slots is same
+
+    -- what an index into the values shows
+    pub shown : (x t : ℕ) (w : Option V) → In x (keys (of_site t order)) → w ≡ get_or values x w → w ≡ value_at values x
+    shown x t w i is = is ∙ any-default values x w None (let b = h.below x (in_all t x order i) in let e = h.len in omega arith)
+
+    pub one_at_least : (x t : ℕ) → In x (keys (of_site t order)) → 1 ≤ length (of_site t order)
+    one_at_least x t i = let a = site_shorter x t order i h.once in omega arith
+
+    -- ---- what holds of every shelf
+
+    slots_are : map (λ (e : Entry V). e.slot) entries ≡ keys order
+    slots_are = sym (map_map (λ (e : Mark). e.0) marked entries) ∙ ap keys (marks_of values order h.held)
+
+    sites_are : map (λ (e : Entry V). e.site) entries ≡ map (λ (e : Mark). e.1) order
+    sites_are = sym (map_map (λ (e : Mark). e.1) marked entries) ∙ ap (map (λ (e : Mark). e.1)) (marks_of values order h.held)
+
+    pub is_valid : shelf.IsValid (shelf.shelf_in rings values)
+    is_valid = record {
+      once = subst Once (sym slots_are) h.once;
+      slots = λ k i. h.below k (subst (In k) slots_are i);
+      sites = λ k i. sited_in order k h.sited (subst (In k) sites_are i);
+      room = let a = length_entries values order h.held in let b = h.room in omega arith;
+    }
+
+abbrev pub AllZero : List ℕ → Type 0
+AllZero [] = Unit {0}
+AllZero (x ∷ xs) = (x ≡ 0) × AllZero xs
+
+pub zeros : (xs : List ℕ) → AllZero xs → (t : ℕ) → get_or xs t 0 ≡ 0
+zeros [] z t = refl
+zeros (x ∷ xs) z zero = z.0
+zeros (x ∷ xs) z (suc t) = zeros xs z.1 t
+
+-- the first values are none
+pub record Emptied {V : Type 0} (values : List (Option V)) (count : ℕ) : Type 0 where
+  pub len : length values ≡ count
+  pub none : (k : ℕ) → get_or values k None ≡ None
+
+module _ {V : Type 0} where
+  none_pushed : (values : List (Option V)) → ((k : ℕ) → get_or values k None ≡ None) → (k : ℕ) → get_or (values ++ None ∷ []) k None ≡ None
+  none_pushed [] h zero = refl
+  none_pushed [] h (suc k) = refl
+  none_pushed (v ∷ vs) h zero = h zero
+  none_pushed (v ∷ vs) h (suc k) = none_pushed vs (λ j. h (suc j)) k
+
+  pub emptied_none : Emptied {V = V} [] 0
+  emptied_none = record { len = refl; none = λ k. refl }
+
+  pub emptied_more : (values : List (Option V)) (count : ℕ) → Emptied values count → Emptied (values ++ None ∷ []) (count + 1)
+  emptied_more values count e = record { len = let a = length-append values (None ∷ []) in let b = e.len in omega arith; none = none_pushed values e.none }
+
+  pub emptied_held : (values : List (Option V)) (rings : Listed) (counts : List ℕ) → Emptied values rings.slots → rings.order ≡ [] → length counts ≡ 16 → ((t : ℕ) → get_or counts t 0 ≡ 0) → IsHeld rings values counts
+  emptied_held values rings counts e is many none =
+      let build : (o : List Mark) → o ≡ [] → IsHeld (record { slots = rings.slots; order = o; free = rings.free }) values counts =
+      λ o eo. subst (λ (os : List Mark). IsHeld (record { slots = rings.slots; order = os; free = rings.free }) values counts) (sym eo) (record {
+        len = e.len;
+        room = omega arith;
+        once = tt;
+        below = λ k i. absurd i;
+        sited = tt;
+        held = λ k i. absurd i;
+        only = λ k q. absurd (true≢false (sym q ∙ ap is_some (e.none k)));
+        many = many;
+        counted = λ t lt. none t;
+      }) in
+      build rings.order is

@@ -1,0 +1,15 @@
+use Rattle.std.proofs.Common.{◌≡◌, ◌∙◌, ap, sym, rules, ℕ, Ok, length}
+use Rattle.std.specs.Prelude.{unwrap_or}
+use Rattle.file_ops.specs.Steps.{ok_map}
+use Rattle.suite_script.specs.Scripts.{owns}
+use Rattle.suite_serve.specs.code.Kept.{commands}
+use Rattle.suite_serve.proofs.Gathered.{all_are, jobs_after}
+use Rattle.suite_serve.proofs.script.read_jobs.Goals as goal
+
+pub returns : goal.returns
+returns c =
+    let jobs = c.loop-jobs.jobs.items in
+    let left = rw c.in_default.is at c.in_ok-command.ensures.own in
+    let count : length jobs ≡ c.len-2.result = search rules in
+    sym (all_are (owns (commands c.args.lines.now) c.args.script.now)) ∙ sym c.loop-jobs.invariant ∙ ap (ok_map (jobs_after jobs c.loop-jobs.alone)) left
+    ∙ ap (λ (n : ℕ). Ok (jobs, n)) (ap (unwrap_or c.loop-jobs.alone) count ∙ sym c.unwrap_or-alone.ensures)

@@ -1,0 +1,13 @@
+//! The command `serve`: a script of jobs, carried out by agents in threads on servers under locks.
+//!
+//! [`read_script`] reads a script whole, before anything is served. `specs/Scripts.antt` says what a script says, and
+//! which is its first fault.
+#![tactic(auto)]
+
+mod command;
+mod header;
+mod language;
+mod script;
+mod verb;
+
+pub use script::{JobScript, read_script};

@@ -1,0 +1,28 @@
+//! The words that begin lines.
+
+ghost use Rattle.std.specs.Prelude.{◌≡◌};
+ghost use Rattle.suite_serve.specs.Commands.{verb_in};
+
+/// The words that begin the lines after a header and its names.
+#[derive(Clone, Copy)]
+pub(crate) enum Verb {
+    Do,
+    Sweep,
+    Together,
+}
+
+impl Verb {
+    pub(crate) fn of(word: &[u8]) -> Option<Verb>
+        ensures { result ≡ verb_in word.now }
+    {
+        if word == b"do".as_slice() {
+            Some(Verb::Do)
+        } else if word == b"sweep".as_slice() {
+            Some(Verb::Sweep)
+        } else if word == b"together".as_slice() {
+            Some(Verb::Together)
+        } else {
+            None
+        }
+    }
+}
