@@ -1,12 +1,17 @@
 -- What a command that ended has done.
 use Rattle.std.specs.Prelude.{◌≡◌, Bool, true, false, alloc_error, Vec, ℕ, ◌<◌, ◌≤◌, ◌⊎◌, List, ◌++◌, length, Option, Some, None, Result, Ok, Err}
 use Rattle.byte_streams.specs.Streams.{Adds, one_more}
-use Rattle.suite_args.specs.CommandLine.{Asked}
+use Rattle.run_certify.specs.declared.fault.CertifyFault.{CertifyFault}
+use Rattle.run_certify.specs.declared.fault.CertifyFault.TheVariants as certify
+use Rattle.suite_args.specs.CommandLine.{Asked, agents_of}
 use Rattle.suite_args.specs.CommandLine as asked
+use Rattle.suite_script.specs.Faults.{fault_line}
 use Rattle.suite_script.specs.Outputs.{Output, Done, Faulty, IsBegun}
 use Rattle.suite_script.specs.Scripts.{no_names}
 use Rattle.suite_cli.specs.Names.{names_from}
-use Rattle.suite_cli.specs.Outputs.{acl_output, command_line_fault, memory_line, script_output_of, word_fault_line}
+use Rattle.suite_script.specs.declared.fault.ScriptFault.{ScriptFault}
+use Rattle.suite_serve.specs.Scripts.{Plan, plan_in}
+use Rattle.suite_cli.specs.Outputs.{acl_output, certified_line, command_line_fault, memory_line, mismatch_line, script_output_of, word_fault_line}
 use Rattle.suite_cli.specs.declared.acl.NamesError.{NamesError}
 use Rattle.suite_cli.specs.declared.acl.NamesError.TheVariants as names
 use Rattle.std.specs.declared.alloc.AllocError.{AllocError}
@@ -29,6 +34,9 @@ faulty = 3
 
 abbrev pub no_memory : ℕ
 no_memory = 4
+
+abbrev pub mismatched : ℕ
+mismatched = 5
 
 abbrev pub no_stream : ℕ
 no_stream = 6
@@ -122,10 +130,58 @@ abbrev pub RunsAcl : Result Tables ℕ → Streams → ℕ → Type 0
 RunsAcl (Ok names) streams status = Runs (acl_output names) streams status
 RunsAcl (Err place) streams status = Refuses (word_fault_line place) streams status
 
+-- ---- `serve`
+
+-- what `serve` may print for a script: of a faulty one the line of its first fault; else what its jobs came to, of which nothing
+-- is said here, and last the line of the steps that were certified
+abbrev pub MayPrint : Result Plan ScriptFault → Output → Type 0
+MayPrint (Ok plan) (Done text) = (jobs : List ℕ) × ((steps : ℕ) × (text ≡ jobs ++ certified_line steps))
+MayPrint (Ok plan) (Faulty line) = ⊥
+MayPrint (Err fault) output = output ≡ Faulty (fault_line fault)
+
+-- what was done for a script without a fault was no run, and that alone was written
+abbrev pub Mismatches : Result Plan ScriptFault → Streams → ℕ → Type 0
+Mismatches (Ok plan) streams status = (status ≡ mismatched) × Adds streams.written mismatch_line streams.written_after
+Mismatches (Err fault) streams status = ⊥
+
+abbrev pub ServesOn : ℕ → Streams → ℕ → Option (List ℕ) → Type 0
+ServesOn agents streams status None = Unit {0}
+ServesOn agents streams status (Some input) =
+    ((output : Output) × (MayPrint (plan_in agents input) output × RunsOn (λ text. output) streams status (Some input)))
+    ⊎ ((length input ≤ max_input) × Mismatches (plan_in agents input) streams status)
+
+-- the script that the input has was carried out by so many agents
+abbrev pub Serves : ℕ → Streams → ℕ → Type 0
+Serves agents streams status = ServesOn agents streams status streams.input
+
+-- where the words tell how many agents there are
+abbrev pub ServesBy : Option ℕ → Streams → ℕ → Type 0
+ServesBy (Some agents) streams status = Serves agents streams status
+ServesBy None streams status = Refuses command_line_fault streams status
+
+-- the last line of `serve` was written
+abbrev pub Reports : Result ℕ CertifyFault → ℕ → Option (List ℕ) → Option (List ℕ) → ℕ → ℕ → Type 0
+Reports (Ok steps) status before after failures failures_after =
+    Finishes (certified_line steps) done status before after failures failures_after ⊎ ((status ≡ no_memory) × SaysMemory before after failures failures_after)
+Reports (Err certify.Mismatch) status before after failures failures_after = Finishes mismatch_line mismatched status before after failures failures_after
+Reports (Err certify.Memory) status before after failures failures_after = (status ≡ no_memory) × SaysMemory before after failures failures_after
+
+-- the jobs of a script were carried out: what they came to was written, and last a line of steps; or that it was no run; or
+-- memory ran out; or a write failed
+abbrev pub Concludes : ℕ → Option (List ℕ) → Option (List ℕ) → ℕ → ℕ → Type 0
+Concludes status before after failures failures_after =
+    ((status ≡ done) × ((jobs : List ℕ) × ((steps : ℕ) × Adds before (jobs ++ certified_line steps) after)))
+    ⊎ (((status ≡ mismatched) × Adds before mismatch_line after)
+    ⊎ (((status ≡ no_memory) × (((front : List ℕ) × Adds before (front ++ memory_line) after) ⊎ (failures_after ≡ one_more failures)))
+    ⊎ ((status ≡ no_stream) × (failures_after ≡ one_more failures))))
+
+-- ---- all commands
+
 -- what the words ask for was done
 abbrev pub Does : Asked → Streams → ℕ → Type 0
 Does (asked.plays script) streams status = Runs (script_output_of script) streams status
 Does (asked.acl names) streams status = RunsAcl (names_from 1 no_names names) streams status
+Does (asked.serves text) streams status = ServesBy (agents_of text) streams status
 Does asked.help streams status = Helps streams status
 Does asked.topic streams status = Helps streams status ⊎ Refuses command_line_fault streams status
 Does asked.nothing streams status = Refuses command_line_fault streams status
