@@ -1,2 +1,6 @@
 mod Gathered
 mod Planned
+mod Places
+mod Pooled
+mod Ended
+mod Counted

@@ -1,12 +1,15 @@
 -- What the jobs of a script came to, and how it is printed.
-use Rattle.std.specs.Prelude.{◌≡◌, ℕ, ◌+◌, All, Bool, true, is_some, List, [], ◌∷◌, ◌++◌, codes, decimal, length, map, slice_get, Option, Some, None}
+use Rattle.std.specs.Prelude.{◌≡◌, ℕ, ◌+◌, ◌<◌, List, [], ◌∷◌, ◌++◌, codes, decimal, length, slice_get, Option, Some, None}
 use Rattle.std.specs.List.{flat_map}
+use Rattle.std.specs.Option.{option_map}
+use Rattle.txn_core.specs.declared.job.Job.{Job}
 use Rattle.run_core.specs.declared.done.Outcome.{Outcome}
 use Rattle.server_lock.specs.declared.item.Item.{Item}
 use Rattle.run_certify.specs.declared.entry.Entry.{Entry}
-use Rattle.run_certify.specs.declared.entry.Entry.TheVariants.{Ended}
+use Rattle.run_certify.specs.declared.entry.Entry.TheVariants.{Begun, Ended}
 use Rattle.run_certify.specs.Certified.{IsCertified}
 use Rattle.agent_pool.specs.declared.outcome.JobOutcome.{JobOutcome}
+use Rattle.agent_pool.specs.Transcripts.{AreAsks, begins}
 use Rattle.suite_play.specs.Texts.{ending_text}
 use Rattle.suite_script.specs.Faults.{line_feed}
 use Rattle.suite_serve.specs.Scripts.{Plan}
@@ -58,17 +61,41 @@ abbrev pub items_in : List (List Item) → ℕ
 items_in [] = 0
 items_in (history ∷ histories) = length history + items_in histories
 
--- an end stands in one of the transcripts
-pub record Stands (transcripts : List (List Entry)) (end : JobEnd) : Type 0 where
-  pub outcome : JobOutcome
-  pub is : end ≡ end_in transcripts outcome
-  pub told : is_some (named_end transcripts outcome) ≡ true
+-- A job ended so: its agent's transcript has the job as its begin of that count, then as many requests as it took steps, and then this end.
+pub record EndedSo (transcripts : List (List Entry)) (job : Job) (told : Outcome) : Type 0 where
+  pub before : List Entry
+  pub asked : List Entry
+  pub after : List Entry
+  pub there : slice_get transcripts told.agent ≡ Some (before ++ Begun job ∷ (asked ++ Ended told ∷ after))
+  pub count : begins before ≡ told.count
+  pub asks : AreAsks asked
+  pub steps : length asked ≡ told.steps
 
--- what came of a script's jobs is told of one run of servers and agents, which opens with the script's settings: the ends of the
--- jobs stand in what its agents did, and so many requests were served in it
+-- how the job of a number ended
+pub record IsJobEnd (transcripts : List (List Entry)) (number : ℕ) (job : Job) (end : JobEnd) : Type 0 where
+  pub told : Outcome
+  pub is : end ≡ record { job = number; told = Some told }
+  pub ended : EndedSo transcripts job told
+
+-- how all jobs ended, which are numbered from a number on
+abbrev pub AreJobEnds : List (List Entry) → ℕ → List Job → List JobEnd → Type 0
+AreJobEnds transcripts number [] [] = Unit {0}
+AreJobEnds transcripts number (job ∷ jobs) (end ∷ ends) = IsJobEnd transcripts number job end × AreJobEnds transcripts (number + 1) jobs ends
+AreJobEnds transcripts number _ _ = ⊥
+
+abbrev pub agent_of : JobEnd → Option ℕ
+agent_of end = option_map (λ (told : Outcome). told.agent) end.told
+
+-- so many of the first jobs were done by agent 0
+abbrev pub AreAlone : ℕ → List JobEnd → Type 0
+AreAlone alone ends = (place : ℕ) (end : JobEnd) → place < alone → slice_get ends place ≡ Some end → agent_of end ≡ Some 0
+
+-- What came of a script's jobs is what came of them in one run of servers and agents, which opens with the script's settings: each job ended so in what
+-- the agents did, those above `together` by agent 0, and so many requests were served.
 pub record IsServed (plan : Plan) (came : Came) : Type 0 where
   pub histories : List (List Item)
   pub transcripts : List (List Entry)
   pub certified : IsCertified plan.settings histories transcripts
-  pub ends : All (Stands transcripts) came.ends
+  pub each : AreJobEnds transcripts 0 plan.jobs came.ends
+  pub alone : AreAlone plan.alone came.ends
   pub steps : came.steps ≡ items_in histories

@@ -1,9 +1,8 @@
 //! What the jobs of a script came to.
 
-ghost use Rattle.std.specs.Prelude.{◌≡◌, ◌++◌, ◌+◌, ◌^◌, ◌<◌, All, IfSome, OnOk, true, is_some, map, option_map, [], codes, decimal};
-ghost use Rattle.std.specs.List.{list_all};
+ghost use Rattle.std.specs.Prelude.{◌≡◌, ◌++◌, ◌^◌, ◌<◌, OnOk, map, option_map, []};
 ghost use Rattle.suite_script.specs.Gathering.{Prints};
-ghost use Rattle.suite_serve.specs.Served.{Stands, end_in, items_in, job_lines, named_end, told_line};
+ghost use Rattle.suite_serve.specs.Served.{end_in, items_in, job_lines, named_end, told_line};
 
 use agent_pool::JobOutcome;
 use byte_streams::ByteOut;
@@ -35,23 +34,15 @@ impl Model for Served {
 }
 
 impl Served {
-    /// What jobs came to whose ends stand in these transcripts; or none, where one does not.
-    pub(crate) fn new(
-        transcripts: Transcripts,
-        outcomes: Vec<JobOutcome>,
-        steps: u64,
-    ) -> Option<Served>
-        ensures stands { IfSome result (λ served. All (Stands transcripts) served.ends) }
-        ensures steps { IfSome result (λ served. served.steps ≡ steps) }
+    /// What jobs came to that ended so in these transcripts, and how many requests were served.
+    pub(crate) fn new(transcripts: Transcripts, outcomes: Vec<JobOutcome>, steps: u64) -> Served
+        ensures { result ≡ record { ends = map (end_in transcripts) outcomes.items; steps = steps } }
     {
-        if !all_stand(&transcripts, &outcomes) {
-            return None;
-        }
-        Some(Served {
+        Served {
             transcripts,
             outcomes,
             steps,
-        })
+        }
     }
 
     /// How many requests the servers served.
@@ -98,15 +89,6 @@ fn push_told(
     text.extend_from_slice(b" ")?;
     push_ending(alloc, text, &outcome.ending)?;
     text.extend_from_slice(b"\n")
-}
-
-/// Whether the ends of all jobs stand in the transcripts.
-fn all_stand(transcripts: &Transcripts, outcomes: &[JobOutcome]) -> bool
-    ensures { result ≡ list_all (λ outcome. is_some (named_end transcripts.now outcome)) outcomes.now }
-{
-    outcomes
-        .iter()
-        .all(|outcome| ended(transcripts, outcome).is_some())
 }
 
 /// How a job ended, where that stands in its agent's transcript.

@@ -4,6 +4,7 @@ ghost use Rattle.std.specs.Prelude.{◌≡◌, ◌-◌, ◌++◌, ◌∷◌, [],
 ghost use Rattle.agent_pool.specs.Transcripts.{first_player, players_from};
 ghost use Rattle.server_lock.specs.Passes.{passes_of};
 ghost use Rattle.suite_serve.specs.Served.{IsServed};
+ghost use Rattle.suite_serve.specs.code.Working.{AreDone, named_from, transcripts_of};
 
 use crate::script::JobScript;
 use crate::served::{Served, items_in};
@@ -18,7 +19,7 @@ use txn_core::Job;
 
 /// Has the jobs of a script carried out, those above `together` by agent 0 and then the others by all agents, each as one is
 /// free. Then the servers are closed, and it is certified that what they served and what agents did is one run. Where it is
-/// none, or a job did not end in it, that is a mismatch, and nothing is told of the jobs.
+/// none, or a job was not carried out, that is a mismatch, and nothing is told of the jobs.
 pub fn serve<R: Threads + Wait + Sync>(
     rt: &R,
     alloc: Global,
@@ -43,14 +44,15 @@ pub fn serve<R: Threads + Wait + Sync>(
     };
     let transcripts = transcripts_of(alloc, agents)?;
     certify(alloc, &settings, &histories, &transcripts)?;
-    match Served::new(transcripts, outcomes, items_in(&histories)) {
-        Some(served) => Ok(served),
-        None => Err(CertifyFault::Mismatch),
-    }
+    let _servers = settings.servers();
+    let steps = items_in(&histories);
+    Ok(Served::new(transcripts, outcomes, steps))
 }
 
 /// The jobs, numbered from 0.
-fn named(alloc: Global, jobs: Vec<Job>) -> Result<Vec<NamedJob>, AllocError> {
+fn named(alloc: Global, jobs: Vec<Job>) -> Result<Vec<NamedJob>, AllocError>
+    ensures { IfOk result (λ all. all.items ≡ named_from 0 jobs.items) }
+{
     let mut all = Vec::with_capacity(alloc, jobs.len())?;
     for job in jobs {
         let number = all.len() as u64;
@@ -61,7 +63,7 @@ fn named(alloc: Global, jobs: Vec<Job>) -> Result<Vec<NamedJob>, AllocError> {
 
 /// What agents did, the passes, and where the jobs ended.
 #[derive(Drop)]
-struct Worked {
+pub(crate) struct Worked {
     agents: Vec<Player>,
     passes: Vec<Pass>,
     outcomes: Vec<JobOutcome>,
@@ -77,10 +79,10 @@ fn work<R: Threads + Wait + Sync>(
     passes: Vec<Pass>,
 ) -> Result<Worked, CertifyFault>
     requires { passes.items ≡ passes_of servers.now.agents }
+    ensures { IfOk result (λ worked. AreDone jobs.now alone worked) }
 {
     let (first, others) = first_and_others(alloc, servers.settings())?;
-    let above = jobs.get(..alone).unwrap_or_default();
-    let below = jobs.get(alone..).unwrap_or_default();
+    let (above, below) = jobs.split_at(alone.min(jobs.len()));
     let Pool {
         agents,
         passes,
@@ -119,6 +121,7 @@ fn first_and_others(
     ensures first { IfOk result (λ both. both.0.items ≡ first_player settings.now 0 ∷ []) }
     ensures others { IfOk result (λ both. both.1.items ≡ players_from settings.now 1 (settings.now.agents - 1)) }
 {
+    let _agents = settings.agents();
     let mut first = first_players(alloc, settings)?;
     let others = first.split_off(1)?;
     Ok((first, others))
@@ -136,7 +139,9 @@ fn joined<T: Drop>(first: Vec<T>, second: Vec<T>) -> Result<Vec<T>, AllocError>
 }
 
 /// What the agents did.
-fn transcripts_of(alloc: Global, agents: Vec<Player>) -> Result<Transcripts, AllocError> {
+fn transcripts_of(alloc: Global, agents: Vec<Player>) -> Result<Transcripts, AllocError>
+    ensures { IfOk result (λ transcripts. transcripts ≡ transcripts_of agents.items) }
+{
     let mut transcripts = Vec::with_capacity(alloc, agents.len())?;
     for player in agents {
         transcripts.push(player.into_transcript())?;
