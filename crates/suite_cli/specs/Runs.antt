@@ -11,6 +11,8 @@ use Rattle.suite_script.specs.Scripts.{no_names}
 use Rattle.suite_cli.specs.Names.{names_from}
 use Rattle.suite_script.specs.declared.fault.ScriptFault.{ScriptFault}
 use Rattle.suite_serve.specs.Scripts.{Plan, plan_in}
+use Rattle.suite_serve.specs.Served.{Came, IsServed, job_lines}
+use Rattle.suite_serve.specs.code.Kept.{kept_plan}
 use Rattle.suite_cli.specs.Outputs.{acl_output, certified_line, command_line_fault, memory_line, mismatch_line, script_output_of, word_fault_line}
 use Rattle.suite_cli.specs.declared.acl.NamesError.{NamesError}
 use Rattle.suite_cli.specs.declared.acl.NamesError.TheVariants as names
@@ -132,23 +134,35 @@ RunsAcl (Err place) streams status = Refuses (word_fault_line place) streams sta
 
 -- ---- `serve`
 
--- what `serve` may print for a script: of a faulty one the line of its first fault; else what its jobs came to, of which nothing
--- is said here, and last the line of the steps that were certified
-abbrev pub MayPrint : Result Plan ScriptFault → Output → Type 0
-MayPrint (Ok plan) (Done text) = (jobs : List ℕ) × ((steps : ℕ) × (text ≡ jobs ++ certified_line steps))
-MayPrint (Ok plan) (Faulty line) = ⊥
-MayPrint (Err fault) output = output ≡ Faulty (fault_line fault)
+-- of an output that is not gathered first: it was written whole, with its status; or memory ran out on the way, and that was said; or a write failed
+abbrev pub Tells : Output → ℕ → Option (List ℕ) → Option (List ℕ) → ℕ → ℕ → Type 0
+Tells output status before after failures failures_after =
+    Writes output status before after
+    ⊎ (((status ≡ no_memory) × (((front : List ℕ) × (IsBegun output front × Adds before (front ++ memory_line) after)) ⊎ (failures_after ≡ one_more failures)))
+    ⊎ ((status ≡ no_stream) × (failures_after ≡ one_more failures)))
 
--- what was done for a script without a fault was no run, and that alone was written
-abbrev pub Mismatches : Result Plan ScriptFault → Streams → ℕ → Type 0
-Mismatches (Ok plan) streams status = (status ≡ mismatched) × Adds streams.written mismatch_line streams.written_after
-Mismatches (Err fault) streams status = ⊥
+-- what is printed for jobs: a line for each, of what came of them in one run of servers and agents, and last how many requests were served in it
+abbrev pub Prints : Plan → Output → Type 0
+Prints plan output = (came : Came) × (IsServed plan came × (output ≡ Done (job_lines came.ends ++ certified_line came.steps)))
 
+-- jobs were carried out, and what came of them was told; or that it was no run, and nothing else; or memory ran out before
+abbrev pub Concludes : Plan → ℕ → Option (List ℕ) → Option (List ℕ) → ℕ → ℕ → Type 0
+Concludes plan status before after failures failures_after =
+    ((output : Output) × (Prints plan output × Tells output status before after failures failures_after))
+    ⊎ (Finishes mismatch_line mismatched status before after failures failures_after
+    ⊎ ((status ≡ no_memory) × SaysMemory before after failures failures_after))
+
+-- a script was read: it was carried out; or its first fault was told
+abbrev pub ServesScript : Result Plan ScriptFault → ℕ → Option (List ℕ) → Option (List ℕ) → ℕ → ℕ → Type 0
+ServesScript (Ok plan) status before after failures failures_after = Concludes (kept_plan plan) status before after failures failures_after
+ServesScript (Err fault) status before after failures failures_after = Tells (Faulty (fault_line fault)) status before after failures failures_after
+
+-- for the input that a stream tells, which is within the limit, the script that it has was served; or memory ran out before, or a stream failed
 abbrev pub ServesOn : ℕ → Streams → ℕ → Option (List ℕ) → Type 0
 ServesOn agents streams status None = Unit {0}
 ServesOn agents streams status (Some input) =
-    ((output : Output) × (MayPrint (plan_in agents input) output × RunsOn (λ text. output) streams status (Some input)))
-    ⊎ ((length input ≤ max_input) × Mismatches (plan_in agents input) streams status)
+    ((length input ≤ max_input) × ServesScript (plan_in agents input) status streams.written streams.written_after streams.failed_writes streams.failed_writes_after)
+    ⊎ (LacksMemory streams status ⊎ ((status ≡ no_stream) × StreamFailed input streams))
 
 -- the script that the input has was carried out by so many agents
 abbrev pub Serves : ℕ → Streams → ℕ → Type 0
@@ -165,15 +179,6 @@ Reports (Ok steps) status before after failures failures_after =
     Finishes (certified_line steps) done status before after failures failures_after ⊎ ((status ≡ no_memory) × SaysMemory before after failures failures_after)
 Reports (Err certify.Mismatch) status before after failures failures_after = Finishes mismatch_line mismatched status before after failures failures_after
 Reports (Err certify.Memory) status before after failures failures_after = (status ≡ no_memory) × SaysMemory before after failures failures_after
-
--- the jobs of a script were carried out: what they came to was written, and last a line of steps; or that it was no run; or
--- memory ran out; or a write failed
-abbrev pub Concludes : ℕ → Option (List ℕ) → Option (List ℕ) → ℕ → ℕ → Type 0
-Concludes status before after failures failures_after =
-    ((status ≡ done) × ((jobs : List ℕ) × ((steps : ℕ) × Adds before (jobs ++ certified_line steps) after)))
-    ⊎ (((status ≡ mismatched) × Adds before mismatch_line after)
-    ⊎ (((status ≡ no_memory) × (((front : List ℕ) × Adds before (front ++ memory_line) after) ⊎ (failures_after ≡ one_more failures)))
-    ⊎ ((status ≡ no_stream) × (failures_after ≡ one_more failures))))
 
 -- ---- all commands
 

@@ -10,15 +10,11 @@ use Rattle.run_certify.specs.declared.entry.Entry.TheVariants.{Begun, Ended}
 use Rattle.agent_pool.specs.declared.outcome.JobOutcome.{JobOutcome}
 use Rattle.agent_pool.specs.declared.workshop.NamedJob.{NamedJob}
 use Rattle.agent_pool.specs.Transcripts.{Played, number_of}
-use Rattle.suite_serve.specs.Served.{AreAlone, AreJobEnds, EndedSo, IsJobEnd, agent_of, end_at, end_in, end_of, named_end}
+use Rattle.agent_pool.specs.Pools.{AreApart as ApartOutcomes}
+use Rattle.suite_serve.specs.Served.{AreApart, AreFirst, AreJobEnds, IsJobEnd, JobEnd, done_as, end_at, end_in, end_of, named_end}
 use Rattle.suite_serve.specs.code.Working.{AreNumbered, AreOfFirst, HasEnded, HaveEnded, named_from, transcripts_of}
+use Rattle.suite_serve.proofs.Numbers.{number_at}
 use Rattle.suite_serve.proofs.Places.{contained_get, get_past}
-
--- the agent at a place has its number
-number_at : (start : ℕ) (players : List Played) → AreNumbered start players → (player : Played) (place : ℕ) → slice_get players place ≡ Some player → number_of player ≡ start + place
-number_at start [] are player place there = absurd (none-some player there)
-number_at start (p ∷ players) are player zero there = ap number_of (sym (same_Some p player there)) ∙ are.0 ∙ omega arith
-number_at start (p ∷ players) are player (suc place) there = number_at (start + 1) players are.1 player place there ∙ omega arith
 
 -- its transcript stands at its number
 transcript_at : (players : List Played) → AreNumbered 0 players → (player : Played) → Contains players player → slice_get (transcripts_of players) (number_of player) ≡ Some player.entries
@@ -61,19 +57,41 @@ all_ends players are number (job ∷ jobs) [] all = absurd all
 all_ends players are number (job ∷ jobs) (o ∷ outcomes) all =
     (one_end players are (record { number = number; job = job }) o all.0, all_ends players are (number + 1) jobs outcomes all.1)
 
--- ---- by agent 0
+-- ---- who did them
 
-agent_in : (players : List Played) → AreNumbered 0 players → (named : NamedJob) (outcome : JobOutcome) → HasEnded players named outcome → agent_of (end_in (transcripts_of players) outcome) ≡ Some outcome.agent
-agent_in players are named outcome has =
+done_by : (players : List Played) → AreNumbered 0 players → (named : NamedJob) (outcome : JobOutcome) → HasEnded players named outcome → done_as (end_in (transcripts_of players) outcome) ≡ Some (outcome.agent, outcome.count)
+done_by players are named outcome has =
     let one = one_end players are named outcome has in
-    ap agent_of one.is ∙ ap Some has.number
+    ap done_as one.is ∙ ap (λ (n : ℕ). Some (n, outcome.count)) has.number
 
-pub alone_ends : (players : List Played) → AreNumbered 0 players → (alone : ℕ) (jobs : List NamedJob) (outcomes : List JobOutcome) → HaveEnded players jobs outcomes → AreOfFirst alone outcomes
-    → AreAlone alone (map (end_in (transcripts_of players)) outcomes)
-alone_ends players are zero jobs outcomes all first place end low there = absurd (omega arith)
-alone_ends players are (suc alone) jobs [] all first place end low there = absurd (none-some end there)
-alone_ends players are (suc alone) [] (o ∷ outcomes) all first place end low there = absurd all
-alone_ends players are (suc alone) (j ∷ jobs) (o ∷ outcomes) all first zero end low there =
-    ap agent_of (sym (same_Some (end_in (transcripts_of players) o) end there)) ∙ agent_in players are j o all.0 ∙ ap Some (first zero o low refl)
-alone_ends players are (suc alone) (j ∷ jobs) (o ∷ outcomes) all first (suc place) end low there =
-    alone_ends players are alone jobs outcomes all.1 (λ (n : ℕ) (one : JobOutcome) (less : n < alone) (is : slice_get outcomes n ≡ Some one). first (suc n) one (omega arith) is) place end (omega arith) there
+-- the outcome of an end
+record From (players : List Played) (outcomes : List JobOutcome) (place : ℕ) (end : JobEnd) : Type 0 where
+  outcome : JobOutcome
+  there : slice_get outcomes place ≡ Some outcome
+  done : done_as end ≡ Some (outcome.agent, outcome.count)
+
+from_outcome : (players : List Played) → AreNumbered 0 players → (jobs : List NamedJob) (outcomes : List JobOutcome) → HaveEnded players jobs outcomes → (place : ℕ) (end : JobEnd)
+    → slice_get (map (end_in (transcripts_of players)) outcomes) place ≡ Some end → From players outcomes place end
+from_outcome players are [] [] all place end there = absurd (none-some end there)
+from_outcome players are [] (o ∷ outcomes) all place end there = absurd all
+from_outcome players are (j ∷ jobs) [] all place end there = absurd all
+from_outcome players are (j ∷ jobs) (o ∷ outcomes) all zero end there =
+    record { outcome = o; there = refl; done = ap done_as (sym (same_Some (end_in (transcripts_of players) o) end there)) ∙ done_by players are j o all.0 }
+from_outcome players are (j ∷ jobs) (o ∷ outcomes) all (suc place) end there =
+    let from = from_outcome players are jobs outcomes all.1 place end there in
+    record { outcome = from.outcome; there = from.there; done = from.done }
+
+pub first_ends : (players : List Played) → AreNumbered 0 players → (alone : ℕ) (jobs : List NamedJob) (outcomes : List JobOutcome) → HaveEnded players jobs outcomes → AreOfFirst alone outcomes
+    → AreFirst alone (map (end_in (transcripts_of players)) outcomes)
+first_ends players are alone jobs outcomes all first place end low there =
+    let from = from_outcome players are jobs outcomes all place end there in
+    let one = first place from.outcome low from.there in
+    (from.outcome.count, (from.done ∙ ap (λ (n : ℕ). Some (n, from.outcome.count)) one.0, one.1))
+
+pub apart_ends : (players : List Played) → AreNumbered 0 players → (jobs : List NamedJob) (outcomes : List JobOutcome) → HaveEnded players jobs outcomes → ApartOutcomes outcomes
+    → AreApart (map (end_in (transcripts_of players)) outcomes)
+apart_ends players are jobs outcomes all apart i j a b at_i at_j same =
+    let x = from_outcome players are jobs outcomes all i a at_i in
+    let y = from_outcome players are jobs outcomes all j b at_j in
+    let both : (x.outcome.agent, x.outcome.count) ≡ (y.outcome.agent, y.outcome.count) = same_Some (x.outcome.agent, x.outcome.count) (y.outcome.agent, y.outcome.count) (sym x.done ∙ same ∙ y.done) in
+    apart i j x.outcome y.outcome x.there y.there (ap (λ (p : ℕ × ℕ). p.0) both) (ap (λ (p : ℕ × ℕ). p.1) both)

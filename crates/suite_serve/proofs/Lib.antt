@@ -1,6 +1,7 @@
 mod Gathered
 mod Planned
 mod Places
+mod Numbers
 mod Pooled
 mod Ended
 mod Counted

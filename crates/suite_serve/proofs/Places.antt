@@ -1,8 +1,8 @@
 -- Places in lists.
-use Rattle.std.proofs.Common.{◌≡◌, ◌∙◌, ap, sym, refl, arith, ℕ, zero, suc, ◌+◌, ◌<◌, List, [], ◌∷◌, ◌++◌, length, take, drop}
-use Rattle.std.specs.Prelude.{Contains, slice_get, Option, Some, None}
+use Rattle.std.proofs.Common.{◌≡◌, ◌∙◌, ◌⊎◌, ap, refl, subst, inl, inr, arith, ℕ, zero, suc, ◌+◌, ◌≤◌, List, [], ◌∷◌, ◌++◌, length, take}
+use Rattle.std.specs.Prelude.{Contains, slice_get, Some}
 use Rattle.std.specs.List.{AllZip}
-use Rattle.std.proofs.lemmas.Option.{get_or_from_slice_get, slice_get-get_or, slice_get_within}
+use Rattle.std.proofs.lemmas.Option.{get_or_from_slice_get, none-some, same_Some, slice_get-get_or, slice_get_within}
 
 pub contained_get : {A : Type 0} (xs : List A) (x : A) (has : Contains xs x) → slice_get xs has.0 ≡ Some x
 contained_get xs x has = slice_get-get_or xs has.0 x has.1 ∙ ap Some has.2
@@ -26,3 +26,25 @@ zip_append R [] more [] others all rest = rest
 zip_append R [] more (y ∷ ys) others all rest = absurd all
 zip_append R (x ∷ xs) more [] others all rest = absurd all
 zip_append R (x ∷ xs) more (y ∷ ys) others all rest = (all.0, zip_append R xs more ys others all.1 rest)
+
+-- an element of two lists in a row is one of the first or of the second
+pub get_either : {A : Type 0} (xs ys : List A) (place : ℕ) (x : A) → slice_get (xs ++ ys) place ≡ Some x → (slice_get xs place ≡ Some x) ⊎ ((past : ℕ) × ((place ≡ length xs + past) × (slice_get ys past ≡ Some x)))
+get_either [] ys place x there = inr (place, (omega arith, there))
+get_either (y ∷ xs) ys zero x there = inl there
+get_either (y ∷ xs) ys (suc place) x there =
+    elim (get_either xs ys place x there) [
+      | inl first ↦ inl first
+      | inr second ↦ inr (second.0, (let e = second.1.0 in omega arith, second.1.1))
+    ]
+
+pub zip_at : {A B : Type 0} (R : A → B → Type 0) (xs : List A) (ys : List B) → AllZip R xs ys → (place : ℕ) (y : B) → slice_get ys place ≡ Some y → (x : A) × R x y
+zip_at R [] [] all place y there = absurd (none-some y there)
+zip_at R [] (b ∷ ys) all place y there = absurd all
+zip_at R (a ∷ xs) [] all place y there = absurd all
+zip_at R (a ∷ xs) (b ∷ ys) all zero y there = (a, subst (R a) (same_Some b y there) all.0)
+zip_at R (a ∷ xs) (b ∷ ys) all (suc place) y there = zip_at R xs ys all.1 place y there
+
+pub take_few : {A : Type 0} (count : ℕ) (xs : List A) → length (take count xs) ≤ count
+take_few zero xs = omega arith
+take_few (suc count) [] = omega arith
+take_few (suc count) (x ∷ xs) = let e = take_few count xs in omega arith

@@ -9,17 +9,18 @@ use Rattle.txn_core.specs.declared.job.Job.{Job}
 use Rattle.suite_prefix.specs.SettingsRules.{Opening}
 use Rattle.server_lock.specs.Passes.{Held}
 use Rattle.run_certify.specs.declared.entry.Entry.{Entry}
-use Rattle.run_certify.specs.declared.entry.Entry.TheVariants.{Begun, Ended}
+use Rattle.run_certify.specs.declared.entry.Entry.TheVariants.{Begun, Asked, Lacked, Forgot, Ended}
 use Rattle.agent_pool.specs.declared.asking.Ran.{Ran}
 use Rattle.agent_pool.specs.declared.outcome.JobOutcome.{JobOutcome}
 use Rattle.agent_pool.specs.declared.pool.Pool.{Pool}
 use Rattle.agent_pool.specs.declared.workshop.NamedJob.{NamedJob}
-use Rattle.agent_pool.specs.Pools.{IsOutcome, IsPoolOf}
+use Rattle.agent_pool.specs.Pools.{AreApart, IsOutcome, IsPoolOf, begun_by}
 use Rattle.agent_pool.specs.Seats.{WentOn}
-use Rattle.agent_pool.specs.Transcripts.{IsLonger, IsTold, Played, first_player, number_of, players_from}
+use Rattle.agent_pool.specs.Transcripts.{IsLonger, IsTold, Played, begins, first_player, number_of, players_from}
 use Rattle.suite_serve.specs.code.Working.{AreDone, AreNumbered, AreOfFirst, HasEnded, HaveEnded}
 use Rattle.suite_serve.specs.declared.serving.Worked.{Worked}
-use Rattle.suite_serve.proofs.Places.{contained_get, get_contained, zip_append, zip_map}
+use Rattle.suite_serve.proofs.Numbers.{number_at}
+use Rattle.suite_serve.proofs.Places.{contained_get, get_contained, get_either, take_few, zip_append, zip_at, zip_map}
 
 -- ---- what was told is told still
 
@@ -74,7 +75,7 @@ ended_among players others named outcome has =
     record { of = has.of; player = has.player; there = Contains-append_left players others has.player has.there; number = has.number; told = has.told }
 
 has_ended : (was players : List Played) (named : NamedJob) (outcome : JobOutcome) → IsOutcome was players named outcome → HasEnded players named outcome
-has_ended was players named outcome is = record { of = is.of; player = is.player; there = is.there; number = is.number; told = is.told }
+has_ended was players named outcome is = record { of = is.of; player = is.player; there = is.by.has; number = is.by.new; told = is.told }
 
 pub have_ended : (jobs : List NamedJob) (was : List Played) (passes : List Held) (pool : Pool) → IsPoolOf jobs was passes pool → HaveEnded pool.agents.items jobs pool.outcomes.items
 have_ended jobs was passes pool is = zip_map (IsOutcome was pool.agents.items) (HasEnded pool.agents.items) (has_ended was pool.agents.items) jobs pool.outcomes.items is.each
@@ -105,26 +106,78 @@ numbered_one old new was [] others all is are = absurd all
 numbered_one old new was (n ∷ []) others all is are = (all.0.longer.number ∙ is, are)
 numbered_one old new was (n ∷ m ∷ now) others all is are = absurd all.1
 
--- each of these outcomes is of agent 0
-abbrev AllOfFirst : List JobOutcome → Type 0
-AllOfFirst outcomes = (place : ℕ) (outcome : JobOutcome) → slice_get outcomes place ≡ Some outcome → outcome.agent ≡ 0
+-- each of these outcomes is of agent 0, and of a job of so many
+abbrev AllOfFirst : ℕ → List JobOutcome → Type 0
+AllOfFirst few outcomes = (place : ℕ) (outcome : JobOutcome) → slice_get outcomes place ≡ Some outcome → (outcome.agent ≡ 0) × (outcome.count < few)
 
-all_of_first : (old new : List Held) (was : Played) (now : List Played) → AllZip (WentOn old new) (was ∷ []) now → number_of was ≡ 0 → (jobs : List NamedJob) (outcomes : List JobOutcome) → HaveEnded now jobs outcomes → AllOfFirst outcomes
-all_of_first old new was now all is jobs [] ended place outcome there = absurd (none-some outcome there)
-all_of_first old new was now all is [] (o ∷ outcomes) ended place outcome there = absurd ended
-all_of_first old new was now all is (j ∷ jobs) (o ∷ outcomes) ended zero outcome there =
-    ap (λ (one : JobOutcome). one.agent) (sym (same_Some o outcome there)) ∙ sym ended.0.number ∙ of_one old new was now all ended.0.player ended.0.there ∙ is
-all_of_first old new was now all is (j ∷ jobs) (o ∷ outcomes) ended (suc place) outcome there = all_of_first old new was now all is jobs outcomes ended.1 place outcome there
+begins_more : (before rest : List Entry) (job : Job) → begins before < begins (before ++ Begun job ∷ rest)
+begins_more [] rest job = omega arith
+begins_more (Begun other ∷ before) rest job = let e = begins_more before rest job in omega arith
+begins_more (Asked server stamp ∷ before) rest job = begins_more before rest job
+begins_more (Lacked server lack ∷ before) rest job = begins_more before rest job
+begins_more (Forgot site ∷ before) rest job = begins_more before rest job
+begins_more (Ended outcome ∷ before) rest job = begins_more before rest job
 
-first_of_both : (R S : NamedJob → JobOutcome → Type 0) (jobs : List NamedJob) (alone : ℕ) (before after : List JobOutcome) → AllZip R (take alone jobs) before → AllZip S (drop alone jobs) after → AllOfFirst before → AreOfFirst alone (before ++ after)
-first_of_both R S jobs zero before after above below all place outcome low there = absurd (omega arith)
-first_of_both R S [] (suc alone) [] [] above below all place outcome low there = absurd (none-some outcome there)
-first_of_both R S [] (suc alone) [] (a ∷ after) above below all place outcome low there = absurd below
-first_of_both R S [] (suc alone) (b ∷ before) after above below all place outcome low there = absurd above
-first_of_both R S (j ∷ jobs) (suc alone) [] after above below all place outcome low there = absurd above
-first_of_both R S (j ∷ jobs) (suc alone) (b ∷ before) after above below all zero outcome low there = all zero outcome there
-first_of_both R S (j ∷ jobs) (suc alone) (b ∷ before) after above below all (suc place) outcome low there =
-    first_of_both R S jobs alone before after above.1 below (λ (n : ℕ) (one : JobOutcome). all (suc n) one) place outcome (omega arith) there
+-- an agent began a job that it has told
+began : (player : Played) (job : Job) (ran : Ran) → IsTold player job ran → ran.count < begins player.entries
+began player job ran told =
+    let end : Entry = Ended (record { agent = number_of player; count = ran.count; steps = length told.asked; ending = told.ending }) in
+    let more = begins_more told.before (told.asked ++ end ∷ told.after) job in
+    let split = ap begins told.split in
+    let count = told.count in
+    omega arith
+
+begun_one : (old new : List Held) (was : Played) (now : List Played) → AllZip (WentOn old new) (was ∷ []) now → (player : Played) → Contains now player → begins player.entries ≡ begun_by now
+begun_one old new was [] all player has = absurd all
+begun_one old new was (n ∷ []) all player (zero, has) = let same = ap (λ (p : Played). begins p.entries) (sym has.1) in omega arith
+begun_one old new was (n ∷ []) all player (suc place, has) = absurd (omega arith)
+begun_one old new was (n ∷ m ∷ now) all player has = absurd all.1
+
+pub all_of_first : (old new : List Held) (was : Played) (now : List Played) (jobs : List NamedJob) (outcomes : List JobOutcome) → AllZip (WentOn old new) (was ∷ []) now → number_of was ≡ 0 → HaveEnded now jobs outcomes
+    → AllOfFirst (begun_by now) outcomes
+all_of_first old new was now jobs outcomes all is ended place outcome there =
+    let one = zip_at (HasEnded now) jobs outcomes ended place outcome there in
+    let has = one.1 in
+    let told = began has.player one.0.job (record { count = outcome.count; at = outcome.at }) has.told in
+    let begun = begun_one old new was now all has.player has.there in
+    (sym has.number ∙ of_one old new was now all has.player has.there ∙ is, omega arith)
+
+first_of_both : (R S : NamedJob → JobOutcome → Type 0) (few : ℕ) (jobs : List NamedJob) (alone : ℕ) (before after : List JobOutcome) → AllZip R (take alone jobs) before → AllZip S (drop alone jobs) after → AllOfFirst few before
+    → (place : ℕ) (outcome : JobOutcome) → place < alone → slice_get (before ++ after) place ≡ Some outcome → (outcome.agent ≡ 0) × (outcome.count < few)
+first_of_both R S few jobs zero before after above below all place outcome low there = absurd (omega arith)
+first_of_both R S few [] (suc alone) [] [] above below all place outcome low there = absurd (none-some outcome there)
+first_of_both R S few [] (suc alone) [] (a ∷ after) above below all place outcome low there = absurd below
+first_of_both R S few [] (suc alone) (b ∷ before) after above below all place outcome low there = absurd above
+first_of_both R S few (j ∷ jobs) (suc alone) [] after above below all place outcome low there = absurd above
+first_of_both R S few (j ∷ jobs) (suc alone) (b ∷ before) after above below all zero outcome low there = all zero outcome there
+first_of_both R S few (j ∷ jobs) (suc alone) (b ∷ before) after above below all (suc place) outcome low there =
+    first_of_both R S few jobs alone before after above.1 below (λ (n : ℕ) (one : JobOutcome). all (suc n) one) place outcome (omega arith) there
+
+-- ---- no two are of one job
+
+-- what agent 0 did alone is behind what it does later
+since_alone : (old new : List Held) (was : Played) (now others : List Played) → AllZip (WentOn old new) (was ∷ []) now → AreNumbered 0 (now ++ others) → (player : Played) → Contains (now ++ others) player → number_of player ≡ 0 → begins player.entries ≡ begun_by now
+since_alone old new was [] others all are player has is = absurd all
+since_alone old new was (n ∷ []) others all are player (zero, has) is = let same = ap (λ (p : Played). begins p.entries) (sym has.1) in omega arith
+since_alone old new was (n ∷ []) others all are player (suc place, has) is =
+    let at = number_at 0 (n ∷ others) are player (suc place) (contained_get (n ∷ others) player (suc place, has)) in
+    absurd (omega arith)
+since_alone old new was (n ∷ m ∷ now) others all are player has is = absurd all.1
+
+apart_both : (before after : List JobOutcome) → AreApart before → AreApart after
+    → ((i j : ℕ) (a b : JobOutcome) → slice_get before i ≡ Some a → slice_get after j ≡ Some b → a.agent ≡ b.agent → a.count ≡ b.count → ⊥)
+    → AreApart (before ++ after)
+apart_both before after one two cross i j a b at_i at_j agent count =
+    elim (get_either before after i a at_i) [
+      | inl first ↦ elim (get_either before after j b at_j) [
+        | inl other ↦ one i j a b first other agent count
+        | inr other ↦ absurd (cross i other.0 a b first other.1.1 agent count)
+      ]
+      | inr second ↦ elim (get_either before after j b at_j) [
+        | inl other ↦ absurd (cross j second.0 b a other second.1.1 (sym agent) (sym count))
+        | inr other ↦ let same = two second.0 other.0 a b second.1.1 other.1.1 agent count in let x = second.1.0 in let y = other.1.0 in omega arith
+      ]
+    ]
 
 -- agent 0 did the jobs above, and then all agents those below
 pub both_done : (given : Opening) (jobs : List NamedJob) (alone count : ℕ) (passes : List Held) (others : List Played) (first : Pool) (second : Pool) (worked : Worked)
@@ -143,14 +196,32 @@ both_done given jobs alone count passes others first second worked are above bel
     let later = have_ended (drop alone jobs) was first.passes.items second below in
     let both = zip_append (HasEnded second.agents.items) (take alone jobs) (drop alone jobs) first.outcomes.items second.outcomes.items still later in
     let numbered = numbered_one passes first.passes.items (first_player given 0) first.agents.items others above.agents refl (subst (AreNumbered 1) (sym are) (players_numbered given 1 count)) in
-    let all = all_of_first passes first.passes.items (first_player given 0) first.agents.items above.agents refl (take alone jobs) first.outcomes.items ended in
+    let all = all_of_first passes first.passes.items (first_player given 0) first.agents.items (take alone jobs) first.outcomes.items above.agents refl ended in
+    let few : (count : ℕ) → count < begun_by first.agents.items → count < alone = λ count less.
+      let once = above.once in
+      let most = take_few alone jobs in
+      let none : begun_by (first_player given 0 ∷ []) ≡ 0 = refl in
+      omega arith
+      in
+    let cross : (i j : ℕ) (a b : JobOutcome) → slice_get first.outcomes.items i ≡ Some a → slice_get second.outcomes.items j ≡ Some b → a.agent ≡ b.agent → a.count ≡ b.count → ⊥ = λ i j a b at_i at_j agent count.
+      let one = all i a at_i in
+      let named = zip_at (IsOutcome was second.agents.items) (drop alone jobs) second.outcomes.items below.each j b at_j in
+      let is = named.1 in
+      let begun = since_alone passes first.passes.items (first_player given 0) first.agents.items others above.agents numbered is.before is.by.had (is.by.old ∙ sym agent ∙ one.0) in
+      let since = is.since in
+      let less = one.1 in
+      omega arith
+      in
     record {
       numbered = subst (AreNumbered 0) (sym agents) (numbered_still first.passes.items second.passes.items 0 was second.agents.items below.agents numbered);
       each =
         subst (λ (ps : List Played). HaveEnded ps jobs worked.outcomes.items) (sym agents)
           (subst (λ (os : List JobOutcome). HaveEnded second.agents.items jobs os) (sym outcomes)
             (subst (λ (js : List NamedJob). HaveEnded second.agents.items js (first.outcomes.items ++ second.outcomes.items)) (take-append-drop alone jobs) both));
+      apart = subst AreApart (sym outcomes) (apart_both first.outcomes.items second.outcomes.items above.apart below.apart cross);
       first =
         subst (AreOfFirst alone) (sym outcomes)
-          (first_of_both (HasEnded first.agents.items) (HasEnded second.agents.items) jobs alone first.outcomes.items second.outcomes.items ended later all);
+          (λ (place : ℕ) (outcome : JobOutcome) (low : place < alone) (there : slice_get (first.outcomes.items ++ second.outcomes.items) place ≡ Some outcome).
+            let is = first_of_both (HasEnded first.agents.items) (HasEnded second.agents.items) (begun_by first.agents.items) jobs alone first.outcomes.items second.outcomes.items ended later all place outcome low there in
+            (is.0, few outcome.count is.1));
     }

@@ -83,19 +83,25 @@ AreJobEnds transcripts number [] [] = Unit {0}
 AreJobEnds transcripts number (job ∷ jobs) (end ∷ ends) = IsJobEnd transcripts number job end × AreJobEnds transcripts (number + 1) jobs ends
 AreJobEnds transcripts number _ _ = ⊥
 
-abbrev pub agent_of : JobEnd → Option ℕ
-agent_of end = option_map (λ (told : Outcome). told.agent) end.told
+-- who did a job, and as which of its jobs
+abbrev pub done_as : JobEnd → Option (ℕ × ℕ)
+done_as end = option_map (λ (told : Outcome). (told.agent, told.count)) end.told
 
--- so many of the first jobs were done by agent 0
-abbrev pub AreAlone : ℕ → List JobEnd → Type 0
-AreAlone alone ends = (place : ℕ) (end : JobEnd) → place < alone → slice_get ends place ≡ Some end → agent_of end ≡ Some 0
+-- no two were done by one agent as one job
+abbrev pub AreApart : List JobEnd → Type 0
+AreApart ends = (i j : ℕ) (a b : JobEnd) → slice_get ends i ≡ Some a → slice_get ends j ≡ Some b → done_as a ≡ done_as b → i ≡ j
+
+-- so many of the first were done by agent 0, as its first jobs
+abbrev pub AreFirst : ℕ → List JobEnd → Type 0
+AreFirst alone ends = (place : ℕ) (end : JobEnd) → place < alone → slice_get ends place ≡ Some end → (count : ℕ) × ((done_as end ≡ Some (0, count)) × (count < alone))
 
 -- What came of a script's jobs is what came of them in one run of servers and agents, which opens with the script's settings: each job ended so in what
--- the agents did, those above `together` by agent 0, and so many requests were served.
+-- the agents did, those above `together` as the first jobs of agent 0, and so many requests were served.
 pub record IsServed (plan : Plan) (came : Came) : Type 0 where
   pub histories : List (List Item)
   pub transcripts : List (List Entry)
   pub certified : IsCertified plan.settings histories transcripts
   pub each : AreJobEnds transcripts 0 plan.jobs came.ends
-  pub alone : AreAlone plan.alone came.ends
+  pub apart : AreApart came.ends
+  pub alone : AreFirst plan.alone came.ends
   pub steps : came.steps ≡ items_in histories
