@@ -20,7 +20,9 @@ use Rattle.suite_serve.proofs.Places.{contained_get, get_past}
 transcript_at : (players : List Played) → AreNumbered 0 players → (player : Played) → Contains players player → slice_get (transcripts_of players) (number_of player) ≡ Some player.entries
 transcript_at players are player has =
     let there = contained_get players player has in
-    ap (slice_get (transcripts_of players)) (number_at 0 players are player has.0 there)
+    let number = number_at 0 players are player has.0 there in
+    let at : number_of player ≡ has.0 = omega arith in
+    ap (slice_get (transcripts_of players)) at
     ∙ slice_get-map (λ (p : Played). p.entries) players has.0
     ∙ ap (option_map (λ (p : Played). p.entries)) there
 
@@ -60,6 +62,7 @@ all_ends players are number (job ∷ jobs) (o ∷ outcomes) all =
 -- ---- who did them
 
 done_by : (players : List Played) → AreNumbered 0 players → (named : NamedJob) (outcome : JobOutcome) → HasEnded players named outcome → done_as (end_in (transcripts_of players) outcome) ≡ Some (outcome.agent, outcome.count)
+unfolding one_end
 done_by players are named outcome has =
     let one = one_end players are named outcome has in
     ap done_as one.is ∙ ap (λ (n : ℕ). Some (n, outcome.count)) has.number

@@ -5,3 +5,4 @@ mod Numbers
 mod Pooled
 mod Ended
 mod Counted
+mod Written

@@ -1,5 +1,5 @@
 -- Places in lists.
-use Rattle.std.proofs.Common.{◌≡◌, ◌∙◌, ◌⊎◌, ap, refl, subst, inl, inr, arith, ℕ, zero, suc, ◌+◌, ◌≤◌, List, [], ◌∷◌, ◌++◌, length, take}
+use Rattle.std.proofs.Common.{◌≡◌, ◌∙◌, ◌⊎◌, ap, refl, subst, inl, inr, arith, ℕ, zero, suc, ◌+◌, List, [], ◌∷◌, ◌++◌, length}
 use Rattle.std.specs.Prelude.{Contains, slice_get, Some}
 use Rattle.std.specs.List.{AllZip}
 use Rattle.std.proofs.lemmas.Option.{get_or_from_slice_get, none-some, same_Some, slice_get-get_or, slice_get_within}
@@ -8,12 +8,12 @@ pub contained_get : {A : Type 0} (xs : List A) (x : A) (has : Contains xs x) →
 contained_get xs x has = slice_get-get_or xs has.0 x has.1 ∙ ap Some has.2
 
 pub get_contained : {A : Type 0} (xs : List A) (x : A) (place : ℕ) → slice_get xs place ≡ Some x → Contains xs x
-get_contained xs x place there = (place, (slice_get_within xs place x there, get_or_from_slice_get xs place x x there))
+get_contained xs x place there = (place, slice_get_within xs place x there, get_or_from_slice_get xs place x x there)
 
 -- past the front of a list
 pub get_past : {A : Type 0} (xs ys : List A) (place : ℕ) → slice_get (xs ++ ys) (length xs + place) ≡ slice_get ys place
 get_past [] ys place = ap (slice_get ys) (omega arith)
-get_past (x ∷ xs) ys place = get_past xs ys place
+get_past (x ∷ xs) ys place = let next : length (x ∷ xs) + place ≡ suc (length xs + place) = omega arith in ap (slice_get (x ∷ xs ++ ys)) next ∙ get_past xs ys place
 
 pub zip_map : {A B : Type 0} (R S : A → B → Type 0) → ((a : A) (b : B) → R a b → S a b) → (xs : List A) (ys : List B) → AllZip R xs ys → AllZip S xs ys
 zip_map R S more [] [] all = tt
@@ -43,8 +43,3 @@ zip_at R [] (b ∷ ys) all place y there = absurd all
 zip_at R (a ∷ xs) [] all place y there = absurd all
 zip_at R (a ∷ xs) (b ∷ ys) all zero y there = (a, subst (R a) (same_Some b y there) all.0)
 zip_at R (a ∷ xs) (b ∷ ys) all (suc place) y there = zip_at R xs ys all.1 place y there
-
-pub take_few : {A : Type 0} (count : ℕ) (xs : List A) → length (take count xs) ≤ count
-take_few zero xs = omega arith
-take_few (suc count) [] = omega arith
-take_few (suc count) (x ∷ xs) = let e = take_few count xs in omega arith

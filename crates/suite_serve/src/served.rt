@@ -61,14 +61,27 @@ impl Served {
         ensures { Prints result (job_lines self.now.ends) [] (O.written writer.old) (O.written writer.new)
             (O.failed_writes writer.old) (O.failed_writes writer.new) }
     {
-        let mut text = Vec::new(alloc);
-        for outcome in &self.outcomes {
-            push_told(alloc, &mut text, outcome.job, ended(&self.transcripts, outcome))?;
-            write_if_full(writer, &mut text)?;
-        }
-        write_gathered(writer, &mut text)?;
-        Ok(())
+        write_lines(alloc, &self.transcripts, &self.outcomes, writer)
     }
+}
+
+/// Writes a line for each of these jobs, whose ends stand in these transcripts.
+fn write_lines<O: ByteOut>(
+    alloc: Global,
+    transcripts: &Transcripts,
+    outcomes: &[JobOutcome],
+    writer: &mut O,
+) -> Result<(), PlayError>
+    ensures { Prints result (job_lines (map (end_in transcripts.now) outcomes.now)) [] (O.written writer.old) (O.written writer.new)
+        (O.failed_writes writer.old) (O.failed_writes writer.new) }
+{
+    let mut text = Vec::new(alloc);
+    for outcome in outcomes {
+        push_told(alloc, &mut text, outcome.job, ended(transcripts, outcome))?;
+        write_if_full(writer, &mut text)?;
+    }
+    write_gathered(writer, &mut text)?;
+    Ok(())
 }
 
 /// The line of a job, where it is told how it ended.

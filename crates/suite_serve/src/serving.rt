@@ -1,6 +1,6 @@
 //! The jobs of a script, carried out by agents in threads on servers under locks, and certified.
 
-ghost use Rattle.std.specs.Prelude.{◌≡◌, ◌-◌, ◌++◌, ◌∷◌, [], IfOk, Ok};
+ghost use Rattle.std.specs.Prelude.{◌≡◌, ◌++◌, ◌∷◌, [], IfOk, Ok};
 ghost use Rattle.agent_pool.specs.Transcripts.{first_player, players_from};
 ghost use Rattle.server_lock.specs.Passes.{passes_of};
 ghost use Rattle.suite_serve.specs.Served.{IsServed};
@@ -119,7 +119,7 @@ fn first_and_others(
     settings: &Settings,
 ) -> Result<(Vec<Player>, Vec<Player>), AllocError>
     ensures first { IfOk result (λ both. both.0.items ≡ first_player settings.now 0 ∷ []) }
-    ensures others { IfOk result (λ both. both.1.items ≡ players_from settings.now 1 (settings.now.agents - 1)) }
+    ensures all { IfOk result (λ both. both.0.items ++ both.1.items ≡ players_from settings.now 0 settings.now.agents) }
 {
     let _agents = settings.agents();
     let mut first = first_players(alloc, settings)?;

@@ -5,7 +5,7 @@ use Rattle.txn_core.specs.declared.job.Job.{Job}
 use Rattle.run_certify.specs.declared.entry.Entry.{Entry}
 use Rattle.agent_pool.specs.declared.outcome.JobOutcome.{JobOutcome}
 use Rattle.agent_pool.specs.declared.workshop.NamedJob.{NamedJob}
-use Rattle.agent_pool.specs.Pools.{AreApart, ran_of}
+use Rattle.agent_pool.specs.Pools.{AreApart}
 use Rattle.agent_pool.specs.Transcripts.{Played, IsTold, number_of}
 use Rattle.suite_serve.specs.declared.serving.Worked.{Worked}
 
@@ -29,7 +29,7 @@ pub record HasEnded (players : List Played) (named : NamedJob) (outcome : JobOut
   pub player : Played
   pub there : Contains players player
   pub number : number_of player ≡ outcome.agent
-  pub told : IsTold player named.job (ran_of outcome)
+  pub told : IsTold player named.job outcome.count outcome.at
 
 abbrev pub HaveEnded : List Played → List NamedJob → List JobOutcome → Type 0
 HaveEnded players jobs outcomes = AllZip (HasEnded players) jobs outcomes
