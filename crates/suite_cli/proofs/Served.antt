@@ -1,5 +1,5 @@
 -- What `serve` has done.
-use Rattle.std.proofs.Common.{◌≡◌, ◌∙◌, ap, sym, refl, subst, inl, inr, ℕ, ◌≤◌, List, [], ◌++◌, length, append_assoc, Option, Some, None, Result, Ok, Err}
+use Rattle.std.proofs.Common.{◌≡◌, ◌∙◌, ap, sym, refl, subst, inl, inr, ℕ, ◌≤◌, List, [], ◌++◌, length, append_assoc, append-nil, Option, Some, None, Result, Ok, Err}
 use Rattle.byte_streams.specs.Streams.{Adds, one_more}
 use Rattle.byte_streams.specs.Whole.{Explains, IsWhole}
 use Rattle.byte_streams.specs.declared.reading.ReadError.{ReadError}
@@ -35,7 +35,7 @@ pub reported : (came : Came) (status : ℕ) (before now after : Option (List ℕ
     → Tells (Done (whole came)) status before after failures failures_after
 reported came status before now after failures failures_now failures_after prints reports =
     let so = prints.0 in
-    let lines : Adds before (job_lines came.ends) now = subst (λ (text : List ℕ). Adds before text now) (sym (append_nil so.front) ∙ so.cut) so.added in
+    let lines : Adds before (job_lines came.ends) now = subst (λ (text : List ℕ). Adds before text now) (sym (append-nil so.front) ∙ so.cut) so.added in
     elim reports [
       | inl finishes ↦ elim finishes [
         | inl all ↦ inl (all.0, adds_both before now after (job_lines came.ends) (certified_line came.steps) lines all.1)
@@ -87,14 +87,30 @@ served_input agents streams status text None whole serves = tt
 served_input agents streams status text (Some input) whole serves =
     inl (subst (λ (one : List ℕ). (length one ≤ max_input) × ServesScript (plan_in agents one) status streams.written streams.written_after streams.failed_writes streams.failed_writes_after) whole.0 (whole.1, serves))
 
+same_ok : (a b : Plan) → Ok {E = ScriptFault} a ≡ Ok b → a ≡ b
+same_ok a b is = cc
+
+same_err : (a b : ScriptFault) → Err {T = Plan} a ≡ Err b → a ≡ b
+same_err a b is = cc
+
+no_ok : (fault : ScriptFault) (plan : Plan) → Err fault ≡ Ok plan → ⊥
+no_ok fault plan is = cc
+
 -- the plan that was read is the one that the script has
 pub served_plan : (given : Result Plan ScriptFault) (plan : Plan) (status : ℕ) (before after : Option (List ℕ)) (failures failures_after : ℕ) → ok_map kept_plan given ≡ Ok plan
     → Concludes plan status before after failures failures_after → ServesScript given status before after failures failures_after
-served_plan (Ok read) plan status before after failures failures_after is concludes = subst (λ (one : Plan). Concludes one status before after failures failures_after) (sym (ok_same is)) concludes
-served_plan (Err fault) plan status before after failures failures_after is concludes = absurd (err_ok is)
+served_plan (Ok read) plan status before after failures failures_after is concludes = subst (λ (one : Plan). Concludes one status before after failures failures_after) (sym (same_ok (kept_plan read) plan is)) concludes
+served_plan (Err fault) plan status before after failures failures_after is concludes = absurd (no_ok fault plan is)
 
 pub faulty_plan : (given : Result Plan ScriptFault) (fault : ScriptFault) (status : ℕ) (before after : Option (List ℕ)) (failures failures_after : ℕ) → ok_map kept_plan given ≡ Err fault
     → Finishes (fault_line fault) faulty status before after failures failures_after → ServesScript given status before after failures failures_after
-faulty_plan (Ok read) fault status before after failures failures_after is finishes = absurd (ok_err is)
+faulty_plan (Ok read) fault status before after failures failures_after is finishes = absurd (no_ok fault (kept_plan read) (sym is))
 faulty_plan (Err other) fault status before after failures failures_after is finishes =
-    told_fault other status before after failures failures_after (subst (λ (one : ScriptFault). Finishes (fault_line one) faulty status before after failures failures_after) (sym (err_same is)) finishes)
+    told_fault other status before after failures failures_after (subst (λ (one : ScriptFault). Finishes (fault_line one) faulty status before after failures failures_after) (sym (same_err other fault is)) finishes)
+
+-- ---- where it was no run, or a write failed
+
+pub fault_reported : (plan : Plan) (fault : CertifyFault) (status : ℕ) (before after : Option (List ℕ)) (failures failures_after : ℕ) → Reports (Err fault) status before after failures failures_after
+    → Concludes plan status before after failures failures_after
+fault_reported plan certify.Mismatch status before after failures failures_after reports = inr (inl reports)
+fault_reported plan certify.Memory status before after failures failures_after reports = inr (inr reports)

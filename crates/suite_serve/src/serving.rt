@@ -1,8 +1,9 @@
 //! The jobs of a script, carried out by agents in threads on servers under locks, and certified.
 
-ghost use Rattle.std.specs.Prelude.{◌≡◌, ◌++◌, ◌∷◌, [], IfOk, Ok};
+ghost use Rattle.std.specs.Prelude.{◌≡◌, ◌++◌, ◌∷◌, [], IfOk, OnOk, Ok};
 ghost use Rattle.agent_pool.specs.Transcripts.{first_player, players_from};
 ghost use Rattle.server_lock.specs.Passes.{passes_of};
+ghost use Rattle.run_certify.specs.Certified.{IsCertified};
 ghost use Rattle.suite_serve.specs.Served.{IsServed};
 ghost use Rattle.suite_serve.specs.code.Working.{AreDone, named_from, transcripts_of};
 
@@ -10,7 +11,7 @@ use crate::script::JobScript;
 use crate::served::{Served, items_in};
 use agent_pool::{JobOutcome, NamedJob, Player, Pool, PoolFault, first_players, run_pool};
 use run_certify::{CertifyFault, Transcripts, certify};
-use server_lock::{OpenGate, Pass, Servers};
+use server_lock::{Histories, OpenGate, Pass, Servers};
 use std::alloc::{AllocError, Global};
 use std::sync::Wait;
 use std::thread::Threads;
@@ -43,10 +44,23 @@ pub fn serve<R: Threads + Wait + Sync>(
         return Err(CertifyFault::Mismatch);
     };
     let transcripts = transcripts_of(alloc, agents)?;
-    certify(alloc, &settings, &histories, &transcripts)?;
+    judge(alloc, &settings, &histories, &transcripts)?;
     let _servers = settings.servers();
     let steps = items_in(&histories);
     Ok(Served::new(transcripts, outcomes, steps))
+}
+
+/// Certifies that this is one run.
+fn judge(
+    alloc: Global,
+    settings: &Settings,
+    histories: &Histories,
+    transcripts: &Transcripts,
+) -> Result<(), CertifyFault>
+    ensures { OnOk result (IsCertified settings.now histories.now transcripts.now) }
+{
+    certify(alloc, settings, histories, transcripts)?;
+    Ok(())
 }
 
 /// The jobs, numbered from 0.
