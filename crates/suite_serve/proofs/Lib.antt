@@ -6,4 +6,4 @@ mod Pooled
 mod Ended
 mod Counted
 mod Written
-mod Serving
+mod Certified

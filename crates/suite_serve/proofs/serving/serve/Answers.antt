@@ -1,5 +1,5 @@
 use Rattle.suite_serve.proofs.Counted.{few_items}
-use Rattle.suite_serve.proofs.Serving.{is_served}
+use Rattle.suite_serve.proofs.Certified.{is_served}
 use Rattle.suite_serve.proofs.serving.serve.Goals as goal
 
 pub returns : goal.returns
