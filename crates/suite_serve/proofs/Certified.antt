@@ -3,6 +3,7 @@ use Rattle.std.proofs.Common.{◌≡◌, ap, sym, subst, ℕ, List, map}
 use Rattle.server_lock.specs.declared.item.Item.{Item}
 use Rattle.run_certify.specs.declared.entry.Entry.{Entry}
 use Rattle.run_certify.specs.Certified.{IsCertified}
+use Rattle.agent_pool.specs.declared.outcome.JobOutcome.{JobOutcome}
 use Rattle.agent_pool.specs.declared.workshop.NamedJob.{NamedJob}
 use Rattle.suite_serve.specs.Scripts.{Plan}
 use Rattle.suite_serve.specs.Served.{AreApart, AreFirst, AreJobEnds, Came, IsServed, end_in, items_in}
@@ -10,9 +11,13 @@ use Rattle.suite_serve.specs.code.Working.{AreDone, HaveEnded, named_from, trans
 use Rattle.suite_serve.specs.declared.serving.Worked.{Worked}
 use Rattle.suite_serve.proofs.Ended.{all_ends, apart_ends, first_ends}
 
+-- what came of jobs, by the outcomes that a pool gave
+abbrev pub came_of : List (List Entry) → List JobOutcome → ℕ → Came
+came_of transcripts outcomes steps = record { ends = map (end_in transcripts) outcomes; steps = steps }
+
 pub is_served : (plan : Plan) (came : Came) (histories : List (List Item)) (transcripts : List (List Entry)) (jobs : List NamedJob) (worked : Worked)
     → IsCertified plan.settings histories transcripts → jobs ≡ named_from 0 plan.jobs → transcripts ≡ transcripts_of worked.agents.items → AreDone jobs plan.alone worked
-    → came ≡ record { ends = map (end_in transcripts) worked.outcomes.items; steps = items_in histories } → IsServed plan came
+    → came ≡ came_of transcripts worked.outcomes.items (items_in histories) → IsServed plan came
 is_served plan came histories transcripts jobs worked certified named told done is =
     let players = worked.agents.items in
     let outcomes = worked.outcomes.items in

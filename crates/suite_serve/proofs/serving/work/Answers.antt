@@ -35,16 +35,16 @@ returns g c =
       (subst (λ (ps : List Played). IsPoolOf below ps first.passes.items second) c.in_ok-agents-2.ensures two)
       refl c.in_ok-outcomes.ensures
 
-pub run_pool-requires-ready : goal.run_pool-requires-ready
-run_pool-requires-ready g c =
+pub run_pool-requires-clause-ready : goal.run_pool-requires-clause-ready
+run_pool-requires-clause-ready g c =
     let given = c.args.servers.now in
     let first = c.in_ok-first.first.items in
     let others = c.in_ok-first.others.items in
     let all : first ++ others ≡ players_from given 0 given.agents = c.in_ok-first.ensures.all ∙ ap (λ (s : Opening). players_from s 0 s.agents) c.settings.ensures in
     ready_front c.args.passes.items first others (all_ready given c.args.passes.items (first ++ others) c.requires all)
 
-pub run_pool-2-requires-ready : goal.run_pool-2-requires-ready
-run_pool-2-requires-ready g c =
+pub run_pool-requires-2-clause-ready : goal.run_pool-requires-2-clause-ready
+run_pool-requires-2-clause-ready g c =
     let given = c.args.servers.now in
     let first = c.in_ok-first.first.items in
     let others = c.in_ok-first.others.items in
