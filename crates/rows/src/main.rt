@@ -46,7 +46,11 @@ fn main(rt: HostRuntime) -> ExitCode {
 }
 
 /// Plays all rows of a text: a row begins where a line begins with `$`.
-fn play_all<R: Threads + Wait + Sync>(rt: &R, alloc: Global, text: &str) -> Result<Report, AllocError> {
+fn play_all<R: Threads + Wait + Sync>(
+    rt: &R,
+    alloc: Global,
+    text: &str,
+) -> Result<Report, AllocError> {
     let text = text.strip_suffix('\n').unwrap_or(text);
     let mut report = Report::new(alloc);
     let mut place = Place { line: 1, title: "" };

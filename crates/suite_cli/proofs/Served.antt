@@ -41,10 +41,13 @@ reported came status before now after failures failures_now failures_after print
         | inl all ↦ inl (all.0, adds_both before now after (job_lines came.ends) (certified_line came.steps) lines all.1)
         | inr failed ↦ inr (inr (failed.0, failed.1 ∙ ap one_more prints.1))
       ]
-      | inr lacks ↦ inr (inl (lacks.0, elim lacks.1 [
-        | inl added ↦ inl (job_lines came.ends, ((certified_line came.steps, refl), adds_both before now after (job_lines came.ends) memory_line lines added))
-        | inr failed ↦ inr (failed ∙ ap one_more prints.1)
-      ]))
+      | inr lacks ↦ inr (inl (
+        lacks.0,
+        elim lacks.1 [
+          | inl added ↦ inl (job_lines came.ends, ((certified_line came.steps, refl), adds_both before now after (job_lines came.ends) memory_line lines added))
+          | inr failed ↦ inr (failed ∙ ap one_more prints.1)
+        ],
+      ))
     ]
 
 -- memory ran out among its lines
@@ -55,16 +58,19 @@ broken_off came status before now after failures failures_now failures_after pri
     let so = prints.0.1 in
     let rest = prints.0.0 in
     let begun = sym (append_assoc so.front rest (certified_line came.steps)) ∙ ap (λ (text : List ℕ). text ++ certified_line came.steps) so.cut in
-    inr (inl (is, elim says [
-      | inl added ↦ inl (so.front, ((rest ++ certified_line came.steps, begun), adds_both before now after so.front memory_line so.added added))
-      | inr failed ↦ inr (failed ∙ ap one_more prints.1)
-    ]))
+    inr (inl (
+      is,
+      elim says [
+        | inl added ↦ inl (so.front, ((rest ++ certified_line came.steps, begun), adds_both before now after so.front memory_line so.added added))
+        | inr failed ↦ inr (failed ∙ ap one_more prints.1)
+      ],
+    ))
 
 -- ---- a script that has a fault
 
 pub told_fault : (fault : ScriptFault) (status : ℕ) (before after : Option (List ℕ)) (failures failures_after : ℕ) → Finishes (fault_line fault) faulty status before after failures failures_after
     → ServesScript (Err fault) status before after failures failures_after
-told_fault fault status before after failures failures_after finishes = elim finishes [ | inl all ↦ inl all | inr failed ↦ inr (inr failed) ]
+told_fault fault status before after failures failures_after finishes = elim finishes [ inl all ↦ inl all | inr failed ↦ inr (inr failed) ]
 
 -- ---- where nothing is told of the input
 

@@ -30,7 +30,7 @@ is_served plan came histories transcripts jobs worked certified named told done 
       transcripts = transcripts;
       certified = certified;
       each =
-        subst (λ (all : Came). AreJobEnds transcripts 0 plan.jobs all.ends) (sym is)
+          subst (λ (all : Came). AreJobEnds transcripts 0 plan.jobs all.ends) (sym is)
           (subst (λ (ts : List (List Entry)). AreJobEnds ts 0 plan.jobs (map (end_in ts) outcomes)) (sym told) each);
       apart = subst (λ (all : Came). AreApart all.ends) (sym is) (subst (λ (ts : List (List Entry)). AreApart (map (end_in ts) outcomes)) (sym told) apart);
       alone = subst (λ (all : Came). AreFirst plan.alone all.ends) (sym is) (subst (λ (ts : List (List Entry)). AreFirst plan.alone (map (end_in ts) outcomes)) (sym told) first);

@@ -40,11 +40,11 @@ one_end players are named outcome has =
     let end : Outcome = record { agent = number_of has.player; count = outcome.count; steps = length told.asked; ending = told.ending } in
     let there = transcript_at players are has.player has.there ∙ ap Some told.split in
     let name : named_end (transcripts_of players) outcome ≡ Some end =
-      ap (λ n. end_at (slice_get (transcripts_of players) n) outcome.at) (sym has.number)
-      ∙ ap (λ (o : Option (List Entry)). end_at o outcome.at) there
-      ∙ ap (λ n. end_of (slice_get (told.before ++ Begun named.job ∷ (told.asked ++ Ended end ∷ told.after)) n)) (sym told.at)
-      ∙ end_there told.before told.asked told.after (Begun named.job) end
-      in
+    ap (λ n. end_at (slice_get (transcripts_of players) n) outcome.at) (sym has.number)
+    ∙ ap (λ (o : Option (List Entry)). end_at o outcome.at) there
+    ∙ ap (λ n. end_of (slice_get (told.before ++ Begun named.job ∷ (told.asked ++ Ended end ∷ told.after)) n)) (sym told.at)
+    ∙ end_there told.before told.asked told.after (Begun named.job) end
+    in
     record {
       told = end;
       is = λ i. record { job = has.of i; told = name i };

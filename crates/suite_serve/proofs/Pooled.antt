@@ -33,10 +33,10 @@ told_still was now job number place longer told =
       after = told.after ++ longer.rest;
       ending = told.ending;
       split =
-        longer.entries ∙ ap (λ (es : List Entry). es ++ longer.rest) told.split
-        ∙ append_assoc told.before (Begun job ∷ (told.asked ++ end (number_of was) ∷ told.after)) longer.rest
-        ∙ ap (λ (es : List Entry). told.before ++ Begun job ∷ es) (append_assoc told.asked (end (number_of was) ∷ told.after) longer.rest)
-        ∙ ap (λ (n : ℕ). told.before ++ Begun job ∷ (told.asked ++ end n ∷ (told.after ++ longer.rest))) (sym longer.number);
+          longer.entries ∙ ap (λ (es : List Entry). es ++ longer.rest) told.split
+          ∙ append_assoc told.before (Begun job ∷ (told.asked ++ end (number_of was) ∷ told.after)) longer.rest
+          ∙ ap (λ (es : List Entry). told.before ++ Begun job ∷ es) (append_assoc told.asked (end (number_of was) ∷ told.after) longer.rest)
+          ∙ ap (λ (n : ℕ). told.before ++ Begun job ∷ (told.asked ++ end n ∷ (told.after ++ longer.rest))) (sym longer.number);
       count = told.count;
       asks = told.asks;
       at = told.at;
@@ -197,26 +197,26 @@ both_done given jobs above below alone passes others first second worked split c
     let once = one.once in
     let none : begun_by (first_player given 0 ∷ []) ≡ 0 = refl in
     let cross : (i j : ℕ) (a b : JobOutcome) → slice_get first.outcomes.items i ≡ Some a → slice_get second.outcomes.items j ≡ Some b → a.agent ≡ b.agent → a.count ≡ b.count → ⊥ = λ i j a b at_i at_j agent count.
-      let here = all i a at_i in
-      let named = zip_at (IsOutcome was second.agents.items) below second.outcomes.items two.each j b at_j in
-      let is = named.1 in
-      let begun = since_alone passes first.passes.items (first_player given 0) first.agents.items others one.agents numbered is.before is.by.had (is.by.old ∙ sym agent ∙ here.0) in
-      let since = is.since in
-      let less = here.1 in
-      omega arith
-      in
+    let here = all i a at_i in
+    let named = zip_at (IsOutcome was second.agents.items) below second.outcomes.items two.each j b at_j in
+    let is = named.1 in
+    let begun = since_alone passes first.passes.items (first_player given 0) first.agents.items others one.agents numbered is.before is.by.had (is.by.old ∙ sym agent ∙ here.0) in
+    let since = is.since in
+    let less = here.1 in
+    omega arith
+    in
     record {
       numbered = subst (AreNumbered 0) (sym agents) (numbered_still first.passes.items second.passes.items 0 was second.agents.items two.agents numbered);
       each = subst (λ (ps : List Played). HaveEnded ps jobs worked.outcomes.items) (sym agents) (subst (λ (os : List JobOutcome). HaveEnded second.agents.items jobs os) (sym outcomes) each);
       apart = subst AreApart (sym outcomes) (apart_both first.outcomes.items second.outcomes.items one.apart two.apart cross);
       first =
-        subst (AreOfFirst alone) (sym outcomes)
+          subst (AreOfFirst alone) (sym outcomes)
           (λ (place : ℕ) (outcome : JobOutcome) (low : place < alone) (there : slice_get (first.outcomes.items ++ second.outcomes.items) place ≡ Some outcome).
-            let within = slice_get_within (first.outcomes.items ++ second.outcomes.items) place outcome there in
-            let before : place < length first.outcomes.items = omega arith in
-            let is = first_of_both (begun_by first.agents.items) first.outcomes.items second.outcomes.items all place outcome before there in
-            let less = is.1 in
-            (is.0, omega arith));
+          let within = slice_get_within (first.outcomes.items ++ second.outcomes.items) place outcome there in
+          let before : place < length first.outcomes.items = omega arith in
+          let is = first_of_both (begun_by first.agents.items) first.outcomes.items second.outcomes.items all place outcome before there in
+          let less = is.1 in
+          (is.0, omega arith));
     }
 
 -- ---- agents who can work

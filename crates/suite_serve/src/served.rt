@@ -53,11 +53,7 @@ impl Served {
     }
 
     /// Writes a line for each job, in the order of their numbers.
-    pub fn write_outcomes<O: ByteOut>(
-        &self,
-        alloc: Global,
-        writer: &mut O,
-    ) -> Result<(), PlayError>
+    pub fn write_outcomes<O: ByteOut>(&self, alloc: Global, writer: &mut O) -> Result<(), PlayError>
         ensures { Prints result (job_lines self.now.ends) [] (O.written writer.old) (O.written writer.new)
             (O.failed_writes writer.old) (O.failed_writes writer.new) }
     {

@@ -18,10 +18,10 @@ returns g c =
     let done : AreDone jobs plan.alone worked = subst (λ (js : List NamedJob). AreDone js plan.alone worked) c.deref.ensures.value c.in_ok-agents.ensures in
     let told = c.new.ensures ∙ ap (came_of transcripts worked.outcomes.items) c.items_in-steps.ensures in
     subst (λ (p : Plan). IsServed p c.new.result) c.script.view_is
-      (is_served plan c.new.result c.in-Ok.histories transcripts jobs worked c.in_ok-judge.ensures c.in_ok-jobs.ensures c.in_ok-transcripts.ensures done told)
+    (is_served plan c.new.result c.in-Ok.histories transcripts jobs worked c.in_ok-judge.ensures c.in_ok-jobs.ensures c.in_ok-transcripts.ensures done told)
 
 pub items_in-steps-requires : goal.items_in-steps-requires
 items_in-steps-requires g c =
     let histories = c.in-Ok.histories in
     few_items c.script.inside.settings histories c.servers-servers.ensures.accepted
-      (subst (λ (given : Opening). AreOf given histories) c.in_ok-servers.ensures.servers c.in-Ok.ensures.legal)
+    (subst (λ (given : Opening). AreOf given histories) c.in_ok-servers.ensures.servers c.in-Ok.ensures.legal)
