@@ -1,7 +1,7 @@
 -- From outcomes to how jobs ended in the agents' transcripts.
-use Rattle.std.proofs.Common.{◌≡◌, ◌∙◌, ap, sym, refl, subst, arith, ℕ, zero, suc, ◌+◌, ◌<◌, List, [], ◌∷◌, ◌++◌, length, map}
+use Rattle.std.proofs.Common.{◌≡◌, ◌∙◌, ap, sym, refl, arith, ℕ, zero, suc, ◌+◌, List, [], ◌∷◌, ◌++◌, length, map}
 use Rattle.std.proofs.lemmas.Option.{none-some, same_Some, slice_get-map}
-use Rattle.std.specs.Prelude.{Contains, slice_get, Option, Some, None}
+use Rattle.std.specs.Prelude.{Contains, slice_get, Option, Some}
 use Rattle.std.specs.Prelude.{option_map}
 use Rattle.txn_core.specs.declared.job.Job.{Job}
 use Rattle.run_core.specs.declared.done.Outcome.{Outcome}

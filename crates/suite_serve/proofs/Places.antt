@@ -1,5 +1,5 @@
 -- Places in lists.
-use Rattle.std.proofs.Common.{◌≡◌, ◌∙◌, ◌⊎◌, ap, refl, subst, inl, inr, arith, ℕ, zero, suc, ◌+◌, List, [], ◌∷◌, ◌++◌, length}
+use Rattle.std.proofs.Common.{◌≡◌, ◌∙◌, ◌⊎◌, ap, subst, inl, inr, arith, ℕ, zero, suc, ◌+◌, List, [], ◌∷◌, ◌++◌, length}
 use Rattle.std.specs.Prelude.{Contains, slice_get, Some}
 use Rattle.std.specs.List.{AllZip}
 use Rattle.std.proofs.lemmas.Option.{get_or_from_slice_get, none-some, same_Some, slice_get-get_or, slice_get_within}

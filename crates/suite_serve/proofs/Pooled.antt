@@ -1,9 +1,9 @@
 -- From what agent 0 did alone, and what all agents did after it, to what was done with all jobs.
-use Rattle.std.proofs.Common.{◌≡◌, ◌∙◌, ap, sym, refl, subst, inl, inr, arith, append_assoc, ℕ, zero, suc, ◌+◌, ◌<◌, ◌≤◌, min, List, [], ◌∷◌, ◌++◌, length}
+use Rattle.std.proofs.Common.{◌≡◌, ◌∙◌, ap, sym, refl, subst, inl, inr, arith, append_assoc, ℕ, zero, suc, ◌+◌, ◌<◌, min, List, [], ◌∷◌, ◌++◌, length}
 use Rattle.std.proofs.lemmas.Slice.Zip.{AllZip-long}
 use Rattle.std.proofs.lemmas.List.Elements.{Contains-append_left}
 use Rattle.std.proofs.lemmas.Option.{none-some, same_Some, slice_get_within}
-use Rattle.std.specs.Prelude.{Contains, slice_get, Option, Some, None}
+use Rattle.std.specs.Prelude.{Contains, slice_get, Some}
 use Rattle.std.specs.List.{AllZip}
 use Rattle.txn_core.specs.declared.job.Job.{Job}
 use Rattle.suite_prefix.specs.SettingsRules.{Opening}

@@ -1,5 +1,5 @@
 -- Text that was gathered, and is written at last.
-use Rattle.std.proofs.Common.{◌≡◌, ◌∙◌, ap, sym, refl, subst, ℕ, List, [], ◌++◌, append-nil, Option}
+use Rattle.std.proofs.Common.{◌∙◌, ℕ, List, [], ◌++◌, append-nil, Option}
 use Rattle.byte_streams.specs.Streams.{Adds}
 use Rattle.suite_script.proofs.Gathering.{adds_both}
 use Rattle.suite_script.specs.Gathering.{WroteSoFar}
