@@ -1,5 +1,5 @@
 -- The sites of which agents keep something: those that there are.
-use Rattle.std.specs.Prelude.{◌≡◌, ℕ, ◌+◌, ◌<◌, true, false, List, Contains}
+use Rattle.std.specs.Prelude.{◌≡◌, ◌<◌, true, false, List, Contains}
 use Rattle.suite_prefix.specs.SettingsRules.{Opening}
 use Rattle.weak_cache.specs.Entries.{Entry}
 use Rattle.txn_core.specs.declared.job.Job.{Job}
