@@ -1,11 +1,10 @@
 -- Agents keep nothing for sites that are not there: an agent by itself, and each agent of a run.
 use Rattle.std.proofs.Common.{◌≡◌, ◌⊎◌, inl, inr, ℕ, zero, suc, ◌+◌, ◌<◌, Bool, true, false, cond, List, [], ◌∷◌, ◌++◌, append_assoc, Option, Some, None, refl, sym, ap, subst, ◌∙◌, arith}
-use Rattle.std.specs.Prelude.{◌&&◌, nat_lt, slice_get, slice_set, Contains}
+use Rattle.std.specs.Prelude.{◌&&◌, nat_lt, slice_get, slice_set}
 use Rattle.std.proofs.lemmas.Bool.{false≢true, and_parts}
 use Rattle.std.proofs.lemmas.Bool.Decides.{nat_tests}
 use Rattle.std.proofs.lemmas.List.{append-nil}
 use Rattle.std.proofs.lemmas.Option.{none-some, same_Some}
-use Rattle.suite_prefix.specs.SettingsRules.{Opening}
 use Rattle.rep_core.specs.declared.request.Request.{Request}
 use Rattle.rep_core.specs.declared.request.Request.TheVariants as request
 use Rattle.rep_core.specs.declared.stamped.Lack.TheVariants as lack
@@ -26,7 +25,7 @@ use Rattle.run_core.specs.declared.event.Event.TheVariants.{Begin, Step, Crash, 
 use Rattle.run_core.specs.declared.done.Served.{Served}
 use Rattle.run_core.specs.Worlds as worlds
 use Rattle.run_core.specs.Worlds.{World, Actor, server_at, actor_at, actors_from, serve, answered, asks_at, asks, steps_once, lacks_for, lacks, operated, operates, becomes, opening, step}
-use Rattle.run_core.specs.Runs.{after, run}
+use Rattle.run_core.specs.Runs.{after}
 use Rattle.agent_laws.specs.Steps.{agent_after}
 use Rattle.agent_laws.specs.Sites.{KeepsToSites, AgentsStaySo, RunsKeepTo}
 use Rattle.agent_laws.proofs.Told.{busy_before}
@@ -64,7 +63,7 @@ forgets_keeps agent site keeps entry there = keeps entry (caches_what_was_fetche
 
 event_keeps : (fixed : Fixed) (agent : Agent) (job : Job) (events : List agents.Event) (event : agents.Event) → is_idle agent.doing ≡ true
     → KeepsToSites (agent_after fixed agent job events) → KeepsToSites (agent_after fixed agent job (events ++ event ∷ []))
-event_keeps fixed agent job events (Take word) idle keeps entry there =
+event_keeps fixed agent job events (Take word) idle keeps = λ entry there.
     elim (caches_what_was_fetched.told fixed agent job events word entry idle there) [
       | inl before ↦ keeps entry before
       | inr fetched ↦ fetched_there fixed agent job events word entry idle fetched

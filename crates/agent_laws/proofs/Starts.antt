@@ -1,5 +1,5 @@
 -- With valid votes a suite that is gathered was told of, so a lock on it was asked for at its start.
-use Rattle.std.proofs.Common.{◌≡◌, inl, inr, ℕ, zero, suc, ◌+◌, ◌<◌, Bool, true, false, List, [], ◌∷◌, ◌++◌, append_assoc, Option, Some, None, refl, sym, ap, subst, ◌∙◌, arith}
+use Rattle.std.proofs.Common.{◌≡◌, inl, inr, ℕ, zero, suc, ◌<◌, Bool, true, false, List, [], ◌∷◌, ◌++◌, append_assoc, Option, Some, None, refl, sym, ap, subst, ◌∙◌, arith}
 use Rattle.std.specs.Prelude.{is_some, option_map, unwrap_or, Contains}
 use Rattle.std.proofs.lemmas.Bool.{false≢true}
 use Rattle.std.proofs.lemmas.List.Elements.{Contains-append_left}
@@ -17,7 +17,6 @@ use Rattle.suite_collect.specs.declared.told.Said.{Said}
 use Rattle.suite_collect.specs.declared.told.Told.{Told}
 use Rattle.suite_collect.specs.Telling.{has_told, newest}
 use Rattle.suite_collect.specs.Collecting.{Collector, needed_of, next, Current}
-use Rattle.weak_cache.specs.Entries.{Entry}
 use Rattle.weak_cache.specs.Cache.{hint}
 use Rattle.weak_cache.proofs.Origins.{hint_has, has_to}
 use Rattle.txn_core.specs.Suites.{Suite, known_of}
@@ -31,7 +30,7 @@ use Rattle.txn_core.specs.Undecided.{WasGathered, SetsVotes, IsShort}
 use Rattle.txn_core.proofs.Gathers.{untold_before}
 use Rattle.txn_core.proofs.Shown.{kind_of, told_said}
 use Rattle.agent_laws.specs.Steps.{agent_after, VotesAreValid}
-use Rattle.agent_laws.specs.Starts.{IsAsked, ShortsWereAsked, GatheredWereAsked, StartsAreAsked}
+use Rattle.agent_laws.specs.Starts.{IsAsked, StartsAreAsked}
 use Rattle.agent_laws.proofs.Collectors.{not_current}
 use Rattle.agent_laws.proofs.Walk.{suite_known}
 use Rattle.agent_laws.proofs.Ends.{caches_stay_valid}
