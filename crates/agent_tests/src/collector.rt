@@ -4,7 +4,7 @@
 
 mod talks;
 
-use acl_core::{Acl, Lists, Mode};
+use crate::fixtures::{lists, number};
 use rep_core::{Reply, Request};
 use std::process::Abort;
 use suite_collect::{
@@ -30,18 +30,13 @@ fn votes(rt: &impl Abort, place: &str) -> Votes {
     Votes::new(6, reps, r, w).ok().expect(rt, "votes")
 }
 
-fn number(rt: &impl Abort, digits: &str) -> u64 {
-    digits.parse::<u64>().ok().expect(rt, "a number")
-}
-
 fn prefix(rt: &(impl Abort + AllocGlobal), pver: u64, place: &str) -> Prefix {
-    let mode = Mode::new(0o644).expect(rt, "a mode");
     Prefix {
         pver,
         kind: PrefixKind::File,
         owner: 1000,
         group: 100,
-        acl: Lists::from(Acl::from_mode(rt.alloc(), mode).expect(rt, "memory")),
+        acl: lists(rt, 0o644),
         votes: votes(rt, place),
     }
 }

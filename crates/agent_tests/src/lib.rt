@@ -7,6 +7,8 @@
 #[cfg(test)]
 mod collector;
 #[cfg(test)]
+mod fixtures;
+#[cfg(test)]
 mod sweeps;
 #[cfg(test)]
 mod worlds;

@@ -5,21 +5,11 @@ ghost use Rattle.txn_core.specs.Agents.{next_of};
 ghost use Rattle.txn_core.specs.Laws.{fits_word};
 ghost use Rattle.txn_core.specs.Standing.{FitsAsked};
 
-use acl_core::{Acl, Lists, Mode};
+use crate::fixtures::{number, settings};
 use rep_core::{Lock, LockList, Reply, Request, Verdict};
 use std::process::Abort;
-use suite_prefix::{LockMode, Settings};
+use suite_prefix::LockMode;
 use txn_core::{Agent, Ending, Job, Word};
-use vote_core::Votes;
-
-/// Three servers, the first with all votes.
-fn settings(rt: &(impl Abort + AllocGlobal)) -> Settings {
-    let votes = Votes::new(3, &[(0, 1)], 1, 1).ok().expect(rt, "votes");
-    let mode = Mode::new(0o777).expect(rt, "a mode");
-    let lists = Lists::from(Acl::from_mode(rt.alloc(), mode).expect(rt, "memory"));
-    let settings = Settings::new(3, 1, votes, 1000, 100, lists, 0, 0, 0);
-    settings.ok().expect(rt, "settings")
-}
 
 /// What an agent asks, and of which server.
 fn asked(rt: &impl Abort, agent: &Agent) -> (u8, Request)
@@ -39,10 +29,6 @@ fn asked_text(rt: &(impl Abort + AllocGlobal), at: u8, request: &Request) -> Str
         other => format!(in rt.alloc(); "{at} {other:?}"),
     };
     text.ok().expect(rt, "memory")
-}
-
-fn number(rt: &impl Abort, digits: &str) -> u64 {
-    digits.parse::<u64>().ok().expect(rt, "a number")
 }
 
 /// A transaction and a suite; a prepared lock has a mark.
@@ -116,7 +102,7 @@ static TALK: &str = "
 /// home is down.
 #[test]
 fn a_sweep_resolves_what_is_prepared(rt: HostRuntime) {
-    let made = Agent::new(rt.alloc(), 0, &settings(&rt));
+    let made = Agent::new(rt.alloc(), 0, &settings(&rt, &[(0, 1)], 1));
     let mut agent = made.ok().expect(&rt, "memory");
     let begun = agent.begin(&Job::Sweep { server: 1 });
     begun.ok().expect(&rt, "memory");

@@ -7,12 +7,9 @@
 mod read;
 
 use self::read::{event, number};
-use acl_core::{Acl, Lists, Mode};
+use crate::fixtures::settings;
 use run_core::{Event, Outcome, World, runs_go_on, worked_runs};
 use std::process::Abort;
-use suite_prefix::Settings;
-use txn_core::Ending;
-use vote_core::Votes;
 
 /// What a call gives, where memory may be refused to it once.
 macro_rules! again {
@@ -31,18 +28,9 @@ struct Pair {
     advanced: World,
 }
 
-/// Three servers with a vote each, two of them a quorum; two agents; no room for caches.
-fn settings(rt: &(impl Abort + AllocGlobal)) -> Settings {
-    let votes = Votes::new(3, &[(0, 1), (1, 1), (2, 1)], 2, 2);
-    let votes = votes.ok().expect(rt, "votes");
-    let mode = Mode::new(0o777).expect(rt, "a mode");
-    let lists = Lists::from(Acl::from_mode(rt.alloc(), mode).expect(rt, "memory"));
-    let settings = Settings::new(3, 2, votes, 1000, 100, lists, 0, 0, 0);
-    settings.ok().expect(rt, "settings")
-}
-
+/// Three servers, two of which are a quorum; two agents.
 fn world(rt: &(impl Abort + AllocGlobal)) -> World {
-    let settings = settings(rt);
+    let settings = settings(rt, &[(0, 1), (1, 1), (2, 1)], 2);
     again!(rt, World::opening(rt.alloc(), &settings))
 }
 
@@ -60,12 +48,7 @@ fn same(rt: &impl Abort, got: &str, want: &str, about: &str) {
 /// How a job ended, in words.
 fn words(rt: &(impl Abort + AllocGlobal), outcome: &Outcome) -> String {
     let (agent, count, steps) = (outcome.agent, outcome.count, outcome.steps);
-    let made = match &outcome.ending {
-        Ending::Answered(answers) => {
-            format!(in rt.alloc(); "{agent}.{count} {steps} {:?}", answers.as_slice())
-        }
-        other => format!(in rt.alloc(); "{agent}.{count} {steps} {other:?}"),
-    };
+    let made = format!(in rt.alloc(); "{agent}.{count} {steps} {:?}", outcome.ending);
     made.ok().expect(rt, "memory")
 }
 
@@ -134,12 +117,17 @@ fn plays(rt: &(impl Abort + AllocGlobal), worlds: &mut Pair, text: &str) {
     }
 }
 
+/// Plays the lines of a text on worlds that have just been opened.
+fn run(rt: &(impl Abort + AllocGlobal), text: &str) {
+    plays(rt, &mut both(rt), text);
+}
+
 static DENIED: &str = "
 begin 0 file /a; write /a hi
 idle 0 -> false
 idle 1 -> true
 idle 7 -> true
-step 0: 10 -> 0.0 10 [Made(1), Wrote]
+step 0: 10 -> 0.0 10 Answered(Answers { replies: [Made(1), Wrote] })
 idle 0 -> true
 audit 0 -> 0
 audit 7 -> 0
@@ -151,24 +139,24 @@ audit 0 -> 0";
 
 #[test]
 fn a_denial_is_recorded_at_its_home(rt: HostRuntime) {
-    plays(&rt, &mut both(&rt), DENIED);
+    run(&rt, DENIED);
 }
 
 static LOST: &str = "
 begin 0 file /a; write /a hi
-step 0: 10 -> 0.0 10 [Made(1), Wrote]
+step 0: 10 -> 0.0 10 Answered(Answers { replies: [Made(1), Wrote] })
 begin 0 read /a; write /a hi
 step 0: 6
 crash 0
 return 0
 begin 1 close /a
-step 1: 13 -> 1.0 13 [Set]
+step 1: 13 -> 1.0 13 Answered(Answers { replies: [Set] })
 step 0: 3 -> 0.1 9 Undecided(Lost { server: 0 })
 step 0";
 
 #[test]
 fn a_server_is_lost(rt: HostRuntime) {
-    plays(&rt, &mut both(&rt), LOST);
+    run(&rt, LOST);
 }
 
 /// Events without sense among others.
@@ -176,7 +164,7 @@ static SENSELESS: &str = "
 step 0: 10
 lack 0: 10
 begin 0 file /a; write /a hi: 10
-step 0: 10 -> 0.0 10 [Made(1), Wrote]
+step 0: 10 -> 0.0 10 Answered(Answers { replies: [Made(1), Wrote] })
 crash 1: 10
 begin 1 read /a: 10
 step 1: 13 -> 1.0 13 Undecided(HomeDown)
@@ -192,27 +180,27 @@ lack 7";
 
 #[test]
 fn events_without_sense(rt: HostRuntime) {
-    plays(&rt, &mut both(&rt), SENSELESS);
+    run(&rt, SENSELESS);
 }
 
 /// A request is not served for want of memory: before the decision that ends a transaction, and after it changes
 /// nothing. So it is where a server is full.
 static LACKS: &str = "
 begin 0 file /a; write /a hi
-step 0: 10 -> 0.0 10 [Made(1), Wrote]
+step 0: 10 -> 0.0 10 Answered(Answers { replies: [Made(1), Wrote] })
 begin 0 write /a no
 step 0: 4
 lack 0
 step 0: 2 -> 0.1 7 Undecided(Memory)
 begin 0 write /a ho
 step 0: 8
-lack 0: 2 -> 0.2 10 [Wrote]
+lack 0: 2 -> 0.2 10 Answered(Answers { replies: [Wrote] })
 sweep 1 0
 step 1: 3 -> 1.0 3 Swept { broken: 0, finished: 1, left: 0 }
 sweep 1 1
 step 1: 3 -> 1.1 3 Swept { broken: 0, finished: 1, left: 0 }
 begin 0 read /a
-step 0: 11 -> 0.3 11 [Read(FileBytes { shared: Some([104, 111]) })]
+step 0: 11 -> 0.3 11 Answered(Answers { replies: [Read(FileBytes { shared: Some([104, 111]) })] })
 begin 0 write /a x
 step 0: 5
 full 0
@@ -220,35 +208,35 @@ step 0: 2 -> 0.4 8 Undecided(Full { server: 0 })";
 
 #[test]
 fn requests_are_not_served(rt: HostRuntime) {
-    plays(&rt, &mut both(&rt), LACKS);
+    run(&rt, LACKS);
 }
 
 static FOLDERS: &str = "
 begin 0 folder /0; folder /1; folder /2; folder /3; folder /4
-step 0: 18 -> 0.0 18 [Made(1), Made(2), Made(3), Made(4), Made(5)]";
+step 0: 18 -> 0.0 18 Answered(Answers { replies: [Made(1), Made(2), Made(3), Made(4), Made(5)] })";
 
 /// Two places are left.
 static LAST_PLACES: &str = "
 begin 0 file /4/y; file /4/z
-step 0: 15 -> 0.512 15 [Made(262145), Made(262146)]
+step 0: 15 -> 0.512 15 Answered(Answers { replies: [Made(262145), Made(262146)] })
 begin 0 file /b
 step 0: 8 -> 0.513 8 Undecided(Full { server: 0 })
-begin 0 write /0/0 x
-step 0: 13 -> 0.514 13 [Wrote]
+begin 0 write /0/0a x
+step 0: 13 -> 0.514 13 Answered(Answers { replies: [Wrote] })
 begin 0 read /b
 step 0: 8 -> 0.515 8 Refused(Refusal { op: 1, why: NoName })";
 
 /// Eight files are made, in the folder of their thousand.
-fn eight_files(rt: &(impl Abort + AllocGlobal), worlds: &mut Pair, first: u16) {
-    let folder = first / 1000;
-    let mut line = String::from_str(rt.alloc(), "begin 0").expect(rt, "memory");
-    for file in first..first.saturating_add(8) {
-        let word = format!(in rt.alloc(); " file /{folder}/{file};").expect(rt, "memory");
-        line.push_str(&word).expect(rt, "memory");
-    }
-    happens(rt, worlds, line.trim_end_matches(';'));
+fn eight_files(rt: &(impl Abort + AllocGlobal), worlds: &mut Pair, t: u16) {
+    let at = t / 125;
+    let line = format!(in rt.alloc();
+        "begin 0 file /{at}/{t}a; file /{at}/{t}b; file /{at}/{t}c; file /{at}/{t}d; file /{at}/{t}e; file /{at}/{t}f; file /{at}/{t}g; file /{at}/{t}h"
+    );
+    happens(rt, worlds, line.ok().expect(rt, "memory").as_str());
     for _ in 0..40 {
-        happens(rt, worlds, "step 0");
+        if !happens(rt, worlds, "step 0").is_empty() {
+            return;
+        }
     }
 }
 
@@ -258,8 +246,8 @@ fn eight_files(rt: &(impl Abort + AllocGlobal), worlds: &mut Pair, first: u16) {
 fn a_server_is_full(rt: HostRuntime) {
     let mut worlds = both(&rt);
     plays(&rt, &mut worlds, FOLDERS);
-    for first in 0u16..511 {
-        eight_files(&rt, &mut worlds, first.wrapping_mul(8));
+    for t in 0u16..511 {
+        eight_files(&rt, &mut worlds, t);
     }
     plays(&rt, &mut worlds, LAST_PLACES);
 }

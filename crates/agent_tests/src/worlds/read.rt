@@ -1,6 +1,7 @@
 //! Events as lines of text.
 
-use acl_core::{Acl, Caller, Lists, Mode};
+use crate::fixtures::lists;
+use acl_core::{Caller, Mode};
 use file_ops::{Action, Init, Op, PathText};
 use rep_core::Lack;
 use run_core::Event;
@@ -16,17 +17,12 @@ fn mode(rt: &impl Abort, bits: u16) -> Mode {
     Mode::new(bits).expect(rt, "a mode")
 }
 
-/// The list of mode 044.
-fn closed(rt: &(impl Abort + AllocGlobal)) -> Lists {
-    Lists::from(Acl::from_mode(rt.alloc(), mode(rt, 0o044)).expect(rt, "memory"))
-}
-
 /// What an operation does, by its word; a write has its bytes.
 fn action(rt: &(impl Abort + AllocGlobal), word: &str, bytes: &str) -> Action {
     match word {
         "file" => Action::Make(Kind::File, Init::Mode(mode(rt, 0o644)), None),
         "folder" => Action::Make(Kind::Folder, Init::Mode(mode(rt, 0o755)), None),
-        "close" => Action::SetAcl(closed(rt)),
+        "close" => Action::SetAcl(lists(rt, 0o044)),
         "write" => {
             let bytes = FileBytes::from_slice(rt.alloc(), bytes.as_bytes());
             Action::Write(bytes.expect(rt, "memory"))
