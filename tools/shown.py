@@ -67,9 +67,10 @@ def commands(block):
 def main():
     played, wrong = rows(), []
     inputs = {given for _, given, _ in played}
-    for name in sorted(os.listdir(os.path.join(TOP, "examples"))):
-        if content("examples/" + name) not in inputs:
-            wrong.append(f"examples/{name} is the input of no row")
+    for folder, _, names in sorted(os.walk(os.path.join(TOP, "examples"))):
+        for name in sorted(os.path.relpath(os.path.join(folder, name), TOP) for name in names):
+            if content(name) not in inputs:
+                wrong.append(f"{name} is the input of no row")
     outputs = set()
     for number, block in blocks(content("README.md")):
         text = b"\n".join(block) + b"\n"
