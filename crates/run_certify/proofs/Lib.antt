@@ -16,3 +16,6 @@ pub mod Counted
 pub mod Equal
 pub mod Operating
 pub mod Playing
+pub mod Events
+pub mod Asking
+pub mod Going

@@ -11,17 +11,18 @@ use Rattle.run_core.specs.declared.event.Event.{Event}
 use Rattle.run_core.specs.declared.event.Event.TheVariants.{Crash, Return}
 use Rattle.run_core.specs.Decisions.{decided}
 use Rattle.run_core.specs.Senses.{has_sense}
-use Rattle.run_core.specs.Worlds.{World, step}
+use Rattle.run_core.specs.Worlds.{Stepped, World, step}
 use Rattle.server_lock.specs.declared.item.Item.{Item}
 use Rattle.run_certify.specs.Deciding.{counts_after, jobs_after}
 use Rattle.run_certify.specs.Merges.{ItemAt}
 use Rattle.run_certify.specs.Shown.{agent_of, asker, served_as}
 use Rattle.run_certify.specs.Weaves.{operated}
 use Rattle.run_certify.specs.code.Firsts.{at_server}
-use Rattle.run_certify.specs.code.Walks.{Fails, Goes, IsSound, Walked}
+use Rattle.run_certify.specs.code.Walks.{Fails, Goes, IsEvent, IsSound, Walked}
 use Rattle.run_certify.proofs.Deciding.{decides_nothing}
 use Rattle.run_certify.proofs.Facts.{no_crash, no_return}
-use Rattle.run_certify.proofs.Lengths.{counts}
+use Rattle.run_certify.proofs.Events.{event_after}
+use Rattle.run_certify.proofs.Lengths as lengths
 use Rattle.run_certify.proofs.Lists.{no_cons, same_head}
 use Rattle.run_certify.proofs.Walking.{IsAfter, operated_fails, operated_goes, operator_fails}
 
@@ -48,43 +49,25 @@ nobody_asks server asked event spells = ⊎_elim
   (λ (e : event ≡ Return server). (ap agent_of e, ap asker e))
   (which server asked event spells)
 
-pub operate_goes : (was now : Walked) (server : ℕ) (item : Item) (event : Event) → item.agent ≡ None → operated server item.request.value ≡ event ∷ []
-    → served_as item.agent (step (fixed_of was.given) was.world event).done.served ≡ Some (at_server server item)
-    → now ≡ record was { world = (step (fixed_of was.given) was.world event).world } → Goes was (at_server server item ∷ []) now []
-operate_goes was now server item event of spells served is =
+pub operate_goes : (was now : Walked) (server : ℕ) (item : Item) (event : Event) (done : Done) → item.agent ≡ None → operated server item.request.value ≡ event ∷ [] → IsEvent was event done now
+    → served_as item.agent done.served ≡ Some (at_server server item) → Goes was (at_server server item ∷ []) now []
+operate_goes was now server item event done of spells played served =
     let fixed : Fixed = fixed_of was.given in
     let nobody = nobody_asks server item.request.value event spells in
-    let shown = ap (λ who. served_as who (step fixed was.world event).done.served) (nobody.1 ∙ sym of) ∙ served in
-    operated_goes was now (at_server server item) event of spells nobody.0 (λ _. operator_sense fixed was.world server item.request.value event item.agent (at_server server item) spells served) shown
-      (silent fixed was.world server item.request.value event spells) (⊎_elim (λ (e : event ≡ Crash server). after e) (λ (e : event ≡ Return server). after_return e) (which server item.request.value event spells))
+    let by_it : served_as item.agent (step fixed was.world event).done.served ≡ Some (at_server server item) = ap (λ (s : Stepped). served_as item.agent s.done.served) played.is ∙ served in
+    let shown = ap (λ who. served_as who (step fixed was.world event).done.served) (nobody.1 ∙ sym of) ∙ by_it in
+    operated_goes was now (at_server server item) event of spells nobody.0 (λ _. operator_sense fixed was.world server item.request.value event item.agent (at_server server item) spells by_it) shown
+      (silent fixed was.world server item.request.value event spells) (event_after was now event done played jobs counts)
   where
     silent : (fixed : Fixed) (world : World) (server : ℕ) (asked : Request) (event : Event) → operated server asked ≡ event ∷ [] → decided fixed world event ≡ None
     silent fixed world server asked event spells = ⊎_elim
       (λ (e : event ≡ Crash server). ap (λ v. decided fixed world v) e ∙ decides_nothing fixed world (Crash server) refl)
       (λ (e : event ≡ Return server). ap (λ v. decided fixed world v) e ∙ decides_nothing fixed world (Return server) refl)
       (which server asked event spells)
-    after : event ≡ Crash server → IsAfter was event was.unused [] now
-    after e = record {
-      settings = ap (λ (w : Walked). w.settings) is;
-      given = ap (λ (w : Walked). w.given) is;
-      world = ap (λ (w : Walked). w.world) is;
-      histories = ap (λ (w : Walked). w.histories) is;
-      unused = ap (λ (w : Walked). w.unused) is;
-      jobs = ap (λ (w : Walked). w.begun.jobs) is ∙ ap (λ v. jobs_after was.begun.jobs v) (sym e);
-      counts = ap (λ (w : Walked). w.begun.counts) is ∙ ap (λ v. counts_after was.begun.counts v) (sym e);
-      made = ap (λ (w : Walked). w.made) is ∙ sym (append-nil was.made);
-    }
-    after_return : event ≡ Return server → IsAfter was event was.unused [] now
-    after_return e = record {
-      settings = ap (λ (w : Walked). w.settings) is;
-      given = ap (λ (w : Walked). w.given) is;
-      world = ap (λ (w : Walked). w.world) is;
-      histories = ap (λ (w : Walked). w.histories) is;
-      unused = ap (λ (w : Walked). w.unused) is;
-      jobs = ap (λ (w : Walked). w.begun.jobs) is ∙ ap (λ v. jobs_after was.begun.jobs v) (sym e);
-      counts = ap (λ (w : Walked). w.begun.counts) is ∙ ap (λ v. counts_after was.begun.counts v) (sym e);
-      made = ap (λ (w : Walked). w.made) is ∙ sym (append-nil was.made);
-    }
+    jobs : jobs_after was.begun.jobs event ≡ was.begun.jobs
+    jobs = ⊎_elim (λ (e : event ≡ Crash server). ap (λ v. jobs_after was.begun.jobs v) e) (λ (e : event ≡ Return server). ap (λ v. jobs_after was.begun.jobs v) e) (which server item.request.value event spells)
+    counts : counts_after was.begun.counts event ≡ was.begun.counts
+    counts = ⊎_elim (λ (e : event ≡ Crash server). ap (λ v. counts_after was.begun.counts v) e) (λ (e : event ≡ Return server). ap (λ v. counts_after was.begun.counts v) e) (which server item.request.value event spells)
 
 -- what is served is not the item
 pub operate_fails : (was : Walked) (server : ℕ) (item : Item) (event : Event) → item.agent ≡ None → operated server item.request.value ≡ event ∷ []
@@ -110,12 +93,17 @@ operate_fails was server item event of spells other =
       (λ (e : event ≡ Return server). subst (λ v. has_sense fixed world v ≡ false) (sym e) (unserved None (step fixed world (Return server)).done.served (ap (λ v. served_as (asker v) (step fixed world v).done.served) (sym e) ∙ none)))
       (which server asked event spells)
 
+pub operate_otherwise : (was now : Walked) (server : ℕ) (item : Item) (event : Event) (done : Done) → item.agent ≡ None → operated server item.request.value ≡ event ∷ [] → IsEvent was event done now
+    → (served_as item.agent done.served ≡ Some (at_server server item) → ⊥) → Fails was (at_server server item ∷ [])
+operate_otherwise was now server item event done of spells played other =
+    operate_fails was server item event of spells (λ served. other (ap (λ (s : Stepped). served_as item.agent s.done.served) (sym played.is) ∙ served))
+
 -- its number is above those that servers have
 pub operator_far : (was : Walked) (server : ℕ) (item : Item) → item.agent ≡ None → 256 ≤ server → Fails was (at_server server item ∷ [])
 operator_far was server item of far = by_request item.request.value refl
   where
     past : IsSound was → length was.world.servers ≤ server
-    past sound = let e = (counts was.given was.world was.begun.jobs sound.played).0 in let l = sound.accepted.some_servers.1 in omega arith
+    past sound = let e = (lengths.counts was.given was.world was.begun.jobs sound.played).0 in let l = sound.accepted.some_servers.1 in omega arith
     by_request : (asked : Request) → item.request.value ≡ asked → Fails was (at_server server item ∷ [])
     by_request request.Crash e = operated_fails was (at_server server item) (Crash server) of (ap (λ r. operated server r) e) (λ sound sense same. true≢false (sym sense ∙ no_crash (fixed_of was.given) was.world server (past sound)))
     by_request request.Return e = operated_fails was (at_server server item) (Return server) of (ap (λ r. operated server r) e) (λ sound sense same. true≢false (sym sense ∙ no_return (fixed_of was.given) was.world server (past sound)))

@@ -12,6 +12,7 @@ use Rattle.run_core.specs.declared.done.Done.{Done}
 use Rattle.run_core.specs.declared.done.Outcome.{Outcome}
 use Rattle.run_core.specs.declared.event.Event.{Event}
 use Rattle.run_core.specs.declared.event.Event.TheVariants.{Begin, Lack, Forget}
+use Rattle.run_core.specs.Decisions.{Decided}
 use Rattle.run_core.specs.Senses.{has_sense}
 use Rattle.run_core.specs.Worlds.{World, actor_at, has_no_job, step}
 use Rattle.run_certify.specs.declared.entry.Entry.{Entry}
@@ -22,9 +23,10 @@ use Rattle.run_certify.specs.Shown.{ended, entries_by, lacked, served_as}
 use Rattle.run_certify.specs.Weaves.{transcript_of}
 use Rattle.run_certify.specs.code.Turns.{IsTurn}
 use Rattle.run_certify.specs.code.Uses.{AreUsed, EndsOtherwise, HasEnded}
-use Rattle.run_certify.specs.code.Walks.{EntryFails, EntryGoes, Fails, Goes, IsShorter, IsSound, IsUse, Walked}
+use Rattle.run_certify.specs.code.Walks.{EntryFails, EntryGoes, Fails, Goes, IsBegin, IsEnd, IsEvent, IsShorter, IsSound, IsUse, Walked}
 use Rattle.run_certify.proofs.Counted.{begin_sense_is}
 use Rattle.run_certify.proofs.Deciding.{decides_nothing}
+use Rattle.run_certify.proofs.Events.{begin_after, end_after, ended_by, event_after, otherwise_by}
 use Rattle.run_certify.proofs.Facts.{begin_quiet, forget_far, forget_none, forget_quiet, forget_sense, lack_other, lack_puts, lack_sense, lack_serves_none}
 use Rattle.run_certify.proofs.Lengths.{counts}
 use Rattle.run_certify.proofs.Lists.{long_set, same_tail, set_again, set_here}
@@ -46,9 +48,9 @@ use_sound was old agent entry it sound =
 use_sense : (was old : Walked) (agent : ℕ) (entry : Entry) (event : Event) (b : Bool) → IsUse was agent entry old → (IsSound old → has_sense (fixed_of old.given) old.world event ≡ b) → IsSound was → has_sense (fixed_of was.given) was.world event ≡ b
 use_sense was old agent entry event b it so sound = sym (ap (λ (w : Walked). has_sense (fixed_of w.given) w.world event) it.kept) ∙ so (use_sound was old agent entry it sound)
 
-after_use : (was old now : Walked) (agent : ℕ) (entry : Entry) (event : Event) (left : List (List Entry)) → IsUse was agent entry old → IsAfter old event left [] now → IsAfter was event left [] now
-after_use was old now agent entry event left it after =
-    let so : IsAfter (record was { unused = old.unused }) event left [] now = subst (λ o. IsAfter o event left [] now) it.kept after in
+pub after_use : (was old now : Walked) (agent : ℕ) (entry : Entry) (event : Event) (left : List (List Entry)) (ds : List Decided) → IsUse was agent entry old → IsAfter old event left ds now → IsAfter was event left ds now
+after_use was old now agent entry event left ds it after =
+    let so : IsAfter (record was { unused = old.unused }) event left ds now = subst (λ o. IsAfter o event left ds now) it.kept after in
     record { settings = so.settings; given = so.given; world = so.world; histories = so.histories; unused = so.unused; jobs = so.jobs; counts = so.counts; made = so.made }
 
 -- ---- whether an agent may begin a job
@@ -78,7 +80,7 @@ begin_goes old now agent job sense after was taken it turn =
       silent = decides_nothing fixed was.world (Begin agent job) refl;
       told = it.used.first;
     })
-    (after_use was old now agent (Begun job) (Begin agent job) (slice_set was.unused agent it.used.rest) it (subst (λ us. IsAfter old (Begin agent job) us [] now) it.used.set after))
+    (after_use was old now agent (Begun job) (Begin agent job) (slice_set was.unused agent it.used.rest) [] it (subst (λ us. IsAfter old (Begin agent job) us [] now) it.used.set after))
 
 pub begin_fails : (old : Walked) (agent : ℕ) (job : Job) → (IsSound old → has_sense (fixed_of old.given) old.world (Begin agent job) ≡ false) → EntryFails agent (Begun job) old
 begin_fails old agent job none was taken it turn = entry_senseless was old agent (Begun job) (Begin agent job) taken it turn refl refl (use_sense was old agent (Begun job) (Begin agent job) false it none)
@@ -98,7 +100,7 @@ forget_goes old now agent site low small after was taken it turn =
       silent = decides_nothing fixed was.world (Forget agent site) refl;
       told = it.used.first;
     })
-    (after_use was old now agent (Forgot site) (Forget agent site) (slice_set was.unused agent it.used.rest) it (subst (λ us. IsAfter old (Forget agent site) us [] now) it.used.set after))
+    (after_use was old now agent (Forgot site) (Forget agent site) (slice_set was.unused agent it.used.rest) [] it (subst (λ us. IsAfter old (Forget agent site) us [] now) it.used.set after))
 
 pub forget_fails : (old : Walked) (agent site : ℕ) → (old.settings.agents ≤ agent) ⊎ (16 ≤ site) → EntryFails agent (Forgot site) old
 forget_fails old agent site why was taken it turn =
@@ -113,13 +115,13 @@ forget_fails old agent site why was taken it turn =
 -- ---- what is not served
 
 -- what was put down next, and what is left once the end of the job was used, if it ended
-record Ends (was : List (List Entry)) (agent : ℕ) (ys : List Entry) (outcome : Option Outcome) (now : List (List Entry)) : Type 0 where
-  rest : List Entry
-  past : (ys ≡ rest) ⊎ ((one : Outcome) × (ys ≡ Ended one ∷ rest))
-  parts : ys ≡ ended outcome ++ rest
-  set : now ≡ slice_set was agent rest
+pub record Ends (was : List (List Entry)) (agent : ℕ) (ys : List Entry) (outcome : Option Outcome) (now : List (List Entry)) : Type 0 where
+  pub rest : List Entry
+  pub past : (ys ≡ rest) ⊎ ((one : Outcome) × (ys ≡ Ended one ∷ rest))
+  pub parts : ys ≡ ended outcome ++ rest
+  pub set : now ≡ slice_set was agent rest
 
-ends : (was old now : List (List Entry)) (agent : ℕ) (ys : List Entry) (outcome : Option Outcome) → agent < length was → old ≡ slice_set was agent ys → HasEnded old agent outcome now → Ends was agent ys outcome now
+pub ends : (was old now : List (List Entry)) (agent : ℕ) (ys : List Entry) (outcome : Option Outcome) → agent < length was → old ≡ slice_set was agent ys → HasEnded old agent outcome now → Ends was agent ys outcome now
 ends was old now agent ys None low set so = record { rest = ys; past = inl refl; parts = refl; set = so ∙ set }
 ends was old now agent ys (Some outcome) low set so =
     let at : ys ≡ Ended outcome ∷ so.rest = sym (set_here was agent ys [] low) ∙ sym (ap (λ us. transcript_of us agent) set) ∙ so.first in
@@ -129,7 +131,6 @@ ends was old now agent ys (Some outcome) low set so =
       parts = at;
       set = so.set ∙ ap (λ us. slice_set us agent so.rest) set ∙ set_again was agent ys so.rest;
     }
-
 
 pub lack_goes : (old now : Walked) (agent server : ℕ) (why : Why) → asked_at (fixed_of old.given) old.world agent ≡ Some server
     → HasEnded old.unused agent (step (fixed_of old.given) old.world (Lack agent why)).done.outcome now.unused → IsAfter old (Lack agent why) now.unused [] now → EntryGoes agent (Lacked server why) old now
@@ -151,7 +152,7 @@ lack_goes old now agent server why asks so after was taken it turn =
       told = it.used.first ∙ ap (λ es. Lacked server why ∷ es) end.parts
           ∙ sym (ap (λ es. (es ++ ended (step fixed was.world event).done.outcome) ++ end.rest) (lack_puts fixed was.world agent server why asks'));
     })
-    (after_use was old now agent (Lacked server why) event (slice_set was.unused agent end.rest) it (subst (λ us. IsAfter old event us [] now) end.set after))
+    (after_use was old now agent (Lacked server why) event (slice_set was.unused agent end.rest) [] it (subst (λ us. IsAfter old event us [] now) end.set after))
 
 pub lack_fails : (old : Walked) (agent server : ℕ) (why : Why) → asked_at (fixed_of old.given) old.world agent ≢ Some server → EntryFails agent (Lacked server why) old
 lack_fails old agent server why other was taken it turn =
@@ -162,7 +163,7 @@ lack_fails old agent server why other was taken it turn =
     (λ rest sense told. lack_other fixed was.world agent server why why other' sense (ended (step fixed was.world event).done.outcome ++ rest) it.used.rest
         (sym (append_assoc (lacked why (asked_by fixed (actor_at was.world agent))) (ended (step fixed was.world event).done.outcome) rest) ∙ sym told ∙ it.used.first))
 
-otherwise : (was old : List (List Entry)) (agent : ℕ) (ys rest : List Entry) (outcome : Option Outcome) → agent < length was → old ≡ slice_set was agent ys → EndsOtherwise old agent outcome → ys ≡ ended outcome ++ rest → ⊥
+pub otherwise : (was old : List (List Entry)) (agent : ℕ) (ys rest : List Entry) (outcome : Option Outcome) → agent < length was → old ≡ slice_set was agent ys → EndsOtherwise old agent outcome → ys ≡ ended outcome ++ rest → ⊥
 otherwise was old agent ys rest None low set not parts = not
 otherwise was old agent ys rest (Some outcome) low set not parts = not rest (ap (λ us. transcript_of us agent) set ∙ set_here was agent ys [] low ∙ parts)
 
@@ -178,6 +179,25 @@ lack_ends_otherwise old agent server why asks not was taken it turn =
     (λ rest sense told. otherwise was.unused old.unused agent it.used.rest rest outcome it.used.there it.used.set not'
         (same_tail (Lacked server why) (Lacked server why) it.used.rest (ended outcome ++ rest)
         (sym it.used.first ∙ told ∙ ap (λ es. (es ++ ended outcome) ++ rest) (lack_puts fixed was.world agent server why asks'))))
+
+-- ---- as the walk plays them
+
+pub begun_goes : (old mid now : Walked) (agent : ℕ) (job : Job) (done : Done) → (IsSound old → has_sense (fixed_of old.given) old.world (Begin agent job) ≡ true) → IsEvent old (Begin agent job) done mid → IsBegin mid agent job now
+    → EntryGoes agent (Begun job) old now
+begun_goes old mid now agent job done sense played begun = begin_goes old now agent job sense (begin_after old mid now agent job done played begun)
+
+pub forgot_goes : (old now : Walked) (agent site : ℕ) (done : Done) → agent < old.settings.agents → site < 16 → IsEvent old (Forget agent site) done now → EntryGoes agent (Forgot site) old now
+forgot_goes old now agent site done low small played = forget_goes old now agent site low small (event_after old now (Forget agent site) done played refl refl)
+
+pub lacked_goes : (old mid now : Walked) (agent server : ℕ) (why : Why) (done : Done) → asked_at (fixed_of old.given) old.world agent ≡ Some server → IsEvent old (Lack agent why) done mid → IsEnd mid agent done.outcome now
+    → EntryGoes agent (Lacked server why) old now
+lacked_goes old mid now agent server why done asks played end =
+    lack_goes old now agent server why asks (ended_by old mid (Lack agent why) done played mid now agent refl end.ended)
+      (end_after old mid (Lack agent why) done played mid now [] agent done.outcome refl refl (ap (λ ds. record mid { made = ds }) (sym (append-nil mid.made))) end)
+
+pub lacked_otherwise : (old mid : Walked) (agent server : ℕ) (why : Why) (done : Done) → asked_at (fixed_of old.given) old.world agent ≡ Some server → IsEvent old (Lack agent why) done mid → EndsOtherwise mid.unused agent done.outcome
+    → EntryFails agent (Lacked server why) old
+lacked_otherwise old mid agent server why done asks played not = lack_ends_otherwise old agent server why asks (otherwise_by old mid (Lack agent why) done played mid agent refl not)
 
 -- ---- entries are used, and no items
 
@@ -202,3 +222,14 @@ ended_shorter old now agent (Some outcome) histories so = record {
   set = so.set;
   short = let long = ap length so.first in omega (arith, long);
 }
+
+pub event_shorter : (old now : Walked) (agent : ℕ) (event : Event) (done : Done) → IsEvent old event done now → IsShorter old agent now
+event_shorter old now agent event done played = no_longer old now agent (ap (λ (w : Walked). w.histories) played.kept) (ap (λ (w : Walked). w.unused) played.kept)
+
+pub begun_shorter : (old mid now : Walked) (agent : ℕ) (event : Event) (job : Job) (done : Done) → IsEvent old event done mid → IsBegin mid agent job now → IsShorter old agent now
+begun_shorter old mid now agent event job done played begun =
+    no_longer old now agent (ap (λ (w : Walked). w.histories) begun.kept ∙ ap (λ (w : Walked). w.histories) played.kept) (ap (λ (w : Walked). w.unused) begun.kept ∙ ap (λ (w : Walked). w.unused) played.kept)
+
+pub lacked_shorter : (old mid now : Walked) (agent : ℕ) (event : Event) (done : Done) → IsEvent old event done mid → IsEnd mid agent done.outcome now → IsShorter old agent now
+lacked_shorter old mid now agent event done played end =
+    ended_shorter old now agent (step (fixed_of old.given) old.world event).done.outcome (ap (λ (w : Walked). w.histories) end.kept ∙ ap (λ (w : Walked). w.histories) played.kept) (ended_by old mid event done played mid now agent refl end.ended)

@@ -1,9 +1,10 @@
 //! The walk through histories and transcripts.
 
-ghost use Rattle.std.specs.Prelude.{◌≡◌, ℕ, ◌+◌, ◌<◌, ◌≤◌, ◌∷◌, ◌++◌, [], length, true, false, IfOk, IsTrue, Err, None, Some, OnOk};
+ghost use Rattle.std.specs.Prelude.{◌≡◌, ℕ, ◌+◌, ◌<◌, ◌∷◌, ◌++◌, [], List, length, false, IfNone, IfOk, IfSome, IsTrue, Err, None, Ok, Some, OnOk};
 ghost use Rattle.txn_core.specs.Agents as agents;
 ghost use Rattle.txn_core.specs.Agents.{fixed_of};
 ghost use Rattle.run_core.specs.declared.event.Event.TheVariants.{Begin};
+ghost use Rattle.run_core.specs.Asking.{asked_at};
 ghost use Rattle.run_core.specs.Senses as senses;
 ghost use Rattle.run_certify.specs.declared.entry.Entry.TheVariants as entries;
 ghost use Rattle.run_certify.specs.declared.fault.CertifyFault.TheVariants.{Mismatch};
@@ -12,7 +13,9 @@ ghost use Rattle.std.specs.List.{cons_option};
 ghost use Rattle.run_certify.specs.Weaves.{transcript_of};
 ghost use Rattle.run_certify.specs.code.Firsts.{AreAllPlayed, at_server};
 ghost use Rattle.run_certify.specs.code.Turns.{is_asked};
-ghost use Rattle.run_certify.specs.code.Walks.{AskedFails, AskedGoes, EntryFails, EntryGoes, Fails, Goes, IsShorter, IsSound, IsStart};
+ghost use Rattle.run_certify.specs.code.Uses.{EndsOtherwise};
+ghost use Rattle.run_certify.specs.code.Walks.{AskedFails, AskedGoes, EntryFails, EntryGoes, Fails, Goes, IsBegin, IsEnd, IsEvent, IsItemTaken, IsShorter, IsSound, IsStart, IsUse};
+ghost use Rattle.run_certify.specs.Merges.{ItemAt, IsMerge};
 
 use crate::begun::Begun;
 use crate::decided::{Decided, Decision};
@@ -25,7 +28,7 @@ use crate::sense::{begin_event, has_sense};
 use crate::unused::Unused;
 use crate::verdicts::decision_of;
 use rep_core::Lack;
-use run_core::{Done, Event, World};
+use run_core::{Done, Event, Outcome, World};
 use server_lock::{History, Item};
 use std::alloc::{AllocError, Global};
 use std::marker::Model;
@@ -96,13 +99,22 @@ impl<'a> Walk<'a> {
         ensures mismatch { result ≡ Err Mismatch → Fails self.old [] }
     {
         loop {
-            let Some((server, item)) = self.heads.next()? else {
+            let Some((server, item)) = self.next_item()? else {
                 return Ok(());
             };
-            match item.agent {
-                None => self.operate(server, item)?,
-                Some(agent) => self.serve(agent, server, item)?,
-            }
+            self.item(server, item)?;
+        }
+    }
+
+    /// Plays what was done up to an item, and compares what was served.
+    fn item(&mut self, server: usize, item: &Item) -> Result<(), CertifyFault>
+        ensures ok { OnOk result (Goes self.old (at_server server item.now ∷ []) self.new []) }
+        ensures mismatch { result ≡ Err Mismatch → Fails self.old (at_server server item.now ∷ []) }
+        ensures histories { OnOk result (self.new.histories ≡ self.old.histories) }
+    {
+        match item.agent {
+            None => self.operate(server, item),
+            Some(agent) => self.serve(agent, server, item),
         }
     }
 
@@ -116,7 +128,7 @@ impl<'a> Walk<'a> {
         let Some(event) = operator_event(server, &item.request.value) else {
             return Err(CertifyFault::Mismatch);
         };
-        let done = self.world.step(&event)?;
+        let done = self.step(&event)?;
         if is_served(&done, server, item) {
             Ok(())
         } else {
@@ -132,7 +144,7 @@ impl<'a> Walk<'a> {
         ensures histories { OnOk result (self.new.histories ≡ self.old.histories) }
     {
         loop {
-            let Some(entry) = self.unused.next(usize::from(agent)) else {
+            let Some(entry) = self.next_entry(usize::from(agent)) else {
                 return Err(CertifyFault::Mismatch);
             };
             if let Entry::Asked {
@@ -162,24 +174,12 @@ impl<'a> Walk<'a> {
         if usize::from(told.0) != server || told.1 != item.stamp {
             return Err(CertifyFault::Mismatch);
         }
-        let done = self.world.step(&Event::Step { agent })?;
+        let done = self.step(&Event::Step { agent })?;
         if !is_served(&done, server, item) {
             return Err(CertifyFault::Mismatch);
         }
         self.decide(agent, &done)?;
-        self.unused.end(agent, &done.outcome)
-    }
-
-    /// Puts down what was decided, if what was served decided the transaction of an agent.
-    fn decide(&mut self, agent: u8, done: &Done) -> Result<(), AllocError>
-        ensures { OnOk result (self.new ≡ record self.old { made = self.old.made ++ cons_option (decision_by (job_at self.old.begun.jobs agent) done.now.served) [] }) }
-    {
-        if let Some(served) = &done.served {
-            if let Some(decision) = decision_of(self.begun.job(agent), served)? {
-                self.decisions.push(decision)?;
-            }
-        }
-        Ok(())
+        self.end(agent, &done.outcome)
     }
 
     /// Plays what is left of the transcripts, which asks no server.
@@ -190,7 +190,7 @@ impl<'a> Walk<'a> {
         ensures histories { OnOk result (self.new.histories ≡ self.old.histories) }
         ensures mismatch { result ≡ Err Mismatch → Fails self.old [] }
     {
-        for agent in 0..self.unused.len() {
+        for agent in 0..self.transcripts() {
             self.rest_of(agent)?;
         }
         Ok(())
@@ -206,13 +206,13 @@ impl<'a> Walk<'a> {
         ensures histories { OnOk result (self.new.histories ≡ self.old.histories) }
         ensures mismatch { result ≡ Err Mismatch → Fails self.old [] }
     {
-        while let Some(entry) = self.unused.next(agent) {
-            let Ok(number) = u8::try_from(agent) else {
-                return Err(CertifyFault::Mismatch);
-            };
+        while let Some(entry) = self.next_entry(agent) {
             if let Entry::Asked { .. } = entry {
                 return Err(CertifyFault::Mismatch);
             }
+            let Ok(number) = u8::try_from(agent) else {
+                return Err(CertifyFault::Mismatch);
+            };
             self.play(number, entry)?;
         }
         Ok(())
@@ -242,8 +242,9 @@ impl<'a> Walk<'a> {
         if !self.may_begin(agent, job) {
             return Err(CertifyFault::Mismatch);
         }
-        self.world.step(&begin_event(agent, job)?)?;
-        self.begun.begin(agent, job);
+        let event = begin_event(agent, job)?;
+        self.step(&event)?;
+        self.count(agent, job);
         Ok(())
     }
 
@@ -265,11 +266,11 @@ impl<'a> Walk<'a> {
         ensures shorter { OnOk result (IsShorter self.old agent self.new) }
         ensures mismatch { result ≡ Err Mismatch → EntryFails agent (entries.Lacked server lack) self.old }
     {
-        if self.world.asked(agent) != Some(server) {
+        if self.asked(agent) != Some(server) {
             return Err(CertifyFault::Mismatch);
         }
-        let done = self.world.step(&Event::Lack { agent, lack })?;
-        self.unused.end(agent, &done.outcome)
+        let done = self.step(&Event::Lack { agent, lack })?;
+        self.end(agent, &done.outcome)
     }
 
     /// An agent forgets what its cache keeps for a site.
@@ -278,11 +279,94 @@ impl<'a> Walk<'a> {
         ensures shorter { OnOk result (IsShorter self.old agent self.new) }
         ensures mismatch { result ≡ Err Mismatch → EntryFails agent (entries.Forgot site) self.old }
     {
-        if usize::from(agent) >= self.settings.agents() || site >= MAX_SITES {
+        if usize::from(agent) >= self.agents() || site >= MAX_SITES {
             return Err(CertifyFault::Mismatch);
         }
-        self.world.step(&Event::Forget { agent, site })?;
+        self.step(&Event::Forget { agent, site })?;
         Ok(())
+    }
+
+    /// Takes the item that is next.
+    fn next_item(&mut self) -> Result<Option<(usize, &'a Item)>, CertifyFault>
+        ensures taken { IfOk result (λ next. IfSome next (λ one. IsItemTaken self.old one.0 one.1.now self.new)) }
+        ensures none { result ≡ Ok None → AreAllPlayed self.old.histories }
+        ensures same { result ≡ Ok None → self.new ≡ self.old }
+        ensures mismatch { result ≡ Err Mismatch → (items : List ItemAt) → IsMerge self.old.histories items → ⊥ }
+    {
+        self.heads.next()
+    }
+
+    /// How many transcripts there are.
+    fn transcripts(&self) -> usize
+        ensures { result ≡ length self.now.unused }
+    {
+        self.unused.len()
+    }
+
+    /// The next entry of an agent, which is used; none where none is left.
+    fn next_entry(&mut self, agent: usize) -> Option<&'a Entry>
+        ensures none { IfNone result (transcript_of self.old.unused agent ≡ []) }
+        ensures same { IfNone result (self.new ≡ self.old) }
+        ensures used { IfSome result (λ entry. IsUse self.old agent entry.now self.new) }
+    {
+        self.unused.next(agent)
+    }
+
+    /// That a job ended is used, if one did: it has to come next.
+    fn end(&mut self, agent: u8, outcome: &Option<Outcome>) -> Result<(), CertifyFault>
+        ensures ok { OnOk result (IsEnd self.old agent outcome.now self.new) }
+        ensures mismatch { result ≡ Err Mismatch → EndsOtherwise self.old.unused agent outcome.now }
+    {
+        self.unused.end(agent, outcome)
+    }
+
+    /// Plays one event in the world.
+    fn step(&mut self, event: &Event) -> Result<Done, AllocError>
+        ensures { IfOk result (λ done. IsEvent self.old event.now done self.new) }
+    {
+        self.world.step(event)
+    }
+
+    /// Of which server an agent asks next, if it asks one.
+    fn asked(&self, agent: u8) -> Option<u8>
+        ensures { result ≡ asked_at (fixed_of self.now.given) self.now.world agent }
+    {
+        self.world.asked(agent)
+    }
+
+    /// How many agents there are.
+    fn agents(&self) -> usize
+        ensures { result ≡ self.now.settings.agents }
+    {
+        self.settings.agents()
+    }
+
+    /// A job that an agent begins is counted, and is the last that it began.
+    fn count(&mut self, agent: u8, job: &'a Job)
+        requires { count_at self.old.begun.counts agent < agents.max_jobs }
+        ensures { IsBegin self.old agent job.now self.new }
+    {
+        self.begun.begin(agent, job);
+    }
+
+    /// Puts down what was decided, if what was served decided the transaction of an agent.
+    fn decide(&mut self, agent: u8, done: &Done) -> Result<(), AllocError>
+        ensures { OnOk result (self.new ≡ record self.old { made = self.old.made ++ cons_option (decision_by (job_at self.old.begun.jobs agent) done.now.served) [] }) }
+    {
+        if let Some(decision) = self.decision(agent, done)? {
+            self.decisions.push(decision)?;
+        }
+        Ok(())
+    }
+
+    /// What was decided, if what was served decided the transaction of an agent.
+    fn decision(&self, agent: u8, done: &Done) -> Result<Option<Decision>, AllocError>
+        ensures { IfOk result (λ one. one ≡ decision_by (job_at self.now.begun.jobs agent) done.now.served) }
+    {
+        match &done.served {
+            Some(served) => decision_of(self.begun.job(agent), served),
+            None => Ok(None),
+        }
     }
 
     /// What was decided.

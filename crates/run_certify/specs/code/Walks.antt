@@ -1,10 +1,14 @@
 -- A walk through histories and transcripts: what is left of them, the world after what was played, and what was decided so far.
-use Rattle.std.specs.Prelude.{◌≡◌, ℕ, ◌<◌, ◌≤◌, Bool, true, false, List, [], ◌∷◌, ◌++◌, length, slice_set, Option, Some, None}
+use Rattle.std.specs.Prelude.{◌≡◌, ℕ, ◌+◌, ◌<◌, ◌≤◌, Bool, true, false, List, [], ◌∷◌, ◌++◌, length, slice_set, Option, Some, None}
 use Rattle.suite_prefix.specs.SettingsRules.{Opening, IsAccepted}
 use Rattle.txn_core.specs.Doing.{Fixed}
+use Rattle.txn_core.specs.declared.job.Job.{Job}
 use Rattle.txn_core.specs.Agents.{fixed_of}
 use Rattle.run_core.specs.Decisions.{Decided, decisions_from}
-use Rattle.run_core.specs.Worlds.{World, opening}
+use Rattle.run_core.specs.declared.done.Done.{Done}
+use Rattle.run_core.specs.declared.done.Outcome.{Outcome}
+use Rattle.run_core.specs.declared.event.Event.{Event}
+use Rattle.run_core.specs.Worlds.{World, opening, step}
 use Rattle.server_lock.specs.declared.item.Item.{Item}
 use Rattle.run_certify.specs.declared.entry.Entry.{Entry}
 use Rattle.run_certify.specs.declared.entry.Entry.TheVariants.{Asked}
@@ -13,8 +17,9 @@ use Rattle.run_certify.specs.Deciding.{AreCounted, IsPlayed, count_at}
 use Rattle.run_certify.specs.Merges.{ItemAt, IsMerge}
 use Rattle.run_certify.specs.Weaves.{transcript_of, weave}
 use Rattle.run_certify.specs.code.Begins.{Begins}
+use Rattle.run_certify.specs.code.Firsts.{IsTaken}
 use Rattle.run_certify.specs.code.Turns.{IsTurn, is_asked}
-use Rattle.run_certify.specs.code.Uses.{AreUsed}
+use Rattle.run_certify.specs.code.Uses.{AreUsed, HasEnded}
 
 -- where the walk is
 pub record Walked : Type 0 where
@@ -64,6 +69,27 @@ Fails was taken = IsSound was → (total : List Decided) → IsOfRun was taken t
 pub record IsUse (was : Walked) (agent : ℕ) (entry : Entry) (now : Walked) : Type 0 where
   pub used : AreUsed was.unused agent (entry ∷ []) now.unused
   pub kept : now ≡ record was { unused = now.unused }
+
+-- the next item was taken, and nothing else has changed
+pub record IsItemTaken (was : Walked) (server : ℕ) (item : Item) (now : Walked) : Type 0 where
+  pub taken : IsTaken was.histories server item now.histories
+  pub kept : now ≡ record was { histories = now.histories }
+
+-- an event was played in its world, in which this was done, and nothing else has changed
+pub record IsEvent (was : Walked) (event : Event) (done : Done) (now : Walked) : Type 0 where
+  pub is : step (fixed_of was.given) was.world event ≡ record { world = now.world; done = done }
+  pub kept : now ≡ record was { world = now.world }
+
+-- the end of a job is used, if it ended, and nothing else has changed
+pub record IsEnd (was : Walked) (agent : ℕ) (outcome : Option Outcome) (now : Walked) : Type 0 where
+  pub ended : HasEnded was.unused agent outcome now.unused
+  pub kept : now ≡ record was { unused = now.unused }
+
+-- a job is counted as begun, and nothing else has changed
+pub record IsBegin (was : Walked) (agent : ℕ) (job : Job) (now : Walked) : Type 0 where
+  pub jobs : now.begun.jobs ≡ slice_set was.begun.jobs agent (Some job)
+  pub counts : now.begun.counts ≡ slice_set was.begun.counts agent (count_at was.begun.counts agent + 1)
+  pub kept : now ≡ record was { begun = now.begun }
 
 -- an agent's entry that was used is played
 abbrev pub EntryGoes : ℕ → Entry → Walked → Walked → Type 0
