@@ -27,7 +27,7 @@ use Rattle.run_certify.proofs.Facts.{no_agent, unserved}
 use Rattle.run_certify.proofs.Lengths.{counts}
 use Rattle.run_certify.proofs.Lists.{long_set, no_cons, same_or, set_apart, set_here}
 use Rattle.run_certify.proofs.Moves.{turn_of_item, turn_of_rest}
-use Rattle.run_certify.proofs.Walking.{ended_fails, entry_senseless, fails_further, goes_further, nothing_fails, nothing_left, rest_fails, taken_goes}
+use Rattle.run_certify.proofs.Walking.{ended_fails, entry_senseless, fails_further, goes_further, goes_nowhere, nothing_fails, nothing_left, rest_fails, taken_goes}
 
 -- ---- items
 
@@ -80,6 +80,17 @@ module _ (cur mid new : Walked) (agent : ℕ) (entry : Entry) (it : IsUse cur ag
   others_as_before i apart =
       ap (λ us. transcript_of us i) unused_is ∙ set_apart (slice_set cur.unused agent it.used.rest) agent i shorter.rest [] apart ∙ set_apart cur.unused agent i it.used.rest [] apart
 
+pub other_than_asked : (entry : Entry) → ((server stamp : ℕ) → entry ≡ Asked server stamp → ⊥) → is_asked entry ≡ false
+other_than_asked (Begun job) other = refl
+other_than_asked (Asked server stamp) other = absurd (other server stamp refl)
+other_than_asked (Lacked server why) other = refl
+other_than_asked (Forgot site) other = refl
+other_than_asked (Ended outcome) other = refl
+
+-- an end is no entry to be played
+pub no_play : (old : Walked) (agent : ℕ) (outcome : Outcome) → EntryFails agent (Ended outcome) old
+no_play old agent outcome was taken it turn = ended_fails was old agent outcome taken it
+
 -- up to an item of the agent's
 module _ (init cur : Walked) (agent : ℕ) (one : ItemAt) (of : one.item.agent ≡ Some agent) (goes : Goes init (one ∷ []) cur (one ∷ [])) where
   pub serve_none : transcript_of cur.unused agent ≡ [] → Fails init (one ∷ [])
@@ -104,6 +115,13 @@ module _ (init cur : Walked) (agent : ℕ) (one : ItemAt) (of : one.item.agent �
 -- nothing is left of those before an agent
 abbrev pub NoneBefore : ℕ → List (List Entry) → Type 0
 NoneBefore agent unused = (i : ℕ) → i < agent → transcript_of unused i ≡ []
+
+-- the walk came so far: nothing is left of the transcripts before an agent's
+pub record IsAsFar (init cur : Walked) (agent : ℕ) : Type 0 where
+  pub goes : Goes init [] cur []
+  pub histories : cur.histories ≡ init.histories
+  pub before : NoneBefore agent cur.unused
+  pub long : length cur.unused ≡ length init.unused
 
 -- the numbers of agents fit a byte
 far_fails : (was old : Walked) (agent : ℕ) (entry : Entry) (taken : List ItemAt) → IsUse was agent entry old → IsTurn taken was.histories was.unused agent → 256 ≤ agent → is_asked entry ≡ false → Fails was taken
@@ -147,9 +165,21 @@ module _ (init cur : Walked) (agent : ℕ) (goes : Goes init [] cur []) (played 
     pub before_on : (new : Walked) → IsShorter mid agent new → NoneBefore agent new.unused
     before_on new shorter i low = others_as_before cur mid new agent entry it shorter i (λ same. omega arith) ∙ before i low
 
+pub start_far : (init : Walked) (agent : ℕ) → NoneBefore agent init.unused → IsAsFar init init agent
+start_far init agent before = record { goes = goes_nowhere init []; histories = refl; before = before; long = refl }
+
+-- an entry was played
+pub far_on : (init cur mid new : Walked) (agent : ℕ) (entry : Entry) → IsAsFar init cur agent → AreAllPlayed init.histories → IsUse cur agent entry mid → EntryGoes agent entry mid new → IsShorter mid agent new → IsAsFar init new agent
+far_on init cur mid new agent entry far played it more shorter = record {
+  goes = rest_on init cur agent far.goes (subst (λ hs. AreAllPlayed hs) (sym far.histories) played) far.before mid entry it new more;
+  histories = same_histories cur mid new agent entry it shorter ∙ far.histories;
+  before = before_on init cur agent far.goes (subst (λ hs. AreAllPlayed hs) (sym far.histories) played) far.before mid entry it new shorter;
+  long = as_long cur mid new agent entry it shorter ∙ far.long;
+}
+
 -- nothing is left of this one too
 pub none_up_to : (agent : ℕ) (unused : List (List Entry)) → NoneBefore agent unused → transcript_of unused agent ≡ [] → NoneBefore (agent + 1) unused
-none_up_to agent unused before here i low = ⊎_elim (λ (same : i ≡ agent). ap (λ n. transcript_of unused n) same ∙ here) (λ (apart : i ≢ agent). before i (let low' = low in omega arith)) (same_or i agent)
+none_up_to agent unused before here i low = ⊎_elim (λ (same : i ≡ agent). ap (λ n. transcript_of unused n) same ∙ here) (λ (apart : i ≢ agent). before i (omega arith)) (same_or i agent)
 
 nothing_past : (unused : List (List Entry)) (i : ℕ) → length unused ≤ i → transcript_of unused i ≡ []
 nothing_past [] i past = refl
