@@ -88,8 +88,11 @@ other_than_asked (Forgot site) other = refl
 other_than_asked (Ended outcome) other = refl
 
 -- an end is no entry to be played
-pub no_play : (old : Walked) (agent : ℕ) (outcome : Outcome) → EntryFails agent (Ended outcome) old
-no_play old agent outcome was taken it turn = ended_fails was old agent outcome taken it
+pub no_play : (old : Walked) (agent : ℕ) (entry : Entry) → is_asked entry ≡ false → ((server : ℕ) × ((stamp : ℕ) × (entry ≡ Asked server stamp))) ⊎ ((outcome : Outcome) × (entry ≡ Ended outcome)) → EntryFails agent entry old
+no_play old agent entry other is was taken it turn = ⊎_elim
+  (λ (h : (server : ℕ) × ((stamp : ℕ) × (entry ≡ Asked server stamp))). absurd (true≢false (sym (ap is_asked h.1.1) ∙ other)))
+  (λ (h : (outcome : Outcome) × (entry ≡ Ended outcome)). ended_fails was old agent h.0 taken (subst (λ e. IsUse was agent e old) h.1 it))
+  is
 
 -- up to an item of the agent's
 module _ (init cur : Walked) (agent : ℕ) (one : ItemAt) (of : one.item.agent ≡ Some agent) (goes : Goes init (one ∷ []) cur (one ∷ [])) where

@@ -14,4 +14,4 @@ pub returns-in-Forgot-clause-mismatch : goal.returns-in-Forgot-clause-mismatch
 returns-in-Forgot-clause-mismatch c = λ is other. subst (λ (entry : Entry). EntryFails c.args.agent entry c.args.self.now) (sym c.in-Forgot.is) (c.forget.ensures.mismatch is)
 
 pub returns-in-Asked-2-clause-mismatch : goal.returns-in-Asked-2-clause-mismatch
-returns-in-Asked-2-clause-mismatch c = λ _ other. subst (λ (entry : Entry). EntryFails c.args.agent entry c.args.self.now) (sym c.in-Asked.is) (no_play c.args.self.now c.args.agent _)
+returns-in-Asked-2-clause-mismatch c = λ _ other. no_play c.args.self.now c.args.agent c.args.entry.now other c.in-Asked.is
