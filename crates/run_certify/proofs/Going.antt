@@ -1,6 +1,6 @@
 -- One item after another, one entry after another, to the end.
 use Rattle.std.proofs.Common.{◌≡◌, ◌≢◌, ◌⊎◌, ⊎_elim, inl, inr, ℕ, zero, suc, ◌+◌, ◌<◌, ◌≤◌, false, true≢false, List, [], ◌∷◌, ◌++◌, length, slice_set, subst, refl, ap, ◌∙◌, sym, arith}
-use Rattle.std.specs.Prelude.{slice_index_or, Option, Some, None}
+use Rattle.std.specs.Prelude.{slice_index_or, Option, Some, None, Result, Err}
 use Rattle.suite_prefix.specs.SettingsRules.{Opening, IsAccepted}
 use Rattle.txn_core.specs.Doing.{Fixed}
 use Rattle.txn_core.specs.Agents.{fixed_of}
@@ -11,6 +11,7 @@ use Rattle.run_core.specs.declared.event.Event.TheVariants.{Begin, Step, Forget,
 use Rattle.run_core.specs.Decisions.{Decided, decisions}
 use Rattle.run_core.specs.Worlds.{World, opening, step}
 use Rattle.server_lock.specs.declared.item.Item.{Item}
+use Rattle.run_certify.specs.declared.fault.CertifyFault.{CertifyFault}
 use Rattle.run_certify.specs.declared.entry.Entry.{Entry}
 use Rattle.run_certify.specs.declared.entry.Entry.TheVariants.{Asked, Begun, Ended, Forgot, Lacked}
 use Rattle.run_certify.specs.Certified.{IsCertified, IsCertifiedAs}
@@ -28,6 +29,10 @@ use Rattle.run_certify.proofs.Lengths.{counts}
 use Rattle.run_certify.proofs.Lists.{long_set, no_cons, same_or, set_apart, set_here}
 use Rattle.run_certify.proofs.Moves.{turn_of_item, turn_of_rest}
 use Rattle.run_certify.proofs.Walking.{ended_fails, entry_senseless, fails_further, goes_further, goes_nowhere, nothing_fails, nothing_left, rest_fails, taken_goes}
+
+-- a fault of one call is that of another
+pub told_on : {T U : Type 0} (fault other : CertifyFault) → ◌≡◌ {A = Result T CertifyFault} (Err fault) (Err other) → ◌≡◌ {A = Result U CertifyFault} (Err fault) (Err other)
+told_on fault other is = let same : fault ≡ other = cc in ap (λ (f : CertifyFault). Err f) same
 
 -- ---- items
 
@@ -88,9 +93,9 @@ other_than_asked (Forgot site) other = refl
 other_than_asked (Ended outcome) other = refl
 
 -- an end is no entry to be played
-pub no_play : (old : Walked) (agent : ℕ) (entry : Entry) → is_asked entry ≡ false → ((server : ℕ) × ((stamp : ℕ) × (entry ≡ Asked server stamp))) ⊎ ((outcome : Outcome) × (entry ≡ Ended outcome)) → EntryFails agent entry old
+pub no_play : (old : Walked) (agent : ℕ) (entry : Entry) → is_asked entry ≡ false → ((server : ℕ) × (stamp : ℕ) × (entry ≡ Asked server stamp)) ⊎ ((outcome : Outcome) × (entry ≡ Ended outcome)) → EntryFails agent entry old
 no_play old agent entry other is was taken it turn = ⊎_elim
-  (λ (h : (server : ℕ) × ((stamp : ℕ) × (entry ≡ Asked server stamp))). absurd (true≢false (sym (ap is_asked h.1.1) ∙ other)))
+  (λ (h : (server : ℕ) × (stamp : ℕ) × (entry ≡ Asked server stamp)). absurd (true≢false (sym (ap is_asked h.2) ∙ other)))
   (λ (h : (outcome : Outcome) × (entry ≡ Ended outcome)). ended_fails was old agent h.0 taken (subst (λ e. IsUse was agent e old) h.1 it))
   is
 

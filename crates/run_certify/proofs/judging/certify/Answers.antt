@@ -3,11 +3,12 @@ use Rattle.std.proofs.lemmas.Result.{err_from_is_err_and}
 use Rattle.run_core.specs.Decisions.{Decided}
 use Rattle.server_lock.specs.declared.item.Item.{Item}
 use Rattle.run_certify.specs.declared.entry.Entry.{Entry}
+use Rattle.run_certify.specs.declared.fault.CertifyFault.TheVariants.{Mismatch}
 use Rattle.run_certify.specs.Certified.{IsCertifiedAs}
 use Rattle.run_certify.specs.code.Firsts.{AreAllPlayed}
 use Rattle.run_certify.specs.code.ValidVotes.{AllBegunAreValid}
 use Rattle.run_certify.specs.code.Walks.{IsStart, Walked}
-use Rattle.run_certify.proofs.Going.{walked_no_further, walked_to_end}
+use Rattle.run_certify.proofs.Going.{told_on, walked_no_further, walked_to_end}
 use Rattle.run_certify.proofs.Promised.{certified_is_promised}
 use Rattle.run_certify.proofs.Walking.{fails_further}
 use Rattle.suite_prefix.specs.SettingsRules.{Opening}
@@ -23,7 +24,7 @@ returns-in_err-items-clause-mismatch c =
     let ts = c.args.transcripts.now in
     let start = started s c.as_slice-2.result.now hs c.as_slice-3.result.now ts c.in_ok-walk.walk c.as_slice-2.ensures c.as_slice-3.ensures c.in_ok-walk.ensures in
     let p = err_from_is_err_and c.from_residual-in_err-items.result c.from_residual-in_err-items.ensures.1 in
-    rw (p.1, p.2) (λ is. walked_no_further s hs ts c.in_ok-walk.walk start c.fits.ensures.accepted (c.in_err-items.ensures.mismatch is))
+    rw (p.1, p.2) (λ is. walked_no_further s hs ts c.in_ok-walk.walk start c.fits.ensures.accepted (c.in_err-items.ensures.mismatch (told_on c.in_err-items.field-0.0 Mismatch is)))
 
 pub returns-in_err-rest-clause-mismatch : goal.returns-in_err-rest-clause-mismatch
 returns-in_err-rest-clause-mismatch c =
@@ -32,7 +33,7 @@ returns-in_err-rest-clause-mismatch c =
     let ts = c.args.transcripts.now in
     let start = started s c.as_slice-2.result.now hs c.as_slice-3.result.now ts c.in_ok-walk.walk c.as_slice-2.ensures c.as_slice-3.ensures c.in_ok-walk.ensures in
     let p = err_from_is_err_and c.from_residual-in_err-rest.result c.from_residual-in_err-rest.ensures.1 in
-    rw (p.1, p.2) (λ is. walked_no_further s hs ts c.in_ok-walk.walk start c.fits.ensures.accepted (fails_further c.in_ok-walk.walk c.items.new.self [] [] c.in_ok-items.ensures.ok (c.in_err-rest.ensures.mismatch is)))
+    rw (p.1, p.2) (λ is. walked_no_further s hs ts c.in_ok-walk.walk start c.fits.ensures.accepted (fails_further c.in_ok-walk.walk c.items.new.self [] [] c.in_ok-items.ensures.ok (c.in_err-rest.ensures.mismatch (told_on c.in_err-rest.field-0.0 Mismatch is))))
 
 pub returns-clause-certified : goal.returns-clause-certified
 returns-clause-certified c =

@@ -1,7 +1,8 @@
 use Rattle.std.proofs.Common.{[], ◌<◌, Ok, ap, sym, subst, refl}
 use Rattle.std.proofs.lemmas.Result.{err_from_is_err_and}
+use Rattle.run_certify.specs.declared.fault.CertifyFault.TheVariants.{Mismatch}
 use Rattle.run_certify.specs.code.Walks.{Goes, Walked}
-use Rattle.run_certify.proofs.Going.{item_fails, item_goes, left_in, taken_less, unmerged_fails}
+use Rattle.run_certify.proofs.Going.{item_fails, item_goes, left_in, taken_less, told_on, unmerged_fails}
 use Rattle.run_certify.proofs.Walking.{goes_nowhere}
 use Rattle.run_certify.proofs.walk.Walk.items.Goals as goal
 
@@ -11,7 +12,7 @@ loop-server-init c = goes_nowhere c.args.self.now []
 pub returns-in_err-server-clause-mismatch : goal.returns-in_err-server-clause-mismatch
 returns-in_err-server-clause-mismatch c =
     let p = err_from_is_err_and c.from_residual.result c.from_residual.ensures.1 in
-    rw (p.1, p.2) (λ is. unmerged_fails c.args.self.now c.loop-server.self c.loop-server.invariant (c.in_err-server.ensures.mismatch is))
+    rw (p.1, p.2) (λ is. unmerged_fails c.args.self.now c.loop-server.self c.loop-server.invariant (c.in_err-server.ensures.mismatch (told_on c.in_err-server.field-0.0 Mismatch is)))
 
 pub returns-in_default-clause-ok : goal.returns-in_default-clause-ok
 returns-in_default-clause-ok c = subst (λ (now : Walked). Goes c.args.self.now [] now []) (sym (c.in_ok-server.ensures.same (ap (λ next. Ok next) c.in_default.is))) c.loop-server.invariant
