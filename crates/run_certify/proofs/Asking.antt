@@ -10,7 +10,7 @@ use Rattle.run_core.specs.declared.done.Done.{Done}
 use Rattle.run_core.specs.declared.done.Outcome.{Outcome}
 use Rattle.run_core.specs.declared.done.Served.{Served}
 use Rattle.run_core.specs.declared.event.Event.TheVariants.{Step}
-use Rattle.run_core.specs.Decisions.{Decided, decided}
+use Rattle.run_core.specs.Decisions.{decided}
 use Rattle.run_core.specs.Senses.{has_sense}
 use Rattle.run_core.specs.Worlds.{Stepped, World, actor_at, step}
 use Rattle.run_certify.specs.declared.entry.Entry.{Entry}
@@ -18,7 +18,6 @@ use Rattle.run_certify.specs.declared.entry.Entry.TheVariants.{Asked}
 use Rattle.run_certify.specs.Deciding.{decision_by, job_at}
 use Rattle.run_certify.specs.Merges.{ItemAt}
 use Rattle.run_certify.specs.Shown.{asked, ended, entries_by, item_by, served_as}
-use Rattle.run_certify.specs.Weaves.{transcript_of}
 use Rattle.run_certify.specs.code.Uses.{EndsOtherwise, HasEnded}
 use Rattle.run_certify.specs.code.Walks.{AskedFails, AskedGoes, Fails, IsEnd, IsEvent, IsSound, IsUse, Walked}
 use Rattle.run_certify.proofs.Deciding.{decided_is}
@@ -76,8 +75,8 @@ asked_unlike : (was old : Walked) (agent server stamp : ℕ) (one : ItemAt) → 
     → (IsAnswered (fixed_of old.given) old.world agent server stamp one it.used.rest → ⊥) → Fails was (one ∷ [])
 asked_unlike was old agent server stamp one of it not =
     asked_fails was one agent server stamp it.used.rest of it.used.first (λ sense rest told same.
-        not (subst (λ (w : Walked). IsAnswered (fixed_of w.given) w.world agent server stamp one it.used.rest) (sym it.kept)
-          (answered (fixed_of was.given) was.world agent server stamp one it.used.rest rest sense (sym it.used.first ∙ told) same)))
+    not (subst (λ (w : Walked). IsAnswered (fixed_of w.given) w.world agent server stamp one it.used.rest) (sym it.kept)
+    (answered (fixed_of was.given) was.world agent server stamp one it.used.rest rest sense (sym it.used.first ∙ told) same)))
 
 -- the agent was told of another server, or another stamp
 pub told_otherwise : (old : Walked) (agent server stamp : ℕ) (one : ItemAt) → one.item.agent ≡ Some agent → ((server ≡ one.server) × (stamp ≡ one.item.stamp) → ⊥) → AskedFails agent server stamp one old
@@ -88,15 +87,15 @@ pub served_otherwise : (old mid : Walked) (agent server stamp : ℕ) (one : Item
     → AskedFails agent server stamp one old
 served_otherwise old mid agent server stamp one done of played not was it =
     asked_unlike was old agent server stamp one of it (λ so.
-        not (ap (λ who. served_as who done.served) of ∙ ap (λ (s : Stepped). served_as (Some agent) s.done.served) (sym played.is) ∙ so.served))
+    not (ap (λ who. served_as who done.served) of ∙ ap (λ (s : Stepped). served_as (Some agent) s.done.served) (sym played.is) ∙ so.served))
 
 -- the job ended otherwise
 pub ended_otherwise : (old mid noted : Walked) (agent server stamp : ℕ) (one : ItemAt) (done : Done) → one.item.agent ≡ Some agent → IsEvent old (Step agent) done mid → noted.unused ≡ mid.unused → EndsOtherwise noted.unused agent done.outcome
     → AskedFails agent server stamp one old
 ended_otherwise old mid noted agent server stamp one done of played same not was it =
     asked_unlike was old agent server stamp one of it (λ so.
-        otherwise was.unused old.unused agent it.used.rest so.rest (step (fixed_of old.given) old.world (Step agent)).done.outcome it.used.there it.used.set
-          (otherwise_by old mid (Step agent) done played noted agent same not) so.past)
+    otherwise was.unused old.unused agent it.used.rest so.rest (step (fixed_of old.given) old.world (Step agent)).done.outcome it.used.there it.used.set
+    (otherwise_by old mid (Step agent) done played noted agent same not) so.past)
 
 -- ---- the item was served
 
@@ -120,20 +119,20 @@ asked_served old mid noted now agent server stamp one done of at told played ser
     let stepped : step fixed was.world (Step agent) ≡ record { world = mid.world; done = done } = sym (ap (λ (w : Walked). step (fixed_of w.given) w.world (Step agent)) it.kept) ∙ played.is in
     let outcome : Option Outcome = (step fixed was.world (Step agent)).done.outcome in
     let shown : served_as (Some agent) (step fixed was.world (Step agent)).done.served ≡ Some one =
-        ap (λ (s : Stepped). served_as (Some agent) s.done.served) stepped ∙ ap (λ who. served_as who done.served) (sym of) ∙ served in
+    ap (λ (s : Stepped). served_as (Some agent) s.done.served) stepped ∙ ap (λ who. served_as who done.served) (sym of) ∙ served in
     let what = some_what (Some agent) (step fixed was.world (Step agent)).done.served one shown in
     let one_is : item_by (Some agent) what.0 ≡ one = same_Some (item_by (Some agent) what.0) one (sym (ap (λ o. served_as (Some agent) o) what.1) ∙ shown) in
     let puts : asked (asked_by fixed (actor_at was.world agent)) (step fixed was.world (Step agent)).done.served ≡ Asked server stamp ∷ [] =
-        ap (λ o. asked (asked_by fixed (actor_at was.world agent)) o) what.1 ∙ ap (λ (it : ItemAt). Asked it.server it.item.stamp ∷ []) one_is
-        ∙ ap (λ n. Asked n one.item.stamp ∷ []) (sym at) ∙ ap (λ n. Asked server n ∷ []) (sym told) in
+    ap (λ o. asked (asked_by fixed (actor_at was.world agent)) o) what.1 ∙ ap (λ (it : ItemAt). Asked it.server it.item.stamp ∷ []) one_is
+    ∙ ap (λ n. Asked n one.item.stamp ∷ []) (sym at) ∙ ap (λ n. Asked server n ∷ []) (sym told) in
     let ended_is : HasEnded old.unused agent outcome now.unused =
-        subst (λ (w : Walked). HasEnded old.unused agent (step (fixed_of w.given) w.world (Step agent)).done.outcome now.unused) it.kept (ended_by old mid (Step agent) done played noted now agent same end.ended) in
+    subst (λ (w : Walked). HasEnded old.unused agent (step (fixed_of w.given) w.world (Step agent)).done.outcome now.unused) it.kept (ended_by old mid (Step agent) done played noted now agent same end.ended) in
     let used = ends was.unused old.unused now.unused agent it.used.rest outcome it.used.there it.used.set ended_is in
     asked_goes was now one agent server stamp it.used.rest used.rest of it.used.there it.used.first (served_sense fixed was.world agent what.0 what.1) shown
-      (it.used.first ∙ ap (λ es. Asked server stamp ∷ es) used.parts ∙ sym (ap (λ es. (es ++ ended outcome) ++ used.rest) puts))
-      used.past
-      (λ sound.
-          subst (λ d. IsAfter was (Step agent) (slice_set was.unused agent used.rest) (cons_option d []) now) (sym (decided_so was old mid agent (Asked server stamp) done it played stepped sound))
-          (after_use was old now agent (Asked server stamp) (Step agent) (slice_set was.unused agent used.rest) (cons_option (decision_by (job_at mid.begun.jobs agent) done.served) []) it
-            (subst (λ us. IsAfter old (Step agent) us (cons_option (decision_by (job_at mid.begun.jobs agent) done.served) []) now) used.set
-              (end_after old mid (Step agent) done played noted now (cons_option (decision_by (job_at mid.begun.jobs agent) done.served) []) agent done.outcome refl refl decides end))))
+    (it.used.first ∙ ap (λ es. Asked server stamp ∷ es) used.parts ∙ sym (ap (λ es. (es ++ ended outcome) ++ used.rest) puts))
+    used.past
+    (λ sound.
+    subst (λ d. IsAfter was (Step agent) (slice_set was.unused agent used.rest) (cons_option d []) now) (sym (decided_so was old mid agent (Asked server stamp) done it played stepped sound))
+    (after_use was old now agent (Asked server stamp) (Step agent) (slice_set was.unused agent used.rest) (cons_option (decision_by (job_at mid.begun.jobs agent) done.served) []) it
+    (subst (λ us. IsAfter old (Step agent) us (cons_option (decision_by (job_at mid.begun.jobs agent) done.served) []) now) used.set
+    (end_after old mid (Step agent) done played noted now (cons_option (decision_by (job_at mid.begun.jobs agent) done.served) []) agent done.outcome refl refl decides end))))

@@ -1,6 +1,6 @@
 -- How many jobs agents have begun, and which they may begin.
-use Rattle.std.proofs.Common.{◌≡◌, ◌≢◌, ⊎_elim, ℕ, zero, suc, ◌+◌, ◌<◌, ◌≤◌, Bool, true, false, cond, List, [], ◌∷◌, length, slice_set, Option, Some, None, refl, sym, ap, subst, ◌∙◌, arith}
-use Rattle.std.specs.Prelude.{◌&&◌, nat_lt, slice_get, slice_index_or}
+use Rattle.std.proofs.Common.{◌≡◌, ◌≢◌, ⊎_elim, ℕ, zero, suc, ◌+◌, ◌<◌, ◌≤◌, Bool, true, false, cond, List, [], ◌∷◌, length, slice_set, Option, Some, None, refl, sym, ap, ◌∙◌, arith}
+use Rattle.std.specs.Prelude.{◌&&◌, nat_lt, slice_get}
 use Rattle.std.proofs.lemmas.Bool.{false≢true}
 use Rattle.std.proofs.lemmas.Bool.Decides.{nat_tests}
 use Rattle.std.proofs.lemmas.Option.{none-some, same_Some}
@@ -43,8 +43,8 @@ as_many actors i now there = (now, there, refl)
 as_many_put : (actors : List Actor) (i : ℕ) (was now : Actor) → slice_get actors i ≡ Some was → now.agent.count ≡ was.agent.count → AsMany actors (slice_set actors i now)
 as_many_put actors i was now there same j one at = ⊎_elim
     (λ (here : j ≡ i).
-        let one_is : now ≡ one = same_Some now one (sym (turned.set_here actors i was now there) ∙ ap (slice_get (slice_set actors i now)) (sym here) ∙ at) in
-        (was, ap (slice_get actors) here ∙ there, ap (λ (actor : Actor). actor.agent.count) (sym one_is) ∙ same))
+    let one_is : now ≡ one = same_Some now one (sym (turned.set_here actors i was now there) ∙ ap (slice_get (slice_set actors i now)) (sym here) ∙ at) in
+    (was, ap (slice_get actors) here ∙ there, ap (λ (actor : Actor). actor.agent.count) (sym one_is) ∙ same))
     (λ (apart : j ≢ i). (one, sym (turned.set_apart actors i j now apart) ∙ at, refl))
     (same_or j i)
 
@@ -108,16 +108,16 @@ module _ (fixed : Fixed) (world : World) where
       begins_one None there may i one at = absurd (false≢true may)
       begins_one (Some actor) there may i one at = ⊎_elim
           (λ (here : i ≡ number).
-              let new : Actor = record actor { agent = begin fixed actor.agent job } in
-              let one_is : new ≡ one = same_Some new one (sym (turned.set_here world.agents number actor new there) ∙ ap (slice_get (slice_set world.agents number new)) (sym here) ∙ at) in
-              ap (λ (actor : Actor). actor.agent.count) (sym one_is)
-              ∙ begun actor.agent may
-              ∙ ap (λ n. n + 1) (counted number actor there)
-              ∙ sym (set_here counts number (count_at counts number + 1) 0 place)
-              ∙ ap (count_at later) (sym here))
+          let new : Actor = record actor { agent = begin fixed actor.agent job } in
+          let one_is : new ≡ one = same_Some new one (sym (turned.set_here world.agents number actor new there) ∙ ap (slice_get (slice_set world.agents number new)) (sym here) ∙ at) in
+          ap (λ (actor : Actor). actor.agent.count) (sym one_is)
+          ∙ begun actor.agent may
+          ∙ ap (λ n. n + 1) (counted number actor there)
+          ∙ sym (set_here counts number (count_at counts number + 1) 0 place)
+          ∙ ap (count_at later) (sym here))
           (λ (apart : i ≢ number).
-              counted i one (sym (turned.set_apart world.agents number i (record actor { agent = begin fixed actor.agent job }) apart) ∙ at)
-              ∙ sym (set_apart counts number i (count_at counts number + 1) 0 apart))
+          counted i one (sym (turned.set_apart world.agents number i (record actor { agent = begin fixed actor.agent job }) apart) ∙ at)
+          ∙ sym (set_apart counts number i (count_at counts number + 1) 0 apart))
           (same_or i number)
 
     pub count_on : (event : Event) → has_sense fixed world event ≡ true → IsCounted counts event → AreCounted (step fixed world event).world (counts_after counts event)

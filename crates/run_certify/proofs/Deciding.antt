@@ -16,7 +16,7 @@ use Rattle.rep_core.specs.Service.{recorded, reply_of, verdict_of}
 use Rattle.rep_core.specs.Serving.{answer_of, is_full}
 use Rattle.txn_core.specs.declared.job.Job.{Job}
 use Rattle.txn_core.specs.declared.job.Job.TheVariants.{Transaction, Sweep}
-use Rattle.txn_core.specs.Doing.{Fixed, Task, Course, Doing, Running, Rounding, Deciding}
+use Rattle.txn_core.specs.Doing.{Fixed, Task, Course, Doing, Running, Rounding}
 use Rattle.txn_core.specs.Transactions.{decision_of, execute}
 use Rattle.txn_core.specs.Laws.{is_decide}
 use Rattle.txn_core.specs.Agents.{Agent, begin, begins, fixed_of, is_idle, max_jobs, next_in, next_of, started}
@@ -24,7 +24,6 @@ use Rattle.txn_core.specs.Agents as agents
 use Rattle.txn_core.proofs.Asks.{asks_same}
 use Rattle.run_core.specs.declared.event.Event.{Event}
 use Rattle.run_core.specs.declared.event.Event.TheVariants.{Begin, Step, Crash, Return, Forget, Lack}
-use Rattle.run_core.specs.declared.done.Outcome.{Outcome}
 use Rattle.run_core.specs.declared.done.Served.{Served}
 use Rattle.run_core.specs.Decisions.{Decided, answer_in, decided, decided_as, decided_at, decided_by, decisions, task_at, task_of, to_decide}
 use Rattle.run_core.specs.Runs.{run}

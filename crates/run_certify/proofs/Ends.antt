@@ -1,10 +1,9 @@
 -- Ends of jobs are no events; and what is left at the end.
-use Rattle.std.proofs.Common.{◌≡◌, ◌≢◌, ◌⊎◌, ⊎_elim, inl, inr, ℕ, zero, suc, ◌+◌, ◌<◌, ◌≤◌, Bool, true, false, List, [], ◌∷◌, ◌++◌, length, slice_set, subst, refl, ap, ◌∙◌, sym, arith, append_assoc}
+use Rattle.std.proofs.Common.{◌≡◌, ◌≢◌, ⊎_elim, ℕ, zero, suc, ◌+◌, ◌<◌, List, [], ◌∷◌, ◌++◌, length, slice_set, subst, refl, ap, ◌∙◌, sym, arith}
 use Rattle.std.specs.Prelude.{slice_index_or, Option, Some, None}
 use Rattle.std.specs.List.{cons_option}
-use Rattle.run_core.specs.declared.event.Event.{Event}
 use Rattle.run_certify.specs.declared.entry.Entry.{Entry}
-use Rattle.run_certify.specs.declared.entry.Entry.TheVariants.{Begun, Asked, Lacked, Forgot, Ended}
+use Rattle.run_certify.specs.declared.entry.Entry.TheVariants.{Ended}
 use Rattle.run_core.specs.declared.done.Outcome.{Outcome}
 use Rattle.server_lock.specs.declared.item.Item.{Item}
 use Rattle.run_certify.specs.Merges.{ItemAt, IsMerge, history_of}
@@ -28,18 +27,18 @@ weave_ended (one ∷ items) unused agent outcome rest low at =
         → events_at unused one who ++ weave items (unused_at unused who) ≡ events_at (slice_set unused agent rest) one who ++ weave items (unused_at (slice_set unused agent rest) who)
     by_who items unused agent outcome rest one None low at more = ap (λ es. operated one.server one.item.request.value ++ es) (more unused low at)
     by_who items unused agent outcome rest one (Some other) low at more = ⊎_elim
-      (λ (e : other ≡ agent). subst (λ o. events_at unused one (Some o) ++ weave items (unused_at unused (Some o)) ≡ events_at (slice_set unused agent rest) one (Some o) ++ weave items (unused_at (slice_set unused agent rest) (Some o))) (sym e)
-          (ap (λ es. events_of agent (up_to_stamp es) ++ weave items (slice_set unused agent (past_stamp es))) at
-            ∙ ap (λ us. events_of agent (up_to_stamp rest) ++ weave items us) (sym (set_again unused agent rest (past_stamp rest)))
-            ∙ ap (λ es. events_of agent (up_to_stamp es) ++ weave items (slice_set (slice_set unused agent rest) agent (past_stamp es))) (sym (set_here unused agent rest [] low))))
-      (λ (n : other ≢ agent).
-          let same : transcript_of (slice_set unused agent rest) other ≡ transcript_of unused other = set_apart unused agent other rest [] n in
-          let next : List (List Entry) = slice_set unused other (past_stamp (transcript_of unused other)) in
-          ap (λ es. events_of other (up_to_stamp (transcript_of unused other)) ++ es)
-            (more next (let l = long_set unused other (past_stamp (transcript_of unused other)) in omega arith) (set_apart unused other agent (past_stamp (transcript_of unused other)) [] (λ e. n (sym e)) ∙ at)
-              ∙ ap (λ us. weave items us) (set_commute unused other agent (past_stamp (transcript_of unused other)) rest n))
-            ∙ ap (λ es. events_of other (up_to_stamp es) ++ weave items (slice_set (slice_set unused agent rest) other (past_stamp es))) (sym same))
-      (same_or other agent)
+        (λ (e : other ≡ agent). subst (λ o. events_at unused one (Some o) ++ weave items (unused_at unused (Some o)) ≡ events_at (slice_set unused agent rest) one (Some o) ++ weave items (unused_at (slice_set unused agent rest) (Some o))) (sym e)
+        (ap (λ es. events_of agent (up_to_stamp es) ++ weave items (slice_set unused agent (past_stamp es))) at
+        ∙ ap (λ us. events_of agent (up_to_stamp rest) ++ weave items us) (sym (set_again unused agent rest (past_stamp rest)))
+        ∙ ap (λ es. events_of agent (up_to_stamp es) ++ weave items (slice_set (slice_set unused agent rest) agent (past_stamp es))) (sym (set_here unused agent rest [] low))))
+        (λ (n : other ≢ agent).
+        let same : transcript_of (slice_set unused agent rest) other ≡ transcript_of unused other = set_apart unused agent other rest [] n in
+        let next : List (List Entry) = slice_set unused other (past_stamp (transcript_of unused other)) in
+        ap (λ es. events_of other (up_to_stamp (transcript_of unused other)) ++ es)
+        (more next (let l = long_set unused other (past_stamp (transcript_of unused other)) in omega arith) (set_apart unused other agent (past_stamp (transcript_of unused other)) [] (λ e. n (sym e)) ∙ at)
+        ∙ ap (λ us. weave items us) (set_commute unused other agent (past_stamp (transcript_of unused other)) rest n))
+        ∙ ap (λ es. events_of other (up_to_stamp es) ++ weave items (slice_set (slice_set unused agent rest) other (past_stamp es))) (sym same))
+        (same_or other agent)
 
 -- ---- the rest, agent by agent
 
@@ -51,13 +50,13 @@ rest_first : (from : ℕ) (unused : List (List Entry)) (agent : ℕ) (y : Entry)
 rest_first from [] agent y ys empty low at = absurd (omega arith)
 rest_first from (entries ∷ unused) zero y ys empty low at =
     ap (λ es. events_of from es ++ rest_from (from + 1) unused) at ∙ cons_append (event_of from y) (events_of from ys) (rest_from (from + 1) unused)
-      ∙ ap (λ n. cons_option (event_of n y) (events_of from ys ++ rest_from (from + 1) unused)) (let e : from ≡ from + 0 = omega arith in e)
+    ∙ ap (λ n. cons_option (event_of n y) (events_of from ys ++ rest_from (from + 1) unused)) (let e : from ≡ from + 0 = omega arith in e)
 rest_first from (entries ∷ unused) (suc agent) y ys empty low at =
     let none : entries ≡ [] = empty 0 (omega arith) in
     let more = rest_first (from + 1) unused agent y ys (λ i l. empty (suc i) (omega arith)) (omega arith) at in
     ap (λ es. events_of from es ++ rest_from (from + 1) unused) none ∙ more
-      ∙ ap (λ n. cons_option (event_of n y) (rest_from (from + 1) (slice_set unused agent ys))) (let e : (from + 1) + agent ≡ from + suc agent = omega arith in e)
-      ∙ ap (λ es. cons_option (event_of (from + suc agent) y) (events_of from es ++ rest_from (from + 1) (slice_set unused agent ys))) (sym none)
+    ∙ ap (λ n. cons_option (event_of n y) (rest_from (from + 1) (slice_set unused agent ys))) (let e : (from + 1) + agent ≡ from + suc agent = omega arith in e)
+    ∙ ap (λ es. cons_option (event_of (from + suc agent) y) (events_of from es ++ rest_from (from + 1) (slice_set unused agent ys))) (sym none)
 
 pub weave_rest : (unused : List (List Entry)) (agent : ℕ) (y : Entry) (ys : List Entry) → ((i : ℕ) → i < agent → transcript_of unused i ≡ []) → agent < length unused → transcript_of unused agent ≡ y ∷ ys
     → weave [] unused ≡ cons_option (event_of agent y) (weave [] (slice_set unused agent ys))

@@ -1,6 +1,6 @@
 -- When what was served is an item, and when an entry is the end of a job: where all their parts are the same.
-use Rattle.std.proofs.Common.{◌≡◌, ℕ, Bool, true, ap, sym, ◌∙◌}
-use Rattle.std.specs.Prelude.{◌==◌, ◌&&◌, ◌↔◌, IsTrue}
+use Rattle.std.proofs.Common.{◌≡◌, ℕ, Bool, ap}
+use Rattle.std.specs.Prelude.{◌==◌, ◌&&◌}
 use Rattle.std.specs.Bool.{Decides}
 use Rattle.std.proofs.lemmas.Bool.Decides.{Decides-and, Decides-eqb, Decides-like}
 use Rattle.rep_core.specs.code.Equality.{same_reply, same_reply_decides, same_request, same_request_decides, same_stamped, same_stamped_decides}

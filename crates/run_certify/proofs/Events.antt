@@ -1,15 +1,14 @@
 -- An event that the walk played, and what else it changed.
-use Rattle.std.proofs.Common.{◌≡◌, ℕ, ◌+◌, List, [], ◌∷◌, ◌++◌, slice_set, subst, refl, ap, ◌∙◌, sym, append-nil}
+use Rattle.std.proofs.Common.{◌≡◌, ℕ, ◌+◌, List, [], ◌++◌, slice_set, subst, refl, ap, ◌∙◌, sym, append-nil}
 use Rattle.std.specs.Prelude.{Option, Some}
 use Rattle.txn_core.specs.declared.job.Job.{Job}
 use Rattle.txn_core.specs.Agents.{fixed_of}
 use Rattle.run_core.specs.declared.done.Done.{Done}
 use Rattle.run_core.specs.declared.done.Outcome.{Outcome}
 use Rattle.run_core.specs.declared.event.Event.{Event}
-use Rattle.run_core.specs.declared.event.Event.TheVariants.{Begin, Step}
+use Rattle.run_core.specs.declared.event.Event.TheVariants.{Begin}
 use Rattle.run_core.specs.Decisions.{Decided}
 use Rattle.run_core.specs.Worlds.{Stepped, step}
-use Rattle.run_certify.specs.declared.entry.Entry.{Entry}
 use Rattle.run_certify.specs.Deciding.{count_at, counts_after, jobs_after}
 use Rattle.run_certify.specs.code.Uses.{EndsOtherwise, HasEnded}
 use Rattle.run_certify.specs.code.Walks.{IsBegin, IsEnd, IsEvent, Walked}

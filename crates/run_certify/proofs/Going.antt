@@ -6,7 +6,6 @@ use Rattle.txn_core.specs.Doing.{Fixed}
 use Rattle.txn_core.specs.Agents.{fixed_of}
 use Rattle.run_core.specs.declared.done.Outcome.{Outcome}
 use Rattle.run_core.specs.declared.done.Served.{Served}
-use Rattle.run_core.specs.declared.event.Event.{Event}
 use Rattle.run_core.specs.declared.event.Event.TheVariants.{Begin, Step, Forget, Lack}
 use Rattle.run_core.specs.Decisions.{Decided, decisions}
 use Rattle.run_core.specs.Worlds.{World, opening, step}
@@ -95,9 +94,9 @@ other_than_asked (Ended outcome) other = refl
 -- an end is no entry to be played
 pub no_play : (old : Walked) (agent : ℕ) (entry : Entry) → is_asked entry ≡ false → ((server : ℕ) × (stamp : ℕ) × (entry ≡ Asked server stamp)) ⊎ ((outcome : Outcome) × (entry ≡ Ended outcome)) → EntryFails agent entry old
 no_play old agent entry other is was taken it turn = ⊎_elim
-  (λ (h : (server : ℕ) × (stamp : ℕ) × (entry ≡ Asked server stamp)). absurd (true≢false (sym (ap is_asked h.2) ∙ other)))
-  (λ (h : (outcome : Outcome) × (entry ≡ Ended outcome)). ended_fails was old agent h.0 taken (subst (λ e. IsUse was agent e old) h.1 it))
-  is
+    (λ (h : (server : ℕ) × (stamp : ℕ) × (entry ≡ Asked server stamp)). absurd (true≢false (sym (ap is_asked h.2) ∙ other)))
+    (λ (h : (outcome : Outcome) × (entry ≡ Ended outcome)). ended_fails was old agent h.0 taken (subst (λ e. IsUse was agent e old) h.1 it))
+    is
 
 -- up to an item of the agent's
 module _ (init cur : Walked) (agent : ℕ) (one : ItemAt) (of : one.item.agent ≡ Some agent) (goes : Goes init (one ∷ []) cur (one ∷ [])) where
@@ -137,6 +136,7 @@ far_fails was old agent entry taken it turn far other = by_entry entry it other
   where
     past : IsSound was → length was.world.agents ≤ agent
     past sound = let many = (counts was.given was.world was.begun.jobs sound.played).1 in let few = sound.accepted.some_agents.1 in omega (arith, many, few, far)
+
     by_entry : (entry : Entry) → IsUse was agent entry old → is_asked entry ≡ false → Fails was taken
     by_entry (Begun job) it other = entry_senseless was old agent (Begun job) (Begin agent job) taken it turn refl refl (λ sound. no_agent (fixed_of was.given) was.world agent (Begun job) (Begin agent job) (past sound) refl)
     by_entry (Asked server stamp) it other = absurd (true≢false other)
@@ -151,7 +151,7 @@ none_served fixed world agent (Some what) none = absurd (none (item_by (Some age
 asked_last : (was old : Walked) (agent server stamp : ℕ) → AreAllPlayed was.histories → NoneBefore agent was.unused → IsUse was agent (Asked server stamp) old → Fails was []
 asked_last was old agent server stamp played before it =
     rest_fails was agent server stamp it.used.rest played before it.used.there it.used.first (λ sense rest told none.
-        unserved (fixed_of was.given) was.world agent (none_served (fixed_of was.given) was.world agent (step (fixed_of was.given) was.world (Step agent)).done.served none) server stamp rest it.used.rest sense (sym told ∙ it.used.first))
+    unserved (fixed_of was.given) was.world agent (none_served (fixed_of was.given) was.world agent (step (fixed_of was.given) was.world (Step agent)).done.served none) server stamp rest it.used.rest sense (sym told ∙ it.used.first))
 
 module _ (init cur : Walked) (agent : ℕ) (goes : Goes init [] cur []) (played : AreAllPlayed cur.histories) (before : NoneBefore agent cur.unused) (mid : Walked) where
   pub rest_asked : (server stamp : ℕ) → IsUse cur agent (Asked server stamp) mid → Fails init []
@@ -219,16 +219,16 @@ module _ (given : Opening) (histories : List (List Item)) (transcripts : List (L
   to_start : (ds : List Decided) → IsLeft (fixed_of given) (opening given) [] histories transcripts ds → IsLeft (fixed_of start.given) start.world [] start.histories start.unused ds
   to_start ds left =
       subst (λ g. IsLeft (fixed_of g) start.world [] start.histories start.unused ds) (sym is.given_is)
-        (subst (λ w. IsLeft (fixed_of given) w [] start.histories start.unused ds) (sym is.world)
-          (subst (λ hs. IsLeft (fixed_of given) (opening given) [] hs start.unused ds) (sym is.histories_are)
-            (subst (λ us. IsLeft (fixed_of given) (opening given) [] histories us ds) (sym is.unused) left)))
+      (subst (λ w. IsLeft (fixed_of given) w [] start.histories start.unused ds) (sym is.world)
+      (subst (λ hs. IsLeft (fixed_of given) (opening given) [] hs start.unused ds) (sym is.histories_are)
+      (subst (λ us. IsLeft (fixed_of given) (opening given) [] histories us ds) (sym is.unused) left)))
 
   from_start : (ds : List Decided) → IsLeft (fixed_of start.given) start.world [] start.histories start.unused ds → IsLeft (fixed_of given) (opening given) [] histories transcripts ds
   from_start ds left =
       subst (λ us. IsLeft (fixed_of given) (opening given) [] histories us ds) is.unused
-        (subst (λ hs. IsLeft (fixed_of given) (opening given) [] hs start.unused ds) is.histories_are
-          (subst (λ w. IsLeft (fixed_of given) w [] start.histories start.unused ds) is.world
-            (subst (λ g. IsLeft (fixed_of g) start.world [] start.histories start.unused ds) is.given_is left)))
+      (subst (λ hs. IsLeft (fixed_of given) (opening given) [] hs start.unused ds) is.histories_are
+      (subst (λ w. IsLeft (fixed_of given) w [] start.histories start.unused ds) is.world
+      (subst (λ g. IsLeft (fixed_of g) start.world [] start.histories start.unused ds) is.given_is left)))
 
   -- what is certified is of a run
   of_run : (certified : IsCertified given histories transcripts) → IsOfRun start [] (decisions given (weave certified.items transcripts))

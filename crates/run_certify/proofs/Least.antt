@@ -1,9 +1,8 @@
 -- The least of the first items of histories.
-use Rattle.std.proofs.Common.{◌≡◌, ◌≢◌, ◌⊎◌, ⊎_elim, inl, inr, ℕ, zero, suc, ◌+◌, ◌<◌, ◌≤◌, List, [], ◌∷◌, length, slice_set, subst, refl, ap, ◌∙◌, sym, arith}
-use Rattle.std.specs.Prelude.{MatchOption, Option, Some, None}
+use Rattle.std.proofs.Common.{◌≡◌, ◌≢◌, ◌⊎◌, ⊎_elim, inl, inr, ℕ, zero, suc, ◌+◌, ◌<◌, ◌≤◌, List, [], ◌∷◌, length, slice_set, refl, ap, ◌∙◌, sym, arith}
 use Rattle.server_lock.specs.declared.item.Item.{Item}
-use Rattle.run_certify.specs.Merges.{ItemAt, MayPrecede, history_of}
-use Rattle.run_certify.specs.code.Firsts.{AreAllPlayed, IsFirst, IsFirstBelow, IsLeast, IsLeastBelow, IsNext, IsTaken, NoneBelow, at_server}
+use Rattle.run_certify.specs.Merges.{history_of}
+use Rattle.run_certify.specs.code.Firsts.{AreAllPlayed, IsFirst, IsFirstBelow, IsLeast, IsNext, IsTaken, NoneBelow}
 use Rattle.run_certify.proofs.Lists.{le_or, no_cons, same_head, same_or, set_apart, set_here}
 
 split : (other bound : ℕ) → other < bound + 1 → (other < bound) ⊎ (other ≡ bound)
@@ -22,8 +21,8 @@ module _ (histories : List (List Item)) (bound : ℕ) where
     least = λ other first more low at. ⊎_elim
         (λ (l : other < bound). absurd (no_cons first more (sym (none other l) ∙ at)))
         (λ (e : other ≡ bound). inr (
-            ap (λ (i : Item). i.stamp) (same_head item first later more (sym is.first ∙ ap (λ s. history_of histories s) (sym e) ∙ at)),
-            (omega arith),
+          ap (λ (i : Item). i.stamp) (same_head item first later more (sym is.first ∙ ap (λ s. history_of histories s) (sym e) ∙ at)),
+          (omega arith),
         ))
         (split other bound low);
   }
@@ -46,8 +45,8 @@ module _ (histories : List (List Item)) (bound : ℕ) where
     least = λ other first more low at. ⊎_elim
         (λ (l : other < bound). was.least other first more l at)
         (λ (e : other ≡ bound).
-            let same : next.stamp ≡ first.stamp = ap (λ (i : Item). i.stamp) (same_head next first rest more (sym here ∙ ap (λ s. history_of histories s) (sym e) ∙ at)) in
-            ⊎_elim (λ (s : item.stamp ≡ first.stamp). inr (s, (let l = was.low in omega arith))) (λ (n : item.stamp ≢ first.stamp). inl (omega arith)) (same_or item.stamp first.stamp))
+        let same : next.stamp ≡ first.stamp = ap (λ (i : Item). i.stamp) (same_head next first rest more (sym here ∙ ap (λ s. history_of histories s) (sym e) ∙ at)) in
+        ⊎_elim (λ (s : item.stamp ≡ first.stamp). inr (s, (let l = was.low in omega arith))) (λ (n : item.stamp ≢ first.stamp). inl (omega arith)) (same_or item.stamp first.stamp))
         (split other bound low);
   }
 
@@ -59,8 +58,8 @@ module _ (histories : List (List Item)) (bound : ℕ) where
     least = λ other first more low at. ⊎_elim
         (λ (l : other < bound). inl (⊎_elim (λ (x : item.stamp < first.stamp). omega arith) (λ (x : (item.stamp ≡ first.stamp) × (server ≤ other)). let e = x.0 in omega arith) (was.least other first more l at)))
         (λ (e : other ≡ bound). inr (
-            ap (λ (i : Item). i.stamp) (same_head next first rest more (sym is.first ∙ ap (λ s. history_of histories s) (sym e) ∙ at)),
-            (omega arith),
+          ap (λ (i : Item). i.stamp) (same_head next first rest more (sym is.first ∙ ap (λ s. history_of histories s) (sym e) ∙ at)),
+          (omega arith),
         ))
         (split other bound low);
   }
@@ -89,12 +88,12 @@ next_of_all histories bound server item later long was = record {
 least_after : (was now : List (List Item)) (server : ℕ) (item : Item) (later : List Item) → IsNext was server item later → now ≡ slice_set was server later
     → ((next : Item) (rest : List Item) → later ≡ next ∷ rest → item.stamp ≤ next.stamp) → IsLeast now server item
 least_after was now server item later is set rises other first more at = ⊎_elim
-  (λ (e : other ≡ server).
-      let here : later ≡ first ∷ more = sym (set_here was server later [] is.is.there) ∙ ap (λ h. history_of h server) (sym set) ∙ ap (λ s. history_of now s) (sym e) ∙ at in
-      let l = rises first more here in
-      ⊎_elim (λ (same : item.stamp ≡ first.stamp). inr (same, omega arith)) (λ (n : item.stamp ≢ first.stamp). inl (omega arith)) (same_or item.stamp first.stamp))
-  (λ (n : other ≢ server). is.least other first more (sym (set_apart was server other later [] n) ∙ ap (λ h. history_of h other) (sym set) ∙ at))
-  (same_or other server)
+    (λ (e : other ≡ server).
+    let here : later ≡ first ∷ more = sym (set_here was server later [] is.is.there) ∙ ap (λ h. history_of h server) (sym set) ∙ ap (λ s. history_of now s) (sym e) ∙ at in
+    let l = rises first more here in
+    ⊎_elim (λ (same : item.stamp ≡ first.stamp). inr (same, omega arith)) (λ (n : item.stamp ≢ first.stamp). inl (omega arith)) (same_or item.stamp first.stamp))
+    (λ (n : other ≢ server). is.least other first more (sym (set_apart was server other later [] n) ∙ ap (λ h. history_of h other) (sym set) ∙ at))
+    (same_or other server)
 
 pub taken : (was now : List (List Item)) (server : ℕ) (item : Item) (later : List Item) → IsNext was server item later → now ≡ slice_set was server later
     → ((next : Item) (rest : List Item) → later ≡ next ∷ rest → item.stamp ≤ next.stamp) → IsTaken was server item now

@@ -1,5 +1,5 @@
 -- What is left before an event is played, and after it: of any machine.
-use Rattle.std.proofs.Common.{◌≡◌, ◌≢◌, ◌⊎◌, ⊎_elim, ℕ, ◌+◌, ◌<◌, Bool, true, false, List, [], ◌∷◌, ◌++◌, length, slice_set, subst, refl, ap, ◌∙◌, sym, arith}
+use Rattle.std.proofs.Common.{◌≡◌, ◌≢◌, ◌⊎◌, ⊎_elim, ℕ, ◌<◌, Bool, true, false, List, [], ◌∷◌, ◌++◌, length, slice_set, subst, refl, ap, ◌∙◌, sym, arith}
 use Rattle.std.specs.Prelude.{Option, Some, None}
 use Rattle.std.specs.List.{cons_option}
 use Rattle.run_core.specs.declared.done.Outcome.{Outcome}
@@ -16,7 +16,7 @@ use Rattle.run_certify.proofs.Ends.{merge_none, none_merge, weave_empty, weave_e
 use Rattle.run_certify.proofs.Lists.{long_set, no_cons, same_head, set_again, set_here}
 use Rattle.run_certify.proofs.Picking.{picked, picks}
 use Rattle.run_certify.proofs.Refuting as refuting
-use Rattle.run_certify.proofs.Steps.{AreOf, Fits, FitsOperator, decided_in, goes_back, goes_on, items_in, no_sense, operator_back, operator_on, puts_first, serves_first}
+use Rattle.run_certify.proofs.Steps.{AreOf, Fits, decided_in, goes_back, goes_on, no_sense, operator_back, operator_on, puts_first, serves_first}
 use Rattle.run_certify.specs.code.Turns.{IsTurn, is_asked}
 use Rattle.run_certify.proofs.Weaving.{weave_asked, weave_operator, weave_other}
 
@@ -34,7 +34,7 @@ pub same_after : (unused : List (List Entry)) (agent : ℕ) (ys rest : List Entr
 same_after unused agent ys rest low how items = ⊎_elim
     (λ (e : ys ≡ rest). ap (λ es. weave items (slice_set unused agent es)) e)
     (λ (h : (outcome : Outcome) × (ys ≡ Ended outcome ∷ rest)).
-        weave_ended items (slice_set unused agent ys) agent h.0 rest (let l = long_set unused agent ys in omega arith) (set_here unused agent ys [] low ∙ h.1) ∙ ap (λ us. weave items us) (set_again unused agent ys rest))
+    weave_ended items (slice_set unused agent ys) agent h.0 rest (let l = long_set unused agent ys in omega arith) (set_here unused agent ys [] low ∙ h.1) ∙ ap (λ us. weave items us) (set_again unused agent ys rest))
     how
 
 module _ {W D : Type 0} (next : W → Event → W) (sense : W → Event → Bool) (serves : W → Event → Option ItemAt) (puts : W → Event → List Entry) (decides : W → Event → Option D) where
@@ -103,7 +103,7 @@ module _ {W D : Type 0} (next : W → Event → W) (sense : W → Event → Bool
       → IsTurn taken histories unused agent → Plays w unused agent y ys event rest → IsMerge histories items → weave (taken ++ items) unused ≡ event ∷ weave (taken ++ items) (slice_set unused agent rest)
   spelt w taken histories unused agent y ys event rest items turn plays merge =
       turn y ys plays.at plays.other items merge ∙ ap (λ o. cons_option o (weave (taken ++ items) (slice_set unused agent ys))) plays.spells
-        ∙ ap (λ es. event ∷ es) (same_after unused agent ys rest plays.there plays.past (taken ++ items))
+      ∙ ap (λ es. event ∷ es) (same_after unused agent ys rest plays.there plays.past (taken ++ items))
 
   decided_after : (w : W) (event : Event) (events : List Event) → decides w event ≡ None → decided w (event ∷ events) ≡ decided (next w event) events
   decided_after w event events silent = ap (λ o. cons_option o (decided (next w event) events)) silent
@@ -164,7 +164,7 @@ module _ {W D : Type 0} (next : W → Event → W) (sense : W → Event → Bool
       → IsLeft (next w (Step agent)) [] histories (slice_set unused agent rest) ds → IsLeft w (one ∷ []) histories unused (cons_option (decides w (Step agent)) ds)
   asked_back w one histories unused agent server stamp ys rest ds of low at sense_is served told past left =
       let e : weave (one ∷ left.items) unused ≡ Step agent ∷ weave left.items (slice_set unused agent rest) =
-          weave_asked one left.items unused agent server stamp ys of at ∙ ap (λ es. Step agent ∷ es) (same_after unused agent ys rest low past left.items) in
+      weave_asked one left.items unused agent server stamp ys of at ∙ ap (λ es. Step agent ∷ es) (same_after unused agent ys rest low past left.items) in
       record {
         items = left.items;
         merge = left.merge;
@@ -179,7 +179,7 @@ module _ {W D : Type 0} (next : W → Event → W) (sense : W → Event → Bool
       → IsLeft w (one ∷ []) histories unused ds → (later : List D) × (ds ≡ cons_option (decides w (Step agent)) later) × IsLeft (next w (Step agent)) [] histories (slice_set unused agent rest) later
   asked_on w one histories unused agent server stamp ys rest ds of low at sense_is served told past left =
       let e : weave (one ∷ left.items) unused ≡ Step agent ∷ weave left.items (slice_set unused agent rest) =
-          weave_asked one left.items unused agent server stamp ys of at ∙ ap (λ es. Step agent ∷ es) (same_after unused agent ys rest low past left.items) in (
+      weave_asked one left.items unused agent server stamp ys of at ∙ ap (λ es. Step agent ∷ es) (same_after unused agent ys rest low past left.items) in (
         decided (next w (Step agent)) (weave left.items (slice_set unused agent rest)),
         left.is ∙ ap (λ es. decided w es) e,
         record {

@@ -1,7 +1,7 @@
 -- An entry that was used is played.
-use Rattle.std.proofs.Common.{◌≡◌, ◌≢◌, ◌⊎◌, ⊎_elim, inl, inr, ℕ, zero, suc, ◌+◌, ◌<◌, ◌≤◌, Bool, true, false, List, [], ◌∷◌, ◌++◌, length, slice_set, subst, refl, ap, ◌∙◌, sym, arith, append_assoc}
+use Rattle.std.proofs.Common.{◌≡◌, ◌≢◌, ◌⊎◌, ⊎_elim, inl, inr, ℕ, zero, suc, ◌<◌, ◌≤◌, Bool, true, false, List, [], ◌∷◌, ◌++◌, length, slice_set, subst, refl, ap, ◌∙◌, sym, arith, append_assoc}
 use Rattle.std.specs.Prelude.{◌&&◌, nat_lt, slice_index_or, Option, Some, None}
-use Rattle.std.proofs.lemmas.List.{append-nil, append_cancel_left}
+use Rattle.std.proofs.lemmas.List.{append-nil}
 use Rattle.rep_core.specs.declared.stamped.Lack.{Lack as Why}
 use Rattle.suite_prefix.specs.SettingsRules.{Opening}
 use Rattle.txn_core.specs.declared.job.Job.{Job}
@@ -14,16 +14,14 @@ use Rattle.run_core.specs.declared.event.Event.{Event}
 use Rattle.run_core.specs.declared.event.Event.TheVariants.{Begin, Lack, Forget}
 use Rattle.run_core.specs.Decisions.{Decided}
 use Rattle.run_core.specs.Senses.{has_sense}
-use Rattle.run_core.specs.Worlds.{World, actor_at, has_no_job, step}
+use Rattle.run_core.specs.Worlds.{actor_at, has_no_job, step}
 use Rattle.run_certify.specs.declared.entry.Entry.{Entry}
 use Rattle.run_certify.specs.declared.entry.Entry.TheVariants.{Begun, Ended, Forgot, Lacked}
 use Rattle.run_certify.specs.Deciding.{count_at}
-use Rattle.run_certify.specs.Merges.{ItemAt}
-use Rattle.run_certify.specs.Shown.{ended, entries_by, lacked, served_as}
+use Rattle.run_certify.specs.Shown.{ended, lacked, served_as}
 use Rattle.run_certify.specs.Weaves.{transcript_of}
-use Rattle.run_certify.specs.code.Turns.{IsTurn}
-use Rattle.run_certify.specs.code.Uses.{AreUsed, EndsOtherwise, HasEnded}
-use Rattle.run_certify.specs.code.Walks.{EntryFails, EntryGoes, Fails, Goes, IsBegin, IsEnd, IsEvent, IsShorter, IsSound, IsUse, Walked}
+use Rattle.run_certify.specs.code.Uses.{EndsOtherwise, HasEnded}
+use Rattle.run_certify.specs.code.Walks.{EntryFails, EntryGoes, IsBegin, IsEnd, IsEvent, IsShorter, IsSound, IsUse, Walked}
 use Rattle.run_certify.proofs.Counted.{begin_sense_is}
 use Rattle.run_certify.proofs.Deciding.{decides_nothing}
 use Rattle.run_certify.proofs.Events.{begin_after, end_after, ended_by, event_after, otherwise_by}
@@ -107,8 +105,8 @@ forget_fails old agent site why was taken it turn =
     entry_senseless was old agent (Forgot site) (Forget agent site) taken it turn refl refl
     (use_sense was old agent (Forgot site) (Forget agent site) false it (λ sound. ⊎_elim
     (λ (past : old.settings.agents ≤ agent).
-        let many : old.settings.agents ≡ length old.world.agents = ap (λ (given : Opening). given.agents) sound.same ∙ sym (counts old.given old.world old.begun.jobs sound.played).1 in
-        forget_none (fixed_of old.given) old.world agent site (subst (λ n. n ≤ agent) many past))
+    let many : old.settings.agents ≡ length old.world.agents = ap (λ (given : Opening). given.agents) sound.same ∙ sym (counts old.given old.world old.begun.jobs sound.played).1 in
+    forget_none (fixed_of old.given) old.world agent site (subst (λ n. n ≤ agent) many past))
     (λ (far : 16 ≤ site). forget_far (fixed_of old.given) old.world agent site far)
     why))
 
@@ -139,7 +137,7 @@ lack_goes old now agent server why asks so after was taken it turn =
     let event = Lack agent why in
     let asks' : asked_at fixed was.world agent ≡ Some server = sym (ap (λ (w : Walked). asked_at (fixed_of w.given) w.world agent) it.kept) ∙ asks in
     let so' : HasEnded old.unused agent (step fixed was.world event).done.outcome now.unused =
-        subst (λ (w : Walked). HasEnded old.unused agent (step (fixed_of w.given) w.world event).done.outcome now.unused) it.kept so in
+    subst (λ (w : Walked). HasEnded old.unused agent (step (fixed_of w.given) w.world event).done.outcome now.unused) it.kept so in
     let end = ends was.unused old.unused now.unused agent it.used.rest (step fixed was.world event).done.outcome it.used.there it.used.set so' in
     entry_goes was old now agent (Lacked server why) event it.used.rest end.rest taken it turn it.used.first end.past
     (record {
@@ -161,7 +159,7 @@ lack_fails old agent server why other was taken it turn =
     let other' : asked_at fixed was.world agent ≢ Some server = λ asks. other (ap (λ (w : Walked). asked_at (fixed_of w.given) w.world agent) it.kept ∙ asks) in
     entry_so was old agent (Lacked server why) event taken it turn refl refl refl
     (λ rest sense told. lack_other fixed was.world agent server why why other' sense (ended (step fixed was.world event).done.outcome ++ rest) it.used.rest
-        (sym (append_assoc (lacked why (asked_by fixed (actor_at was.world agent))) (ended (step fixed was.world event).done.outcome) rest) ∙ sym told ∙ it.used.first))
+    (sym (append_assoc (lacked why (asked_by fixed (actor_at was.world agent))) (ended (step fixed was.world event).done.outcome) rest) ∙ sym told ∙ it.used.first))
 
 pub otherwise : (was old : List (List Entry)) (agent : ℕ) (ys rest : List Entry) (outcome : Option Outcome) → agent < length was → old ≡ slice_set was agent ys → EndsOtherwise old agent outcome → ys ≡ ended outcome ++ rest → ⊥
 otherwise was old agent ys rest None low set not parts = not
@@ -177,8 +175,8 @@ lack_ends_otherwise old agent server why asks not was taken it turn =
     let not' : EndsOtherwise old.unused agent outcome = subst (λ (w : Walked). EndsOtherwise old.unused agent (step (fixed_of w.given) w.world event).done.outcome) it.kept not in
     entry_so was old agent (Lacked server why) event taken it turn refl refl refl
     (λ rest sense told. otherwise was.unused old.unused agent it.used.rest rest outcome it.used.there it.used.set not'
-        (same_tail (Lacked server why) (Lacked server why) it.used.rest (ended outcome ++ rest)
-        (sym it.used.first ∙ told ∙ ap (λ es. (es ++ ended outcome) ++ rest) (lack_puts fixed was.world agent server why asks'))))
+    (same_tail (Lacked server why) (Lacked server why) it.used.rest (ended outcome ++ rest)
+    (sym it.used.first ∙ told ∙ ap (λ es. (es ++ ended outcome) ++ rest) (lack_puts fixed was.world agent server why asks'))))
 
 -- ---- as the walk plays them
 
@@ -193,7 +191,7 @@ pub lacked_goes : (old mid now : Walked) (agent server : ℕ) (why : Why) (done 
     → EntryGoes agent (Lacked server why) old now
 lacked_goes old mid now agent server why done asks played end =
     lack_goes old now agent server why asks (ended_by old mid (Lack agent why) done played mid now agent refl end.ended)
-      (end_after old mid (Lack agent why) done played mid now [] agent done.outcome refl refl (ap (λ ds. record mid { made = ds }) (sym (append-nil mid.made))) end)
+    (end_after old mid (Lack agent why) done played mid now [] agent done.outcome refl refl (ap (λ ds. record mid { made = ds }) (sym (append-nil mid.made))) end)
 
 pub lacked_otherwise : (old mid : Walked) (agent server : ℕ) (why : Why) (done : Done) → asked_at (fixed_of old.given) old.world agent ≡ Some server → IsEvent old (Lack agent why) done mid → EndsOtherwise mid.unused agent done.outcome
     → EntryFails agent (Lacked server why) old

@@ -1,5 +1,5 @@
 -- The jobs that a woven run begins are those that agents put down; so it can be, and is promised.
-use Rattle.std.proofs.Common.{ℕ, zero, suc, ◌+◌, List, [], ◌∷◌, ◌++◌, slice_set, Option, Some, None, subst}
+use Rattle.std.proofs.Common.{ℕ, zero, suc, ◌+◌, List, [], ◌∷◌, slice_set, Option, Some, None, subst}
 use Rattle.vote_core.specs.Validity.{IsValid}
 use Rattle.suite_prefix.specs.SettingsRules.{IsAccepted, Opening}
 use Rattle.rep_core.specs.declared.request.Request.{Request}

@@ -1,12 +1,11 @@
 -- What refutes that events are of a run.
-use Rattle.std.proofs.Common.{◌≡◌, ◌≢◌, ◌⊎◌, ⊎_elim, inl, inr, ℕ, ◌+◌, Bool, true, false, List, [], ◌∷◌, ◌++◌, length, subst, refl, ap, ◌∙◌, sym, arith}
+use Rattle.std.proofs.Common.{◌≡◌, ◌≢◌, ℕ, Bool, true, false, List, [], ◌∷◌, ◌++◌, length, subst, refl, ap, ◌∙◌, sym, arith}
 use Rattle.std.specs.Prelude.{nat_eq, if◌then◌else◌, Option, Some, None}
 use Rattle.std.specs.List.{cons_option}
 use Rattle.run_core.specs.declared.event.Event.{Event}
 use Rattle.run_certify.specs.declared.entry.Entry.{Entry}
 use Rattle.run_certify.specs.declared.entry.Entry.TheVariants.{Ended}
 use Rattle.run_core.specs.declared.done.Outcome.{Outcome}
-use Rattle.rep_core.specs.declared.request.Request.{Request}
 use Rattle.run_certify.specs.Merges.{ItemAt}
 use Rattle.run_certify.specs.Weaves.{transcript_of, weave}
 use Rattle.run_certify.specs.Shown.{agent_of, asker, if_of}
@@ -60,9 +59,11 @@ module _ {W D : Type 0} (next : W → Event → W) (sense : W → Event → Bool
       first : (xs ys : List Entry) → NoEnd xs → NoEnd ys → NoEnd (xs ++ ys)
       first [] ys x y = y
       first (z ∷ xs) ys x y = λ outcome rest e. x outcome xs (ap (λ o. o ∷ xs) (ap (λ zs. head_or z zs) e))
+
       by_test : (b : Bool) → NoEnd (if b then puts w event else [])
       by_test true = each w event
       by_test false = λ outcome rest e. let h = ap length e in omega arith
+
       by_agent : (o : Option ℕ) → (later : List Entry) → NoEnd later → NoEnd (if_of o agent (puts w event) ++ later)
       by_agent None later more = more
       by_agent (Some other) later more = first (if_of (Some other) agent (puts w event)) later (by_test (nat_eq other agent)) more

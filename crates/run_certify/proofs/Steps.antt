@@ -1,10 +1,8 @@
 -- One event of a run, and what is left after it: of any machine.
-use Rattle.std.proofs.Common.{◌≡◌, ◌≢◌, ◌⊎◌, ⊎_elim, inl, inr, ℕ, zero, suc, ◌+◌, ◌<◌, ◌≤◌, Bool, true, false, true≢false, List, [], ◌∷◌, ◌++◌, length, slice_set, subst, refl, ap, ◌∙◌, sym, arith}
-use Rattle.std.proofs.lemmas.Bool.Decides.{nat_tests}
-use Rattle.std.specs.Prelude.{nat_eq, if◌then◌else◌, slice_index_or, Option, Some, None}
+use Rattle.std.proofs.Common.{◌≡◌, ◌≢◌, ⊎_elim, ℕ, ◌<◌, Bool, true, false, true≢false, List, [], ◌∷◌, ◌++◌, length, slice_set, subst, ap, ◌∙◌, sym}
+use Rattle.std.specs.Prelude.{if◌then◌else◌, Option, Some, None}
 use Rattle.std.specs.List.{cons_option}
 use Rattle.std.proofs.lemmas.List.{append_cancel_left}
-use Rattle.std.proofs.lemmas.Option.{same_Some}
 use Rattle.run_core.specs.declared.event.Event.{Event}
 use Rattle.run_certify.specs.declared.entry.Entry.{Entry}
 use Rattle.run_certify.proofs.Lists.{cons_cancel, eq_apart, eq_same, same_or, set_apart, set_here}
@@ -67,10 +65,10 @@ module _ {W D : Type 0} (next : W → Event → W) (sense : W → Event → Bool
     served = ap (λ xs. cons_option (serves w event) xs) is.served ∙ sym fits.served;
     told = λ other. ⊎_elim
         (λ (e : other ≡ agent). subst (λ a. told a w (event ∷ events) ≡ transcript_of unused a) (sym e)
-            (ap (λ xs. xs ++ told agent (next w event) events) (if_same agent (agent_of event) (puts w event) fits.of)
-              ∙ ap (λ xs. puts w event ++ xs) (is.told agent ∙ set_here unused agent entries [] fits.there) ∙ sym fits.told))
+        (ap (λ xs. xs ++ told agent (next w event) events) (if_same agent (agent_of event) (puts w event) fits.of)
+        ∙ ap (λ xs. puts w event ++ xs) (is.told agent ∙ set_here unused agent entries [] fits.there) ∙ sym fits.told))
         (λ (n : other ≢ agent). ap (λ xs. xs ++ told other (next w event) events) (if_apart agent other (agent_of event) (puts w event) fits.of n)
-            ∙ is.told other ∙ set_apart unused agent other entries [] n)
+        ∙ is.told other ∙ set_apart unused agent other entries [] n)
         (same_or other agent);
   }
 
@@ -81,11 +79,11 @@ module _ {W D : Type 0} (next : W → Event → W) (sense : W → Event → Bool
     served = cons_cancel (serves w event) _ later (is.served ∙ fits.served);
     told = λ other. ⊎_elim
         (λ (e : other ≡ agent). subst (λ a. told a (next w event) events ≡ transcript_of (slice_set unused agent entries) a) (sym e)
-            (append_cancel_left (puts w event) _ entries
-                (ap (λ xs. xs ++ told agent (next w event) events) (sym (if_same agent (agent_of event) (puts w event) fits.of)) ∙ is.told agent ∙ fits.told)
-              ∙ sym (set_here unused agent entries [] fits.there)))
+        (append_cancel_left (puts w event) _ entries
+        (ap (λ xs. xs ++ told agent (next w event) events) (sym (if_same agent (agent_of event) (puts w event) fits.of)) ∙ is.told agent ∙ fits.told)
+        ∙ sym (set_here unused agent entries [] fits.there)))
         (λ (n : other ≢ agent). ap (λ xs. xs ++ told other (next w event) events) (sym (if_apart agent other (agent_of event) (puts w event) fits.of n))
-            ∙ is.told other ∙ sym (set_apart unused agent other entries [] n))
+        ∙ is.told other ∙ sym (set_apart unused agent other entries [] n))
         (same_or other agent);
   }
 

@@ -1,9 +1,9 @@
 -- One step of the walk after another.
-use Rattle.std.proofs.Common.{◌≡◌, ◌≢◌, ◌⊎◌, ⊎_elim, ℕ, ◌+◌, ◌<◌, ◌≤◌, Bool, true, false, List, [], ◌∷◌, ◌++◌, length, slice_set, subst, refl, ap, ◌∙◌, sym, arith, append_assoc, append-nil}
+use Rattle.std.proofs.Common.{◌≡◌, ◌⊎◌, ℕ, ◌<◌, true, false, List, [], ◌∷◌, ◌++◌, length, slice_set, subst, refl, ap, ◌∙◌, sym, arith, append_assoc, append-nil}
 use Rattle.std.specs.Prelude.{Option, Some, None}
 use Rattle.std.specs.List.{cons_option}
 use Rattle.std.proofs.lemmas.Option.{same_Some}
-use Rattle.suite_prefix.specs.SettingsRules.{Opening, IsAccepted}
+use Rattle.suite_prefix.specs.SettingsRules.{IsAccepted}
 use Rattle.txn_core.specs.Doing.{Fixed}
 use Rattle.txn_core.specs.Agents.{fixed_of}
 use Rattle.txn_core.specs.declared.job.Job.{Job}
@@ -22,7 +22,7 @@ use Rattle.run_certify.specs.Shown.{agent_of, asker, entries_by, served_as}
 use Rattle.run_certify.specs.Weaves.{event_of, operated, transcript_of}
 use Rattle.run_certify.specs.code.Firsts.{AreAllPlayed, IsLeast, IsTaken, at_server}
 use Rattle.run_certify.specs.code.Turns.{IsTurn, is_asked}
-use Rattle.run_certify.specs.code.Walks.{EntryFails, EntryGoes, Fails, Goes, IsLeft, IsOfRun, IsSound, IsUse, Walked}
+use Rattle.run_certify.specs.code.Walks.{Fails, Goes, IsLeft, IsOfRun, IsSound, IsUse, Walked}
 use Rattle.run_certify.proofs.Bridge.{decided_same, decides, from_run, next, puts, sense, serves, to_run}
 use Rattle.run_certify.proofs.Counted.{count_on}
 use Rattle.run_certify.proofs.Deciding.{goes_on}
@@ -136,12 +136,12 @@ module _ (was now : Walked) (event : Event) (left : List (List Entry)) (ds : Lis
   there : (more : List Decided) → IsLeft (fixed_of was.given) world later was.histories left more → IsLeft (fixed_of now.given) now.world later now.histories now.unused more
   there more is =
       subst (λ g. IsLeft (fixed_of g) now.world later now.histories now.unused more) (sym after.given) (subst (λ w. IsLeft (fixed_of was.given) w later now.histories now.unused more) (sym after.world)
-        (subst (λ hs. IsLeft (fixed_of was.given) world later hs now.unused more) (sym after.histories) (subst (λ us. IsLeft (fixed_of was.given) world later was.histories us more) (sym after.unused) is)))
+      (subst (λ hs. IsLeft (fixed_of was.given) world later hs now.unused more) (sym after.histories) (subst (λ us. IsLeft (fixed_of was.given) world later was.histories us more) (sym after.unused) is)))
 
   here : (more : List Decided) → IsLeft (fixed_of now.given) now.world later now.histories now.unused more → IsLeft (fixed_of was.given) world later was.histories left more
   here more is =
       subst (λ us. IsLeft (fixed_of was.given) world later was.histories us more) after.unused (subst (λ hs. IsLeft (fixed_of was.given) world later hs now.unused more) after.histories
-        (subst (λ w. IsLeft (fixed_of was.given) w later now.histories now.unused more) after.world (subst (λ g. IsLeft (fixed_of g) now.world later now.histories now.unused more) after.given is)))
+      (subst (λ w. IsLeft (fixed_of was.given) w later now.histories now.unused more) after.world (subst (λ g. IsLeft (fixed_of g) now.world later now.histories now.unused more) after.given is)))
 
   pub after_on : ((all : List Decided) → IsLeft (fixed_of was.given) was.world taken was.histories was.unused all → (more : List Decided) × (all ≡ ds ++ more) × IsLeft (fixed_of was.given) world later was.histories left more)
       → (total : List Decided) → IsOfRun was taken total → IsOfRun now later total
@@ -198,11 +198,15 @@ entry_goes was old now agent entry event ys rest taken it turn at past played af
     record {
       sound = λ sound. sound_after was now event (slice_set was.unused agent rest) [] after (long_set was.unused agent rest) (seat_of (length was.unused) agent event played.of it.used.there) (played.has sound) sound;
       on = λ sound. after_on was now event (slice_set was.unused agent rest) [] taken taken after
-          (λ all left. (all, refl, to_left fixed _ taken was.histories (slice_set was.unused agent rest) all
-              (moves.entry_on (next fixed) (sense fixed) (serves fixed) (puts fixed) (decides fixed) was.world taken was.histories was.unused agent entry ys event rest all turn (plays sound) (from_left fixed was.world taken was.histories was.unused all left))));
+          (λ all left. (
+            all,
+            refl,
+            to_left fixed _ taken was.histories (slice_set was.unused agent rest) all
+                (moves.entry_on (next fixed) (sense fixed) (serves fixed) (puts fixed) (decides fixed) was.world taken was.histories was.unused agent entry ys event rest all turn (plays sound) (from_left fixed was.world taken was.histories was.unused all left)),
+          ));
       back = λ sound. after_back was now event (slice_set was.unused agent rest) [] taken taken after
           (λ more left. to_left fixed was.world taken was.histories was.unused more
-              (moves.entry_back (next fixed) (sense fixed) (serves fixed) (puts fixed) (decides fixed) was.world taken was.histories was.unused agent entry ys event rest more turn (plays sound) (from_left fixed _ taken was.histories (slice_set was.unused agent rest) more left)));
+          (moves.entry_back (next fixed) (sense fixed) (serves fixed) (puts fixed) (decides fixed) was.world taken was.histories was.unused agent entry ys event rest more turn (plays sound) (from_left fixed _ taken was.histories (slice_set was.unused agent rest) more left)));
     }
 
 -- the next entry of the agent spells an event without sense
@@ -211,7 +215,7 @@ pub entry_senseless : (was old : Walked) (agent : ℕ) (entry : Entry) (event : 
 entry_senseless was old agent entry event taken it turn other spells none = λ sound total run.
     let fixed : Fixed = fixed_of was.given in
     moves.senseless (next fixed) (sense fixed) (serves fixed) (puts fixed) (decides fixed) was.world taken was.histories was.unused agent entry it.used.rest event run.later turn it.used.first other spells (none sound)
-      (from_left fixed was.world taken was.histories was.unused run.later run.left)
+    (from_left fixed was.world taken was.histories was.unused run.later run.left)
 
 -- it has sense, and what is put down of it begins the agent's transcript
 pub entry_so : (was old : Walked) (agent : ℕ) (entry : Entry) (event : Event) (taken : List ItemAt) → IsUse was agent entry old → IsTurn taken was.histories was.unused agent → is_asked entry ≡ false → event_of agent entry ≡ Some event
@@ -221,7 +225,7 @@ pub entry_so : (was old : Walked) (agent : ℕ) (entry : Entry) (event : Event) 
 entry_so was old agent entry event taken it turn other spells of none = λ sound total run.
     let fixed : Fixed = fixed_of was.given in
     let h = moves.told_so (next fixed) (sense fixed) (serves fixed) (puts fixed) (decides fixed) was.world taken was.histories was.unused agent entry it.used.rest event run.later turn it.used.first other spells of
-      (from_left fixed was.world taken was.histories was.unused run.later run.left) in
+    (from_left fixed was.world taken was.histories was.unused run.later run.left) in
     none h.1.0 h.0 h.1.1
 
 -- no transcript begins with an end
@@ -229,7 +233,7 @@ pub ended_fails : (was old : Walked) (agent : ℕ) (outcome : Outcome) (taken : 
 ended_fails was old agent outcome taken it = λ sound total run.
     let fixed : Fixed = fixed_of was.given in
     moves.ended_first (next fixed) (sense fixed) (serves fixed) (puts fixed) (decides fixed) (λ w. asks_as fixed w) (λ w. no_end fixed w) was.world taken was.histories was.unused agent outcome it.used.rest run.later it.used.first
-      (from_left fixed was.world taken was.histories was.unused run.later run.left)
+    (from_left fixed was.world taken was.histories was.unused run.later run.left)
 
 -- ---- items
 
@@ -252,15 +256,15 @@ taken_goes was now server item taken is =
         parts = run.parts;
         left = to_left fixed was.world (at_server server item ∷ []) hs was.unused run.later
             (moves.taken_on (next fixed) (sense fixed) (serves fixed) (puts fixed) (decides fixed) was.world was.histories was.unused server item taken.later run.later taken.is.there taken.is.first taken.before
-              (from_left fixed was.world [] was.histories was.unused run.later run.left));
+            (from_left fixed was.world [] was.histories was.unused run.later run.left));
       };
       back = λ sound total run. record {
         later = run.later;
         parts = run.parts;
         left = to_left fixed was.world [] was.histories was.unused run.later
             (moves.taken_back (next fixed) (sense fixed) (serves fixed) (puts fixed) (decides fixed) was.world was.histories was.unused server item taken.later run.later taken.is.there taken.is.first
-              (subst (λ h. IsLeast h server item) taken.set taken.after)
-              (from_left fixed was.world (at_server server item ∷ []) hs was.unused run.later run.left));
+            (subst (λ h. IsLeast h server item) taken.set taken.after)
+            (from_left fixed was.world (at_server server item ∷ []) hs was.unused run.later run.left));
       };
     })
 
@@ -273,13 +277,17 @@ operated_goes was now one event of spells none has served silent after =
     record {
       sound = λ sound. sound_after was now event was.unused [] after refl (λ agent is. absurd (none_some agent (sym none ∙ is))) (has sound) sound;
       on = λ sound. after_on was now event was.unused [] (one ∷ []) [] after
-          (λ all left. (all, refl, to_left fixed _ [] was.histories was.unused all
-              (moves.operated_on (next fixed) (sense fixed) (serves fixed) (puts fixed) (decides fixed) was.world one event was.histories was.unused all of spells none (has sound) served silent
-                (from_left fixed was.world (one ∷ []) was.histories was.unused all left))));
+          (λ all left. (
+            all,
+            refl,
+            to_left fixed _ [] was.histories was.unused all
+                (moves.operated_on (next fixed) (sense fixed) (serves fixed) (puts fixed) (decides fixed) was.world one event was.histories was.unused all of spells none (has sound) served silent
+                (from_left fixed was.world (one ∷ []) was.histories was.unused all left)),
+          ));
       back = λ sound. after_back was now event was.unused [] (one ∷ []) [] after
           (λ more left. to_left fixed was.world (one ∷ []) was.histories was.unused more
-              (moves.operated_back (next fixed) (sense fixed) (serves fixed) (puts fixed) (decides fixed) was.world one event was.histories was.unused more of spells none (has sound) served silent
-                (from_left fixed _ [] was.histories was.unused more left)));
+          (moves.operated_back (next fixed) (sense fixed) (serves fixed) (puts fixed) (decides fixed) was.world one event was.histories was.unused more of spells none (has sound) served silent
+          (from_left fixed _ [] was.histories was.unused more left)));
     }
 
 pub operated_fails : (was : Walked) (one : ItemAt) (event : Event) → one.item.agent ≡ None → operated one.server one.item.request.value ≡ event ∷ []
@@ -287,7 +295,7 @@ pub operated_fails : (was : Walked) (one : ItemAt) (event : Event) → one.item.
 operated_fails was one event of spells none = λ sound total run.
     let fixed : Fixed = fixed_of was.given in
     let h = moves.operated_so (next fixed) (sense fixed) (serves fixed) (puts fixed) (decides fixed) was.world one event was.histories was.unused run.later of spells
-      (from_left fixed was.world (one ∷ []) was.histories was.unused run.later run.left) in
+    (from_left fixed was.world (one ∷ []) was.histories was.unused run.later run.left) in
     none sound h.0 h.1
 
 -- an item of the operator's is that a server fell down or came up
@@ -298,16 +306,16 @@ pub operator_fails : (was : Walked) (one : ItemAt) → one.item.agent ≡ None �
 operator_fails was one of none = λ sound total run.
     let fixed : Fixed = fixed_of was.given in
     moves.unlike (next fixed) (sense fixed) (serves fixed) (puts fixed) (decides fixed) (λ w. asks_as fixed w) IsOperated
-      (λ w event what is who. (event, operator_serves fixed w event what (sym (asks_as fixed w event what is) ∙ who) is)) was.world one was.histories was.unused run.later
-      (λ spells. let h = spells of in no_cons h.0 [] (sym none ∙ h.1))
-      (from_left fixed was.world (one ∷ []) was.histories was.unused run.later run.left)
+    (λ w event what is who. (event, operator_serves fixed w event what (sym (asks_as fixed w event what is) ∙ who) is)) was.world one was.histories was.unused run.later
+    (λ spells. let h = spells of in no_cons h.0 [] (sym none ∙ h.1))
+    (from_left fixed was.world (one ∷ []) was.histories was.unused run.later run.left)
 
 -- an item of an agent of which nothing is left
 pub nothing_fails : (was : Walked) (one : ItemAt) (agent : ℕ) → one.item.agent ≡ Some agent → transcript_of was.unused agent ≡ [] → Fails was (one ∷ [])
 nothing_fails was one agent of none = λ sound total run.
     let fixed : Fixed = fixed_of was.given in
     moves.nothing_of (next fixed) (sense fixed) (serves fixed) (puts fixed) (decides fixed) (λ w. asks_as fixed w) was.world one was.histories was.unused agent run.later of none
-      (from_left fixed was.world (one ∷ []) was.histories was.unused run.later run.left)
+    (from_left fixed was.world (one ∷ []) was.histories was.unused run.later run.left)
 
 -- an agent's item is served
 pub asked_goes : (was now : Walked) (one : ItemAt) (agent server stamp : ℕ) (ys rest : List Entry) → one.item.agent ≡ Some agent → agent < length was.unused → transcript_of was.unused agent ≡ Asked server stamp ∷ ys
@@ -322,36 +330,36 @@ asked_goes was now one agent server stamp ys rest of low at has served told past
       sound = λ sound. sound_after was now (Step agent) left (cons_option d []) (after sound) (long_set was.unused agent rest) (seat_of (length was.unused) agent (Step agent) refl low) has sound;
       on = λ sound. after_on was now (Step agent) left (cons_option d []) (one ∷ []) [] (after sound)
           (λ all is.
-              let h = moves.asked_on (next fixed) (sense fixed) (serves fixed) (puts fixed) (decides fixed) was.world one was.histories was.unused agent server stamp ys rest all of low at has served told past
-                (from_left fixed was.world (one ∷ []) was.histories was.unused all is) in
-              (h.0, h.1 ∙ sym (cons_append d [] h.0), to_left fixed _ [] was.histories left h.0 h.2));
+          let h = moves.asked_on (next fixed) (sense fixed) (serves fixed) (puts fixed) (decides fixed) was.world one was.histories was.unused agent server stamp ys rest all of low at has served told past
+          (from_left fixed was.world (one ∷ []) was.histories was.unused all is) in
+          (h.0, h.1 ∙ sym (cons_append d [] h.0), to_left fixed _ [] was.histories left h.0 h.2));
       back = λ sound. after_back was now (Step agent) left (cons_option d []) (one ∷ []) [] (after sound)
           (λ more is. to_left fixed was.world (one ∷ []) was.histories was.unused (cons_option d [] ++ more)
-              (subst (λ ds. Left fixed was.world (one ∷ []) was.histories was.unused ds) (sym (cons_append d [] more))
-                (moves.asked_back (next fixed) (sense fixed) (serves fixed) (puts fixed) (decides fixed) was.world one was.histories was.unused agent server stamp ys rest more of low at has served told past
-                  (from_left fixed _ [] was.histories left more is))));
+          (subst (λ ds. Left fixed was.world (one ∷ []) was.histories was.unused ds) (sym (cons_append d [] more))
+          (moves.asked_back (next fixed) (sense fixed) (serves fixed) (puts fixed) (decides fixed) was.world one was.histories was.unused agent server stamp ys rest more of low at has served told past
+          (from_left fixed _ [] was.histories left more is))));
     }
 
 pub asked_fails : (was : Walked) (one : ItemAt) (agent server stamp : ℕ) (ys : List Entry) → one.item.agent ≡ Some agent → transcript_of was.unused agent ≡ Asked server stamp ∷ ys
     → (has_sense (fixed_of was.given) was.world (Step agent) ≡ true
-      → (rest : List Entry) → transcript_of was.unused agent ≡ entries_by (fixed_of was.given) was.world (Step agent) (step (fixed_of was.given) was.world (Step agent)).done ++ rest
-      → ((what : ItemAt) → served_as (Some agent) (step (fixed_of was.given) was.world (Step agent)).done.served ≡ Some what → one ≡ what) → ⊥)
+    → (rest : List Entry) → transcript_of was.unused agent ≡ entries_by (fixed_of was.given) was.world (Step agent) (step (fixed_of was.given) was.world (Step agent)).done ++ rest
+    → ((what : ItemAt) → served_as (Some agent) (step (fixed_of was.given) was.world (Step agent)).done.served ≡ Some what → one ≡ what) → ⊥)
     → Fails was (one ∷ [])
 asked_fails was one agent server stamp ys of at none = λ sound total run.
     let fixed : Fixed = fixed_of was.given in
     let h = moves.asked_so (next fixed) (sense fixed) (serves fixed) (puts fixed) (decides fixed) was.world one was.histories was.unused agent server stamp ys run.later of at
-      (from_left fixed was.world (one ∷ []) was.histories was.unused run.later run.left) in
+    (from_left fixed was.world (one ∷ []) was.histories was.unused run.later run.left) in
     none h.0 h.1.0 h.1.1 h.2
 
 pub rest_fails : (was : Walked) (agent server stamp : ℕ) (ys : List Entry) → AreAllPlayed was.histories → ((i : ℕ) → i < agent → transcript_of was.unused i ≡ []) → agent < length was.unused → transcript_of was.unused agent ≡ Asked server stamp ∷ ys
     → (has_sense (fixed_of was.given) was.world (Step agent) ≡ true
-      → (rest : List Entry) → transcript_of was.unused agent ≡ entries_by (fixed_of was.given) was.world (Step agent) (step (fixed_of was.given) was.world (Step agent)).done ++ rest
-      → ((what : ItemAt) → served_as (Some agent) (step (fixed_of was.given) was.world (Step agent)).done.served ≡ Some what → ⊥) → ⊥)
+    → (rest : List Entry) → transcript_of was.unused agent ≡ entries_by (fixed_of was.given) was.world (Step agent) (step (fixed_of was.given) was.world (Step agent)).done ++ rest
+    → ((what : ItemAt) → served_as (Some agent) (step (fixed_of was.given) was.world (Step agent)).done.served ≡ Some what → ⊥) → ⊥)
     → Fails was []
 rest_fails was agent server stamp ys empty before low at none = λ sound total run.
     let fixed : Fixed = fixed_of was.given in
     let h = moves.rest_so (next fixed) (sense fixed) (serves fixed) (puts fixed) (decides fixed) was.world was.histories was.unused agent server stamp ys run.later empty before low at
-      (from_left fixed was.world [] was.histories was.unused run.later run.left) in
+    (from_left fixed was.world [] was.histories was.unused run.later run.left) in
     none h.0 h.1.0 h.1.1 h.2
 
 -- ---- the end

@@ -1,9 +1,9 @@
 -- One event after another of those that items and transcripts spell.
-use Rattle.std.proofs.Common.{◌≡◌, ◌≢◌, ◌⊎◌, ⊎_elim, inl, inr, ℕ, zero, suc, ◌+◌, ◌<◌, ◌≤◌, Bool, true, false, List, [], ◌∷◌, ◌++◌, length, slice_set, subst, refl, ap, ◌∙◌, sym, arith, append_assoc}
+use Rattle.std.proofs.Common.{◌≡◌, ◌≢◌, ⊎_elim, ℕ, zero, suc, ◌+◌, ◌<◌, false, List, [], ◌∷◌, ◌++◌, length, slice_set, subst, refl, ap, ◌∙◌, sym, arith}
 use Rattle.std.specs.Prelude.{slice_index_or, Option, Some, None}
-use Rattle.std.specs.List.{cons_option, filter_map}
+use Rattle.std.specs.List.{cons_option}
 use Rattle.run_core.specs.declared.event.Event.{Event}
-use Rattle.run_core.specs.declared.event.Event.TheVariants.{Begin, Step, Crash, Return, Forget, Lack}
+use Rattle.run_core.specs.declared.event.Event.TheVariants.{Step}
 use Rattle.run_certify.specs.declared.entry.Entry.{Entry}
 use Rattle.run_certify.specs.declared.entry.Entry.TheVariants.{Begun, Asked, Lacked, Forgot, Ended}
 use Rattle.std.proofs.lemmas.Option.{same_Some}
@@ -13,7 +13,7 @@ use Rattle.run_certify.specs.Merges.{ItemAt}
 use Rattle.run_certify.specs.Weaves.{event_of, events_of, events_at, operated, past_stamp, rest_from, transcript_of, unused_at, up_to_stamp, weave}
 use Rattle.run_certify.specs.Shown.{asker}
 use Rattle.run_certify.specs.code.Turns.{is_asked}
-use Rattle.run_certify.proofs.Lists.{cons_append, same_or, set_again, set_apart, set_here}
+use Rattle.run_certify.proofs.Lists.{cons_append, same_or, set_again, set_here}
 
 -- ---- an agent's next entry
 
@@ -42,14 +42,14 @@ weave_other one items unused agent y ys is low at other =
     let there = set_here unused agent ys [] low in
     let rest : List Event = weave items (slice_set unused agent (past_stamp ys)) in
     weave_agent one items unused agent is
-      ∙ ap (λ entries. events_of agent (up_to_stamp entries) ++ weave items (slice_set unused agent (past_stamp entries))) at
-      ∙ ap (λ events. events ++ weave items (slice_set unused agent (past_stamp (y ∷ ys)))) (up_to_other agent y ys other)
-      ∙ ap (λ left. cons_option (event_of agent y) (events_of agent (up_to_stamp ys)) ++ weave items (slice_set unused agent left)) (past_other y ys other)
-      ∙ cons_append (event_of agent y) (events_of agent (up_to_stamp ys)) rest
-      ∙ ap (λ events. cons_option (event_of agent y) events)
-          (ap (λ us. events_of agent (up_to_stamp ys) ++ weave items us) (sym (set_again unused agent ys (past_stamp ys)))
-            ∙ ap (λ entries. events_of agent (up_to_stamp entries) ++ weave items (slice_set (slice_set unused agent ys) agent (past_stamp entries))) (sym there)
-            ∙ sym (weave_agent one items (slice_set unused agent ys) agent is))
+    ∙ ap (λ entries. events_of agent (up_to_stamp entries) ++ weave items (slice_set unused agent (past_stamp entries))) at
+    ∙ ap (λ events. events ++ weave items (slice_set unused agent (past_stamp (y ∷ ys)))) (up_to_other agent y ys other)
+    ∙ ap (λ left. cons_option (event_of agent y) (events_of agent (up_to_stamp ys)) ++ weave items (slice_set unused agent left)) (past_other y ys other)
+    ∙ cons_append (event_of agent y) (events_of agent (up_to_stamp ys)) rest
+    ∙ ap (λ events. cons_option (event_of agent y) events)
+    (ap (λ us. events_of agent (up_to_stamp ys) ++ weave items us) (sym (set_again unused agent ys (past_stamp ys)))
+    ∙ ap (λ entries. events_of agent (up_to_stamp entries) ++ weave items (slice_set (slice_set unused agent ys) agent (past_stamp entries))) (sym there)
+    ∙ sym (weave_agent one items (slice_set unused agent ys) agent is))
 
 -- one that has
 pub weave_asked : (one : ItemAt) (items : List ItemAt) (unused : List (List Entry)) (agent server stamp : ℕ) (ys : List Entry) → one.item.agent ≡ Some agent → transcript_of unused agent ≡ Asked server stamp ∷ ys
@@ -89,8 +89,8 @@ rest_none : (agent from : ℕ) (unused : List (List Entry)) → ((i : ℕ) → f
 rest_none agent from [] empty = tt
 rest_none agent from (entries ∷ unused) empty =
     no_append agent (events_of from entries) (rest_from (from + 1) unused)
-      (⊎_elim (λ (e : from ≡ agent). subst (λ es. NoSteps agent (events_of from es)) (sym (empty 0 (omega arith))) tt) (λ (n : from ≢ agent). of_another agent from entries n) (same_or from agent))
-      (rest_none agent (from + 1) unused (λ i e. empty (suc i) (omega arith)))
+    (⊎_elim (λ (e : from ≡ agent). subst (λ es. NoSteps agent (events_of from es)) (sym (empty 0 (omega arith))) tt) (λ (n : from ≢ agent). of_another agent from entries n) (same_or from agent))
+    (rest_none agent (from + 1) unused (λ i e. empty (suc i) (omega arith)))
 
 set_none : (unused : List (List Entry)) (agent other : ℕ) (entries : List Entry) → transcript_of unused agent ≡ [] → (other ≡ agent → entries ≡ []) → transcript_of (slice_set unused other entries) agent ≡ []
 set_none [] agent other entries none same = refl
@@ -108,5 +108,5 @@ no_steps (one ∷ items) unused agent none = by_who items unused agent one one.i
     by_who items unused agent one None none more = no_append agent (operated one.server one.item.request.value) (weave items unused) (of_operator agent one.server one.item.request.value) (more unused none)
     by_who items unused agent one (Some other) none more =
         no_append agent (events_of other (up_to_stamp (transcript_of unused other))) _
-          (⊎_elim (λ (e : other ≡ agent). subst (λ es. NoSteps agent (events_of other (up_to_stamp es))) (sym (ap (λ a. transcript_of unused a) e ∙ none)) tt) (λ (n : other ≢ agent). of_another agent other (up_to_stamp (transcript_of unused other)) n) (same_or other agent))
-          (more _ (set_none unused agent other (past_stamp (transcript_of unused other)) none (λ e. ap past_stamp (ap (λ a. transcript_of unused a) e ∙ none))))
+        (⊎_elim (λ (e : other ≡ agent). subst (λ es. NoSteps agent (events_of other (up_to_stamp es))) (sym (ap (λ a. transcript_of unused a) e ∙ none)) tt) (λ (n : other ≢ agent). of_another agent other (up_to_stamp (transcript_of unused other)) n) (same_or other agent))
+        (more _ (set_none unused agent other (past_stamp (transcript_of unused other)) none (λ e. ap past_stamp (ap (λ a. transcript_of unused a) e ∙ none))))

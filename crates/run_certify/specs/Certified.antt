@@ -5,7 +5,7 @@ use Rattle.txn_core.specs.Doing.{Fixed}
 use Rattle.txn_core.specs.Agents.{fixed_of}
 use Rattle.run_core.specs.declared.event.Event.{Event}
 use Rattle.run_core.specs.Worlds.{World, opening}
-use Rattle.run_core.specs.Decisions.{Decided, decisions, decisions_from}
+use Rattle.run_core.specs.Decisions.{Decided, decisions}
 use Rattle.server_lock.specs.declared.item.Item.{Item}
 use Rattle.run_certify.specs.declared.entry.Entry.{Entry}
 use Rattle.run_certify.specs.Merges.{ItemAt, IsMerge}

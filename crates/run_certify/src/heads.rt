@@ -75,7 +75,11 @@ impl<'a> Heads<'a> {
         for server in 0..self.histories.len() {
             let history = self.histories[server];
             if let Some((item, later)) = history.split_first() {
-                let head = Head { server, item, later };
+                let head = Head {
+                    server,
+                    item,
+                    later,
+                };
                 least = Some(lesser(least, head));
             }
         }

@@ -33,7 +33,12 @@ pub fn certify(
 {
     settings.fits();
     begun_are_valid(transcripts.as_slice());
-    let mut walk = Walk::new(alloc, settings, histories.as_slice(), transcripts.as_slice())?;
+    let mut walk = Walk::new(
+        alloc,
+        settings,
+        histories.as_slice(),
+        transcripts.as_slice(),
+    )?;
     walk.items()?;
     walk.rest()?;
     Ok(walk.into_decided())

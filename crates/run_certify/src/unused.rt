@@ -29,7 +29,10 @@ impl<'a> Model for Unused<'a> {
 
 impl<'a> Unused<'a> {
     /// All entries of the transcripts.
-    pub(crate) fn new(alloc: Global, transcripts: &'a [Transcript]) -> Result<Unused<'a>, AllocError>
+    pub(crate) fn new(
+        alloc: Global,
+        transcripts: &'a [Transcript],
+    ) -> Result<Unused<'a>, AllocError>
         ensures { IfOk result (λ unused. unused ≡ transcripts.now) }
     {
         let mut unused = Vec::new(alloc);

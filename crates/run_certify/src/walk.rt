@@ -22,8 +22,8 @@ use crate::decided::{Decided, Decision};
 use crate::entry::{Entry, Transcript};
 use crate::fault::CertifyFault;
 use crate::heads::Heads;
-use crate::same::is_served;
 use crate::operator::operator_event;
+use crate::same::is_served;
 use crate::sense::{begin_event, has_sense};
 use crate::unused::Unused;
 use crate::verdicts::decision_of;
@@ -58,13 +58,13 @@ impl<'a> Model for Walk<'a> {
     ghost Value = { Walked };
 
     ghost view = { λ walk. record {
-        settings = walk.settings.now;
-        given = walk.world.given;
-        world = walk.world.world;
-        histories = walk.heads;
-        unused = walk.unused;
-        begun = walk.begun;
-        made = walk.decisions.items;
+      settings = walk.settings.now;
+      given = walk.world.given;
+      world = walk.world.world;
+      histories = walk.heads;
+      unused = walk.unused;
+      begun = walk.begun;
+      made = walk.decisions.items;
     } };
 }
 

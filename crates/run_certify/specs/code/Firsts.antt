@@ -1,5 +1,5 @@
 -- The next item of histories: the first of its server, which stands before the first of every other.
-use Rattle.std.specs.Prelude.{◌≡◌, ℕ, ◌<◌, ◌≤◌, List, [], ◌∷◌, length, slice_set, Option, Some, None}
+use Rattle.std.specs.Prelude.{◌≡◌, ℕ, ◌<◌, ◌≤◌, List, [], ◌∷◌, length, slice_set}
 use Rattle.server_lock.specs.declared.item.Item.{Item}
 use Rattle.run_certify.specs.Merges.{ItemAt, MayPrecede, history_of}
 

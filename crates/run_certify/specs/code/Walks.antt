@@ -1,5 +1,5 @@
 -- A walk through histories and transcripts: what is left of them, the world after what was played, and what was decided so far.
-use Rattle.std.specs.Prelude.{◌≡◌, ℕ, ◌+◌, ◌<◌, ◌≤◌, Bool, true, false, List, [], ◌∷◌, ◌++◌, length, slice_set, Option, Some, None}
+use Rattle.std.specs.Prelude.{◌≡◌, ℕ, ◌+◌, ◌≤◌, List, [], ◌∷◌, ◌++◌, length, slice_set, Option, Some}
 use Rattle.suite_prefix.specs.SettingsRules.{Opening, IsAccepted}
 use Rattle.txn_core.specs.Doing.{Fixed}
 use Rattle.txn_core.specs.declared.job.Job.{Job}
@@ -18,7 +18,7 @@ use Rattle.run_certify.specs.Merges.{ItemAt, IsMerge}
 use Rattle.run_certify.specs.Weaves.{transcript_of, weave}
 use Rattle.run_certify.specs.code.Begins.{Begins}
 use Rattle.run_certify.specs.code.Firsts.{IsTaken}
-use Rattle.run_certify.specs.code.Turns.{IsTurn, is_asked}
+use Rattle.run_certify.specs.code.Turns.{IsTurn}
 use Rattle.run_certify.specs.code.Uses.{AreUsed, HasEnded}
 
 -- where the walk is

@@ -43,7 +43,7 @@ returns-clause-certified c =
     let start = started s c.as_slice-2.result.now hs c.as_slice-3.result.now ts c.in_ok-walk.walk c.as_slice-2.ensures c.as_slice-3.ensures c.in_ok-walk.ensures in
     subst (λ (ds : List Decided). IsCertifiedAs s hs ts ds) (sym c.into_decided.ensures)
     (walked_to_end s hs ts c.in_ok-walk.walk start c.items.new.self c.rest.new.self c.fits.ensures.accepted c.in_ok-items.ensures.ok c.in_ok-rest.ensures.ok
-      (subst AreAllPlayed (sym c.in_ok-rest.ensures.histories) c.in_ok-items.ensures.played) c.in_ok-rest.ensures.used)
+    (subst AreAllPlayed (sym c.in_ok-rest.ensures.histories) c.in_ok-items.ensures.played) c.in_ok-rest.ensures.used)
 
 pub returns-clause-promised : goal.returns-clause-promised
 returns-clause-promised c =

@@ -1,4 +1,4 @@
-use Rattle.std.proofs.Common.{◌≡◌, ⊎_elim, List, [], ◌∷◌, Some, None, ℕ, ◌+◌, ◌<◌, ◌≤◌, length, map, refl, ap, ◌∙◌, sym, subst, rules, arith, Bor}
+use Rattle.std.proofs.Common.{◌≡◌, ⊎_elim, List, [], Some, None, ℕ, ◌+◌, ◌<◌, ◌≤◌, length, map, ◌∙◌, sym, subst, rules}
 use Rattle.std.specs.Prelude.{MatchOption, Option}
 use Rattle.server_lock.specs.declared.item.Item.{Item}
 use Rattle.run_certify.specs.Merges.{history_of}
@@ -17,15 +17,15 @@ more : (histories : List (List Item)) (least : Option Head) (next result : Head)
     → Is histories (next.server + 1) (Some result)
 more histories None next result was is chosen =
     subst (λ (head : Head). IsFirstBelow (next.server + 1) histories head.server head.item.now head.later.now) (sym chosen)
-      (first_more histories next.server next.item.now next.later.now was is)
+    (first_more histories next.server next.item.now next.later.now was is)
 more histories (Some before) next result was is chosen = ⊎_elim
-  (λ (l : before.item.now.stamp ≤ next.item.now.stamp).
-      subst (λ (head : Head). IsFirstBelow (next.server + 1) histories head.server head.item.now head.later.now) (sym (chosen.keeps l))
-        (kept_more histories next.server before.server before.item.now before.later.now next.item.now next.later.now was is.first l))
-  (λ (l : next.item.now.stamp < before.item.now.stamp).
-      subst (λ (head : Head). IsFirstBelow (next.server + 1) histories head.server head.item.now head.later.now) (sym (chosen.takes l))
-        (less_more histories next.server before.server before.item.now before.later.now next.item.now next.later.now was is l))
-  (le_or before.item.now.stamp next.item.now.stamp)
+    (λ (l : before.item.now.stamp ≤ next.item.now.stamp).
+    subst (λ (head : Head). IsFirstBelow (next.server + 1) histories head.server head.item.now head.later.now) (sym (chosen.keeps l))
+    (kept_more histories next.server before.server before.item.now before.later.now next.item.now next.later.now was is.first l))
+    (λ (l : next.item.now.stamp < before.item.now.stamp).
+    subst (λ (head : Head). IsFirstBelow (next.server + 1) histories head.server head.item.now head.later.now) (sym (chosen.takes l))
+    (less_more histories next.server before.server before.item.now before.later.now next.item.now next.later.now was is l))
+    (le_or before.item.now.stamp next.item.now.stamp)
 
 no_more : (histories : List (List Item)) (bound : ℕ) (least : Option Head) → Is histories bound least → history_of histories bound ≡ [] → Is histories (bound + 1) least
 no_more histories bound None was empty = none_more histories bound was empty
@@ -42,10 +42,10 @@ loop-server-preserved c =
     let low : c.loop-server.server < length items = search rules in
     let here = at_place (λ history. history.now) items c.loop-server.server c.index-history.result.now low (sym c.index-history.ensures) in
     elim c.match-split_first.branch [
-      in-Some w ↦ subst (λ least. Is histories (c.loop-server.server + 1) least) (sym w.least-is)
+      | in-Some w ↦ subst (λ least. Is histories (c.loop-server.server + 1) least) (sym w.least-is)
           (more histories c.loop-server.least (record { server = c.loop-server.server; item = w.in-Some.item; later = w.in-Some.later }) w.lesser.result c.loop-server.invariant
-            (record { there = there (λ history. history.now) items c.loop-server.server low; first = here ∙ w.in-Some.ensures.cases.0 }) w.lesser.ensures)
-    | in_default w ↦ subst (λ least. Is histories (c.loop-server.server + 1) least) (sym w.least-is)
+          (record { there = there (λ history. history.now) items c.loop-server.server low; first = here ∙ w.in-Some.ensures.cases.0 }) w.lesser.ensures)
+      | in_default w ↦ subst (λ least. Is histories (c.loop-server.server + 1) least) (sym w.least-is)
           (no_more histories c.loop-server.server c.loop-server.least c.loop-server.invariant (here ∙ empty_of c.index-history.result.now.now w.in_default.ensures.cases))
     ]
 

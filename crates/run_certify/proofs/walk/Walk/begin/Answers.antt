@@ -1,5 +1,4 @@
 use Rattle.std.proofs.Common.{◌∙◌, sym, subst}
-use Rattle.run_core.specs.declared.event.Event.TheVariants.{Begin}
 use Rattle.run_core.specs.declared.event.Event.{Event}
 use Rattle.run_certify.specs.code.Walks.{IsEvent}
 use Rattle.run_certify.proofs.Playing.{begin_fails, begun_goes, begun_shorter}

@@ -1,4 +1,4 @@
-use Rattle.std.proofs.Common.{[], ◌<◌, Ok, ap, sym, subst, refl}
+use Rattle.std.proofs.Common.{[], ◌<◌, Ok, ap, sym, subst}
 use Rattle.std.proofs.lemmas.Result.{err_from_is_err_and}
 use Rattle.run_certify.specs.declared.fault.CertifyFault.TheVariants.{Mismatch}
 use Rattle.run_certify.specs.code.Walks.{Goes, Walked}

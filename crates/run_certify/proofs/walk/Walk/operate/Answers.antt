@@ -7,9 +7,9 @@ use Rattle.run_certify.proofs.walk.Walk.operate.Goals as goal
 
 pub returns-in_default-clause-mismatch : goal.returns-in_default-clause-mismatch
 returns-in_default-clause-mismatch c = λ _. ⊎_elim
-  (λ (far : 256 ≤ c.args.server). operator_far c.args.self.now c.args.server c.args.item.now c.requires far)
-  (λ (none : operated c.args.server c.args.item.now.request.value ≡ []). operator_fails c.args.self.now (at_server c.args.server c.args.item.now) c.requires none)
-  c.in_default.ensures
+    (λ (far : 256 ≤ c.args.server). operator_far c.args.self.now c.args.server c.args.item.now c.requires far)
+    (λ (none : operated c.args.server c.args.item.now.request.value ≡ []). operator_fails c.args.self.now (at_server c.args.server c.args.item.now) c.requires none)
+    c.in_default.ensures
 
 pub returns-then-is_served-clause-ok : goal.returns-then-is_served-clause-ok
 returns-then-is_served-clause-ok c =

@@ -1,4 +1,4 @@
-use Rattle.std.proofs.Common.{◌≡◌, ◌≤◌, [], refl, sym, subst, ◌∙◌, length, arith}
+use Rattle.std.proofs.Common.{[], sym, subst, ◌∙◌, arith}
 use Rattle.std.proofs.lemmas.Result.{err_from_is_err_and}
 use Rattle.run_certify.specs.code.Firsts.{AreAllPlayed}
 use Rattle.run_certify.proofs.Going.{none_at_all, start_far}

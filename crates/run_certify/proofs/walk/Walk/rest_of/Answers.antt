@@ -1,4 +1,4 @@
-use Rattle.std.proofs.Common.{◌≡◌, ℕ, ◌<◌, ◌≤◌, [], length, refl, ap, sym, subst, ◌∙◌, arith}
+use Rattle.std.proofs.Common.{◌≡◌, ℕ, ap, sym, subst, ◌∙◌, arith}
 use Rattle.std.proofs.lemmas.Result.{err_from_is_err_and}
 use Rattle.run_certify.specs.declared.entry.Entry.{Entry}
 use Rattle.run_certify.specs.Weaves.{transcript_of}
@@ -17,7 +17,7 @@ pub returns-in-Asked-clause-mismatch : goal.returns-in-Asked-clause-mismatch
 returns-in-Asked-clause-mismatch c = λ _.
     let far = c.loop-entry.invariant in
     rest_asked c.args.self.now c.loop-entry.self c.args.agent far.goes (still c.args.self.now c.loop-entry.self c.args.agent c.requires.played far) far.before c.next_entry.new.self c.in-Asked.server c.in-Asked.stamp
-      (subst (λ (entry : Entry). IsUse c.loop-entry.self c.args.agent entry c.next_entry.new.self) c.in-Asked.is c.in-Some.ensures.used)
+    (subst (λ (entry : Entry). IsUse c.loop-entry.self c.args.agent entry c.next_entry.new.self) c.in-Asked.is c.in-Some.ensures.used)
 
 pub returns-in_default-try_from : goal.returns-in_default-try_from
 returns-in_default-try_from c =

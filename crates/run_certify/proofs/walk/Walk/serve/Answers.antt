@@ -1,4 +1,4 @@
-use Rattle.std.proofs.Common.{◌≡◌, ℕ, ◌<◌, [], ◌∷◌, refl, ap, sym, subst, ◌∙◌, length}
+use Rattle.std.proofs.Common.{◌≡◌, ℕ, [], ◌∷◌, refl, ap, subst, ◌∙◌}
 use Rattle.std.proofs.lemmas.Result.{err_from_is_err_and, on_ok_weaker}
 use Rattle.run_certify.specs.declared.entry.Entry.{Entry}
 use Rattle.run_certify.specs.Weaves.{transcript_of}
@@ -22,7 +22,7 @@ returns-in-Asked-clause-ok c =
     let it : IsUse c.loop-entry.self c.args.agent c.in-Some.entry.now c.next_entry.new.self = subst (λ (n : ℕ). IsUse c.loop-entry.self n c.in-Some.entry.now c.next_entry.new.self) c.from.ensures c.in-Some.ensures.used in
     on_ok_weaker c.ask.result
     (λ more. serve_asked c.args.self.now c.loop-entry.self c.args.agent one c.requires c.loop-entry.invariant.0 c.next_entry.new.self c.in-Asked.asked c.in-Asked.stamp
-        (subst (λ (entry : Entry). IsUse c.loop-entry.self c.args.agent entry c.next_entry.new.self) c.in-Asked.is it) c.ask.new.self more)
+    (subst (λ (entry : Entry). IsUse c.loop-entry.self c.args.agent entry c.next_entry.new.self) c.in-Asked.is it) c.ask.new.self more)
     c.ask.ensures.ok
 
 pub returns-in-Asked-clause-mismatch : goal.returns-in-Asked-clause-mismatch
@@ -30,7 +30,7 @@ returns-in-Asked-clause-mismatch c = λ is.
     let one = at_server c.args.server c.args.item.now in
     let it : IsUse c.loop-entry.self c.args.agent c.in-Some.entry.now c.next_entry.new.self = subst (λ (n : ℕ). IsUse c.loop-entry.self n c.in-Some.entry.now c.next_entry.new.self) c.from.ensures c.in-Some.ensures.used in
     serve_asked_fails c.args.self.now c.loop-entry.self c.args.agent one c.requires c.loop-entry.invariant.0 c.next_entry.new.self c.in-Asked.asked c.in-Asked.stamp
-      (subst (λ (entry : Entry). IsUse c.loop-entry.self c.args.agent entry c.next_entry.new.self) c.in-Asked.is it) (c.ask.ensures.mismatch is)
+    (subst (λ (entry : Entry). IsUse c.loop-entry.self c.args.agent entry c.next_entry.new.self) c.in-Asked.is it) (c.ask.ensures.mismatch is)
 
 pub returns-in-Asked-clause-histories : goal.returns-in-Asked-clause-histories
 returns-in-Asked-clause-histories c =
