@@ -122,23 +122,15 @@ fn hints(rt: &impl Abort, cache: &WeakCache, suite: u64, is_kept: bool) {
     assert!(rt; hint.is_some() == is_kept, "suite {suite}");
 }
 
-/// How many entries there are.
-fn how_many(cache: &WeakCache) -> u64 {
-    let mut count = 0u64;
-    for _ in cache.entries() {
-        count = count.saturating_add(1);
-    }
-    count
-}
-
 #[test]
 fn a_full_cache_is_turned_over(rt: HostRuntime) {
     let mut cache = had(&rt, WeakCache::new(rt.alloc(), 4096, 4096, 4096));
     for suite in 0..8192 {
         holds(&rt, put(&rt, &mut cache, 3, suite, 1), "a put");
     }
-    holds(&rt, how_many(&cache) == 4096, "how many");
     holds(&rt, cache.entries().next() == Some((3, 8191)), "the newest");
+    holds(&rt, cache.entries().nth(4095) == Some((3, 4096)), "the oldest");
+    holds(&rt, cache.entries().nth(4096).is_none(), "how many");
     hints(&rt, &cache, 4095, false);
     hints(&rt, &cache, 4096, true);
 }
