@@ -1,0 +1,4 @@
+pub mod Merges
+pub mod Weaves
+pub mod Shown
+pub mod Certified
