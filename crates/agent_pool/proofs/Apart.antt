@@ -6,8 +6,9 @@ use Rattle.std.proofs.lemmas.List.{length-take, get_or-take}
 use Rattle.std.proofs.lemmas.List.Elements.{Contains-append_left, Contains-append_right}
 use Rattle.agent_pool.specs.declared.work.Done.{Done}
 use Rattle.agent_pool.specs.declared.outcome.JobOutcome.{JobOutcome}
-use Rattle.agent_pool.specs.Working.{RiseBetween}
-use Rattle.agent_pool.specs.Pools.{AreApart, AreApartIn, AreBelow, AreNone, AreOfThese, IsPut, StayApart}
+use Rattle.agent_pool.specs.code.Working.{RiseBetween}
+use Rattle.agent_pool.specs.Pools.{AreApart}
+use Rattle.agent_pool.specs.code.Filled.{AreApartIn, AreBelow, AreNone, AreOfThese, IsPut, StayApart}
 use Rattle.agent_pool.specs.Seats.{AreDistinct}
 
 same_or : (j i : ℕ) → (j ≡ i) ⊎ (j ≢ i)

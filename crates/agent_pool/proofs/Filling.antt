@@ -10,12 +10,14 @@ use Rattle.agent_pool.specs.declared.work.Seat.{Seat}
 use Rattle.agent_pool.specs.declared.work.Worked.{Worked}
 use Rattle.agent_pool.specs.declared.workshop.NamedJob.{NamedJob}
 use Rattle.agent_pool.specs.declared.outcome.JobOutcome.{JobOutcome}
-use Rattle.agent_pool.specs.Gathering.{AllRan}
-use Rattle.agent_pool.specs.Pools.{AreIdle, AreNone, AreOutcomes, IsFilled, IsOf, IsOutcome, begun_by, done_in, filled_in, players_of, sitting}
-use Rattle.agent_pool.specs.Seats.{AreDistinct, IsSeated, numbers_of}
-use Rattle.agent_pool.specs.Starts.{IsWorkOf}
+use Rattle.agent_pool.specs.code.Gathering.{AllRan}
+use Rattle.agent_pool.specs.Pools.{AreOutcomes, IsOf, IsOutcome, begun_by}
+use Rattle.agent_pool.specs.code.Filled.{AreIdle, AreNone, IsFilled, done_in, filled_in, players_of, sitting}
+use Rattle.agent_pool.specs.Seats.{AreDistinct, numbers_of}
+use Rattle.agent_pool.specs.code.Seated.{IsSeated}
+use Rattle.agent_pool.specs.code.Starts.{IsWorkOf}
 use Rattle.agent_pool.specs.Transcripts.{Played, IsIdle, IsTold, begins, number_of}
-use Rattle.agent_pool.specs.Working.{AllDone, IsDone, IsHalted}
+use Rattle.agent_pool.specs.code.Working.{AllDone, IsDone, IsHalted}
 use Rattle.agent_pool.proofs.Zips.{zip_set}
 
 pub none_push : (xs : List (Option JobOutcome)) → AreNone xs → AreNone (xs ++ None ∷ [])
@@ -40,7 +42,7 @@ place_filled was players agent before player jobs slots done named at by is all 
       before = before;
       player = player;
       by = by;
-      told = subst (λ (n : NamedJob). IsTold player n.job done.ran) (sym same) is.told;
+      told = subst (λ (n : NamedJob). IsTold player n.job done.ran.count done.ran.at) (sym same) is.told;
       since = is.since;
     } in
     zip_set (IsFilled was players) jobs slots done.place named (Some outcome) all at one

@@ -16,7 +16,7 @@ use Rattle.run_certify.specs.declared.entry.Entry.TheVariants.{Begun, Asked, Lac
 use Rattle.agent_pool.specs.declared.asking.Came.{Came}
 use Rattle.agent_pool.specs.declared.asking.Came.TheVariants as came
 use Rattle.agent_pool.specs.declared.asking.Told.{Told}
-use Rattle.agent_pool.specs.Steps.{DidJob, DidMore, Hears, Leaves, RanTo, end_entry, told_by}
+use Rattle.agent_pool.specs.code.Steps.{DidJob, DidMore, Hears, Leaves, RanTo, end_entry, told_by}
 use Rattle.agent_pool.specs.Transcripts.{Played, AreAsks, GoesOn, IsIdle, IsLonger, begins, is_ask, number_of}
 use Rattle.agent_pool.proofs.Begins.{begins-append, goes-append}
 

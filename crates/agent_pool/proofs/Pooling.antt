@@ -8,10 +8,12 @@ use Rattle.agent_pool.specs.declared.pool.Pool.{Pool}
 use Rattle.agent_pool.specs.declared.work.Seat.{Seat}
 use Rattle.agent_pool.specs.declared.work.Worked.{Worked}
 use Rattle.agent_pool.specs.declared.workshop.NamedJob.{NamedJob}
-use Rattle.agent_pool.specs.Gathering.{IsGathered}
-use Rattle.agent_pool.specs.Pools.{AreOutcomes, IsPoolOf, begun_by, done_in, players_of}
-use Rattle.agent_pool.specs.Seats.{AreDistinct, AreSeated, WentOn, numbers_of}
-use Rattle.agent_pool.specs.Starts.{IsWorkOf}
+use Rattle.agent_pool.specs.code.Gathering.{IsGathered}
+use Rattle.agent_pool.specs.Pools.{AreOutcomes, IsPoolOf, begun_by}
+use Rattle.agent_pool.specs.code.Filled.{done_in, players_of}
+use Rattle.agent_pool.specs.Seats.{AreDistinct, WentOn, numbers_of}
+use Rattle.agent_pool.specs.code.Seated.{AreSeated}
+use Rattle.agent_pool.specs.code.Starts.{IsWorkOf}
 use Rattle.agent_pool.specs.Transcripts.{Played, IsIdle}
 use Rattle.agent_pool.proofs.Filling.{all_begun, all_idle, sits_same}
 use Rattle.agent_pool.proofs.Returning.{all_went, others_back}

@@ -10,11 +10,12 @@ use Rattle.run_certify.specs.declared.entry.Entry.TheVariants.{Begun, Asked, Lac
 use Rattle.agent_pool.specs.declared.work.Seat.{Seat}
 use Rattle.agent_pool.specs.declared.work.Worked.{Worked}
 use Rattle.agent_pool.specs.declared.workshop.NamedJob.{NamedJob}
-use Rattle.agent_pool.specs.Pools.{passes_of, players_of}
-use Rattle.agent_pool.specs.Seats.{AreDistinct, AreSeated, IsOther, IsSeated, WentOn, numbers_of, passes_for}
-use Rattle.agent_pool.specs.Starts.{IsWorkOf}
+use Rattle.agent_pool.specs.code.Filled.{passes_of, players_of}
+use Rattle.agent_pool.specs.Seats.{AreDistinct, IsOther, WentOn, numbers_of, passes_for}
+use Rattle.agent_pool.specs.code.Seated.{AreSeated, IsSeated}
+use Rattle.agent_pool.specs.code.Starts.{IsWorkOf}
 use Rattle.agent_pool.specs.Transcripts.{Played, GoesOn, IsLonger, number_of}
-use Rattle.agent_pool.specs.Working.{IsWorked}
+use Rattle.agent_pool.specs.code.Working.{IsWorked}
 use Rattle.agent_pool.proofs.Seating.{AreApartFrom, apart_from, other_cons, own_cons}
 
 goes_agent : (entries : List Entry) (a b : Held) → GoesOn entries a b → b.agent ≡ a.agent

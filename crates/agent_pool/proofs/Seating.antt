@@ -8,7 +8,8 @@ use Rattle.std.proofs.lemmas.List.Elements.{All-head, All-tail, filter-append}
 use Rattle.server_lock.specs.Counts.{passes_at, passes_by, seat_of}
 use Rattle.server_lock.specs.Passes.{Held}
 use Rattle.agent_pool.specs.declared.work.Seat.{Seat}
-use Rattle.agent_pool.specs.Seats.{AreDistinct, AreSeated, HasPass, IsOther, IsSeated, IsTakenOut, numbers_of, passes_for}
+use Rattle.agent_pool.specs.Seats.{AreDistinct, HasPass, IsOther, numbers_of, passes_for}
+use Rattle.agent_pool.specs.code.Seated.{AreSeated, IsSeated, IsTakenOut}
 use Rattle.agent_pool.specs.Transcripts.{Played, number_of}
 
 -- ---- a pass among passes

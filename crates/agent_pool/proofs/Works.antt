@@ -9,23 +9,23 @@ use Rattle.run_certify.specs.declared.entry.Entry.{Entry}
 use Rattle.run_certify.specs.declared.entry.Entry.TheVariants.{Begun}
 use Rattle.agent_pool.specs.declared.asking.Came.{Came}
 use Rattle.agent_pool.specs.declared.asking.Came.TheVariants as came
-use Rattle.agent_pool.specs.declared.asking.Ran.{Ran}
 use Rattle.agent_pool.specs.declared.work.Done.{Done}
 use Rattle.agent_pool.specs.declared.work.Halt.{Halt}
 use Rattle.agent_pool.specs.declared.work.Seat.{Seat}
 use Rattle.agent_pool.specs.declared.work.Worked.{Worked}
 use Rattle.agent_pool.specs.declared.workshop.NamedJob.{NamedJob}
-use Rattle.agent_pool.specs.Starts.{IsWorkOf}
-use Rattle.agent_pool.specs.Steps.{DidJob, end_entry}
+use Rattle.agent_pool.specs.code.Starts.{IsWorkOf}
+use Rattle.agent_pool.specs.code.Steps.{DidJob, end_entry}
+use Rattle.agent_pool.specs.Pools.{job_numbers}
 use Rattle.agent_pool.specs.Transcripts.{Played, GoesOn, IsIdle, IsLonger, IsTold, begins, number_of}
-use Rattle.agent_pool.specs.Working.{AllDone, IsDone, IsHalted, IsWorked, RiseBetween, numbers_of}
+use Rattle.agent_pool.specs.code.Working.{AllDone, IsDone, IsHalted, IsWorked, RiseBetween}
 use Rattle.agent_pool.proofs.Begins.{begins-append, goes-append}
 use Rattle.agent_pool.proofs.Leaving.{longer_longer}
 
-told_longer : (a b : Played) (job : Job) (ran : Ran) → IsLonger a b → IsTold a job ran → IsTold b job ran
-told_longer a b job ran longer told =
-    let end = end_entry (number_of a) ran.count (length told.asked) told.ending in
-    let same : end ≡ end_entry (number_of b) ran.count (length told.asked) told.ending = ap (λ n. end_entry n ran.count (length told.asked) told.ending) (sym longer.number) in
+told_longer : (a b : Played) (job : Job) (count at : ℕ) → IsLonger a b → IsTold a job count at → IsTold b job count at
+told_longer a b job count at longer told =
+    let end = end_entry (number_of a) count (length told.asked) told.ending in
+    let same : end ≡ end_entry (number_of b) count (length told.asked) told.ending = ap (λ n. end_entry n count (length told.asked) told.ending) (sym longer.number) in
     let rest = longer.rest in
     let split : b.entries ≡ told.before ++ Begun job ∷ (told.asked ++ end ∷ (told.after ++ rest)) =
     longer.entries ∙ ap (λ es. es ++ rest) told.split ∙ append_assoc told.before (Begun job ∷ (told.asked ++ end ∷ told.after)) rest
@@ -45,7 +45,7 @@ done_longer : (jobs : List NamedJob) (began : ℕ) (a b : Played) (ds : List Don
 done_longer jobs began a b [] longer all = tt
 done_longer jobs began a b (d ∷ ds) longer all =
     let one = all.0 in
-    (record { named = one.named; there = one.there; told = told_longer a b one.named.job d.ran longer one.told; since = one.since }, done_longer jobs began a b ds longer all.1)
+    (record { named = one.named; there = one.there; told = told_longer a b one.named.job d.ran.count d.ran.at longer one.told; since = one.since }, done_longer jobs began a b ds longer all.1)
 
 done_more : (jobs : List NamedJob) (began : ℕ) (a : Played) (ds : List Done) (d : Done) → AllDone jobs began a ds → IsDone jobs began a d → AllDone jobs began a (ds ++ d ∷ [])
 done_more jobs began a [] d all one = (one, tt)
@@ -115,7 +115,7 @@ works_more jobs seat w v d named old did same there before ran =
     }
 
 -- the number of a job that was handed in is one of theirs
-pub number_there : (jobs : List NamedJob) (place : ℕ) (named : NamedJob) → slice_get jobs place ≡ Some named → Contains (numbers_of jobs) named.number
+pub number_there : (jobs : List NamedJob) (place : ℕ) (named : NamedJob) → slice_get jobs place ≡ Some named → Contains (job_numbers jobs) named.number
 number_there [] place named at = cc
 number_there (j ∷ jobs) zero named at = (0, omega arith, ap (λ (k : NamedJob). k.number) (same_Some j named at))
 number_there (j ∷ jobs) (suc place) named at = let more = number_there jobs place named at in (suc more.0, (let low = more.1 in omega arith), more.2)

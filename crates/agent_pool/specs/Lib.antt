@@ -1,10 +1,6 @@
 pub mod Line
 pub mod Transcripts
-pub mod Fields
-pub mod Steps
 pub mod Seats
-pub mod Working
-pub mod Starts
 pub mod Pools
-pub mod Gathering
 pub mod Endings
+pub mod code

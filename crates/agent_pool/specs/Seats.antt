@@ -3,7 +3,6 @@ use Rattle.std.specs.Prelude.{◌≡◌, ◌≢◌, ℕ, List, [], ◌∷◌, �
 use Rattle.std.specs.List.{AllZip}
 use Rattle.server_lock.specs.Counts.{passes_by}
 use Rattle.server_lock.specs.Passes.{Held}
-use Rattle.agent_pool.specs.declared.work.Seat.{Seat}
 use Rattle.agent_pool.specs.Transcripts.{Played, GoesOn, IsIdle, IsLonger, number_of}
 
 -- no number stands twice
@@ -32,12 +31,6 @@ abbrev pub IsOther : List Played → Option ℕ → Type 0
 IsOther [] asker = Unit {0}
 IsOther (player ∷ players) asker = (asker ≢ Some (number_of player)) × IsOther players asker
 
--- an agent's pass, the last of its passes, was taken out
-pub record IsTakenOut (agent : ℕ) (old new : List Held) (pass : Held) : Type 0 where
-  pub own : passes_for agent old ≡ passes_for agent new ++ pass ∷ []
-  pub others : (asker : Option ℕ) → asker ≢ Some agent → passes_by asker new ≡ passes_by asker old
-  pub of : pass.agent ≡ Some agent
-
 -- an agent's pass went on, and came back; what other passes it had are as they were
 pub record WentOn (old new : List Held) (was now : Played) : Type 0 where
   pub longer : IsLonger was now
@@ -47,16 +40,3 @@ pub record WentOn (old new : List Held) (was now : Played) : Type 0 where
   pub old_are : passes_for (number_of was) old ≡ others ++ pass ∷ []
   pub new_are : passes_for (number_of was) new ≡ others ++ later ∷ []
   pub went : GoesOn longer.rest pass later
-
--- ---- on the way
-
--- an agent has its pass
-pub record IsSeated (old left : List Held) (player : Played) (seat : Seat) : Type 0 where
-  pub sits : seat.player ≡ player
-  pub own : passes_for (number_of player) old ≡ passes_for (number_of player) left ++ seat.pass ∷ []
-  pub of : seat.pass.agent ≡ Some (number_of player)
-
--- all have
-pub record AreSeated (old left : List Held) (players : List Played) (seats : List Seat) : Type 0 where
-  pub each : AllZip (IsSeated old left) players seats
-  pub others : (asker : Option ℕ) → IsOther players asker → passes_by asker left ≡ passes_by asker old

@@ -8,7 +8,6 @@ use Rattle.txn_core.specs.Agents as agents
 use Rattle.txn_core.specs.Standing.{Standing}
 use Rattle.run_certify.specs.declared.entry.Entry.{Entry}
 use Rattle.run_certify.specs.declared.entry.Entry.TheVariants.{Begun, Asked, Lacked, Forgot, Ended}
-use Rattle.agent_pool.specs.declared.asking.Ran.{Ran}
 
 -- an agent, with the transcript of what it did
 pub record Played : Type 0 where
@@ -51,15 +50,15 @@ AreAsks [] = Unit {0}
 AreAsks (entry ∷ entries) = (is_ask entry ≡ true) × AreAsks entries
 
 -- The transcript has the job as its begin of this count, then what was asked for it, and then, at this place, how it ended.
-pub record IsTold (played : Played) (job : Job) (ran : Ran) : Type 0 where
+pub record IsTold (played : Played) (job : Job) (number place : ℕ) : Type 0 where
   pub before : List Entry
   pub asked : List Entry
   pub after : List Entry
   pub ending : Ending
-  pub split : played.entries ≡ before ++ Begun job ∷ (asked ++ Ended (record { agent = number_of played; count = ran.count; steps = length asked; ending = ending }) ∷ after)
-  pub count : begins before ≡ ran.count
+  pub split : played.entries ≡ before ++ Begun job ∷ (asked ++ Ended (record { agent = number_of played; count = number; steps = length asked; ending = ending }) ∷ after)
+  pub count : begins before ≡ number
   pub asks : AreAsks asked
-  pub at : length before + (length asked + 1) ≡ ran.at
+  pub at : length before + (length asked + 1) ≡ place
 
 -- the same agent, which did more
 pub record IsLonger (old new : Played) : Type 0 where

@@ -4,7 +4,7 @@ ghost use Rattle.std.specs.Prelude.{◌≡◌, ◌+◌, ◌-◌, ◌≤◌, ◌+
 ghost use Rattle.std.specs.Vec.{vec_len, vec_capacity};
 ghost use Rattle.txn_core.specs.Agents.{next_of};
 ghost use Rattle.txn_core.specs.Standing.{FitsAsked};
-ghost use Rattle.agent_pool.specs.Steps.{Hears, told_by};
+ghost use Rattle.agent_pool.specs.code.Steps.{Hears, told_by};
 
 use run_certify::Entry;
 use run_core::Outcome;

@@ -4,13 +4,14 @@ ghost use Rattle.std.specs.Prelude.{◌≡◌, ◌≢◌, ℕ, ◌+◌, ◌≤�
 ghost use Rattle.std.specs.Vec.{vec_len, vec_capacity};
 ghost use Rattle.std.specs.List.{AllZip};
 ghost use Rattle.agent_pool.specs.declared.fault.PoolFault.TheVariants.{Memory};
-ghost use Rattle.agent_pool.specs.Gathering.{AllRan, HasRoom, IsGathered, NoneLacked};
-ghost use Rattle.agent_pool.specs.Pools.{AreApart, AreApartIn, AreNone, AreOutcomes, AreWorks, IsFaultOf, IsFilled, IsOf, IsPut, KeepFilled, StayApart};
-ghost use Rattle.agent_pool.specs.Pools.{done_in, filled_in, passes_of, players_of, sitting};
+ghost use Rattle.agent_pool.specs.code.Gathering.{AllRan, HasRoom, IsGathered, NoneLacked};
+ghost use Rattle.agent_pool.specs.Pools.{AreApart, AreOutcomes, IsFaultOf, IsOf};
+ghost use Rattle.agent_pool.specs.code.Filled.{AreApartIn, AreNone, AreWorks, IsFilled, IsPut, KeepFilled, StayApart};
+ghost use Rattle.agent_pool.specs.code.Filled.{done_in, filled_in, passes_of, players_of, sitting};
 ghost use Rattle.agent_pool.specs.Seats.{AreDistinct, numbers_of};
-ghost use Rattle.agent_pool.specs.Starts.{IsWorkOf};
+ghost use Rattle.agent_pool.specs.code.Starts.{IsWorkOf};
 ghost use Rattle.agent_pool.specs.Transcripts.{Played, begins};
-ghost use Rattle.agent_pool.specs.Working.{AllDone, IsDone};
+ghost use Rattle.agent_pool.specs.code.Working.{AllDone, IsDone};
 
 use crate::fault::PoolFault;
 use crate::outcome::JobOutcome;

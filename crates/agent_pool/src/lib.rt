@@ -33,7 +33,5 @@ pub use line::{EachOnce, Hand, Item};
 pub use outcome::{JobOutcome, ended};
 pub use player::{Player, first_players};
 pub use pool::{Pool, run_pool};
-pub use run_certify::{
-    CertifyFault, Decided, Decision, Entry, Transcript, Transcripts, certify,
-};
+pub use run_certify::{CertifyFault, Decided, Decision, Entry, Transcript, Transcripts, certify};
 pub use workshop::NamedJob;

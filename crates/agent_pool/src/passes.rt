@@ -1,7 +1,8 @@
 //! The passes of a pool's agents.
 
 ghost use Rattle.std.specs.Prelude.{◌≡◌, [], IfOk, IfSome, None};
-ghost use Rattle.agent_pool.specs.Seats.{AreReady, AreSeated, IsTakenOut, passes_for};
+ghost use Rattle.agent_pool.specs.Seats.{AreReady, passes_for};
+ghost use Rattle.agent_pool.specs.code.Seated.{AreSeated, IsTakenOut};
 ghost use Rattle.agent_pool.specs.Transcripts.{Played};
 
 use crate::player::Player;

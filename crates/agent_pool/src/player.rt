@@ -3,7 +3,7 @@
 ghost use Rattle.std.specs.Prelude.{◌≡◌, ◌<◌, ◌≤◌, ◌++◌, ◌∷◌, [], length, IfOk, IfSome, OnOk, OnErr, true, false, Ok, Some};
 ghost use Rattle.txn_core.specs.Agents as agents;
 ghost use Rattle.run_certify.specs.declared.entry.Entry.TheVariants.{Begun, Forgot};
-ghost use Rattle.agent_pool.specs.Steps.{DidMore};
+ghost use Rattle.agent_pool.specs.code.Steps.{DidMore};
 ghost use Rattle.agent_pool.specs.Transcripts.{first_player, number_of, players_from};
 
 use crate::asking::{Came, hear, told_of};
@@ -27,7 +27,7 @@ pub struct Player {
 
 impl Model for Player {
     ghost use Rattle.agent_pool.specs.Transcripts.{Played};
-    ghost use Rattle.agent_pool.specs.Fields.{played_of, IsPlayer};
+    ghost use Rattle.agent_pool.specs.code.Fields.{played_of, IsPlayer};
 
     ghost Value = { Played };
 

@@ -6,9 +6,10 @@ ghost use Rattle.std.specs.List.{AllZip};
 ghost use Rattle.crossbeam_channel.specs.Claims.{view, IsSeatAt};
 ghost use Rattle.crossbeam_channel.specs.Ends.{sends_on, receives_on};
 ghost use Rattle.agent_pool.specs.Line.{feeder};
-ghost use Rattle.agent_pool.specs.Pools.{AreIdle, IsFaultOf, IsPoolOf};
+ghost use Rattle.agent_pool.specs.Pools.{IsFaultOf, IsPoolOf};
+ghost use Rattle.agent_pool.specs.code.Filled.{AreIdle};
 ghost use Rattle.agent_pool.specs.Seats.{AreReady};
-ghost use Rattle.agent_pool.specs.Starts.{IsWorkOf};
+ghost use Rattle.agent_pool.specs.code.Starts.{IsWorkOf};
 
 use crate::fault::PoolFault;
 use crate::gather::{Room, gather};
@@ -83,6 +84,7 @@ pub fn run_pool<R: Threads + Wait + Sync, G: Gate + Sync>(
 }
 
 /// The end of the channel into which jobs go, with the pass of the one that puts.
+#[derive(Drop)]
 struct Giver<'a> {
     sender: &'a Sender,
     ticket: Ticket,

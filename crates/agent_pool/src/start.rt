@@ -5,9 +5,9 @@ ghost use Rattle.std.specs.Vec.{vec_len, vec_capacity};
 ghost use Rattle.std.specs.List.{AllZip};
 ghost use Rattle.crossbeam_channel.specs.Claims.{view, IsSeatAt};
 ghost use Rattle.crossbeam_channel.specs.Ends.{receives_on};
-ghost use Rattle.agent_pool.specs.Starts.{Comes, IsStart, IsWorkOf};
+ghost use Rattle.agent_pool.specs.code.Starts.{Comes, IsStart, IsWorkOf};
 ghost use Rattle.agent_pool.specs.Transcripts.{IsIdle};
-ghost use Rattle.agent_pool.specs.Working.{IsWorked};
+ghost use Rattle.agent_pool.specs.code.Working.{IsWorked};
 
 use crate::line::Ticket;
 use crate::work::{Seat, Worked, work};
@@ -26,7 +26,7 @@ pub(crate) struct Works<'a> {
 }
 
 impl<'a> Promise<Worked> for Works<'a> {
-    ghost use Rattle.agent_pool.specs.Starts.{IsWorkOf};
+    ghost use Rattle.agent_pool.specs.code.Starts.{IsWorkOf};
 
     ghost kept_by = { λ p r. IsWorkOf p.jobs.now p.was.value r };
 }

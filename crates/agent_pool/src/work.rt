@@ -3,8 +3,8 @@
 ghost use Rattle.std.specs.Prelude.{◌≡◌, ◌≤◌, false, length, Some};
 ghost use Rattle.crossbeam_channel.specs.Claims.{view, IsSeatAt};
 ghost use Rattle.crossbeam_channel.specs.Ends.{receives_on};
-ghost use Rattle.agent_pool.specs.Starts.{IsWorkOf};
-ghost use Rattle.agent_pool.specs.Steps.{DidJob, DidMore};
+ghost use Rattle.agent_pool.specs.code.Starts.{IsWorkOf};
+ghost use Rattle.agent_pool.specs.code.Steps.{DidJob, DidMore};
 ghost use Rattle.agent_pool.specs.Transcripts.{IsIdle};
 
 use crate::asking::{Came, Ran};
@@ -71,7 +71,10 @@ impl Worked {
         ensures { result ≡ record self { halt = Some halt } }
     {
         let Worked {
-            player, pass, done, ..
+            player,
+            pass,
+            done,
+            ..
         } = self;
         Worked {
             player,

@@ -1,7 +1,7 @@
 use Rattle.std.proofs.Common.{◌≡◌, ◌+◌, ◌-◌, ◌++◌, ◌∷◌, [], length, ap, sym, ◌∙◌, append_assoc, arith}
 use Rattle.txn_core.specs.Agents.{is_idle}
 use Rattle.txn_core.specs.Standing.{Standing}
-use Rattle.agent_pool.specs.Steps.{end_entry}
+use Rattle.agent_pool.specs.code.Steps.{end_entry}
 use Rattle.agent_pool.proofs.Keeping.{take_count, take_idle, take_index}
 use Rattle.agent_pool.proofs.asking.hear.Goals as goal
 

@@ -1,8 +1,8 @@
 use Rattle.std.proofs.Common.{◌≡◌, List, length, take}
 use Rattle.std.specs.List.{AllZip}
-use Rattle.agent_pool.specs.Pools.{AreApartIn, AreOfThese, IsFilled, done_in, filled_in, players_of, sitting}
+use Rattle.agent_pool.specs.code.Filled.{AreApartIn, AreOfThese, IsFilled, done_in, filled_in, players_of, sitting}
 use Rattle.agent_pool.specs.Seats.{numbers_of}
-use Rattle.agent_pool.specs.Starts.{IsWorkOf}
+use Rattle.agent_pool.specs.code.Starts.{IsWorkOf}
 use Rattle.agent_pool.specs.declared.work.Seat.{Seat}
 use Rattle.agent_pool.proofs.gather.fill.Given as goal
 

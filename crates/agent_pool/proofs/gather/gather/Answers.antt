@@ -4,9 +4,10 @@ use Rattle.std.specs.List.{AllZip}
 use Rattle.agent_pool.specs.declared.outcome.JobOutcome.{JobOutcome}
 use Rattle.agent_pool.specs.declared.work.Seat.{Seat}
 use Rattle.agent_pool.specs.declared.work.Worked.{Worked}
-use Rattle.agent_pool.specs.Gathering.{AllRan}
-use Rattle.agent_pool.specs.Pools.{AreApart, AreApartIn, AreOutcomes, IsFilled, done_in, filled_in, players_of, sitting}
-use Rattle.agent_pool.specs.Starts.{IsWorkOf}
+use Rattle.agent_pool.specs.code.Gathering.{AllRan}
+use Rattle.agent_pool.specs.Pools.{AreApart, AreOutcomes}
+use Rattle.agent_pool.specs.code.Filled.{AreApartIn, IsFilled, done_in, filled_in, players_of, sitting}
+use Rattle.agent_pool.specs.code.Starts.{IsWorkOf}
 use Rattle.agent_pool.proofs.gather.gather.Goals as goal
 
 pub returns-clause-pool : goal.returns-clause-pool

@@ -2,7 +2,7 @@ use Rattle.std.proofs.Common.{◌≡◌, List, ◌∷◌, [], sym, subst, ap, �
 use Rattle.std.proofs.lemmas.List.{length-append}
 use Rattle.std.specs.Prelude.{Option, None}
 use Rattle.agent_pool.specs.declared.outcome.JobOutcome.{JobOutcome}
-use Rattle.agent_pool.specs.Pools.{AreNone}
+use Rattle.agent_pool.specs.code.Filled.{AreNone}
 use Rattle.agent_pool.proofs.Filling.{none_push}
 use Rattle.agent_pool.proofs.gather.no_outcomes.Goals as goal
 

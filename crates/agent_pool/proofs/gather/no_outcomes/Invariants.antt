@@ -1,5 +1,5 @@
 use Rattle.std.proofs.Common.{◌≡◌, length}
-use Rattle.agent_pool.specs.Pools.{AreNone}
+use Rattle.agent_pool.specs.code.Filled.{AreNone}
 use Rattle.agent_pool.proofs.gather.no_outcomes.Given as goal
 
 abbrev pub invariant-loop : goal.invariant-loop

@@ -1,6 +1,6 @@
 use Rattle.std.proofs.Common.{◌≡◌, take}
 use Rattle.std.specs.Prelude.{None, IfSome}
-use Rattle.agent_pool.specs.Gathering.{AllRan, NoneLacked}
+use Rattle.agent_pool.specs.code.Gathering.{AllRan, NoneLacked}
 use Rattle.agent_pool.specs.Pools.{IsFaultOf}
 use Rattle.agent_pool.proofs.gather.none_halted.Given as goal
 

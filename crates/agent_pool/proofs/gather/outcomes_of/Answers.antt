@@ -3,7 +3,7 @@ use Rattle.std.proofs.lemmas.List.{length-map, take_all}
 use Rattle.std.specs.Prelude.{Option, Some}
 use Rattle.std.specs.List.{AllZip}
 use Rattle.agent_pool.specs.declared.outcome.JobOutcome.{JobOutcome}
-use Rattle.agent_pool.specs.Pools.{AreApartIn, IsFilled, filled_in}
+use Rattle.agent_pool.specs.code.Filled.{AreApartIn, IsFilled, filled_in}
 use Rattle.agent_pool.proofs.Apart.{apart_filled}
 use Rattle.agent_pool.proofs.Filling.{all_filled, some_many}
 use Rattle.agent_pool.proofs.gather.outcomes_of.Goals as goal

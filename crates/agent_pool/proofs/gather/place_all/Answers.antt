@@ -2,7 +2,7 @@ use Rattle.std.proofs.Common.{rules, ◌≡◌, ◌∙◌, ap, refl, arith, ◌+
 use Rattle.std.proofs.lemmas.List.{drop_more, drop_all}
 use Rattle.std.specs.Prelude.{Option}
 use Rattle.agent_pool.specs.declared.outcome.JobOutcome.{JobOutcome}
-use Rattle.agent_pool.specs.Pools.{filled_in}
+use Rattle.agent_pool.specs.code.Filled.{filled_in}
 use Rattle.agent_pool.specs.Transcripts.{begins}
 use Rattle.agent_pool.proofs.Apart.{at_next, At}
 use Rattle.agent_pool.proofs.Filling.{done_at, set_many}

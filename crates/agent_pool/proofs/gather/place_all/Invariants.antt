@@ -1,8 +1,9 @@
 use Rattle.std.proofs.Common.{◌≡◌, ◌+◌, ℕ, List, drop, length}
 use Rattle.std.specs.Prelude.{Contains}
 use Rattle.agent_pool.specs.Transcripts.{Played, begins}
-use Rattle.agent_pool.specs.Working.{AllDone, RiseBetween}
-use Rattle.agent_pool.specs.Pools.{AreApartIn, AreBelow, IsOf, KeepFilled, filled_in}
+use Rattle.agent_pool.specs.code.Working.{AllDone, RiseBetween}
+use Rattle.agent_pool.specs.Pools.{IsOf}
+use Rattle.agent_pool.specs.code.Filled.{AreApartIn, AreBelow, KeepFilled, filled_in}
 use Rattle.agent_pool.proofs.Apart.{At}
 use Rattle.agent_pool.proofs.gather.place_all.Given as goal
 

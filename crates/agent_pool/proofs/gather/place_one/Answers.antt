@@ -4,7 +4,7 @@ use Rattle.std.proofs.lemmas.Bool.{ltb-true}
 use Rattle.std.specs.Prelude.{Some, slice_set}
 use Rattle.std.specs.List.{AllZip}
 use Rattle.agent_pool.specs.declared.workshop.NamedJob.{NamedJob}
-use Rattle.agent_pool.specs.Pools.{IsFilled}
+use Rattle.agent_pool.specs.code.Filled.{IsFilled}
 use Rattle.agent_pool.proofs.Filling.{place_filled}
 use Rattle.agent_pool.proofs.gather.place_one.Goals as goal
 

@@ -8,8 +8,8 @@ use Rattle.agent_pool.specs.declared.start.Start.{Start}
 use Rattle.agent_pool.specs.declared.work.Seat.{Seat}
 use Rattle.agent_pool.specs.declared.work.Worked.{Worked}
 use Rattle.agent_pool.specs.Line.{feeder, with_taker}
-use Rattle.agent_pool.specs.Pools.{AreIdle}
-use Rattle.agent_pool.specs.Starts.{Comes, IsStart, IsWorkOf}
+use Rattle.agent_pool.specs.code.Filled.{AreIdle}
+use Rattle.agent_pool.specs.code.Starts.{Comes, IsStart, IsWorkOf}
 use Rattle.agent_pool.specs.Transcripts.{IsIdle}
 use Rattle.agent_pool.proofs.Lines.{forks}
 use Rattle.agent_pool.proofs.Zips.{zip_push, zip_then, nothing_left}

@@ -4,8 +4,8 @@ use Rattle.std.specs.Vec.Iter.{into_iter_items, into_iter_len}
 use Rattle.crossbeam_channel.specs.Claims.{view, IsSeatAt}
 use Rattle.crossbeam_channel.specs.Ends.{sends_on}
 use Rattle.agent_pool.specs.Line.{feeder}
-use Rattle.agent_pool.specs.Pools.{AreIdle}
-use Rattle.agent_pool.specs.Starts.{IsStart}
+use Rattle.agent_pool.specs.code.Filled.{AreIdle}
+use Rattle.agent_pool.specs.code.Starts.{IsStart}
 use Rattle.agent_pool.proofs.pool.in_scope.Given as goal
 
 abbrev pub invariant-loop-seat : goal.invariant-loop-seat

@@ -1,9 +1,9 @@
 use Rattle.std.proofs.Common.{rules, ◌≡◌, ◌+◌, ◌≤◌, ℕ, List, length, sym, ap, subst, ◌∙◌, arith}
 use Rattle.std.specs.Vec.{vec_len, vec_capacity}
 use Rattle.server_lock.specs.Passes.{Held}
-use Rattle.agent_pool.specs.Gathering.{HasRoom}
-use Rattle.agent_pool.specs.Seats.{AreSeated, IsSeated}
-use Rattle.agent_pool.specs.Starts.{IsWorkOf}
+use Rattle.agent_pool.specs.code.Gathering.{HasRoom}
+use Rattle.agent_pool.specs.code.Seated.{AreSeated, IsSeated}
+use Rattle.agent_pool.specs.code.Starts.{IsWorkOf}
 use Rattle.agent_pool.proofs.Filling.{as_many, seats_idle, still_distinct}
 use Rattle.agent_pool.proofs.Pooling.{pool_is}
 use Rattle.agent_pool.proofs.pool.run_pool.Goals as goal

@@ -2,7 +2,7 @@ use Rattle.std.proofs.Common.{◌≡◌, ◌∷◌, [], ◌++◌, List, length, 
 use Rattle.std.specs.List.{AllZip}
 use Rattle.std.specs.Vec.Iter.{into_iter_items}
 use Rattle.agent_pool.specs.declared.work.Worked.{Worked}
-use Rattle.agent_pool.specs.Starts.{Comes}
+use Rattle.agent_pool.specs.code.Starts.{Comes}
 use Rattle.agent_pool.proofs.Zips.{zip_push, nothing_left}
 use Rattle.agent_pool.proofs.start.join_all.Goals as goal
 

@@ -1,7 +1,7 @@
 use Rattle.std.proofs.Common.{◌≡◌, ◌+◌, ◌≤◌, ◌++◌, vec_len, vec_capacity, length}
 use Rattle.std.specs.List.{AllZip}
 use Rattle.std.specs.Vec.Iter.{into_iter_items, into_iter_len}
-use Rattle.agent_pool.specs.Starts.{Comes}
+use Rattle.agent_pool.specs.code.Starts.{Comes}
 use Rattle.agent_pool.proofs.start.join_all.Given as goal
 
 abbrev pub invariant-loop-start : goal.invariant-loop-start

@@ -6,8 +6,8 @@ use Rattle.agent_pool.specs.declared.asking.Came.{Came}
 use Rattle.agent_pool.specs.declared.work.Halt.{Halt}
 use Rattle.agent_pool.specs.declared.work.Halt.TheVariants.{Lacked}
 use Rattle.agent_pool.specs.declared.workshop.NamedJob.{NamedJob}
-use Rattle.agent_pool.specs.Steps.{DidJob}
-use Rattle.agent_pool.specs.Working.{IsHalted}
+use Rattle.agent_pool.specs.code.Steps.{DidJob}
+use Rattle.agent_pool.specs.code.Working.{IsHalted}
 use Rattle.agent_pool.proofs.Leaving.{longer_same}
 use Rattle.agent_pool.proofs.Works.{number_there, works_longer, works_more}
 use Rattle.agent_pool.proofs.work.Worked.carry_out.Goals as goal

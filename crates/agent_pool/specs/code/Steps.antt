@@ -57,7 +57,7 @@ pub record DidMore (begun : ℕ) (old new : Played) (pass later : Held) (came : 
 
 -- a job was begun and ended, where it was
 abbrev pub RanTo : Job → Played → Played → Came → Type 0
-RanTo job old new (came.Ended ran) = IsTold new job ran × (ran.count ≡ begins old.entries) × (begins new.entries ≡ ran.count + 1) × IsIdle new
+RanTo job old new (came.Ended ran) = IsTold new job ran.count ran.at × (ran.count ≡ begins old.entries) × (begins new.entries ≡ ran.count + 1) × IsIdle new
 RanTo job old new _ = Unit {0}
 
 -- what an agent did with a job, and its pass

@@ -10,8 +10,9 @@ use Rattle.agent_pool.specs.declared.work.Halt.TheVariants.{Lacked}
 use Rattle.agent_pool.specs.declared.work.Seat.{Seat}
 use Rattle.agent_pool.specs.declared.work.Worked.{Worked}
 use Rattle.agent_pool.specs.declared.workshop.NamedJob.{NamedJob}
-use Rattle.agent_pool.specs.Pools.{AreApart, AreNone, AreOutcomes, done_in, passes_of, players_of, sitting}
-use Rattle.agent_pool.specs.Starts.{IsWorkOf}
+use Rattle.agent_pool.specs.Pools.{AreApart, AreOutcomes}
+use Rattle.agent_pool.specs.code.Filled.{AreNone, done_in, passes_of, players_of, sitting}
+use Rattle.agent_pool.specs.code.Starts.{IsWorkOf}
 
 -- a place for each job, none filled, and room for the outcomes and the agents
 pub record HasRoom (jobs players : ℕ) (room : Room) : Type 0 where

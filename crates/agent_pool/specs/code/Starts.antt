@@ -5,7 +5,7 @@ use Rattle.agent_pool.specs.declared.work.Seat.{Seat}
 use Rattle.agent_pool.specs.declared.work.Worked.{Worked}
 use Rattle.agent_pool.specs.declared.start.Start.{Start}
 use Rattle.agent_pool.specs.declared.start.Start.TheVariants.{Started, Rested}
-use Rattle.agent_pool.specs.Working.{IsWorked}
+use Rattle.agent_pool.specs.code.Working.{IsWorked}
 
 -- what an agent did that sat here
 abbrev pub IsWorkOf : List NamedJob → Seat → Worked → Type 0

@@ -1,22 +1,19 @@
 -- What a thread did.
-use Rattle.std.specs.Prelude.{◌≡◌, ℕ, ◌+◌, ◌≤◌, List, [], ◌∷◌, length, map, Contains, slice_get, Option, Some, None}
+use Rattle.std.specs.Prelude.{◌≡◌, ℕ, ◌+◌, ◌≤◌, List, [], ◌∷◌, length, Contains, slice_get, Option, Some, None}
 use Rattle.server_lock.specs.Passes.{Held}
 use Rattle.agent_pool.specs.declared.work.Done.{Done}
 use Rattle.agent_pool.specs.declared.work.Halt.{Halt}
 use Rattle.agent_pool.specs.declared.work.Halt.TheVariants.{Lacked, Strange, Stuck}
 use Rattle.agent_pool.specs.declared.work.Worked.{Worked}
 use Rattle.agent_pool.specs.declared.workshop.NamedJob.{NamedJob}
+use Rattle.agent_pool.specs.Pools.{job_numbers}
 use Rattle.agent_pool.specs.Transcripts.{Played, GoesOn, IsIdle, IsLonger, IsTold, begins}
-
--- the numbers of jobs
-abbrev pub numbers_of : List NamedJob → List ℕ
-numbers_of jobs = map (λ (named : NamedJob). named.number) jobs
 
 -- the job that was handed in at a place was done, after so many others: the transcript tells it
 pub record IsDone (jobs : List NamedJob) (began : ℕ) (played : Played) (done : Done) : Type 0 where
   pub named : NamedJob
   pub there : slice_get jobs done.place ≡ Some named
-  pub told : IsTold played named.job done.ran
+  pub told : IsTold played named.job done.ran.count done.ran.at
   pub since : began ≤ done.ran.count
 
 abbrev pub AllDone : List NamedJob → ℕ → Played → List Done → Type 0
@@ -32,7 +29,7 @@ RiseBetween low (done ∷ later) high = (low ≤ done.ran.count) × RiseBetween 
 abbrev pub IsHalted : List NamedJob → Played → Option Halt → Type 0
 IsHalted jobs played None = IsIdle played
 IsHalted jobs played (Some Lacked) = Unit {0}
-IsHalted jobs played (Some (Stuck job)) = Contains (numbers_of jobs) job
+IsHalted jobs played (Some (Stuck job)) = Contains (job_numbers jobs) job
 IsHalted jobs played (Some (Strange place)) = length jobs ≤ place
 
 -- An agent went on with its pass, and did these of the jobs that were handed in. If it ran whatever it took, it began no others.
