@@ -6,8 +6,8 @@ use Rattle.weak_cache.specs.code.Shelved.{Sited, values}
 use Rattle.weak_cache.proofs.Found.{key_own}
 use Rattle.weak_cache.proofs.Oldest.{OldestOfAll, oldest_of_all, moved_one, not_moved, sum_moved, last_site}
 use Rattle.weak_cache.proofs.Shelving.{none_oldest, sited_between}
-use Rattle.weak_cache.proofs.kept.Kept.make_room.Goals as goal
-use Rattle.weak_cache.proofs.kept.Kept.make_room.Goals.{After-take}
+use Rattle.weak_cache.proofs.kept.Kept.widen.Goals as goal
+use Rattle.weak_cache.proofs.kept.Kept.widen.Goals.{After-take}
 
 same_entry : (a b : Entry) → Some a ≡ Some b → a ≡ b
 same_entry a b h = cc h
