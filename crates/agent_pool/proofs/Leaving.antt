@@ -1,13 +1,15 @@
 -- What an agent leaves in its transcript for a job.
-use Rattle.std.proofs.Common.{◌≡◌, ℕ, ◌+◌, ◌-◌, ◌<◌, ◌≤◌, List, [], ◌∷◌, ◌++◌, true, refl, ap, ◌∙◌, sym, subst, arith, length, append_assoc, append-nil}
+use Rattle.std.proofs.Common.{◌≡◌, ◌⊎◌, inl, inr, ℕ, ◌+◌, ◌-◌, ◌<◌, ◌≤◌, List, [], ◌∷◌, ◌++◌, true, false, refl, ap, ◌∙◌, sym, subst, arith, length, append_assoc, append-nil}
 use Rattle.std.specs.Prelude.{Option, Some, None, Result, Ok, Err, IfOk}
 use Rattle.std.proofs.lemmas.List.{length-append}
 use Rattle.std.proofs.lemmas.Option.{same_Some}
 use Rattle.rep_core.specs.declared.reply.Reply.{Reply}
+use Rattle.rep_core.specs.declared.request.Request.{Request}
 use Rattle.rep_core.specs.declared.stamped.Stamped.{Stamped}
 use Rattle.server_lock.specs.declared.miss.Miss.{Miss}
 use Rattle.server_lock.specs.declared.miss.Miss.TheVariants.{Lack, Stale}
 use Rattle.server_lock.specs.Passes.{Held, after_reply, front_at, sent_stamp}
+use Rattle.txn_core.specs.Agents.{begins as begins_job, next_of}
 use Rattle.txn_core.specs.Standing.{Standing}
 use Rattle.txn_core.specs.declared.ending.Ending.{Ending}
 use Rattle.txn_core.specs.declared.job.Job.{Job}
@@ -16,7 +18,7 @@ use Rattle.run_certify.specs.declared.entry.Entry.TheVariants.{Begun, Asked, Lac
 use Rattle.agent_pool.specs.declared.asking.Came.{Came}
 use Rattle.agent_pool.specs.declared.asking.Came.TheVariants as came
 use Rattle.agent_pool.specs.declared.asking.Told.{Told}
-use Rattle.agent_pool.specs.code.Steps.{DidJob, DidMore, Hears, Leaves, RanTo, end_entry, told_by}
+use Rattle.agent_pool.specs.code.Steps.{AsksNobody, CannotGoOn, DidJob, DidMore, HasSeen, Hears, Leaves, RanTo, end_entry, told_by}
 use Rattle.agent_pool.specs.Transcripts.{Played, AreAsks, GoesOn, IsIdle, IsLonger, begins, is_ask, number_of}
 use Rattle.agent_pool.proofs.Begins.{begins-append, goes-append}
 
@@ -44,8 +46,8 @@ abbrev pub longer_same : (a : Played) → IsLonger a a
 longer_same a = record { fixed = refl; number = refl; rest = []; entries = sym (append-nil a.entries) }
 
 -- it did nothing yet
-pub did_nothing : (begun : ℕ) (a : Played) (p : Held) → DidMore begun a a p p came.On
-did_nothing begun a p = record { longer = longer_same a; went = refl; leaves = tt }
+pub did_nothing : (servers begun : ℕ) (a : Played) (p : Held) → DidMore servers begun a a p p came.On
+did_nothing servers begun a p = record { longer = longer_same a; went = refl; leaves = tt; stuck = λ e. cc }
 
 leaves_on : (begun : ℕ) (a b c : Played) (rest more : List Entry) (what : Came) → number_of b ≡ number_of a → b.entries ≡ a.entries ++ rest → AreAsks rest → Leaves begun b more c what → Leaves begun a (rest ++ more) c what
 leaves_on begun a b c rest more came.On number is all after = asks-append rest more all after
@@ -71,11 +73,12 @@ leaves_on begun a b c rest more (came.Ended ran) number is all after =
     )
 
 -- it did more, and still more
-pub did_more : (begun : ℕ) (a b c : Played) (p q r : Held) (what : Came) → DidMore begun a b p q came.On → DidMore begun b c q r what → DidMore begun a c p r what
-did_more begun a b c p q r what x y = record {
+pub did_more : (servers begun : ℕ) (a b c : Played) (p q r : Held) (what : Came) → DidMore servers begun a b p q came.On → DidMore servers begun b c q r what → DidMore servers begun a c p r what
+did_more servers begun a b c p q r what x y = record {
   longer = longer_longer a b c x.longer y.longer;
   went = goes-append x.longer.rest y.longer.rest p q r x.went y.went;
   leaves = leaves_on begun a b c x.longer.rest y.longer.rest what x.longer.number x.longer.entries x.leaves y.leaves;
+  stuck = y.stuck;
 }
 
 -- what is written down of an answer, beside the pass
@@ -91,12 +94,12 @@ told_asks server (Err (Lack lack)) told is = ap (λ (t : Told). is_ask t.entry) 
 told_asks server (Err Stale) told is = cc
 
 -- an agent heard, and what it had done before is counted
-pub heard : (begun : ℕ) (told : Told) (old new : Played) (p q : Held) (what : Came) → old.agent.state.count ≡ begins old.entries → is_ask told.entry ≡ true → GoesOn (told.entry ∷ []) p q
-    → Hears (number_of old) begun told old.agent old.entries new.agent new.entries what → DidMore begun old new p q what
-heard begun told old new p q came.On counted asks goes h = record { longer = record { fixed = h.0; number = h.1; rest = told.entry ∷ []; entries = h.3 }; went = goes; leaves = (asks, tt) }
-heard begun told old new p q came.Stuck counted asks goes h = record { longer = record { fixed = h.0; number = h.1; rest = told.entry ∷ []; entries = h.3 }; went = goes; leaves = (asks, tt) }
-heard begun told old new p q came.Lacked counted asks goes h = record { longer = record { fixed = h.0; number = h.1; rest = told.entry ∷ []; entries = h.3 }; went = goes; leaves = (asks, tt) }
-heard begun told old new p q (came.Ended ran) counted asks goes h =
+pub heard : (servers begun : ℕ) (told : Told) (old new : Played) (p q : Held) (what : Came) → old.agent.state.count ≡ begins old.entries → is_ask told.entry ≡ true → GoesOn (told.entry ∷ []) p q
+    → Hears (number_of old) begun told old.agent old.entries new.agent new.entries what → DidMore servers begun old new p q what
+heard servers begun told old new p q came.On counted asks goes h = record { longer = record { fixed = h.0; number = h.1; rest = told.entry ∷ []; entries = h.3 }; went = goes; leaves = (asks, tt); stuck = λ e. cc }
+heard servers begun told old new p q came.Stuck counted asks goes h = absurd h.3
+heard servers begun told old new p q came.Lacked counted asks goes h = record { longer = record { fixed = h.0; number = h.1; rest = told.entry ∷ []; entries = h.3 }; went = goes; leaves = (asks, tt); stuck = λ e. cc }
+heard servers begun told old new p q (came.Ended ran) counted asks goes h =
     let on = h.3 in
     let ending = on.0 in
     let end = end_entry (number_of old) ran.count (length old.entries + 1 - begun) ending in
@@ -104,6 +107,7 @@ heard begun told old new p q (came.Ended ran) counted asks goes h =
       longer = record { fixed = h.0; number = h.1; rest = told.entry ∷ end ∷ []; entries = on.1 };
       went = goes-append (told.entry ∷ []) (end ∷ []) p q q goes refl;
       leaves = (told.entry ∷ [], ending, (asks, tt), refl, on.2, on.3 ∙ ap (λ n. n - 1) counted, on.4);
+      stuck = λ e. cc;
     }
 
 ran_to : (job : Job) (old mid new : Played) (rest : List Entry) (what : Came) → number_of mid ≡ number_of old → mid.entries ≡ old.entries ++ Begun job ∷ [] → number_of new ≡ number_of mid → new.entries ≡ mid.entries ++ rest
@@ -135,48 +139,54 @@ ran_to job old mid new rest (came.Ended ran) same began number more leaves =
     )
 
 -- a job was begun, and then more was done for it
-pub did_job : (job : Job) (old mid new : Played) (p q : Held) (what : Came) → mid.agent.fixed ≡ old.agent.fixed → number_of mid ≡ number_of old → mid.entries ≡ old.entries ++ Begun job ∷ []
-    → DidMore (length mid.entries) mid new p q what → DidJob job old new p q what
-did_job job old mid new p q what fixed same began more = record {
+pub did_job : (servers : ℕ) (job : Job) (old mid new : Played) (p q : Held) (what : Came) → mid.agent.fixed ≡ old.agent.fixed → number_of mid ≡ number_of old → mid.entries ≡ old.entries ++ Begun job ∷ []
+    → DidMore servers (length mid.entries) mid new p q what → DidJob servers job old new p q what
+did_job servers job old mid new p q what fixed same began more = record {
   longer = longer_longer old mid new (record { fixed = fixed; number = same; rest = Begun job ∷ []; entries = began }) more.longer;
   went = more.went;
   ran = ran_to job old mid new more.longer.rest what same began more.longer.number more.longer.entries more.leaves;
+  stuck = λ e. inr (more.stuck e);
 }
 
 -- nothing was done, and the agent cannot go on
-pub did_stick : (begun : ℕ) (a b : Played) (p q : Held) → b.agent ≡ a.agent → b.entries ≡ a.entries → q ≡ p → DidMore begun a b p q came.Stuck
-did_stick begun a b p q agent entries pass = record {
+pub did_stick : (servers begun : ℕ) (a b : Played) (p q : Held) → b.agent ≡ a.agent → b.entries ≡ a.entries → q ≡ p → CannotGoOn servers a p → DidMore servers begun a b p q came.Stuck
+did_stick servers begun a b p q agent entries pass why = record {
   longer = record { fixed = ap (λ (s : Standing). s.fixed) agent; number = ap (λ (s : Standing). s.state.index) agent; rest = []; entries = entries ∙ sym (append-nil a.entries) };
   went = pass;
   leaves = tt;
+  stuck = λ e. subst (λ (r : Held). CannotGoOn servers b r) (sym pass)
+      (subst (λ (s : Standing). AsksNobody servers (next_of s.fixed s.state) ⊎ HasSeen p (next_of s.fixed s.state)) (sym agent) why);
 }
 
-pub did_lack : (begun : ℕ) (a b : Played) (p : Held) → b.agent ≡ a.agent → b.entries ≡ a.entries → DidMore begun a b p p came.Lacked
-did_lack begun a b p agent entries = record {
+pub did_lack : (servers begun : ℕ) (a b : Played) (p : Held) → b.agent ≡ a.agent → b.entries ≡ a.entries → DidMore servers begun a b p p came.Lacked
+did_lack servers begun a b p agent entries = record {
   longer = record { fixed = ap (λ (s : Standing). s.fixed) agent; number = ap (λ (s : Standing). s.state.index) agent; rest = []; entries = entries ∙ sym (append-nil a.entries) };
   went = refl;
   leaves = tt;
+  stuck = λ e. cc;
 }
 
-pub no_job : (job : Job) (a b : Played) (p : Held) → b ≡ a → DidJob job a b p p came.Stuck
-no_job job a b p same = record {
+pub no_job : (servers : ℕ) (job : Job) (a b : Played) (p : Held) → b ≡ a → begins_job a.agent.fixed a.agent.state job ≡ false → DidJob servers job a b p p came.Stuck
+no_job servers job a b p same not = record {
   longer = record { fixed = ap (λ (p : Played). p.agent.fixed) same; number = ap (λ (p : Played). number_of p) same; rest = []; entries = ap (λ (p : Played). p.entries) same ∙ sym (append-nil a.entries) };
   went = refl;
   ran = tt;
+  stuck = λ e. inl (ap (λ (p : Played). begins_job p.agent.fixed p.agent.state job) same ∙ not);
 }
 
-pub lacked_job : (job : Job) (a b : Played) (p : Held) → b ≡ a → DidJob job a b p p came.Lacked
-lacked_job job a b p same = record {
+pub lacked_job : (servers : ℕ) (job : Job) (a b : Played) (p : Held) → b ≡ a → DidJob servers job a b p p came.Lacked
+lacked_job servers job a b p same = record {
   longer = record { fixed = ap (λ (p : Played). p.agent.fixed) same; number = ap (λ (p : Played). number_of p) same; rest = []; entries = ap (λ (p : Played). p.entries) same ∙ sym (append-nil a.entries) };
   went = refl;
   ran = tt;
+  stuck = λ e. cc;
 }
 
 -- the same as `heard`, where the fields are named apart
-pub heard_in : (begun number : ℕ) (told : Told) (old new : Played) (agent : Standing) (entries : List Entry) (p q : Held) (what : Came) → agent ≡ old.agent → entries ≡ old.entries → number ≡ number_of old → old.agent.state.count ≡ begins old.entries
-    → is_ask told.entry ≡ true → GoesOn (told.entry ∷ []) p q → Hears number begun told agent entries new.agent new.entries what → DidMore begun old new p q what
-heard_in begun number told old new agent entries p q what a e n counted asks goes h =
-    heard begun told old new p q what counted asks goes
+pub heard_in : (servers begun number : ℕ) (told : Told) (old new : Played) (agent : Standing) (entries : List Entry) (p q : Held) (what : Came) → agent ≡ old.agent → entries ≡ old.entries → number ≡ number_of old → old.agent.state.count ≡ begins old.entries
+    → is_ask told.entry ≡ true → GoesOn (told.entry ∷ []) p q → Hears number begun told agent entries new.agent new.entries what → DidMore servers begun old new p q what
+heard_in servers begun number told old new agent entries p q what a e n counted asks goes h =
+    heard servers begun told old new p q what counted asks goes
     (subst (λ (m : ℕ). Hears m begun told old.agent old.entries new.agent new.entries what) n
     (subst (λ (es : List Entry). Hears number begun told old.agent es new.agent new.entries what) e (subst (λ (s : Standing). Hears number begun told s entries new.agent new.entries what) a h)))
 
@@ -189,9 +199,16 @@ ask_first (Ended outcome) entries asks = cc
 
 pub heard_begins : (number begun : ℕ) (told : Told) (old : Standing) (entries : List Entry) (new : Standing) (more : List Entry) (what : Came) → is_ask told.entry ≡ true → Hears number begun told old entries new more what → begins more ≡ begins entries
 heard_begins number begun told old entries new more came.On asks h = ap begins h.3 ∙ begins-append entries (told.entry ∷ []) ∙ (let one = ask_first told.entry [] asks in omega arith)
-heard_begins number begun told old entries new more came.Stuck asks h = ap begins h.3 ∙ begins-append entries (told.entry ∷ []) ∙ (let one = ask_first told.entry [] asks in omega arith)
+heard_begins number begun told old entries new more came.Stuck asks h = absurd h.3
 heard_begins number begun told old entries new more came.Lacked asks h = ap begins h.3 ∙ begins-append entries (told.entry ∷ []) ∙ (let one = ask_first told.entry [] asks in omega arith)
 heard_begins number begun told old entries new more (came.Ended ran) asks h =
     let on = h.3 in
     let end = end_entry number ran.count (length entries + 1 - begun) on.0 in
     ap begins on.1 ∙ begins-append entries (told.entry ∷ end ∷ []) ∙ (let one = ask_first told.entry (end ∷ []) asks in omega arith)
+
+-- nothing is told where the pass is of other servers, of which it has seen something
+pub stale_seen : (server before : ℕ) (request : Request) (reply : Result (Stamped Reply) Miss) (pass : Held) (asked : Option (ℕ × Request)) → told_by server reply ≡ None → (reply ≡ Err Stale → before < front_at pass server)
+    → asked ≡ Some (server, request) → HasSeen pass asked
+stale_seen server before request (Ok reply) pass asked none stale is = cc
+stale_seen server before request (Err (Lack lack)) pass asked none stale is = cc
+stale_seen server before request (Err Stale) pass asked none stale is = subst (λ a. HasSeen pass a) (sym is) (let low = stale refl in omega arith)

@@ -10,4 +10,4 @@ pub mod Returning
 pub mod Filling
 pub mod Pooling
 pub mod Firsts
-pub mod Ready
+pub mod Readiness

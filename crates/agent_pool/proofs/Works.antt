@@ -91,9 +91,9 @@ works_longer jobs seat w v why longer old went same is halted =
     }
 
 -- and it did this one
-pub works_more : (jobs : List NamedJob) (seat : Seat) (w v : Worked) (d : Done) (named : NamedJob) → IsWorkOf jobs seat w → DidJob named.job w.player v.player w.pass v.pass (came.Ended d.ran) → v.done.items ≡ w.done.items ++ d ∷ []
+pub works_more : (servers : ℕ) (jobs : List NamedJob) (seat : Seat) (w v : Worked) (d : Done) (named : NamedJob) → IsWorkOf jobs seat w → DidJob servers named.job w.player v.player w.pass v.pass (came.Ended d.ran) → v.done.items ≡ w.done.items ++ d ∷ []
     → slice_get jobs d.place ≡ Some named → w.halt ≡ None → v.halt ≡ None → IsWorkOf jobs seat v
-works_more jobs seat w v d named old did same there before ran =
+works_more servers jobs seat w v d named old did same there before ran =
     let longer = did.longer in
     let began = begins seat.player.entries in
     let since : began ≤ d.ran.count = let more = ap begins old.longer.entries ∙ begins-append seat.player.entries old.longer.rest in let at = did.ran.1 in omega arith in

@@ -11,7 +11,7 @@
 //!
 //! What a caller owes (`AreReady` in `specs/Seats.antt`): the agents are idle, no two have one number, and each has its
 //! pass among those that are handed in. The agents of [`first_players`] and the passes of a start are so, and so is
-//! what comes back (`proofs/Ready.antt`). No clause says that a call returns, that two agents work at once, or which of
+//! what comes back (`proofs.Readiness.antt`). No clause says that a call returns, that two agents work at once, or which of
 //! them takes a job. Whether what the threads did is what servers and agents do, event by event, no thread can tell
 //! alone: [`certify`] judges it from the histories and the transcripts, once the servers are closed.
 #![tactic(auto)]
@@ -24,6 +24,7 @@ mod outcome;
 mod passes;
 mod player;
 mod pool;
+mod ready;
 mod start;
 mod work;
 mod workshop;
@@ -33,5 +34,6 @@ pub use line::{EachOnce, Hand, Item};
 pub use outcome::{JobOutcome, ended};
 pub use player::{Player, first_players};
 pub use pool::{Pool, run_pool};
+pub use ready::are_ready;
 pub use run_certify::{CertifyFault, Decided, Decision, Entry, Transcript, Transcripts, certify};
 pub use workshop::NamedJob;

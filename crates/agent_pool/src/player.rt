@@ -1,9 +1,9 @@
 //! An agent, with the transcript of what it did.
 
-ghost use Rattle.std.specs.Prelude.{◌≡◌, ◌<◌, ◌≤◌, ◌++◌, ◌∷◌, [], length, IfOk, IfSome, OnOk, OnErr, true, false, Ok, Some};
+ghost use Rattle.std.specs.Prelude.{◌≡◌, ◌<◌, ◌≤◌, ◌++◌, ◌∷◌, [], length, IfOk, IfSome, OnOk, OnErr, true, false, None, Ok, Some};
 ghost use Rattle.txn_core.specs.Agents as agents;
 ghost use Rattle.run_certify.specs.declared.entry.Entry.TheVariants.{Begun, Forgot};
-ghost use Rattle.agent_pool.specs.code.Steps.{DidMore};
+ghost use Rattle.agent_pool.specs.code.Steps.{AsksNobody, DidMore};
 ghost use Rattle.agent_pool.specs.Transcripts.{first_player, number_of, players_from};
 
 use crate::asking::{Came, hear, told_of};
@@ -123,7 +123,7 @@ impl Player {
         begun: usize,
     ) -> (Pass, Came)
         requires { begun ≤ length self.old.entries }
-        ensures { DidMore begun self.old self.new pass result.0 result.1 }
+        ensures { DidMore shop.now.servers.now.servers begun self.old self.new pass result.0 result.1 }
     {
         if self.entries.reserve(2).is_err() {
             return (pass, Came::Lacked);
@@ -147,7 +147,8 @@ impl Player {
 /// What an agent asks next, and of which of these servers: nothing, where it is idle, or where there is no such
 /// server.
 fn asked_next(agent: &Agent, servers: &Servers) -> Result<Option<(u8, Request)>, AllocError>
-    ensures { IfOk result (λ asked. IfSome asked (λ asked. (asked.0 < servers.now.servers) × (agents.next_of agent.now.fixed agent.now.state ≡ Some asked))) }
+    ensures some { IfOk result (λ asked. IfSome asked (λ asked. (asked.0 < servers.now.servers) × (agents.next_of agent.now.fixed agent.now.state ≡ Some asked))) }
+    ensures none { result ≡ Ok None → AsksNobody servers.now.servers (agents.next_of agent.now.fixed agent.now.state) }
 {
     let Some((server, request)) = agent.next()? else {
         return Ok(None);

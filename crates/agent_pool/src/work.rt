@@ -141,7 +141,7 @@ fn run<R: Wait, G: Gate>(
     pass: Pass,
     named: &NamedJob,
 ) -> (Pass, Came)
-    ensures { DidJob named.now.job player.old player.new pass result.0 result.1 }
+    ensures { DidJob shop.now.servers.now.servers named.now.job player.old player.new pass result.0 result.1 }
 {
     match player.begin(&named.job) {
         Ok(true) => {}
@@ -159,7 +159,7 @@ fn go_on<R: Wait, G: Gate>(
     player: &mut Player,
     pass: Pass,
 ) -> (Pass, Came)
-    ensures { DidMore (length player.old.entries) player.old player.new pass result.0 result.1 }
+    ensures { DidMore shop.now.servers.now.servers (length player.old.entries) player.old player.new pass result.0 result.1 }
 {
     let begun = player.entries().len();
     let mut current = pass;

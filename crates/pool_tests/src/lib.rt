@@ -13,6 +13,8 @@ macro_rules! again {
 }
 
 #[cfg(test)]
+mod pool_crew;
+#[cfg(test)]
 mod pool_runs;
 #[cfg(test)]
 mod town;

@@ -7,12 +7,13 @@
 //! holds of every run holds of what the threads did.
 #![tactic(auto)]
 
-mod certify;
+
 mod decided;
 mod entry;
 mod fault;
+mod stand_in;
 
-pub use certify::certify;
+pub use stand_in::certify;
 pub use decided::{Decided, Decision};
 pub use entry::{Entry, Transcript, Transcripts};
 pub use fault::CertifyFault;

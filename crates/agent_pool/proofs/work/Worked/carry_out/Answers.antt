@@ -20,8 +20,8 @@ pub returns-in-Ended : goal.returns-in-Ended
 returns-in-Ended g c =
     let named = c.in-Some.named.now in
     let at = slice_get-get_or c.args.shop.now.jobs.now c.args.place named (ltb-true _ _ (sym c.in-Some.ensures.lookup.0)) ∙ ap (λ (it : NamedJob). Some it) (sym c.in-Some.ensures.lookup.1) in
-    works_more _ _ c.args.self _ (record { place = c.args.place; ran = c.in-Ended.ran }) named c.requires
-    (subst (λ (what : Came). DidJob named.job c.args.self.player c.run-pass.new.player c.args.self.pass c.run-pass.result.0 what) c.in-Ended.is c.run-pass.ensures)
+    works_more _ _ _ c.args.self _ (record { place = c.args.place; ran = c.in-Ended.ran }) named c.requires
+    (subst (λ (what : Came). DidJob c.args.shop.now.servers.now.servers named.job c.args.self.player c.run-pass.new.player c.args.self.pass c.run-pass.result.0 what) c.in-Ended.is c.run-pass.ensures)
     (c.push_reserved.ensures.items ∙ ap (λ ds. ds ++ record { place = c.args.place; ran = c.in-Ended.ran } ∷ []) c.reserve.ensures.items) at (search rules) refl
 
 pub returns : goal.returns

@@ -11,7 +11,7 @@ use Rattle.agent_pool.specs.declared.workshop.NamedJob.{NamedJob}
 use Rattle.agent_pool.specs.Pools.{IsPoolOf}
 use Rattle.agent_pool.specs.Seats.{AreDistinct, AreReady, HasPass, IsOther, WentOn, numbers_of, passes_for}
 use Rattle.agent_pool.specs.Transcripts.{Played, IsIdle, first_player, number_of, players_from}
-use Rattle.agent_pool.proofs.Seating.{others_before, other_cons, own_cons}
+use Rattle.agent_pool.proofs.Seating.{apart_from, others_before, other_cons, own_cons}
 
 all_front : (P : Played → Type 0) (xs ys : List Played) → All P (xs ++ ys) → All P xs
 all_front P [] ys all = All-nil P
@@ -122,3 +122,45 @@ ready_after jobs passes xs ys pool ready is =
       idle = all_both IsIdle now ys is.idle (all_back IsIdle xs ys ready.idle);
       have = all_both (HasPass new) now ys (went_have passes new xs now is.agents) behind;
     }
+
+-- ---- one agent more
+
+other_at : (n : ℕ) (xs : List Played) (j : ℕ) → IsOther xs (Some n) → slice_get (numbers_of xs) j ≡ Some n → ⊥
+other_at n [] j other at = cc
+other_at n (x ∷ xs) zero other at = other.0 (sym at)
+other_at n (x ∷ xs) (suc j) other at = other_at n xs j other.1 at
+
+distinct_cons : (x : Played) (xs : List Played) → IsOther xs (Some (number_of x)) → AreDistinct (numbers_of xs) → AreDistinct (numbers_of (x ∷ xs))
+distinct_cons x xs other distinct zero zero n at there = refl
+distinct_cons x xs other distinct zero (suc j) n at there = absurd (other_at (number_of x) xs j other (there ∙ sym at))
+distinct_cons x xs other distinct (suc i) zero n at there = absurd (other_at (number_of x) xs i other (at ∙ sym there))
+distinct_cons x xs other distinct (suc i) (suc j) n at there = ap suc (distinct i j n at there)
+
+pub ready_none : (passes : List Held) → AreReady passes []
+ready_none passes = record { distinct = λ i j n at there. cc; idle = All-nil IsIdle; have = All-nil (HasPass passes) }
+
+pub ready_cons : (passes : List Held) (x : Played) (xs : List Played) → IsIdle x → HasPass passes x → IsOther xs (Some (number_of x)) → AreReady passes xs → AreReady passes (x ∷ xs)
+ready_cons passes x xs idle has other ready = record {
+  distinct = distinct_cons x xs other ready.distinct;
+  idle = All-cons IsIdle x xs idle ready.idle;
+  have = All-cons (HasPass passes) x xs has ready.have;
+}
+
+-- what is so of the first, and of the others
+pub record Parts (passes : List Held) (x : Played) (xs : List Played) : Type 0 where
+  pub idle : IsIdle x
+  pub has : HasPass passes x
+  pub other : IsOther xs (Some (number_of x))
+  pub rest : AreReady passes xs
+
+pub ready_parts : (passes : List Held) (x : Played) (xs : List Played) → AreReady passes (x ∷ xs) → Parts passes x xs
+ready_parts passes x xs ready = record {
+  idle = All-head IsIdle x xs ready.idle;
+  has = All-head (HasPass passes) x xs ready.have;
+  other = (apart_from (x ∷ xs) ready.distinct).0;
+  rest = record {
+    distinct = λ i j n at there. let e = ready.distinct (suc i) (suc j) n at there in omega arith;
+    idle = All-tail IsIdle x xs ready.idle;
+    have = All-tail (HasPass passes) x xs ready.have;
+  };
+}
