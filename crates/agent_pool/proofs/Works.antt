@@ -1,6 +1,6 @@
 -- What holds of a thread's work, as it goes on.
-use Rattle.std.proofs.Common.{◌≡◌, ℕ, zero, suc, ◌+◌, ◌≤◌, List, [], ◌∷◌, ◌++◌, length, map, refl, ap, ◌∙◌, sym, subst, arith, append_assoc, append-nil}
-use Rattle.std.specs.Prelude.{slice_get, Contains, Option, Some, None}
+use Rattle.std.proofs.Common.{◌≡◌, ℕ, zero, suc, ◌+◌, ◌≤◌, List, [], ◌∷◌, ◌++◌, false, length, map, refl, ap, ◌∙◌, sym, subst, arith, append_assoc, append-nil}
+use Rattle.std.specs.Prelude.{is_some, slice_get, Contains, Option, Some, None}
 use Rattle.std.proofs.lemmas.List.{length-append}
 use Rattle.std.proofs.lemmas.Option.{same_Some}
 use Rattle.server_lock.specs.Passes.{Held}
@@ -89,6 +89,22 @@ works_longer jobs seat w v why longer old went same is halted =
       halted = subst (λ h. IsHalted jobs v.player h) (sym is) halted;
       once = λ all. let bad : Some why ≡ None = sym is ∙ all in cc;
     }
+
+-- it runs nothing more, and did nothing since
+pub works_stop : (jobs : List NamedJob) (seat : Seat) (w v : Worked) (why : Halt) → IsWorkOf jobs seat w → v.player ≡ w.player → v.pass ≡ w.pass → v.done.items ≡ w.done.items → v.halt ≡ Some why → IsHalted jobs w.player (Some why) → IsWorkOf jobs seat v
+works_stop jobs seat w v why old player pass same is halted =
+    works_longer jobs seat w v why
+    (record {
+      fixed = ap (λ (p : Played). p.agent.fixed) player;
+      number = ap (λ (p : Played). number_of p) player;
+      rest = [];
+      entries = ap (λ (p : Played). p.entries) player ∙ sym (append-nil w.player.entries);
+    })
+    old pass same is (subst (λ (p : Played). IsHalted jobs p (Some why)) (sym player) halted)
+
+pub not_some : (halt : Option Halt) → is_some halt ≡ false → halt ≡ None
+not_some None none = refl
+not_some (Some why) none = cc
 
 -- and it did this one
 pub works_more : (servers : ℕ) (jobs : List NamedJob) (seat : Seat) (w v : Worked) (d : Done) (named : NamedJob) → IsWorkOf jobs seat w → DidJob servers named.job w.player v.player w.pass v.pass (came.Ended d.ran) → v.done.items ≡ w.done.items ++ d ∷ []

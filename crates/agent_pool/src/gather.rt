@@ -1,9 +1,9 @@
 //! What agents did, put together.
 
-ghost use Rattle.std.specs.Prelude.{◌≡◌, ◌≢◌, ℕ, ◌+◌, ◌≤◌, ◌++◌, List, [], Err, length, IfErr, IfOk, OnOk};
+ghost use Rattle.std.specs.Prelude.{◌≡◌, ◌≢◌, ℕ, ◌+◌, ◌≤◌, ◌++◌, List, [], Err, None, Some, length, slice_get, IfErr, IfOk, OnOk};
 ghost use Rattle.std.specs.Vec.{vec_len, vec_capacity};
 ghost use Rattle.std.specs.List.{AllZip};
-ghost use Rattle.agent_pool.specs.declared.fault.PoolFault.TheVariants.{Memory};
+ghost use Rattle.agent_pool.specs.declared.fault.PoolFault.TheVariants.{Double, Memory};
 ghost use Rattle.agent_pool.specs.code.Gathering.{AllRan, HasRoom, IsGathered, NoneLacked};
 ghost use Rattle.agent_pool.specs.Pools.{AreApart, AreOutcomes, IsFaultOf, IsOf};
 ghost use Rattle.agent_pool.specs.code.Filled.{AreApartIn, AreNone, AreWorks, IsFilled, IsPut, KeepFilled, StayApart};
@@ -164,6 +164,7 @@ fn place_one(
     ensures put { OnOk result ((job : ℕ) × IsPut slots.old.items done.place (record { job = job; agent = agent; count = done.ran.count; at = done.ran.at }) slots.new.items) }
     ensures long { length slots.new.items ≡ length slots.old.items }
     ensures fault { IfErr result (IsFaultOf jobs.now) }
+    ensures double { (job : ℕ) → result ≡ Err (Double job) → slice_get slots.old.items done.place ≢ Some None }
 {
     let place = done.place;
     let Some(named) = jobs.get(place) else {
@@ -195,11 +196,12 @@ fn outcomes_of(
     ensures apart { IfOk result (λ outcomes. AreApartIn slots.now → AreApart outcomes.items) }
     ensures all { IfOk result (λ outcomes. filled_in slots.now ≡ length jobs.now) }
     ensures fault { IfErr result (IsFaultOf jobs.now) }
+    ensures missing { (fault : PoolFault) → result ≡ Err fault → (place : ℕ) × (slice_get slots.now place ≡ Some None) }
 {
     for place in 0..jobs.len() {
-        match slots.get(place) {
-            Some(Some(outcome)) => room.push_reserved(*outcome),
-            _ => return Err(PoolFault::Missing(jobs[place].number)),
+        match slots[place] {
+            Some(outcome) => room.push_reserved(outcome),
+            None => return Err(PoolFault::Missing(jobs[place].number)),
         }
     }
     Ok(room)

@@ -61,11 +61,10 @@ pub fn run_pool<R: Threads + Wait + Sync, G: Gate + Sync>(
     let mut passes = passes;
     let room = Room::new(alloc, jobs.len(), agents.len())?;
     let seats = seats(alloc, agents, &mut passes)?;
-    passes.reserve(seats.len())?;
-    let (sender, receiver, ticket) = bounded_with::<Item, Hand, EachOnce, Global>(
-        alloc,
-        seats.len(),
-    )?;
+    let count = seats.len();
+    passes.reserve(count)?;
+    let (sender, receiver, ticket) =
+        bounded_with::<Item, Hand, EachOnce, Global>(alloc, count)?;
     let refused = AtomicU64::new(u64::MAX);
     let shop = Workshop {
         alloc,

@@ -68,7 +68,10 @@ impl Worked {
 
     /// The same, but that its agent runs nothing more.
     fn halted(self, halt: Halt) -> Worked
-        ensures { result ≡ record self { halt = Some halt } }
+        ensures player { result.player ≡ self.player }
+        ensures pass { result.pass ≡ self.pass }
+        ensures done { result.done.items ≡ self.done.items }
+        ensures halt { result.halt ≡ Some halt }
     {
         let Worked {
             player,

@@ -68,11 +68,11 @@ CannotGoOn servers played pass =
     AsksNobody servers (next_of played.agent.fixed played.agent.state) ⊎ HasSeen pass (next_of played.agent.fixed played.agent.state)
 
 -- what an agent did for its job, with its pass, at so many servers; it gets stuck only where it cannot go on
-pub record DidMore (servers begun : ℕ) (old new : Played) (pass later : Held) (came : Came) : Type 0 where
+pub record DidMore (servers begun : ℕ) (old new : Played) (pass later : Held) (what : Came) : Type 0 where
   pub longer : IsLonger old new
   pub went : GoesOn longer.rest pass later
-  pub leaves : Leaves begun old longer.rest new came
-  pub stuck : came ≡ came.Stuck → CannotGoOn servers new later
+  pub leaves : Leaves begun old longer.rest new what
+  pub stuck : what ≡ came.Stuck → CannotGoOn servers new later
 
 -- a job was begun and ended, where it was
 abbrev pub RanTo : Job → Played → Played → Came → Type 0
@@ -80,8 +80,8 @@ RanTo job old new (came.Ended ran) = IsTold new job ran.count ran.at × (ran.cou
 RanTo job old new _ = Unit {0}
 
 -- what an agent did with a job, and its pass, at so many servers; it gets stuck only where it cannot begin the job, or cannot go on
-pub record DidJob (servers : ℕ) (job : Job) (old new : Played) (pass later : Held) (came : Came) : Type 0 where
+pub record DidJob (servers : ℕ) (job : Job) (old new : Played) (pass later : Held) (what : Came) : Type 0 where
   pub longer : IsLonger old new
   pub went : GoesOn longer.rest pass later
-  pub ran : RanTo job old new came
-  pub stuck : came ≡ came.Stuck → (agents.begins new.agent.fixed new.agent.state job ≡ false) ⊎ CannotGoOn servers new later
+  pub ran : RanTo job old new what
+  pub stuck : what ≡ came.Stuck → (agents.begins new.agent.fixed new.agent.state job ≡ false) ⊎ CannotGoOn servers new later

@@ -2,7 +2,9 @@ use Rattle.std.proofs.Common.{◌≡◌, ◌+◌, List, ◌∙◌, refl, sym, su
 use Rattle.std.proofs.lemmas.List.{take_all}
 use Rattle.std.specs.Prelude.{Contains, Some, slice_get, slice_index_or}
 use Rattle.agent_pool.specs.code.Filled.{AreApartIn, AreOfThese, done_in, players_of, sitting}
+use Rattle.agent_pool.specs.declared.work.Done.{Done}
 use Rattle.agent_pool.specs.Seats.{numbers_of}
+use Rattle.agent_pool.specs.code.Working.{AllDone, RiseBetween}
 use Rattle.agent_pool.specs.Transcripts.{begins, number_of}
 use Rattle.agent_pool.proofs.Apart.{below_none, is_fresh, none_at, of_more}
 use Rattle.agent_pool.proofs.Filling.{is_of, more_many, none_filled, none_many, number_at, take_numbers, worked_at}
@@ -33,13 +35,14 @@ loop-one-preserved c =
     let n = c.number.result in
     let fresh = subst (λ m. ¬ (Contains (take index ns) m)) (sym num) (is_fresh ns index (number_of w.player) c.requires.distinct here) in
     let lowest = begins at.seat.player.entries in
-    let apart = c.in_ok-place_all.ensures.apart (take index ns) lowest (begins w.player.entries) fresh at.work.rise was.1 (below_none (take index ns) n lowest c.loop-one.slots.items was.2) in (
+    let apart = c.in_ok-place_all.ensures.apart (take index ns) lowest (begins w.player.entries) fresh (subst (λ (ds : List Done). RiseBetween lowest ds (begins w.player.entries)) (sym c.deref.ensures.value) at.work.rise) was.1 (below_none (take index ns) n lowest c.loop-one.slots.items was.2) in (
       (λ seats works.
           let on = worked_at jobs seats worked index w works low here_is in
-          c.in_ok-place_all.ensures.filled (sitting seats) (players_of worked) on.seat.player w.player (is_of jobs seats worked w n on num) on.work.done (was.0 seats works)),
+          c.in_ok-place_all.ensures.filled (sitting seats) (players_of worked) on.seat.player w.player (is_of jobs seats worked w n on num)
+          (subst (λ (ds : List Done). AllDone jobs (begins on.seat.player.entries) w.player ds) (sym c.deref.ensures.value) on.work.done) (was.0 seats works)),
       apart.0,
       subst (λ l. AreOfThese l c.place_all.new.slots.items) (sym (take_numbers c.args.worked.now index w c.loop-one-test.true (search rules) ∙ ap (λ m. take index ns ++ m ∷ []) (sym num))) (of_more (take index ns) n apart.1.0 c.place_all.new.slots.items apart.1.1),
-      c.in_ok-place_all.ensures.many ∙ ap (λ m. m + length w.done.items) was.3 ∙ sym (more_many worked index w low here_is),
+      (let all = c.in_ok-place_all.ensures.many in let done = ap length c.deref.ensures.value in let were = was.3 in let more = more_many worked index w low here_is in omega arith),
       c.in_ok-place_all.ensures.long ∙ was.4,
     )
 

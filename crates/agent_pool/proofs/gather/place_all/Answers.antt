@@ -5,7 +5,7 @@ use Rattle.agent_pool.specs.declared.outcome.JobOutcome.{JobOutcome}
 use Rattle.agent_pool.specs.code.Filled.{filled_in}
 use Rattle.agent_pool.specs.Transcripts.{begins}
 use Rattle.agent_pool.proofs.Apart.{at_next, At}
-use Rattle.agent_pool.proofs.Filling.{done_at, set_many}
+use Rattle.agent_pool.proofs.Filling.{done_at, put_many}
 use Rattle.agent_pool.proofs.gather.place_all.Goals as goal
 
 pub loop-one-init : goal.loop-one-init
@@ -25,9 +25,7 @@ loop-one-preserved c = (
   (λ numbers low high fresh rise apart below.
       at_next c.args.agent numbers high _ _ _ _ _ c.in_ok-place_one.ensures.put.0 fresh (drop_more c.args.done.now c.loop-one.one-index _ c.loop-one-test.true)
       (c.loop-one.invariant.1 numbers low high fresh rise apart below) c.in_ok-place_one.ensures.put.1),
-  (let put = c.in_ok-place_one.ensures.put.1 in
-      let one = set_many _ _ _ put.was in
-      let more : filled_in c.place_one.new.slots.items ≡ filled_in c.loop-one.slots.items + 1 = ap filled_in put.is ∙ one in
+  (let more : filled_in c.place_one.new.slots.items ≡ filled_in c.loop-one.slots.items + 1 = put_many _ _ _ _ c.in_ok-place_one.ensures.put.1 in
       let were = c.loop-one.invariant.2 in
       omega arith),
   c.in_ok-place_one.ensures.long ∙ c.loop-one.invariant.3,

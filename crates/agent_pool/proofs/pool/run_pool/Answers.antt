@@ -5,15 +5,20 @@ use Rattle.agent_pool.specs.code.Gathering.{HasRoom}
 use Rattle.agent_pool.specs.code.Seated.{AreSeated, IsSeated}
 use Rattle.agent_pool.specs.code.Starts.{IsWorkOf}
 use Rattle.agent_pool.proofs.Filling.{as_many, seats_idle, still_distinct}
+use Rattle.agent_pool.proofs.Lines.{begins}
 use Rattle.agent_pool.proofs.Pooling.{pool_is}
 use Rattle.agent_pool.proofs.pool.run_pool.Goals as goal
 
-pub work_in_threads-requires-clause-some : goal.work_in_threads-requires-clause-some
-work_in_threads-requires-clause-some g c =
+pub bounded_with-requires-clause-rule : goal.bounded_with-requires-clause-rule
+bounded_with-requires-clause-rule g c = begins
+
+pub bounded_with-requires-clause-cap : goal.bounded_with-requires-clause-cap
+bounded_with-requires-clause-cap g c =
     let many = as_many (IsSeated _ _) c.args.agents.items c.in_ok-seats.seats.items c.in_ok-seats.ensures.each in
     let some = c.requires.some in
     let a = c.args.agents.ok.0 in
     let b = c.in_ok-seats.seats.ok.0 in
+    let long = c.len-count.ensures in
     omega arith
 
 pub work_in_threads-requires-clause-idle : goal.work_in_threads-requires-clause-idle

@@ -1,5 +1,8 @@
 use Rattle.std.proofs.Common.{rules, inl, inr, ◌≡◌, ◌∷◌, [], ap, sym, subst, ◌∙◌}
 use Rattle.server_lock.specs.Passes.{Held}
+use Rattle.txn_core.specs.Agents.{next_of}
+use Rattle.txn_core.specs.Standing.{Standing}
+use Rattle.agent_pool.specs.code.Steps.{AsksNobody}
 use Rattle.agent_pool.specs.Transcripts.{GoesOn, begins}
 use Rattle.agent_pool.proofs.Leaving.{did_lack, did_stick, goes_told, heard_begins, heard_in, stale_seen, told_asks}
 use Rattle.agent_pool.proofs.player.Player.step.Goals as goal
@@ -11,7 +14,10 @@ pub returns-in-Err : goal.returns-in-Err
 returns-in-Err g c = did_lack _ _ _ _ _ (search rules) (search rules)
 
 pub returns-in_default : goal.returns-in_default
-returns-in_default g c = did_stick _ _ _ _ _ _ (search rules) (search rules) (search rules) (inl (c.in-Ok.ensures.none (search rules)))
+returns-in_default g c =
+    let same : c.self.inside.agent ≡ c.args.self.now.agent = search rules in
+    did_stick _ _ _ _ _ _ (search rules) (search rules) (search rules)
+    (inl (subst (λ (s : Standing). AsksNobody c.args.shop.now.servers.now.servers (next_of s.fixed s.state)) same (c.in-Ok.ensures.none (search rules))))
 
 pub returns-in_default-told_of : goal.returns-in_default-told_of
 returns-in_default-told_of g c =
