@@ -1,4 +1,0 @@
-pub mod Merges
-pub mod Weaves
-pub mod Shown
-pub mod Certified
