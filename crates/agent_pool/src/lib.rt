@@ -11,7 +11,7 @@
 //!
 //! What a caller owes (`AreReady` in `specs/Seats.antt`): the agents are idle, no two have one number, and each has its
 //! pass among those that are handed in. The agents of [`first_players`] and the passes of a start are so, and so is
-//! what comes back (`proofs.Readiness.antt`). No clause says that a call returns, that two agents work at once, or which of
+//! what comes back (`proofs/Readiness.antt`). No clause says that a call returns, that two agents work at once, or which of
 //! them takes a job. Whether what the threads did is what servers and agents do, event by event, no thread can tell
 //! alone: [`certify`] judges it from the histories and the transcripts, once the servers are closed.
 #![tactic(auto)]
