@@ -126,7 +126,7 @@ none_many (Some o ∷ slots) none = let bad = none.0 in cc
 pub set_many : (slots : List (Option JobOutcome)) (i : ℕ) (o : JobOutcome) → slice_get slots i ≡ Some None → filled_in (slice_set slots i (Some o)) ≡ filled_in slots + 1
 set_many [] i o none = cc
 set_many (None ∷ slots) zero o none = refl
-set_many (Some x ∷ slots) zero o none = let bad : Some x ≡ None = same_Some (Some x) None (sym none) in cc
+set_many (Some x ∷ slots) zero o none = let bad : Some x ≡ None = same_Some (Some x) None none in cc
 set_many (None ∷ slots) (suc i) o none = set_many slots i o none
 set_many (Some x ∷ slots) (suc i) o none = let more = set_many slots i o none in omega arith
 
@@ -201,21 +201,24 @@ all_more P worked i w low is all one = let e : suc i ≡ i + 1 = omega arith in 
 abbrev Meets : List NamedJob → List Worked → ℕ → Option PoolFault → Type 0
 Meets jobs worked n met = (met ≡ None → AllRan (take n worked)) × IfSome met (IsFaultOf jobs) × NoneLacked (take n worked)
 
-pub met_stuck : (jobs : List NamedJob) (seats : List Seat) (worked : List Worked) (i : ℕ) (w : Worked) (job : ℕ) (met : Option PoolFault) → AllZip (IsWorkOf jobs) seats worked → i < length worked → slice_index_or worked i w ≡ w
-    → w.halt ≡ Some (Stuck job) → met ≡ Some (Missing job) → NoneLacked (take i worked) → Meets jobs worked (i + 1) met
-met_stuck jobs seats worked i w job met works low is halt same none = (
-  (λ no. let bad : Some (Missing job) ≡ None = sym same ∙ no in cc),
-  subst (λ m. IfSome m (IsFaultOf jobs)) (sym same) (subst (λ h. IsHalted jobs w.player h) halt (worked_at jobs seats worked i w works low is).work.halted),
-  all_more (λ (one : Worked). one.halt ≢ Some Lacked) worked i w low is none (λ e. let bad : Some (Stuck job) ≡ Some Lacked = sym halt ∙ e in cc),
+-- what is met of somebody who lacked nothing
+met_some : (jobs : List NamedJob) (seats : List Seat) (worked : List Worked) (i : ℕ) (w : Worked) (why : Halt) (fault : PoolFault) (met : Option PoolFault) → AllZip (IsWorkOf jobs) seats worked → i < length worked → slice_index_or worked i w ≡ w
+    → w.halt ≡ Some why → (IsHalted jobs w.player (Some why) → IsFaultOf jobs fault) → why ≢ Lacked → met ≡ Some fault → NoneLacked (take i worked) → Meets jobs worked (i + 1) met
+met_some jobs seats worked i w why fault met works low is halt tells other same none = (
+  (λ no. let bad : Some fault ≡ None = sym same ∙ no in cc),
+  subst (λ m. IfSome m (IsFaultOf jobs)) (sym same) (tells (subst (λ h. IsHalted jobs w.player h) halt (worked_at jobs seats worked i w works low is).work.halted)),
+  all_more (λ (one : Worked). one.halt ≢ Some Lacked) worked i w low is none (λ e. other (same_Some why Lacked (sym halt ∙ e))),
 )
 
-pub met_strange : (jobs : List NamedJob) (seats : List Seat) (worked : List Worked) (i : ℕ) (w : Worked) (place : ℕ) (met : Option PoolFault) → AllZip (IsWorkOf jobs) seats worked → i < length worked → slice_index_or worked i w ≡ w
-    → w.halt ≡ Some (Strange place) → met ≡ Some (Stranger place) → NoneLacked (take i worked) → Meets jobs worked (i + 1) met
-met_strange jobs seats worked i w place met works low is halt same none = (
-  (λ no. let bad : Some (Stranger place) ≡ None = sym same ∙ no in cc),
-  subst (λ m. IfSome m (IsFaultOf jobs)) (sym same) (subst (λ h. IsHalted jobs w.player h) halt (worked_at jobs seats worked i w works low is).work.halted),
-  all_more (λ (one : Worked). one.halt ≢ Some Lacked) worked i w low is none (λ e. let bad : Some (Strange place) ≡ Some Lacked = sym halt ∙ e in cc),
-)
+pub met_stuck : (jobs : List NamedJob) (seats : List Seat) (worked : List Worked) (i : ℕ) (w : Worked) (why : Halt) (job : ℕ) (met : Option PoolFault) → AllZip (IsWorkOf jobs) seats worked → i < length worked → slice_index_or worked i w ≡ w
+    → w.halt ≡ Some why → why ≡ Stuck job → met ≡ Some (Missing job) → NoneLacked (take i worked) → Meets jobs worked (i + 1) met
+met_stuck jobs seats worked i w why job met works low is halt stuck same none =
+    met_some jobs seats worked i w why (Missing job) met works low is halt (λ halted. subst (λ (h : Halt). IsHalted jobs w.player (Some h)) stuck halted) (λ e. let bad : Stuck job ≡ Lacked = sym stuck ∙ e in cc) same none
+
+pub met_strange : (jobs : List NamedJob) (seats : List Seat) (worked : List Worked) (i : ℕ) (w : Worked) (why : Halt) (place : ℕ) (met : Option PoolFault) → AllZip (IsWorkOf jobs) seats worked → i < length worked → slice_index_or worked i w ≡ w
+    → w.halt ≡ Some why → why ≡ Strange place → met ≡ Some (Stranger place) → NoneLacked (take i worked) → Meets jobs worked (i + 1) met
+met_strange jobs seats worked i w why place met works low is halt strange same none =
+    met_some jobs seats worked i w why (Stranger place) met works low is halt (λ halted. subst (λ (h : Halt). IsHalted jobs w.player (Some h)) strange halted) (λ e. let bad : Strange place ≡ Lacked = sym strange ∙ e in cc) same none
 
 pub met_none : (jobs : List NamedJob) (worked : List Worked) (i : ℕ) (w : Worked) (before met : Option PoolFault) → i < length worked → slice_index_or worked i w ≡ w → w.halt ≡ None → met ≡ before → Meets jobs worked i before → Meets jobs worked (i + 1) met
 met_none jobs worked i w before met low is halt same was = (
@@ -229,7 +232,7 @@ met_none jobs worked i w before met low is halt same was = (
 pub some_there : (slots : List (Option JobOutcome)) (i : ℕ) (slot : Option JobOutcome) → i < length slots → slice_index_or slots i slot ≡ slot → is_some slot ≡ true → slice_get slots i ≡ Some None → ⊥
 some_there [] i slot low is some none = cc
 some_there (x ∷ slots) zero None low is some none = cc
-some_there (x ∷ slots) zero (Some o) low is some none = let bad : Some o ≡ None = sym is ∙ same_Some x None (sym none) in cc
+some_there (x ∷ slots) zero (Some o) low is some none = let bad : Some o ≡ None = sym is ∙ same_Some x None none in cc
 some_there (x ∷ slots) (suc i) slot low is some none = some_there slots i slot (omega arith) is some none
 
 pub none_there : (slots : List (Option JobOutcome)) (i : ℕ) (slot : Option JobOutcome) → i < length slots → slice_index_or slots i slot ≡ slot → is_some slot ≡ false → slice_get slots i ≡ Some None

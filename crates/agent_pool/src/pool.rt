@@ -101,15 +101,28 @@ fn work_in_threads<R: Threads + Wait + Sync, G: Gate + Sync>(
     requires idle { AreIdle seats.items }
     ensures { IfOk result (λ worked. AllZip (IsWorkOf shop.now.jobs.now) seats.items worked.items) }
 {
+    let (alloc, gate, servers) = (shop.alloc, shop.gate, shop.servers);
+    let (jobs, receiver, refused) = (shop.jobs, shop.receiver, shop.refused);
+    let Giver { sender, ticket } = giver;
     thread::scope(
         thread::scope_env(),
         rt,
         |scope| -> Result<Vec<Worked>, AllocError>
-            requires seat { IsSeatAt (sends_on giver.sender.now) giver.ticket × (view giver.ticket ≡ feeder 0 0 0) }
-            requires same { receives_on shop.now.receiver.now ≡ sends_on giver.sender.now }
+            requires seat { IsSeatAt (sends_on sender.now) ticket × (view ticket ≡ feeder 0 0 0) }
+            requires same { receives_on receiver.now ≡ sends_on sender.now }
             requires idle { AreIdle seats.items }
-            ensures { IfOk result (λ worked. AllZip (IsWorkOf shop.entry.now.jobs.now) seats.items worked.items) }
-        { in_scope(rt, scope, shop, giver, seats) },
+            ensures { IfOk result (λ worked. AllZip (IsWorkOf jobs.entry.now) seats.items worked.items) }
+        {
+            let shop = Workshop {
+                alloc,
+                gate,
+                servers,
+                jobs,
+                receiver,
+                refused,
+            };
+            in_scope(rt, scope, &shop, Giver { sender, ticket }, seats)
+        },
     )
 }
 
@@ -117,7 +130,7 @@ fn work_in_threads<R: Threads + Wait + Sync, G: Gate + Sync>(
 fn in_scope<'s, E, R: Threads + Wait + Sync, G: Gate + Sync>(
     rt: &'s R,
     scope: &Scope<'s, E>,
-    shop: &'s Workshop<'s, G>,
+    shop: &Workshop<'s, G>,
     giver: Giver<'_>,
     seats: Vec<Seat>,
 ) -> Result<Vec<Worked>, AllocError>

@@ -43,7 +43,7 @@ pub(crate) enum Start<'a> {
 pub(crate) fn begin_thread<'s, E, R: Threads + Wait + Sync, G: Gate + Sync>(
     rt: &'s R,
     scope: &Scope<'s, E>,
-    shop: &'s Workshop<'s, G>,
+    shop: &Workshop<'s, G>,
     ticket: Ticket,
     seat: Seat,
 ) -> Start<'s>
@@ -52,29 +52,38 @@ pub(crate) fn begin_thread<'s, E, R: Threads + Wait + Sync, G: Gate + Sync>(
     ensures { IsStart shop.now.jobs.now seat result }
 {
     let number = u64::from(seat.player.number());
+    let (alloc, gate, servers) = (shop.alloc, shop.gate, shop.servers);
+    let (jobs, receiver, refused) = (shop.jobs, shop.receiver, shop.refused);
     let works = Works {
-        jobs: shop.jobs,
+        jobs,
         was: Snapshot::of(&seat),
     };
     let Seat { player, pass } = seat;
     let spawned = scope.spawn_with(
         works,
         move || -> Worked
-            requires { IsSeatAt (receives_on shop.now.receiver.now) ticket × ((view ticket).puts ≡ false) × IsIdle player }
-            ensures { IsWorked shop.entry.now.jobs.now player pass result }
+            requires { IsSeatAt (receives_on receiver.now) ticket × ((view ticket).puts ≡ false) × IsIdle player }
+            ensures { IsWorked jobs.entry.now player pass result }
         {
             let seat = Seat { player, pass };
-            if shop.refused.load(Ordering::SeqCst) == number {
-                Worked::new(shop.alloc, seat, shop.jobs)
-            } else {
-                work(rt, shop, ticket, seat)
+            if refused.load(Ordering::SeqCst) == number {
+                return Worked::new(alloc, seat, jobs);
             }
+            let shop = Workshop {
+                alloc,
+                gate,
+                servers,
+                jobs,
+                receiver,
+                refused,
+            };
+            work(rt, &shop, ticket, seat)
         },
     );
     match spawned {
         Ok(handle) => Start::Started(handle),
         Err(back) => {
-            shop.refused.store(number, Ordering::SeqCst);
+            refused.store(number, Ordering::SeqCst);
             Start::Rested((back.value)())
         }
     }

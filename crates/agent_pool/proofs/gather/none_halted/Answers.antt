@@ -14,8 +14,8 @@ loop-one-preserved c =
     let low = c.loop-one-test.true in
     let was = c.loop-one.invariant in
     elim c.match-one.branch [
-      | in-Some-Stuck w ↦ met_stuck jobs c.requires.0 worked at c.one-item.result w.in-Some-Stuck.job _ c.requires.1 low (search rules) w.in-Some-Stuck.is w.met-is was.2
-      | in-Some-Strange w ↦ met_strange jobs c.requires.0 worked at c.one-item.result w.in-Some-Strange.place _ c.requires.1 low (search rules) w.in-Some-Strange.is w.met-is was.2
+      | in-Some-Stuck w ↦ met_stuck jobs c.requires.0 worked at c.one-item.result w.in-Some-Stuck.field-0 w.in-Some-Stuck.job _ c.requires.1 low (search rules) w.in-Some-Stuck.is (search rules) w.met-is was.2
+      | in-Some-Strange w ↦ met_strange jobs c.requires.0 worked at c.one-item.result w.in-Some-Strange.field-0 w.in-Some-Strange.place _ c.requires.1 low (search rules) w.in-Some-Strange.is (search rules) w.met-is was.2
       | in-None w ↦ met_none jobs worked at c.one-item.result _ _ low (search rules) w.in-None.is w.met-is was
     ]
 
