@@ -1,5 +1,5 @@
 #!/usr/bin/env python3
-"""Proves and builds the program `suites`, and says on standard error how far it is. `./suites --prove` calls it.
+"""Proves and builds the program `suites`, or the one that the environment names (tools/sources.py), and says on standard error how far it is. `./suites --prove` calls it.
 
 Only the crates that the program stands on are proved, side by side where they do not stand on each other.
 What is proved stays in each crate's out/, so a build that was interrupted goes on where it was. Two builds
@@ -93,7 +93,7 @@ def build(needs, teller):
 
 def main():
     if len(sys.argv) > 1:
-        raise console.Stop("--prove takes no other words")
+        raise console.Stop("--prove takes no other word than trace")
     kit = sources.Kit()
     kit.wanted()
     sources.make_folder()

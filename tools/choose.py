@@ -17,7 +17,7 @@ import sources
 import trial
 
 KEPT = sources.KEPT
-CHOICE = os.path.join(KEPT, "choice.sh")
+CHOICE = os.path.join(KEPT, f"{sources.OF_PROGRAM}choice.sh")
 PROGRAMS = {
     "proved": f"crates/{sources.PROGRAM}/out/{sources.PROGRAM}",
     "checked": f"out/{sources.PROGRAM}",
@@ -40,8 +40,12 @@ def record_of(kind, now, kit):
     }
 
 
+def record_path(kind):
+    return os.path.join(KEPT, f"{sources.OF_PROGRAM}{kind}.json")
+
+
 def keep_record(kind, now, kit):
-    sources.write_whole(os.path.join(KEPT, f"{kind}.json"), json.dumps(record_of(kind, now, kit)))
+    sources.write_whole(record_path(kind), json.dumps(record_of(kind, now, kit)))
 
 
 def is_fresh(kind, now, kit, with_proofs=False):
@@ -50,7 +54,7 @@ def is_fresh(kind, now, kit, with_proofs=False):
     What was proved stays so where a proof is written anew: that the proofs too are those of the build is wanted only
     where that is asked.
     """
-    kept = sources.read_json(os.path.join(KEPT, f"{kind}.json"))
+    kept = sources.read_json(record_path(kind))
     wanted = record_of(kind, now, kit)
     if not with_proofs:
         wanted["proofs"] = kept.get("proofs")
@@ -92,12 +96,12 @@ def build():
     teller = console.Teller()
     sources.Kit().wanted()
     sources.make_folder()
-    with console.alone(os.path.join(KEPT, "checked.lock"), teller) as has_waited:
+    with console.alone(os.path.join(KEPT, f"{sources.OF_PROGRAM}checked.lock"), teller) as has_waited:
         if has_waited and choose():
             return
         teller = console.Teller()
         now, kit = sources.Sources(), sources.Kit()
-        teller.say("nothing is built of these sources yet: making a checked build, some two minutes")
+        teller.say(f"nothing is built of these sources yet: making a checked build of {sources.PROGRAM}, some two minutes")
         kind, part = "checked", f"{path_of('checked')}.part"
         try:
             trial.build(part, lambda: teller.say(f"checked build, {teller.seconds()} s", False))

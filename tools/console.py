@@ -74,9 +74,14 @@ def run(main, when_stopped):
         signal.signal(number, signal.default_int_handler)
     try:
         status = main()
+        sys.stdout.flush()
     except Stop as why:
         Teller().say(str(why))
         status = 1
+    except BrokenPipeError:
+        # nobody reads any more: what is left to be written goes nowhere
+        os.dup2(os.open(os.devnull, os.O_WRONLY), sys.stdout.fileno())
+        status = 6
     except OSError as error:
         Teller().say(f"{error.strerror}: {error.filename}" if error.filename else str(error))
         status = 1

@@ -7,6 +7,8 @@ told, and the status is 1. The rows themselves are played by the program of crat
 """
 import os, re, sys
 
+import sources
+
 TOP = os.path.join(os.path.dirname(os.path.abspath(__file__)), "..")
 MARKS = {b"r": b"\r", b"t": b"\t", b"\\": b"\\"}
 
@@ -90,6 +92,8 @@ def main():
             outputs = {printed for _, given, printed in played if said(given) == said(text)}
             if not outputs:
                 wrong.append(f"README.md:{number}: this block is a script or an output of no row")
+    if f"`{sources.KIT_LOGIC}`".encode() not in content("README.md"):
+        wrong.append("README.md names another kit than tools/sources.py")
     for line in wrong:
         print(line, file=sys.stderr)
     return 1 if wrong else 0

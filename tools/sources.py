@@ -1,4 +1,4 @@
-"""The sources that the program stands on, and what of them matters: their texts without comments and blank lines.
+"""The sources that a program stands on, and what of them matters: their texts without comments and blank lines.
 
 Tests, wrong bodies and documents stand in other folders or crates, and are no part of it. A file is read again only
 where its size or its times have changed since its sum was kept.
@@ -16,9 +16,14 @@ import console
 
 TOP = os.path.dirname(os.path.dirname(os.path.abspath(__file__)))
 CRATES = os.path.join(TOP, "crates")
-PROGRAM = "suites"
+# The program that is built or run: `suites`, or the one that `./suites` names here.
+PROGRAM = os.environ.get("SUITES_PROGRAM", "suites")
 LIST = "crates.txt"
+# The logic of the kit that these sources are proved with, as README.md names it.
+KIT_LOGIC = "dac8208d650f15bf"
 KEPT = os.path.join(TOP, "out")
+# What begins the names of files that are kept of another program than `suites`.
+OF_PROGRAM = "" if PROGRAM == "suites" else f"{PROGRAM}-"
 SUMS = os.path.join(KEPT, "sums.json")
 # The folders of a crate: what a checked build is made of, what its contracts cite besides, and what proves them.
 CODE, CLAIMS, PROOFS = "src", "specs", "proofs"
@@ -124,9 +129,13 @@ class Kit:
             self.name = said.stdout.strip()
 
     def wanted(self):
-        """Ends the tool where there is no kit."""
-        if not self.name:
+        """Ends the tool where there is no kit, or one of another logic."""
+        if not self.command:
             raise console.Stop("the program is not built, and the command rt that builds it is not on the path (README.md names the kit)")
+        if not self.name:
+            raise console.Stop(f"the program is not built, and the command {self.command} that builds it fails: `rt version` tells no kit")
+        if KIT_LOGIC not in self.name.split():
+            raise console.Stop(f"the program is not built by the kit on the path, which is {self.name}: these sources want one of logic {KIT_LOGIC}")
 
 
 class Sources:

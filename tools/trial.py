@@ -19,7 +19,7 @@ import sources
 FOLDER = os.path.join(sources.CRATES, sources.PROGRAM)
 MODULE = "module.bc"
 # What is in the module of the program, and not in the small one with which `rt try` tries its compiler.
-MARK = b"suites::main"
+MARK = f"{sources.PROGRAM}::main".encode()
 # As the kit itself compiles: these keep passes of clang out that are known to err.
 CAREFUL = ["-no-trap-after-noreturn", "-trap-unreachable", "-no-x86-call-frame-opt", "-disable-machine-licm", "-disable-postra-machine-licm"]
 CAREFUL = [word for option in [*CAREFUL, "-sink-common-insts=false"] for word in ("-mllvm", option)]

@@ -33,6 +33,8 @@ mod scripts;
 #[cfg(test)]
 mod server;
 #[cfg(test)]
+mod shelves;
+#[cfg(test)]
 mod streams;
 #[cfg(test)]
 mod table;

@@ -1,14 +1,18 @@
 -- What is found beside a new entry.
-use Rattle.std.proofs.Common.{◌≡◌, ℕ, ◌-◌, ◌≤◌, ◌<◌, leb, ltb, Bool, true, false, cond, not, ◌&&◌, ◌⊎◌, inl, inr, zero, suc, Option, None, Some, [], ◌∷◌, length, refl, sym, ap, ◌∙◌, arith, eq-eqb}
+use Rattle.std.proofs.Common.{◌≡◌, ℕ, ◌+◌, ◌-◌, ◌≤◌, ◌<◌, leb, ltb, Bool, true, false, cond, not, ◌&&◌, ◌⊎◌, inl, inr, zero, suc, Option, None, Some, [], ◌∷◌, ◌++◌, length, refl, sym, ap, ◌∙◌, arith, eq-eqb, append-nil, length-append}
 use Rattle.std.specs.Prelude.{◌==◌, filter, find, is_some, IsSome, IsTrue}
 use Rattle.std.proofs.lemmas.Bool.{eqb-true, false≢true, le-leb, lt-ltb, leb-true, ltb-true}
+use Rattle.std.specs.Option.{option_copied}
+use denote.Bor.{Bor}
+use Rattle.recency.specs.Order.{last_of}
 use Rattle.weak_cache.specs.Entries.{Entry, Cache, size_of, sum_of, is_at, is_of, list_of, forgotten, entry_of, without}
 use Rattle.weak_cache.specs.Cache.{Limits, has_room, put, at_version, content_at, in_front, used, searched, within_quota, within_budget}
 use Rattle.weak_cache.specs.code.Beside.{stays, room_after}
 use Rattle.weak_cache.proofs.Fewer.{Fewer, fewer_filter, list_fewer, sum_fewer, length_fewer}
-use Rattle.weak_cache.proofs.Keeping.{both, quota_fits, budget_fits}
+use Rattle.weak_cache.proofs.Keeping.{both, sum_of-append, quota_fits, budget_fits, budget_evicts}
 use Rattle.weak_cache.proofs.Found.{find_kept, find_gone, of_same}
 use Rattle.weak_cache.proofs.Puts.{put_none}
+use Rattle.weak_cache.proofs.Shelving.{last_cut, count_between, alone, find_skip}
 
 -- what stays of a site's older entries
 abbrev pub within_room : ℕ → Option ℕ → Cache → Cache
@@ -61,19 +65,87 @@ without_none site suite (e ∷ c) h =
       | false ↦ λ h. ap (λ l. e ∷ l) (without_none site suite c h)
     ] h
 
--- ---- entries that all have room
+-- ---- entries that have room in bytes, of which the oldest may be one too many
 
--- where no entry goes, what was kept is kept
-pub all_stay : (site suite new_site new_suite quota budget slots : ℕ) (c : Cache) → ((new_site == site) && (new_suite == suite)) ≡ false → (sum_of c ≤ budget) × (sum_of (list_of new_site c) ≤ quota) × (length c ≤ slots)
+-- what passes a test is no more than all
+passing_few : (r : Entry → Bool) (c : Cache) → length (filter r c) ≤ length c
+passing_few r c = length_fewer (filter r c) c (fewer_filter r c)
+
+pub none_copied : {A : Type 0} (o : Option (Bor A)) → is_some o ≡ false → option_copied o ≡ None
+none_copied None h = refl
+none_copied (Some x) h = absurd (false≢true (sym h))
+
+pub some_copied : {A : Type 0} (o : Option (Bor A)) → is_some o ≡ true → is_some (option_copied o) ≡ true
+some_copied None h = absurd (false≢true h)
+some_copied (Some x) h = refl
+
+-- where the entry of a key goes, one less is left
+pub one_less : (site suite : ℕ) (c : Cache) → is_some (entry_of c site suite) ≡ true → length (without site suite c) < length c
+one_less site suite [] h = absurd (false≢true h)
+one_less site suite (e ∷ c) h =
+    elim (is_of site suite e) as (λ t. is_some (cond t (Some e) (entry_of c site suite)) ≡ true → length (cond (not t) (e ∷ without site suite c) (without site suite c)) < length (e ∷ c)) [
+      | true ↦ λ _. let few = passing_few (λ x. not (is_of site suite x)) c in omega (arith, few)
+      | false ↦ λ h. let less = one_less site suite c h in omega (arith, less)
+    ] h
+
+-- the oldest
+pub last_behind : (newer : Cache) (e : Entry) → last_of (newer ++ e ∷ []) ≡ Some e
+last_behind [] e = refl
+last_behind (x ∷ []) e = refl
+last_behind (x ∷ y ∷ newer) e = last_behind (y ∷ newer) e
+
+-- where there are slots for the others, what was kept is kept
+pub others_stay : (site suite new_site new_suite quota budget slots : ℕ) (c : Cache) → ((new_site == site) && (new_suite == suite)) ≡ false → (sum_of c ≤ budget) × (sum_of (list_of new_site c) ≤ quota) → length (without new_site new_suite c) ≤ slots
     → entry_of c site suite ≡ entry_of (stays new_site new_suite quota budget slots c) site suite
-all_stay site suite new_site new_suite quota budget slots c other room =
+others_stay site suite new_site new_suite quota budget slots c other bytes few =
     let r : Entry → Bool = λ x. not (is_of new_site new_suite x) in
     let w : Cache = filter r c in
     let fewer : Fewer w c = fewer_filter r c in
     let turned : ((site == new_site) && (suite == new_suite)) ≡ false = ap (λ b. b && (suite == new_suite)) (same_number_turned site new_site) ∙ ap (λ b. (new_site == site) && b) (same_number_turned suite new_suite) ∙ other in
-    let in_quota : within_quota new_site quota w ≡ w = quota_fits new_site quota w (omega (arith, room.1, list_fewer new_site w c fewer)) in
-    let in_budget : within_budget budget slots w ≡ w = budget_fits budget slots w (omega (arith, room.0, sum_fewer w c fewer)) (omega (arith, room.2, length_fewer w c fewer)) in
+    let in_quota : within_quota new_site quota w ≡ w = quota_fits new_site quota w (omega (arith, bytes.1, list_fewer new_site w c fewer)) in
+    let in_budget : within_budget budget slots w ≡ w = budget_fits budget slots w (omega (arith, bytes.0, sum_fewer w c fewer)) few in
     sym (ap (λ l. find (is_of site suite) (within_budget budget slots l)) in_quota ∙ ap (find (is_of site suite)) in_budget ∙ find_kept (is_of site suite) r (λ x here. ap not (of_same site suite new_site new_suite x here ∙ turned)) c)
+
+-- where all have slots
+pub all_stay : (site suite new_site new_suite quota budget slots : ℕ) (c : Cache) → ((new_site == site) && (new_suite == suite)) ≡ false → (sum_of c ≤ budget) × (sum_of (list_of new_site c) ≤ quota) → length c ≤ slots
+    → entry_of c site suite ≡ entry_of (stays new_site new_suite quota budget slots c) site suite
+all_stay site suite new_site new_suite quota budget slots c other bytes few =
+    others_stay site suite new_site new_suite quota budget slots c other bytes (let less = passing_few (λ x. not (is_of new_site new_suite x)) c in omega (arith, few, less))
+
+-- where one goes for that of its key
+pub one_for_one : (site suite new_site new_suite quota budget slots : ℕ) (c : Cache) → ((new_site == site) && (new_suite == suite)) ≡ false → (sum_of c ≤ budget) × (sum_of (list_of new_site c) ≤ quota) → length c ≤ slots + 1
+    → is_some (entry_of c new_site new_suite) ≡ true → entry_of c site suite ≡ entry_of (stays new_site new_suite quota budget slots c) site suite
+one_for_one site suite new_site new_suite quota budget slots c other bytes few there =
+    others_stay site suite new_site new_suite quota budget slots c other bytes (let less = one_less new_site new_suite c there in omega (arith, few, less))
+
+-- where the oldest goes
+module _ (new_site new_suite quota budget slots : ℕ) (c : Cache) (last : Entry) (bytes : (sum_of c ≤ budget) × (sum_of (list_of new_site c) ≤ quota)) (few : length c ≤ slots + 1) (above : slots < length c) (none : entry_of c new_site new_suite ≡ None) (is : last_of c ≡ Some last) where
+  but_last : (newer : Cache) × (c ≡ newer ++ last ∷ []) × (stays new_site new_suite quota budget slots c ≡ newer)
+  but_last =
+      let cut = last_cut c last is in
+      let newer : Cache = cut.0 in
+      let sum : sum_of c ≡ sum_of newer + sum_of (last ∷ []) = ap sum_of cut.1 ∙ sum_of-append newer (last ∷ []) in
+      let count : length c ≡ length newer + 1 = ap length cut.1 ∙ length-append newer (last ∷ []) in (
+        newer,
+        cut.1,
+        ap (λ l. within_budget budget slots (within_quota new_site quota l)) (without_none new_site new_suite c none)
+            ∙ ap (within_budget budget slots) (quota_fits new_site quota c bytes.1 ∙ cut.1)
+            ∙ budget_evicts budget slots newer last (inr (omega (arith, above, ap length cut.1)))
+            ∙ budget_fits budget slots newer (omega (arith, bytes.0, sum)) (omega (arith, few, count)),
+      )
+
+  pub last_goes : (site suite : ℕ) → length (filter (is_of site suite) c) ≤ 1 → is_of site suite last ≡ true → None ≡ entry_of (stays new_site new_suite quota budget slots c) site suite
+  last_goes site suite once own =
+      let p : Entry → Bool = is_of site suite in
+      let b = but_last in
+      let less : length (filter p (b.0 ++ [])) ≤ 0 = omega (arith, once, ap (λ l. length (filter p l)) b.1, count_between p b.0 last [] own) in
+      sym (ap (find p) b.2 ∙ ap (find p) (sym (append-nil b.0)) ∙ (alone p b.0 last [] own less).2)
+
+  pub others_kept : (site suite : ℕ) → is_of site suite last ≡ false → entry_of c site suite ≡ entry_of (stays new_site new_suite quota budget slots c) site suite
+  others_kept site suite apart =
+      let p : Entry → Bool = is_of site suite in
+      let b = but_last in
+      ap (find p) b.1 ∙ find_skip p b.0 last [] apart ∙ ap (find p) (append-nil b.0) ∙ sym (ap (find p) b.2)
 
 -- ---- a search
 

@@ -197,8 +197,7 @@ impl Kept {
         Ok(())
     }
 
-    /// Makes room for an entry more: where no slot is free, all entries move to a shelf of twice as many. An
-    /// error leaves them as they were.
+    /// Makes room for an entry more. An error leaves the entries as they were.
     fn make_room(&mut self) -> Result<(), AllocError>
         requires kept { IsKept self.old }
         requires sum { sum_of (values self.old.shelf.entries) < 2 ^ 128 }
@@ -206,10 +205,21 @@ impl Kept {
         ensures entries { values self.new.shelf.entries ≡ values self.old.shelf.entries }
         ensures room { OnOk result (length self.new.shelf.entries < self.new.slots) }
     {
-        self.shelf.is_valid();
         if self.tally.count < self.slots {
             return Ok(());
         }
+        self.widen()
+    }
+
+    /// All entries move to a shelf of twice as many slots. An error leaves them as they were.
+    fn widen(&mut self) -> Result<(), AllocError>
+        requires kept { IsKept self.old }
+        requires sum { sum_of (values self.old.shelf.entries) < 2 ^ 128 }
+        ensures kept { IsKept self.new }
+        ensures entries { values self.new.shelf.entries ≡ values self.old.shelf.entries }
+        ensures room { OnOk result (length self.new.shelf.entries < self.new.slots) }
+    {
+        self.shelf.is_valid();
         let Some(twice) = self.slots.checked_mul(2) else {
             return Err(AllocError);
         };

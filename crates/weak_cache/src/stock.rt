@@ -2,6 +2,7 @@
 
 ghost use Rattle.std.specs.Prelude.{◌≡◌, ◌↔◌, ◌==◌, ◌&&◌, ◌≤◌, ◌<◌, ◌+◌, ◌^◌, ◌∷◌, [], length, IfOk, OnOk, OnErr, IsOk, IsSome, IsTrue, slice_get, is_some, false};
 ghost use Rattle.std.specs.Option.{option_copied};
+ghost use Rattle.recency.specs.Order.{last_of};
 ghost use Rattle.weak_cache.specs.Entries.{Cache, size_of, sum_of, list_of, forgotten, entry_of, without, keys_of};
 ghost use Rattle.weak_cache.specs.Cache.{content_at, searched, within_quota, within_budget};
 ghost use Rattle.weak_cache.specs.code.Beside.{room_after, stays};
@@ -110,26 +111,33 @@ impl Stock {
         self.kept.shelf.get(slot)
     }
 
-    /// What a site would keep of a suite beside an entry of another key that is put. Where no entry goes, it is
-    /// what the site keeps.
+    /// What a site would keep of a suite beside an entry of another key that is put, where there is at most one slot
+    /// too few. Where all have room in bytes, no more than the oldest goes.
     pub(crate) fn find_beside(&self, new: Beside, site: u8, suite: u64) -> Option<&SizedEntry>
-        requires { ((new.site == site) && (new.suite == suite)) ≡ false }
+        requires other { ((new.site == site) && (new.suite == suite)) ≡ false }
+        requires few { length self.now ≤ new.slots + 1 }
         ensures { option_copied result ≡ entry_of (stays new.site new.suite new.quota new.budget new.slots self.now) site suite }
     {
-        if self.all_have_room(new) {
-            return self.find(site, suite);
+        let found = self.find(site, suite)?;
+        if !self.all_have_bytes(new) {
+            return self.search_beside(new, site, suite);
         }
-        self.search_beside(new, site, suite)
+        let is_full = self.kept.tally.count > new.slots;
+        if is_full
+            && self.find(new.site, new.suite).is_none()
+            && self.oldest()?.is_of(site, suite)
+        {
+            return None;
+        }
+        Some(found)
     }
 
-    /// Whether all entries together have this room in bytes and slots, and those of the site.
-    fn all_have_room(&self, new: Beside) -> bool
-        ensures { IsTrue result ↔ ((sum_of self.now ≤ new.budget) × (sum_of (list_of new.site self.now) ≤ new.quota) × (length self.now ≤ new.slots)) }
+    /// Whether all entries together have this room in bytes, and those of the site.
+    fn all_have_bytes(&self, new: Beside) -> bool
+        ensures { IsTrue result ↔ ((sum_of self.now ≤ new.budget) × (sum_of (list_of new.site self.now) ≤ new.quota)) }
     {
         let tally = &self.kept.tally;
-        tally.sum <= new.budget as u128
-            && tally.sum_at(new.site) <= new.quota as u128
-            && tally.count <= new.slots
+        tally.sum <= new.budget as u128 && tally.sum_at(new.site) <= new.quota as u128
     }
 
     /// What a site would keep of a suite beside an entry that is put: the entries are gone through, and what
@@ -193,6 +201,15 @@ impl Stock {
     {
         self.kept.shelf.is_valid();
         let slot = self.kept.shelf.newest()?;
+        self.kept.shelf.get(slot)
+    }
+
+    /// The oldest entry.
+    fn oldest(&self) -> Option<&SizedEntry>
+        ensures { option_copied result ≡ last_of self.now }
+    {
+        self.kept.shelf.is_valid();
+        let slot = self.kept.shelf.oldest()?;
         self.kept.shelf.get(slot)
     }
 

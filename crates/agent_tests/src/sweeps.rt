@@ -1,0 +1,117 @@
+//! An agent that sweeps a server, and is told by hand what no server says: a list of locks that does not rise.
+
+ghost use Rattle.std.specs.Prelude.{◌≡◌, true, Some};
+ghost use Rattle.txn_core.specs.Agents.{next_of};
+ghost use Rattle.txn_core.specs.Laws.{fits_word};
+ghost use Rattle.txn_core.specs.Standing.{FitsAsked};
+
+use crate::fixtures::{number, settings};
+use rep_core::{Lock, LockList, Reply, Request, Verdict};
+use std::process::Abort;
+use suite_prefix::LockMode;
+use txn_core::{Agent, Ending, Job, Word};
+
+/// What an agent asks, and of which server.
+fn asked(rt: &impl Abort, agent: &Agent) -> (u8, Request)
+    ensures { next_of agent.now.fixed agent.now.state ≡ Some result }
+{
+    agent
+        .next()
+        .ok()
+        .expect(rt, "memory")
+        .expect(rt, "a request")
+}
+
+/// What is asked: of which server, of which transaction, and of which suite.
+fn asked_text(rt: &(impl Abort + AllocGlobal), at: u8, request: &Request) -> String {
+    let text = match request {
+        Request::Finish { t, .. } => format!(in rt.alloc(); "{at} finish {t}"),
+        other => format!(in rt.alloc(); "{at} {other:?}"),
+    };
+    text.ok().expect(rt, "memory")
+}
+
+/// A transaction and a suite; a prepared lock has a mark.
+fn lock(rt: &impl Abort, text: &str) -> Lock {
+    let (t, suite) = text.split_once('.').expect(rt, "a lock");
+    let prepared = suite.ends_with('!');
+    Lock {
+        t: number(rt, t),
+        suite: number(rt, suite.trim_end_matches('!')),
+        mode: LockMode::Shared,
+        prepared,
+    }
+}
+
+fn locks(rt: &(impl Abort + AllocGlobal), text: &str) -> LockList {
+    let mut locks = Vec::new(rt.alloc());
+    for word in text.split(' ') {
+        locks.push(lock(rt, word)).ok().expect(rt, "memory");
+    }
+    LockList::from_vec(locks).ok().expect(rt, "memory")
+}
+
+/// A reply in a word, or locks.
+fn reply(rt: &(impl Abort + AllocGlobal), text: &str) -> Reply {
+    match text {
+        "aborted" => Reply::Verdict(Verdict::Aborted),
+        "done" => Reply::Done,
+        "down" => Reply::Down,
+        _ => Reply::Locked(locks(rt, text)),
+    }
+}
+
+/// A reply as a word, where it fits what was asked.
+fn fitting(rt: &impl Abort, request: &Request, reply: Reply) -> Word
+    ensures { fits_word request.now result ≡ true }
+{
+    assert!(rt; request.fits(&reply));
+    Word::Replied(reply)
+}
+
+/// An agent takes what came of what it asked.
+fn told(rt: &impl Abort, agent: &mut Agent, word: &Word) -> Option<Ending>
+    requires { FitsAsked (next_of agent.old.fixed agent.old.state) word.now }
+{
+    agent.take(word).ok().expect(rt, "memory")
+}
+
+/// The agent asks this, and is told that.
+fn tells(
+    rt: &(impl Abort + AllocGlobal),
+    agent: &mut Agent,
+    wanted: &str,
+    said: &str,
+) -> Option<Ending> {
+    let (at, request) = asked(rt, agent);
+    let text = asked_text(rt, at, &request);
+    assert!(rt; text.as_str() == wanted, "{wanted}: {text}");
+    let word = fitting(rt, &request, reply(rt, said));
+    told(rt, agent, &word)
+}
+
+static TALK: &str = "
+1 Locks -> 70.2 5.3! 70.1 5.1 129.1!
+2 Resolve { t: 5 } -> aborted
+1 finish 5 -> done
+1 Break { t: 70, suite: 1 } -> done
+1 Break { t: 70, suite: 2 } -> done
+0 Resolve { t: 129 } -> down";
+
+/// A list that does not rise, of a transaction with one prepared lock, of one without, and of one whose
+/// home is down.
+#[test]
+fn a_sweep_resolves_what_is_prepared(rt: HostRuntime) {
+    let made = Agent::new(rt.alloc(), 0, &settings(&rt, &[(0, 1)], 1));
+    let mut agent = made.ok().expect(&rt, "memory");
+    let begun = agent.begin(&Job::Sweep { server: 1 });
+    begun.ok().expect(&rt, "memory");
+    let mut ended = None;
+    for line in TALK.lines().skip(1) {
+        let (wanted, said) = line.split_once(" -> ").expect(&rt, "a line");
+        ended = tells(&rt, &mut agent, wanted, said);
+    }
+    let text = format!(in rt.alloc(); "{ended:?}").expect(&rt, "memory");
+    let wanted = "Some(Swept { broken: 2, finished: 1, left: 1 })";
+    assert!(&rt; text.as_str() == wanted, "{text}");
+}

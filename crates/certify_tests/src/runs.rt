@@ -1,0 +1,160 @@
+//! Runs, which are certified.
+
+use crate::town::{
+    Town, certified, count, happens, histories, job, judged, opened, play, same, settings,
+    transcripts,
+};
+use rep_core::Lack;
+use run_certify::Entry;
+use run_core::Event;
+use std::process::Abort;
+use suite_prefix::Settings;
+use txn_core::{Ending, Job};
+
+/// What a run on three servers comes to, by its lines.
+fn runs(rt: &(impl Abort + AllocGlobal), agents: usize, lines: &str, items: usize, want: &str) {
+    let settings = settings(rt, agents, 0, 0);
+    let mut town = opened(rt, &settings);
+    play(rt, &mut town, lines);
+    assert!(rt; count(&town) == items);
+    same(rt, &judged(rt, &settings, town), want);
+}
+
+#[test]
+fn nothing_is_a_run(rt: HostRuntime) {
+    let settings = settings(&rt, 2, 0, 0);
+    let town = opened(&rt, &settings);
+    same(&rt, &judged(&rt, &settings, town), "");
+    let none = histories(&rt, Vec::new(rt.alloc()));
+    let nobody = transcripts(&rt, Vec::new(rt.alloc()));
+    assert!(&rt; certified(&rt, &settings, &none, &nobody) == Some(0));
+}
+
+#[test]
+fn a_list_beside_a_sweep(rt: HostRuntime) {
+    let lines = "begin 0 list:/,sweep 1 1,step 0,run 1,run 0";
+    runs(&rt, 2, lines, 9, "0 by 1000: 1 of 1 answered. ");
+}
+
+#[test]
+fn two_read_beside_crashes(rt: HostRuntime) {
+    let lines =
+        "begin 0 file:/a write:/a,run 0,begin 0 read:/a,begin 1 read:/a,both 1 0,crash 2,return 2,\
+        sweep 1 1,lack 1,sweep 0 0,run 0,forget 0 3";
+    let want =
+        "0 by 1000: 2 of 2 answered. 1 by 1000: 1 of 1 answered. 64 by 1000: 1 of 1 answered. ";
+    runs(&rt, 2, lines, 10 + 22 + 2 + 1, want);
+}
+
+// ---- a long run
+
+/// The next of numbers that follow no rule.
+fn next(seed: &mut u64) -> u64 {
+    *seed = seed
+        .wrapping_mul(6364136223846793005)
+        .wrapping_add(1442695040888963407);
+    *seed >> 33
+}
+
+/// One that is less than this.
+fn below(seed: &mut u64, limit: u64) -> u8 {
+    match next(seed).checked_rem(limit) {
+        Some(rest) => u8::try_from(rest).unwrap_or(0),
+        None => 0,
+    }
+}
+
+const JOBS: [&str; 8] = [
+    "file:/a",
+    "file:/b write:/b",
+    "write:/a",
+    "read:/a",
+    "list:/",
+    "read:/b write:/b read:/b",
+    "file:/c read:/a",
+    "read:/c",
+];
+
+/// What an agent does next: begins a job, or takes a step of the one that it has.
+fn goes_on(rt: &(impl Abort + AllocGlobal), town: &mut Town, seed: &mut u64) {
+    let agent = below(seed, 4);
+    let which = below(seed, 10);
+    if !town.world.idle(agent) {
+        happens(rt, town, Event::Step { agent });
+        return;
+    }
+    match JOBS.get(usize::from(which)) {
+        Some(words) => begins(rt, town, agent, words),
+        None => {
+            let server = below(seed, 3);
+            let job = Job::Sweep { server };
+            happens(rt, town, Event::Begin { agent, job });
+        }
+    }
+}
+
+fn begins(rt: &(impl Abort + AllocGlobal), town: &mut Town, agent: u8, words: &str) {
+    let job = job(rt, words);
+    happens(rt, town, Event::Begin { agent, job });
+}
+
+/// What happens next: of a hundred things a crash, four returns, a cache that is forgotten, two requests that are not
+/// served, and else what an agent does.
+fn chance(rt: &(impl Abort + AllocGlobal), town: &mut Town, seed: &mut u64) {
+    let agent = below(seed, 4);
+    let server = below(seed, 3);
+    match below(seed, 100) {
+        0 => happens(rt, town, Event::Crash { server }),
+        1..=4 => happens(rt, town, Event::Return { server }),
+        5 => happens(rt, town, Event::Forget { agent, site: 0 }),
+        6 | 7 => {
+            if !town.world.idle(agent) {
+                let lack = Lack::Memory;
+                happens(rt, town, Event::Lack { agent, lack });
+            }
+        }
+        _ => goes_on(rt, town, seed),
+    }
+}
+
+/// A run of four agents with caches, of more than a thousand items, at the end of which nobody has a job.
+fn long_run(rt: &(impl Abort + AllocGlobal), settings: &Settings) -> Town {
+    let mut town = opened(rt, settings);
+    let mut seed = 1u64;
+    for _ in 0..4000u64 {
+        if count(&town) < 1000 {
+            chance(rt, &mut town, &mut seed);
+        }
+    }
+    play(rt, &mut town, "run 0,run 1,run 2,run 3");
+    town
+}
+
+/// How many jobs of an agent were answered or refused.
+fn answered(entries: &[Entry]) -> usize {
+    let mut answered = 0usize;
+    for entry in entries {
+        if let Entry::Ended(outcome) = entry {
+            if matches!(outcome.ending, Ending::Answered(_) | Ending::Refused(_)) {
+                answered = answered.saturating_add(1);
+            }
+        }
+    }
+    answered
+}
+
+#[test]
+fn a_thousand_items(rt: HostRuntime) {
+    let settings = settings(&rt, 4, 4096, 16);
+    let town = long_run(&rt, &settings);
+    assert!(&rt; count(&town) >= 1000);
+    let mut ended = 0usize;
+    for entries in &town.entries {
+        ended = ended.saturating_add(answered(entries));
+    }
+    assert!(&rt; ended > 20);
+    let Town { items, entries, .. } = town;
+    let histories = histories(&rt, items);
+    let transcripts = transcripts(&rt, entries);
+    assert!(&rt; certified(&rt, &settings, &histories, &transcripts) == Some(ended));
+}

@@ -1,0 +1,265 @@
+-- What an event decides: of a step, what is shown by what was served and the job that its agent began last; of any other event, nothing.
+use Rattle.std.proofs.Common.{◌≡◌, ◌≢◌, ⊎_elim, ℕ, zero, suc, ◌+◌, ◌<◌, Bool, true, false, cond, [], ◌∷◌, ◌++◌, List, length, slice_set, Option, Some, None, refl, sym, ap, subst, ◌∙◌, arith}
+use Rattle.std.specs.Prelude.{◌*◌, ◌%◌, ◌&&◌, is_some, nat_lt, Result, slice_index_or}
+use Rattle.std.proofs.lemmas.Bool.{and_parts}
+use Rattle.std.proofs.lemmas.Option.{none-some, same_Some}
+use Rattle.suite_prefix.specs.SettingsRules.{Opening, IsAccepted}
+use Rattle.file_ops.specs.declared.answer.Answer.{Answer}
+use Rattle.file_ops.specs.declared.refusal.Refusal.{Refusal}
+use Rattle.rep_core.specs.declared.request.Request.{Request}
+use Rattle.rep_core.specs.declared.reply.Reply.{Reply}
+use Rattle.rep_core.specs.declared.reply.Reply.TheVariants as reply
+use Rattle.rep_core.specs.declared.reply.Verdict.{Verdict}
+use Rattle.rep_core.specs.declared.reply.Verdict.TheVariants as verdict
+use Rattle.rep_core.specs.State.{State, record_of}
+use Rattle.rep_core.specs.Service.{recorded, reply_of, verdict_of}
+use Rattle.rep_core.specs.Serving.{answer_of, is_full}
+use Rattle.txn_core.specs.declared.job.Job.{Job}
+use Rattle.txn_core.specs.declared.job.Job.TheVariants.{Transaction, Sweep}
+use Rattle.txn_core.specs.Doing.{Fixed, Task, Course, Doing, Running, Rounding}
+use Rattle.txn_core.specs.Transactions.{decision_of, execute}
+use Rattle.txn_core.specs.Laws.{is_decide}
+use Rattle.txn_core.specs.Agents.{Agent, begin, begins, fixed_of, is_idle, max_jobs, next_in, next_of, started}
+use Rattle.txn_core.specs.Agents as agents
+use Rattle.txn_core.proofs.Asks.{asks_same}
+use Rattle.run_core.specs.declared.event.Event.{Event}
+use Rattle.run_core.specs.declared.event.Event.TheVariants.{Begin, Step, Crash, Return, Forget, Lack}
+use Rattle.run_core.specs.declared.done.Served.{Served}
+use Rattle.run_core.specs.Decisions.{Decided, answer_in, decided, decided_as, decided_at, decided_by, decisions, task_at, task_of, to_decide}
+use Rattle.run_core.specs.Runs.{run}
+use Rattle.run_core.specs.Senses.{can_begin, has_sense}
+use Rattle.run_core.specs.Worlds.{Actor, World, actor_at, answered, asks, asks_at, opening, server_at, step, steps_once}
+use Rattle.run_core.proofs.Appending.{after-append}
+use Rattle.run_laws.specs.Claims.{ended}
+use Rattle.run_laws.proofs.Agents.{IsAt}
+use Rattle.run_laws.proofs.Asking.{decides, sweep_decides_none}
+use Rattle.run_laws.proofs.Conclusions.{holds_of, rest_of}
+use Rattle.run_laws.proofs.Places.{same_or}
+use Rattle.run_laws.proofs.Standing.{NotIn, Recorded, Stands}
+use Rattle.run_laws.proofs.Turns.{no_decide}
+use Rattle.run_laws.proofs.Words.{Tells}
+use Rattle.run_laws.proofs.Worlds.{Holds, agent_of}
+use Rattle.run_machine.proofs.Kept.{actor_opens}
+use Rattle.headline.proofs.Asked.{AllHave, Has, becomes_all, event_all, on_course, stays_begin}
+use Rattle.run_certify.specs.Deciding.{HasPlace, IsOfJob, IsPlayed, decision_as, decision_by, job_at, job_of, jobs_after}
+
+-- ---- the job that an agent began last
+
+pub opens : (given : Opening) (jobs : List (Option Job)) → IsPlayed given (opening given) jobs
+opens given jobs = record {
+  events = [];
+  is = refl;
+  begun = λ n actor there task is.
+      absurd (none-some task (ap (λ (agent : Agent). task_of agent.doing) (sym (actor_opens 0 given.agents n actor there).1) ∙ is));
+}
+
+-- what is put in a list's place stands there, and nothing else changes
+set_there : {A : Type 0} (xs : List A) (i : ℕ) (x d : A) → i < length xs → slice_index_or (slice_set xs i x) i d ≡ x
+set_there [] i x d low = absurd (omega arith)
+set_there (y ∷ xs) zero x d low = refl
+set_there (y ∷ xs) (suc i) x d low = set_there xs i x d (omega arith)
+
+set_others : {A : Type 0} (xs : List A) (i j : ℕ) (x d : A) → j ≢ i → slice_index_or (slice_set xs i x) j d ≡ slice_index_or xs j d
+set_others [] i j x d apart = refl
+set_others (y ∷ xs) zero zero x d apart = absurd (apart refl)
+set_others (y ∷ xs) zero (suc j) x d apart = refl
+set_others (y ∷ xs) (suc i) zero x d apart = refl
+set_others (y ∷ xs) (suc i) (suc j) x d apart = set_others xs i j x d (λ same. apart (ap suc same))
+
+-- an agent's number is that of its transaction
+number_of_task : (ds : List Decided) (i count : ℕ) (doing : Option Doing) (task : Task) → IsAt ds i count doing → i < 64 → task_of doing ≡ Some task → task.t % 64 ≡ i
+number_of_task ds i count (Some (Running course)) task at small is =
+    ap (λ (task : Task). task.t % 64) (sym (same_Some course.task task is)) ∙ ap (λ t. t % 64) at.numbered ∙ rest_of at.place i small
+number_of_task ds i count (Some (Rounding round)) task at small is = absurd (none-some task is)
+number_of_task ds i count None task at small is = absurd (none-some task is)
+
+no_job : (doing : Option Doing) (task : Task) → is_idle doing ≡ true → task_of doing ≡ Some task → ⊥
+no_job None task idle is = none-some task is
+no_job (Some doing) task idle is = cc
+
+-- what the home of a transaction says of it
+abbrev said_at : Bool → Option Verdict → Verdict → Reply
+said_at up old new = cond up (reply.Verdict (recorded old new)) reply.Down
+
+module _ (given : Opening) (accepted : IsAccepted given) (world : World) (jobs : List (Option Job)) (played : IsPlayed given world jobs) where
+  abbrev fixed : Fixed
+  fixed = fixed_of given
+
+  abbrev ds : List Decided
+  ds = decisions given played.events
+
+  holds : Holds fixed world ds (ended given played.events)
+  holds = subst (λ world. Holds fixed world ds (ended given played.events)) (sym played.is) (holds_of given accepted played.events)
+
+  next_is : (event : Event) → (step fixed world event).world ≡ run given (played.events ++ event ∷ [])
+  next_is event = ap (λ world. (step fixed world event).world) played.is ∙ sym (after-append fixed (opening given) played.events (event ∷ []))
+
+  number_is : (i : ℕ) (actor : Actor) (task : Task) → actor_at world i ≡ Some actor → task_of actor.agent.doing ≡ Some task → task.t % 64 ≡ i
+  number_is i actor task there is =
+      let at = ap agent_of there in
+      number_of_task ds i actor.agent.count actor.agent.doing task (holds.agents.at i actor.agent at) (holds.agents.small i actor.agent at) is
+
+  -- ---- after an event
+
+  -- no agent begins a job
+  other_event : (event : Event) → ((number : ℕ) (job : Job) → event ≡ Begin number job → ⊥) → IsPlayed given (step fixed world event).world jobs
+  other_event event none = record {
+    events = played.events ++ event ∷ [];
+    is = next_is event;
+    begun = event_all fixed (IsOfJob jobs) world played.begun event (λ number job actor is there. absurd (none number job is));
+  }
+
+  -- an agent begins a job, which is then the last that it began
+  module _ (number : ℕ) (job : Job) (place : number < length jobs) (sense : has_sense fixed world (Begin number job) ≡ true) where
+    abbrev later : List (Option Job)
+    later = slice_set jobs number (Some job)
+
+    now : job_at later number ≡ Some job
+    now = set_there jobs number (Some job) None place
+
+    others : (other : ℕ) → other ≢ number → job_at later other ≡ job_at jobs other
+    others other apart = set_others jobs number other (Some job) None apart
+
+    may : (actor : Actor) → actor_at world number ≡ Some actor → begins fixed actor.agent job ≡ true
+    may actor there = sym (ap (can_begin fixed job) there) ∙ sense
+
+    idle : (agent : Agent) → begins fixed agent job ≡ true → is_idle agent.doing ≡ true
+    idle agent may' =
+        let parts = and_parts (is_idle agent.doing && agents.has_sense fixed job) (nat_lt agent.count max_jobs) may' in
+        let first = and_parts (is_idle agent.doing) (agents.has_sense fixed job) parts.0 in
+        first.0
+
+    before : AllHave fixed (IsOfJob later) world
+    before n actor there task is =
+        let n_is = number_is n actor task there is in
+        ⊎_elim
+        (λ (same : n ≡ number). absurd (no_job actor.agent.doing task (idle actor.agent (may actor (sym (ap (actor_at world) same) ∙ there))) is))
+        (λ (apart : n ≢ number). ap (job_at later) n_is ∙ others n apart ∙ sym (ap (job_at jobs) n_is) ∙ played.begun n actor there task is)
+        (same_or n number)
+
+    begun_now : (job : Job) → job_at later number ≡ Some job → (agent : Agent) → agent.index ≡ number → number < 64 → Has fixed (IsOfJob later) (record (started fixed agent job) { count = agent.count + 1 })
+    begun_now (Sweep server) last agent index small = λ task is. absurd (none-some task is)
+    begun_now (Transaction caller site ops) last agent index small =
+        let task : Task = record { t = 64 * agent.count + agent.index; caller = caller; site = site; ops = ops } in
+        on_course fixed (IsOfJob later) task (execute fixed task (record { suites = []; cache = agent.cache })).after (stays_begin fixed task agent.cache)
+        (ap (job_at later) (ap (λ i. (64 * agent.count + i) % 64) index ∙ rest_of agent.count number small) ∙ last)
+
+    begins_so : (actor : Actor) → actor_at world number ≡ Some actor → Has fixed (IsOfJob later) (begin fixed actor.agent job)
+    begins_so actor there =
+        let at = ap agent_of there in
+        subst (λ b. Has fixed (IsOfJob later) (cond b (record (started fixed actor.agent job) { count = actor.agent.count + 1 }) actor.agent)) (sym (may actor there))
+        (begun_now job now actor.agent (holds.agents.index number actor.agent at) (holds.agents.small number actor.agent at))
+
+    begin_event : IsPlayed given (step fixed world (Begin number job)).world later
+    begin_event = record {
+      events = played.events ++ Begin number job ∷ [];
+      is = next_is (Begin number job);
+      begun = becomes_all fixed (IsOfJob later) world before number (λ agent. begin fixed agent job) begins_so (actor_at world number) refl;
+    }
+
+  pub goes_on : (event : Event) → has_sense fixed world event ≡ true → HasPlace jobs event → IsPlayed given (step fixed world event).world (jobs_after jobs event)
+  goes_on (Begin number job) sense place = begin_event number job place sense
+  goes_on (Step number) sense place = other_event (Step number) (λ n job is. cc)
+  goes_on (Crash server) sense place = other_event (Crash server) (λ n job is. cc)
+  goes_on (Return server) sense place = other_event (Return server) (λ n job is. cc)
+  goes_on (Forget number site) sense place = other_event (Forget number site) (λ n job is. cc)
+  goes_on (Lack number why) sense place = other_event (Lack number why) (λ n job is. cc)
+
+  -- ---- what a step decides
+
+  module _ (number : ℕ) where
+    abbrev decides_so : State → Option Task → Request → Type 0
+    decides_so st task asked = decided_at (Some st) (to_decide asked) (decided_as task (answer_in (reply_of st asked))) ≡ decision_as (job_at jobs number) (to_decide asked) (answer_in (reply_of st asked))
+
+    quiet : (st : State) (task : Option Task) (asked : Request) → is_decide asked ≡ false → decides_so st task asked
+    quiet st task asked other =
+        subst (λ t. decided_at (Some st) t (decided_as task (answer_in (reply_of st asked))) ≡ decision_as (job_at jobs number) t (answer_in (reply_of st asked))) (sym (no_decide asked other)) refl
+
+    -- the home has no record of it, or that it was given up
+    first_only : (task : Task) (new : Verdict) (old : Option Verdict) → ((v : Verdict) → old ≡ Some v → Recorded ds task.t v) → NotIn ds task.t → (up : Bool)
+        → cond (is_some old) None (decided_as (Some task) (answer_in (said_at up old new))) ≡ decided_as (Some task) (answer_in (said_at up old new))
+    first_only task new None recorded none up = refl
+    first_only task new (Some verdict.Aborted) recorded none true = refl
+    first_only task new (Some verdict.Aborted) recorded none false = refl
+    first_only task new (Some (verdict.Answered answers)) recorded none up =
+        let was = recorded (verdict.Answered answers) refl in absurd (none was.decision was.there was.of_it)
+    first_only task new (Some (verdict.Refused refusal)) recorded none up =
+        let was = recorded (verdict.Refused refusal) refl in absurd (none was.decision was.there was.of_it)
+
+    as_begun : (task : Task) (answer : Option (Result (List Answer) Refusal)) → job_at jobs number ≡ Some (job_of task) → decided_as (Some task) answer ≡ decision_as (job_at jobs number) (Some task.t) answer
+    as_begun task (Some answer) is = sym (ap (λ job. decision_as job (Some task.t) (Some answer)) is)
+    as_begun task None is = refl
+
+    module _ (actor : Actor) (there : actor_at world number ≡ Some actor) (server : ℕ) (st : State) (at : server_at world server ≡ Some st) where
+      running : (course : Course) (asked : Request) → actor.agent.doing ≡ Some (Running course) → next_in fixed (Some (Running course)) ≡ Some (server, asked) → (b : Bool) → is_decide asked ≡ b → decides_so st (Some course.task) asked
+      running course asked doing next false other = quiet st (Some course.task) asked other
+      running course asked doing next true decide =
+          let task = course.task in
+          let does = decides fixed course.task course.suites course.phase server asked next decide in
+          let stood : IsAt ds number actor.agent.count (Some (Running course)) = subst (IsAt ds number actor.agent.count) doing (holds.agents.at number actor.agent (ap agent_of there)) in
+          let aborted : stood.said ≡ verdict.Aborted = subst (Tells stood.said) does.deciding stood.tells in
+          let none : NotIn ds task.t = subst (Stands ds task.t) aborted stood.stands in
+          let index : task.t % 64 ≡ number = number_is number actor task there (ap task_of doing) in
+          let begun : job_at jobs number ≡ Some (job_of task) = sym (ap (job_at jobs) index) ∙ played.begun number actor there task (ap task_of doing) in
+          subst (decides_so st (Some task)) (sym does.decide)
+          (first_only task (verdict_of (decision_of task does.outcome)) (record_of st task.t) (λ v has. holds.servers.recorded server st task.t v at has) none st.up
+          ∙ as_begun task (answer_in (said_at st.up (record_of st task.t) (verdict_of (decision_of task does.outcome)))) begun)
+
+      by_doing : (doing : Option Doing) (asked : Request) → actor.agent.doing ≡ doing → next_in fixed doing ≡ Some (server, asked) → decides_so st (task_of doing) asked
+      by_doing None asked doing next = cc
+      by_doing (Some (Running course)) asked doing next = running course asked doing next (is_decide asked) refl
+      by_doing (Some (Rounding round)) asked doing next =
+          quiet st None asked (ap is_decide (sym (asks_same _ server _ asked next)) ∙ sweep_decides_none fixed.service round round.now)
+
+    abbrev shows : Option Task → Option Served → Type 0
+    shows task what = decided_by world task what ≡ decision_by (job_at jobs number) what
+
+    by_room : (actor : Actor) (asked : ℕ × Request) (st : State) → actor_at world number ≡ Some actor → next_of fixed actor.agent ≡ Some asked → server_at world asked.0 ≡ Some st → (full : Bool)
+        → shows (task_of actor.agent.doing) (answered fixed world number actor st (cond full None (Some (record { server = asked.0; request = record { stamp = actor.stamp; value = asked.1 }; reply = answer_of st (record { stamp = actor.stamp; value = asked.1 }) })))).done.served
+    by_room actor asked st there next at true = refl
+    by_room actor asked st there next at false =
+        ap (λ found. decided_at found (to_decide asked.1) (decided_as (task_of actor.agent.doing) (answer_in (reply_of st asked.1)))) at
+        ∙ by_doing actor there asked.0 st at actor.agent.doing asked.1 refl next
+
+    by_server : (actor : Actor) (asked : ℕ × Request) → actor_at world number ≡ Some actor → next_of fixed actor.agent ≡ Some asked → (found : Option State) → server_at world asked.0 ≡ found
+        → shows (task_of actor.agent.doing) (asks_at fixed world number actor asked found).done.served
+    by_server actor asked there next None at = refl
+    by_server actor asked there next (Some st) at = by_room actor asked st there next at (is_full st (record { stamp = actor.stamp; value = asked.1 }))
+
+    by_request : (actor : Actor) → actor_at world number ≡ Some actor → (asked : Option (ℕ × Request)) → next_of fixed actor.agent ≡ asked → shows (task_of actor.agent.doing) (asks fixed world number actor asked).done.served
+    by_request actor there None next = refl
+    by_request actor there (Some asked) next = by_server actor asked there next (server_at world asked.0) refl
+
+    by_actor : (found : Option Actor) → actor_at world number ≡ found → shows (task_at found) (steps_once fixed world number found).done.served
+    by_actor None there = refl
+    by_actor (Some actor) there = by_request actor there (next_of fixed actor.agent) refl
+
+    pub decided_is : decided fixed world (Step number) ≡ decision_by (job_at jobs number) (step fixed world (Step number)).done.served
+    decided_is = by_actor (actor_at world number) refl
+
+-- ---- what any other event decides
+
+abbrev pub is_step : Event → Bool
+is_step (Step number) = true
+is_step other = false
+
+none_at : (found : Option State) (t : Option ℕ) → decided_at found t None ≡ None
+none_at found None = refl
+none_at None (Some t) = refl
+none_at (Some st) (Some t) = of (is_some (record_of st t))
+  where
+    of : (b : Bool) → ◌≡◌ {A = Option Decided} (cond b None None) None
+    of true = refl
+    of false = refl
+
+no_task : (world : World) (what : Option Served) → decided_by world None what ≡ None
+no_task world None = refl
+no_task world (Some what) = none_at (server_at world what.server) (to_decide what.request.value)
+
+pub decides_nothing : (fixed : Fixed) (world : World) (event : Event) → is_step event ≡ false → decided fixed world event ≡ None
+decides_nothing fixed world (Begin number job) other = no_task world (step fixed world (Begin number job)).done.served
+decides_nothing fixed world (Step number) other = cc
+decides_nothing fixed world (Crash server) other = no_task world (step fixed world (Crash server)).done.served
+decides_nothing fixed world (Return server) other = no_task world (step fixed world (Return server)).done.served
+decides_nothing fixed world (Forget number site) other = no_task world (step fixed world (Forget number site)).done.served
+decides_nothing fixed world (Lack number why) other = no_task world (step fixed world (Lack number why)).done.served

@@ -1,0 +1,73 @@
+-- What refutes that events are of a run.
+use Rattle.std.proofs.Common.{◌≡◌, ◌≢◌, ℕ, Bool, true, false, List, [], ◌∷◌, ◌++◌, length, subst, refl, ap, ◌∙◌, sym, arith}
+use Rattle.std.specs.Prelude.{nat_eq, if◌then◌else◌, Option, Some, None}
+use Rattle.std.specs.List.{cons_option}
+use Rattle.run_core.specs.declared.event.Event.{Event}
+use Rattle.run_certify.specs.declared.entry.Entry.{Entry}
+use Rattle.run_certify.specs.declared.entry.Entry.TheVariants.{Ended}
+use Rattle.run_core.specs.declared.done.Outcome.{Outcome}
+use Rattle.run_certify.specs.Merges.{ItemAt}
+use Rattle.run_certify.specs.Weaves.{transcript_of, weave}
+use Rattle.run_certify.specs.Shown.{agent_of, asker, if_of}
+use Rattle.run_certify.proofs.Lists.{head_or}
+use Rattle.run_certify.proofs.Steps.{AreOf, items_in, told_in}
+use Rattle.run_certify.proofs.Weaving.{NoSteps, no_steps}
+
+module _ {W D : Type 0} (next : W → Event → W) (sense : W → Event → Bool) (serves : W → Event → Option ItemAt) (puts : W → Event → List Entry) (decides : W → Event → Option D)
+    (asks : (w : W) (event : Event) (what : ItemAt) → serves w event ≡ Some what → what.item.agent ≡ asker event) where
+  abbrev Of : W → List Event → List ItemAt → List (List Entry) → Type 0
+  Of = AreOf next sense serves puts decides
+
+  -- all of the items
+  abbrev pub All : (ItemAt → Type 0) → List ItemAt → Type 0
+  All P [] = Unit {0}
+  All P (one ∷ items) = P one × All P items
+
+  none_of : (agent : ℕ) (w : W) (events : List Event) → NoSteps agent events → All (λ one. one.item.agent ≢ Some agent) (items_in next sense serves puts decides w events)
+  none_of agent w [] steps = tt
+  none_of agent w (event ∷ events) steps = by_served (serves w event) (asks w event) (items_in next sense serves puts decides (next w event) events) (none_of agent (next w event) events steps.1)
+    where
+      by_served : (o : Option ItemAt) → ((what : ItemAt) → o ≡ Some what → what.item.agent ≡ asker event) → (later : List ItemAt) → All (λ one. one.item.agent ≢ Some agent) later → All (λ one. one.item.agent ≢ Some agent) (cons_option o later)
+      by_served None is later more = more
+      by_served (Some what) is later more = ((λ e. steps.0 (sym (is what refl) ∙ e)), more)
+
+  -- an item of an agent of which nothing is left
+  pub none_left : (w : W) (one : ItemAt) (items : List ItemAt) (unused : List (List Entry)) (agent : ℕ) → one.item.agent ≡ Some agent → transcript_of unused agent ≡ [] → ¬ (Of w (weave (one ∷ items) unused) (one ∷ items) unused)
+  none_left w one items unused agent of none is =
+      (subst (λ xs. All (λ other. other.item.agent ≢ Some agent) xs) is.served (none_of agent w (weave (one ∷ items) unused) (no_steps (one ∷ items) unused agent none))).0 of
+
+  -- every item is one of some kind, if all that is served is
+  all_served : (P : ItemAt → Type 0) → ((w : W) (event : Event) (what : ItemAt) → serves w event ≡ Some what → P what) → (w : W) (events : List Event) → All P (items_in next sense serves puts decides w events)
+  all_served P each w [] = tt
+  all_served P each w (event ∷ events) = by_served (serves w event) (each w event) (items_in next sense serves puts decides (next w event) events) (all_served P each (next w event) events)
+    where
+      by_served : (o : Option ItemAt) → ((what : ItemAt) → o ≡ Some what → P what) → (later : List ItemAt) → All P later → All P (cons_option o later)
+      by_served None is later more = more
+      by_served (Some what) is later more = (is what refl, more)
+
+  pub never_served : (P : ItemAt → Type 0) → ((w : W) (event : Event) (what : ItemAt) → serves w event ≡ Some what → P what) → (w : W) (events : List Event) (one : ItemAt) (items : List ItemAt) (unused : List (List Entry)) → ¬ (P one) → ¬ (Of w events (one ∷ items) unused)
+  never_served P each w events one items unused not is = not (subst (λ xs. All P xs) is.served (all_served P each w events)).0
+
+  -- what an event puts down does not begin with an end: so no transcript does
+  abbrev NoEnd : List Entry → Type 0
+  NoEnd entries = (outcome : Outcome) (rest : List Entry) → entries ≢ Ended outcome ∷ rest
+
+  no_end : ((w : W) (event : Event) → NoEnd (puts w event)) → (agent : ℕ) (w : W) (events : List Event) → NoEnd (told_in next sense serves puts decides agent w events)
+  no_end each agent w [] = λ outcome rest e. let h = ap length e in omega arith
+  no_end each agent w (event ∷ events) = by_agent (agent_of event) (told_in next sense serves puts decides agent (next w event) events) (no_end each agent (next w event) events)
+    where
+      first : (xs ys : List Entry) → NoEnd xs → NoEnd ys → NoEnd (xs ++ ys)
+      first [] ys x y = y
+      first (z ∷ xs) ys x y = λ outcome rest e. x outcome xs (ap (λ o. o ∷ xs) (ap (λ zs. head_or z zs) e))
+
+      by_test : (b : Bool) → NoEnd (if b then puts w event else [])
+      by_test true = each w event
+      by_test false = λ outcome rest e. let h = ap length e in omega arith
+
+      by_agent : (o : Option ℕ) → (later : List Entry) → NoEnd later → NoEnd (if_of o agent (puts w event) ++ later)
+      by_agent None later more = more
+      by_agent (Some other) later more = first (if_of (Some other) agent (puts w event)) later (by_test (nat_eq other agent)) more
+
+  pub no_end_first : ((w : W) (event : Event) → NoEnd (puts w event)) → (w : W) (events : List Event) (items : List ItemAt) (unused : List (List Entry)) (agent : ℕ) (outcome : Outcome) (rest : List Entry) → transcript_of unused agent ≡ Ended outcome ∷ rest
+      → ¬ (Of w events items unused)
+  no_end_first each w events items unused agent outcome rest at is = no_end each agent w events outcome rest (is.told agent ∙ at)
