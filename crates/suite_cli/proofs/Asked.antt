@@ -57,16 +57,16 @@ agents_fit topic given is = absurd is
 agents_fit nothing given is = absurd is
 
 served_by : (agents : Option ℕ) (streams : Streams) (status given : ℕ) → AnswersServe agents (Ok (Serve given)) → Serves given streams status → ServesBy agents streams status
-served_by (Some number) streams status given is serves = subst (λ (n : ℕ). Serves n streams status) is serves
-served_by None streams status given is serves = absurd is
+served_by (Some number) streams status given is ran = subst (λ (n : ℕ). Serves n streams status) is ran
+served_by None streams status given is ran = absurd is
 
 pub serve_done : (asked : Asked) (streams : Streams) (status given : ℕ) → Answers asked (Ok (Serve given)) → Serves given streams status → Does asked streams status
-serve_done (plays script) streams status given answers serves = absurd answers
-serve_done (acl names) streams status given answers serves = absurd answers
-serve_done (serves text) streams status given answers done_so = served_by (agents_of text) streams status given answers done_so
-serve_done help streams status given answers serves = absurd answers
-serve_done topic streams status given answers serves = absurd answers
-serve_done nothing streams status given answers serves = absurd answers
+serve_done (plays script) streams status given answers ran = absurd answers
+serve_done (acl names) streams status given answers ran = absurd answers
+serve_done (serves text) streams status given answers ran = served_by (agents_of text) streams status given answers ran
+serve_done help streams status given answers ran = absurd answers
+serve_done topic streams status given answers ran = absurd answers
+serve_done nothing streams status given answers ran = absurd answers
 
 serve_ran_out : (agents : Option ℕ) (streams : Streams) (status : ℕ) → IsUnread streams → LacksMemory streams status → ServesBy agents streams status
 serve_ran_out (Some number) streams status unread lacks = lacked number streams status streams.input lacks

@@ -93,26 +93,26 @@ served_input agents streams status text None whole serves = tt
 served_input agents streams status text (Some input) whole serves =
     inl (subst (λ (one : List ℕ). (length one ≤ max_input) × ServesScript (plan_in agents one) status streams.written streams.written_after streams.failed_writes streams.failed_writes_after) whole.0 (whole.1, serves))
 
-same_ok : (a b : Plan) → Ok {E = ScriptFault} a ≡ Ok b → a ≡ b
-same_ok a b is = cc
+same_ok : (a b : Plan) (given : Result Plan ScriptFault) → given ≡ Ok a → given ≡ Ok b → a ≡ b
+same_ok a b given one two = cc
 
-same_err : (a b : ScriptFault) → Err {T = Plan} a ≡ Err b → a ≡ b
-same_err a b is = cc
+same_err : (a b : ScriptFault) (given : Result Plan ScriptFault) → given ≡ Err a → given ≡ Err b → a ≡ b
+same_err a b given one two = cc
 
-no_ok : (fault : ScriptFault) (plan : Plan) → Err fault ≡ Ok plan → ⊥
-no_ok fault plan is = cc
+no_ok : (fault : ScriptFault) (plan : Plan) (given : Result Plan ScriptFault) → given ≡ Err fault → given ≡ Ok plan → ⊥
+no_ok fault plan given one two = cc
 
 -- the plan that was read is the one that the script has
 pub served_plan : (given : Result Plan ScriptFault) (plan : Plan) (status : ℕ) (before after : Option (List ℕ)) (failures failures_after : ℕ) → ok_map kept_plan given ≡ Ok plan
     → Concludes plan status before after failures failures_after → ServesScript given status before after failures failures_after
-served_plan (Ok read) plan status before after failures failures_after is concludes = subst (λ (one : Plan). Concludes one status before after failures failures_after) (sym (same_ok (kept_plan read) plan is)) concludes
-served_plan (Err fault) plan status before after failures failures_after is concludes = absurd (no_ok fault plan is)
+served_plan (Ok read) plan status before after failures failures_after is concludes = subst (λ (one : Plan). Concludes one status before after failures failures_after) (sym (same_ok (kept_plan read) plan (Ok (kept_plan read)) refl is)) concludes
+served_plan (Err fault) plan status before after failures failures_after is concludes = absurd (no_ok fault plan (Err fault) refl is)
 
 pub faulty_plan : (given : Result Plan ScriptFault) (fault : ScriptFault) (status : ℕ) (before after : Option (List ℕ)) (failures failures_after : ℕ) → ok_map kept_plan given ≡ Err fault
     → Finishes (fault_line fault) faulty status before after failures failures_after → ServesScript given status before after failures failures_after
-faulty_plan (Ok read) fault status before after failures failures_after is finishes = absurd (no_ok fault (kept_plan read) (sym is))
+faulty_plan (Ok read) fault status before after failures failures_after is finishes = absurd (no_ok fault (kept_plan read) (Ok (kept_plan read)) is refl)
 faulty_plan (Err other) fault status before after failures failures_after is finishes =
-    told_fault other status before after failures failures_after (subst (λ (one : ScriptFault). Finishes (fault_line one) faulty status before after failures failures_after) (sym (same_err other fault is)) finishes)
+    told_fault other status before after failures failures_after (subst (λ (one : ScriptFault). Finishes (fault_line one) faulty status before after failures failures_after) (sym (same_err other fault (Err other) refl is)) finishes)
 
 -- ---- where it was no run, or a write failed
 
