@@ -1,5 +1,5 @@
 -- What was done is what the words ask for.
-use Rattle.std.proofs.Common.{arith, ◌≡◌, ℕ, zero, suc, ◌≤◌, ◌&&◌, nat_le, List, Option, Some, None, Result, Ok, Err, inl, inr, subst}
+use Rattle.std.proofs.Common.{arith, ℕ, zero, suc, ◌≤◌, ◌&&◌, nat_le, List, Option, Some, None, Result, Ok, Err, inl, inr, subst}
 use Rattle.std.specs.Prelude.{IfSome}
 use Rattle.std.specs.Str.Parse.{digits_value}
 use Rattle.std.proofs.lemmas.Bool.{and_parts, cases_Bool}

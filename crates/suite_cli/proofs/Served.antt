@@ -7,15 +7,15 @@ use Rattle.byte_streams.specs.declared.reading.ReadError.TheVariants as read
 use Rattle.file_ops.specs.Steps.{ok_map}
 use Rattle.run_certify.specs.declared.fault.CertifyFault.{CertifyFault}
 use Rattle.run_certify.specs.declared.fault.CertifyFault.TheVariants as certify
-use Rattle.suite_script.proofs.Gathering.{adds_both, begun_nothing}
+use Rattle.suite_script.proofs.Gathering.{adds_both}
 use Rattle.suite_script.specs.Faults.{fault_line}
 use Rattle.suite_script.specs.Gathering as gathering
 use Rattle.suite_script.specs.Gathering.{WroteSoFar}
-use Rattle.suite_script.specs.Outputs.{Output, Done, Faulty}
+use Rattle.suite_script.specs.Outputs.{Done}
 use Rattle.suite_script.specs.declared.fault.ScriptFault.{ScriptFault}
 use Rattle.suite_script.specs.declared.play_error.PlayError.TheVariants as play
-use Rattle.suite_cli.specs.Outputs.{certified_line, memory_line, mismatch_line}
-use Rattle.suite_cli.specs.Runs.{Concludes, Finishes, IsUnwritten, LacksMemory, Prints, Reports, SaysMemory, ServesOn, ServesScript, Streams, Tells, Writes, done, faulty, max_input, mismatched, no_memory, no_stream}
+use Rattle.suite_cli.specs.Outputs.{certified_line, memory_line}
+use Rattle.suite_cli.specs.Runs.{Concludes, Finishes, IsUnwritten, LacksMemory, Reports, SaysMemory, ServesOn, ServesScript, Streams, Tells, faulty, max_input, no_memory, no_stream}
 use Rattle.suite_serve.specs.Scripts.{Plan, plan_in}
 use Rattle.suite_serve.specs.Served.{Came, IsServed, job_lines}
 use Rattle.suite_serve.specs.code.Kept.{kept_plan}

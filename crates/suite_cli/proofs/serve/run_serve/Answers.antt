@@ -22,11 +22,11 @@ returns-in-Ok-read_script g c =
     let script = c.in-Ok-read_script.script in
     let agents = c.args.agents in
     let read : ok_map kept_plan (plan_in agents text) ≡ Ok script =
-      subst (λ (bytes : List ℕ). ok_map kept_plan (plan_in agents bytes) ≡ Ok script) c.deref.ensures.value
-        (subst (λ (n : ℕ). ok_map kept_plan (plan_in n c.deref.result.now) ≡ Ok script) c.from.ensures c.in-Ok-read_script.ensures)
-      in
+    subst (λ (bytes : List ℕ). ok_map kept_plan (plan_in agents bytes) ≡ Ok script) c.deref.ensures.value
+    (subst (λ (n : ℕ). ok_map kept_plan (plan_in n c.deref.result.now) ≡ Ok script) c.from.ensures c.in-Ok-read_script.ensures)
+    in
     served_input agents streams c.serve_script.result text streams.input c.in-Ok.ensures.ok
-      (served_plan (plan_in agents text) script c.serve_script.result streams.written streams.written_after streams.failed_writes streams.failed_writes_after read c.serve_script.ensures)
+    (served_plan (plan_in agents text) script c.serve_script.result streams.written streams.written_after streams.failed_writes streams.failed_writes_after read c.serve_script.ensures)
 
 pub returns-in-Ok-fault_text : goal.returns-in-Ok-fault_text
 returns-in-Ok-fault_text g c =
@@ -45,15 +45,15 @@ returns-in-Ok-fault_text g c =
     let agents = c.args.agents in
     let given = rw c.in-Err-Faulty.field-0-is at c.in-Err-Faulty.ensures in
     let read : ok_map kept_plan (plan_in agents text) ≡ Err fault =
-      subst (λ (bytes : List ℕ). ok_map kept_plan (plan_in agents bytes) ≡ Err fault) c.deref.ensures.value
-        (subst (λ (n : ℕ). ok_map kept_plan (plan_in n c.deref.result.now) ≡ Err fault) c.from.ensures given)
-      in
+    subst (λ (bytes : List ℕ). ok_map kept_plan (plan_in agents bytes) ≡ Err fault) c.deref.ensures.value
+    (subst (λ (n : ℕ). ok_map kept_plan (plan_in n c.deref.result.now) ≡ Err fault) c.from.ensures given)
+    in
     let finishes =
-      subst (λ (line : List ℕ). Finishes line faulty c.finish.result streams.written streams.written_after streams.failed_writes streams.failed_writes_after)
-        (c.deref-in-Ok-fault_text.ensures.value ∙ c.in-Ok-fault_text.ensures) c.finish.ensures
-      in
+    subst (λ (line : List ℕ). Finishes line faulty c.finish.result streams.written streams.written_after streams.failed_writes streams.failed_writes_after)
+    (c.deref-in-Ok-fault_text.ensures.value ∙ c.in-Ok-fault_text.ensures) c.finish.ensures
+    in
     served_input agents streams c.finish.result text streams.input c.in-Ok.ensures.ok
-      (faulty_plan (plan_in agents text) fault c.finish.result streams.written streams.written_after streams.failed_writes streams.failed_writes_after read finishes)
+    (faulty_plan (plan_in agents text) fault c.finish.result streams.written streams.written_after streams.failed_writes streams.failed_writes_after read finishes)
 
 -- memory ran out as the script was read
 pub returns : goal.returns
@@ -69,4 +69,4 @@ returns g c =
       failed_writes_after = g.O.ByteOut.failed_writes c.lack_memory-in-Err-Memory-read_script.new.writer;
     } in
     lacked c.args.agents streams c.lack_memory-in-Err-Memory-read_script.result streams.input
-      (c.lack_memory-in-Err-Memory-read_script.ensures.status, c.lack_memory-in-Err-Memory-read_script.ensures.says)
+    (c.lack_memory-in-Err-Memory-read_script.ensures.status, c.lack_memory-in-Err-Memory-read_script.ensures.says)

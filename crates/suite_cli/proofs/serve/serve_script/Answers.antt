@@ -15,7 +15,7 @@ returns-in-Ok-write_outcomes g c =
     let status = c.report-in-Ok-write_outcomes.result in
     let reports = subst (λ (n : ℕ). Reports (Ok n) status now after failures_now failures_after) c.steps.ensures c.report-in-Ok-write_outcomes.ensures in
     concludes c.args.script came status before after failures failures_after c.in-Ok.ensures
-      (reported came status before now after failures failures_now failures_after c.in-Ok-write_outcomes.ensures reports)
+    (reported came status before now after failures failures_now failures_after c.in-Ok-write_outcomes.ensures reports)
 
 -- memory ran out among the lines
 pub returns : goal.returns
@@ -29,4 +29,4 @@ returns g c =
     let failures_after = g.O.ByteOut.failed_writes c.lack_memory.new.writer in
     let prints = rw c.in-Err-Memory.field-0-is at c.in-Err-Memory.ensures in
     concludes c.args.script came c.lack_memory.result before after failures failures_after c.in-Ok.ensures
-      (broken_off came c.lack_memory.result before now after failures failures_now failures_after prints c.lack_memory.ensures.status c.lack_memory.ensures.says)
+    (broken_off came c.lack_memory.result before now after failures failures_now failures_after prints c.lack_memory.ensures.status c.lack_memory.ensures.says)
