@@ -1,0 +1,184 @@
+//! The lines of a script of events after its header and names. What each says is what it says to the command `play`
+//! (`specs/Lines.antt` has them with this crate's types).
+
+ghost use Rattle.std.specs.Prelude.{◌≡◌};
+ghost use Rattle.file_ops.specs.Steps.{found_or, ok_map};
+ghost use Rattle.script_text.specs.Numbers.{number_up_to};
+ghost use Rattle.suite_play.specs.Commands.{max_steps};
+ghost use Rattle.suite_play.specs.Headers.{is_header};
+ghost use Rattle.suite_script.specs.Readings.{Gives};
+ghost use Rattle.trace.specs.Lines.{begin_in, forget_in, kept, run_in, said_by, server_in, step_in, sweep_in};
+
+use crate::command::Command;
+use crate::verb::Verb;
+use acl_text::Names;
+use run_core::Event;
+use script_text::{Words, read_number};
+use std::alloc::Global;
+use suite_play::{read_place, read_transaction};
+use suite_script::{Language, LineError, LineFault, at_end, next_word};
+use txn_core::Job;
+
+/// The last site of an agent.
+const LAST_SITE: u8 = 15;
+
+/// The most steps of a line.
+const MAX_STEPS: u64 = 1_000_000;
+
+/// Which servers and agents a script has: the last ones, from 0.
+#[derive(Clone, Copy)]
+pub(crate) struct Places {
+    pub(crate) last_server: u8,
+    pub(crate) last_agent: u8,
+}
+
+impl Language for Places {
+    ghost use Rattle.file_ops.specs.Steps.{ok_map};
+    ghost use Rattle.trace.specs.Lines.{is_command, is_known, kept, line_in};
+
+    type Own = Command;
+
+    ghost is_known = { is_known };
+
+    ghost begins = { is_command };
+
+    ghost own = { λ places names first words. ok_map kept (line_in places names first words) };
+
+    fn is_known(word: &[u8]) -> bool {
+        is_header(word) || Verb::of(word).is_some()
+    }
+
+    fn begins(word: &[u8]) -> bool {
+        Verb::of(word).is_some()
+    }
+
+    fn read(
+        &self,
+        alloc: Global,
+        names: &Names,
+        first: &[u8],
+        words: Words<'_>,
+    ) -> Result<Command, LineError> {
+        match Verb::of(first) {
+            Some(verb) => read_command(alloc, *self, names, verb, words),
+            None => Err(LineError::Faulty(LineFault::Form)),
+        }
+    }
+}
+
+/// Whether a line of a header begins with this word.
+fn is_header(word: &[u8]) -> bool
+    ensures { result ≡ is_header word.now }
+{
+    word == b"servers".as_slice()
+        || word == b"agents".as_slice()
+        || word == b"votes".as_slice()
+        || word == b"root".as_slice()
+        || word == b"cache".as_slice()
+}
+
+/// What the words after a verb say, so far as it is kept.
+fn read_command(
+    alloc: Global,
+    places: Places,
+    names: &Names,
+    verb: Verb,
+    mut words: Words<'_>,
+) -> Result<Command, LineError>
+    ensures { Gives result (ok_map kept (said_by places names.now verb words.entry)) }
+{
+    match verb {
+        Verb::Begin => read_begin(alloc, places, names, words),
+        Verb::Sweep => read_sweep(places, &mut words),
+        Verb::Step => read_step(places, &mut words),
+        Verb::Run => read_run(places, &mut words),
+        Verb::Crash => {
+            let server = read_server(places, &mut words)?;
+            Ok(Command::Event(Event::Crash { server }))
+        }
+        Verb::Return => {
+            let server = read_server(places, &mut words)?;
+            Ok(Command::Event(Event::Return { server }))
+        }
+        Verb::Forget => read_forget(places, &mut words),
+        Verb::Audit => {
+            let server = read_server(places, &mut words)?;
+            Ok(Command::Audit { server })
+        }
+    }
+}
+
+/// A transaction that an agent begins, so far as it is kept.
+fn read_begin(
+    alloc: Global,
+    places: Places,
+    names: &Names,
+    mut words: Words<'_>,
+) -> Result<Command, LineError>
+    ensures { Gives result (ok_map kept (begin_in places names.now words.entry)) }
+{
+    let agent = read_place(next_word(&mut words)?, places.last_agent)?;
+    let job = read_transaction(alloc, names, words)?;
+    Ok(Command::Event(Event::Begin { agent, job }))
+}
+
+/// A sweep of a server that an agent begins.
+fn read_sweep(places: Places, words: &mut Words<'_>) -> Result<Command, LineError>
+    ensures { Gives result (sweep_in places words.old) }
+{
+    let agent = read_place(next_word(words)?, places.last_agent)?;
+    let server = read_place(next_word(words)?, places.last_server)?;
+    at_end(words)?;
+    let job = Job::Sweep { server };
+    Ok(Command::Event(Event::Begin { agent, job }))
+}
+
+/// Steps of an agent: one, where no number is left.
+fn read_step(places: Places, words: &mut Words<'_>) -> Result<Command, LineError>
+    ensures { Gives result (step_in places words.old) }
+{
+    let agent = read_place(next_word(words)?, places.last_agent)?;
+    let Some(word) = words.next() else {
+        return Ok(Command::Steps { agent, count: 1 });
+    };
+    let count = read_steps(word)?;
+    at_end(words)?;
+    Ok(Command::Steps { agent, count })
+}
+
+fn read_steps(word: &[u8]) -> Result<u64, LineFault>
+    ensures { result ≡ found_or (number_up_to max_steps word.now) LineFault.Form }
+{
+    match read_number(word, MAX_STEPS) {
+        Some(number) => Ok(number),
+        None => Err(LineFault::Form),
+    }
+}
+
+/// Steps of an agent until it has no job.
+fn read_run(places: Places, words: &mut Words<'_>) -> Result<Command, LineError>
+    ensures { Gives result (run_in places words.old) }
+{
+    let agent = read_place(next_word(words)?, places.last_agent)?;
+    at_end(words)?;
+    Ok(Command::Run { agent })
+}
+
+/// The number of a server, which is all that is left.
+fn read_server(places: Places, words: &mut Words<'_>) -> Result<u8, LineFault>
+    ensures { result ≡ server_in places words.old }
+{
+    let server = read_place(next_word(words)?, places.last_server)?;
+    at_end(words)?;
+    Ok(server)
+}
+
+/// An agent and one of its sites.
+fn read_forget(places: Places, words: &mut Words<'_>) -> Result<Command, LineError>
+    ensures { Gives result (forget_in places words.old) }
+{
+    let agent = read_place(next_word(words)?, places.last_agent)?;
+    let site = read_place(next_word(words)?, LAST_SITE)?;
+    at_end(words)?;
+    Ok(Command::Event(Event::Forget { agent, site }))
+}
