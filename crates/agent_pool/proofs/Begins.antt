@@ -1,0 +1,23 @@
+-- Begins of a transcript, and what a pass does beside it.
+use Rattle.std.proofs.Common.{◌≡◌, ℕ, ◌+◌, ◌-◌, List, [], ◌∷◌, ◌++◌, true, refl, ap, ◌∙◌, sym, subst, arith, length, append_assoc}
+use Rattle.std.specs.List.{AllByRecursion}
+use Rattle.server_lock.specs.Passes.{Held, after_item}
+use Rattle.run_certify.specs.declared.entry.Entry.{Entry}
+use Rattle.run_certify.specs.declared.entry.Entry.TheVariants.{Begun, Asked, Lacked, Forgot, Ended}
+use Rattle.agent_pool.specs.Transcripts.{AreAsks, GoesOn, begins, is_ask}
+
+pub begins-append : (xs ys : List Entry) → begins (xs ++ ys) ≡ begins xs + begins ys
+begins-append [] ys = omega arith
+begins-append (Begun job ∷ xs) ys = let e = begins-append xs ys in omega arith
+begins-append (Asked server stamp ∷ xs) ys = begins-append xs ys
+begins-append (Lacked server lack ∷ xs) ys = begins-append xs ys
+begins-append (Forgot site ∷ xs) ys = begins-append xs ys
+begins-append (Ended outcome ∷ xs) ys = begins-append xs ys
+
+pub goes-append : (xs ys : List Entry) (a b c : Held) → GoesOn xs a b → GoesOn ys b c → GoesOn (xs ++ ys) a c
+goes-append [] ys a b c x y = subst (λ (p : Held). GoesOn ys p c) x y
+goes-append (Begun job ∷ xs) ys a b c x y = goes-append xs ys a b c x y
+goes-append (Asked server stamp ∷ xs) ys a b c x y = (x.0, x.1, x.2, goes-append xs ys (after_item a server x.0 stamp) b c x.3 y)
+goes-append (Lacked server lack ∷ xs) ys a b c x y = goes-append xs ys a b c x y
+goes-append (Forgot site ∷ xs) ys a b c x y = goes-append xs ys a b c x y
+goes-append (Ended outcome ∷ xs) ys a b c x y = goes-append xs ys a b c x y

@@ -1,0 +1,214 @@
+-- What an agent leaves in its transcript for a job.
+use Rattle.std.proofs.Common.{◌≡◌, ◌⊎◌, inl, inr, ℕ, ◌+◌, ◌-◌, ◌<◌, ◌≤◌, List, [], ◌∷◌, ◌++◌, true, false, refl, ap, ◌∙◌, sym, subst, arith, length, append_assoc, append-nil}
+use Rattle.std.specs.Prelude.{Option, Some, None, Result, Ok, Err, IfOk}
+use Rattle.std.proofs.lemmas.List.{length-append}
+use Rattle.std.proofs.lemmas.Option.{same_Some}
+use Rattle.rep_core.specs.declared.reply.Reply.{Reply}
+use Rattle.rep_core.specs.declared.request.Request.{Request}
+use Rattle.rep_core.specs.declared.stamped.Stamped.{Stamped}
+use Rattle.server_lock.specs.declared.miss.Miss.{Miss}
+use Rattle.server_lock.specs.declared.miss.Miss.TheVariants.{Lack, Stale}
+use Rattle.server_lock.specs.Passes.{Held, after_reply, front_at, sent_stamp}
+use Rattle.txn_core.specs.Agents.{begins as begins_job, next_of}
+use Rattle.txn_core.specs.Standing.{Standing}
+use Rattle.txn_core.specs.declared.ending.Ending.{Ending}
+use Rattle.txn_core.specs.declared.job.Job.{Job}
+use Rattle.run_certify.specs.declared.entry.Entry.{Entry}
+use Rattle.run_certify.specs.declared.entry.Entry.TheVariants.{Begun, Asked, Lacked, Forgot, Ended}
+use Rattle.agent_pool.specs.declared.asking.Came.{Came}
+use Rattle.agent_pool.specs.declared.asking.Came.TheVariants as came
+use Rattle.agent_pool.specs.declared.asking.Told.{Told}
+use Rattle.agent_pool.specs.code.Steps.{AsksNobody, CannotGoOn, DidJob, DidMore, HasSeen, Hears, Leaves, RanTo, end_entry, told_by}
+use Rattle.agent_pool.specs.Transcripts.{Played, AreAsks, GoesOn, IsIdle, IsLonger, begins, is_ask, number_of}
+use Rattle.agent_pool.proofs.Begins.{begins-append, goes-append}
+
+asks-append : (xs ys : List Entry) → AreAsks xs → AreAsks ys → AreAsks (xs ++ ys)
+asks-append [] ys all more = more
+asks-append (x ∷ xs) ys all more = (all.0, asks-append xs ys all.1 more)
+
+no_begins : (xs : List Entry) → AreAsks xs → begins xs ≡ 0
+no_begins [] all = refl
+no_begins (Begun job ∷ xs) all = cc
+no_begins (Asked server stamp ∷ xs) all = no_begins xs all.1
+no_begins (Lacked server lack ∷ xs) all = no_begins xs all.1
+no_begins (Forgot site ∷ xs) all = cc
+no_begins (Ended outcome ∷ xs) all = cc
+
+abbrev pub longer_longer : (a b c : Played) → IsLonger a b → IsLonger b c → IsLonger a c
+longer_longer a b c x y = record {
+  fixed = y.fixed ∙ x.fixed;
+  number = y.number ∙ x.number;
+  rest = x.rest ++ y.rest;
+  entries = y.entries ∙ ap (λ es. es ++ y.rest) x.entries ∙ append_assoc a.entries x.rest y.rest;
+}
+
+abbrev pub longer_same : (a : Played) → IsLonger a a
+longer_same a = record { fixed = refl; number = refl; rest = []; entries = sym (append-nil a.entries) }
+
+-- it did nothing yet
+pub did_nothing : (servers begun : ℕ) (a : Played) (p : Held) → DidMore servers begun a a p p came.On
+did_nothing servers begun a p = record { longer = longer_same a; went = refl; leaves = tt; stuck = λ e. cc }
+
+leaves_on : (begun : ℕ) (a b c : Played) (rest more : List Entry) (what : Came) → number_of b ≡ number_of a → b.entries ≡ a.entries ++ rest → AreAsks rest → Leaves begun b more c what → Leaves begun a (rest ++ more) c what
+leaves_on begun a b c rest more came.On number is all after = asks-append rest more all after
+leaves_on begun a b c rest more came.Stuck number is all after = asks-append rest more all after
+leaves_on begun a b c rest more came.Lacked number is all after = asks-append rest more all after
+leaves_on begun a b c rest more (came.Ended ran) number is all after =
+    let asked = after.0 in
+    let ending = after.1 in
+    let long : length b.entries ≡ length a.entries + length rest = ap length is ∙ length-append a.entries rest in
+    let longs = length-append rest asked in
+    let steps : length b.entries + length asked - begun ≡ length a.entries + length (rest ++ asked) - begun = omega arith in
+    let end : end_entry (number_of b) ran.count (length b.entries + length asked - begun) ending ≡ end_entry (number_of a) ran.count (length a.entries + length (rest ++ asked) - begun) ending =
+    ap (λ n. end_entry n ran.count (length b.entries + length asked - begun) ending) number ∙ ap (λ n. end_entry (number_of a) ran.count n ending) steps in
+    let none = no_begins rest all in
+    let counted : begins b.entries ≡ begins a.entries = ap begins is ∙ begins-append a.entries rest ∙ omega arith in (
+      rest ++ asked,
+      ending,
+      asks-append rest asked all after.2,
+      ap (λ es. rest ++ es) (after.3 ∙ ap (λ e. asked ++ e ∷ []) end) ∙ sym (append_assoc rest asked (end_entry (number_of a) ran.count (length a.entries + length (rest ++ asked) - begun) ending ∷ [])),
+      after.4 ∙ omega arith,
+      after.5 ∙ ap (λ n. n - 1) counted,
+      after.6,
+    )
+
+-- it did more, and still more
+pub did_more : (servers begun : ℕ) (a b c : Played) (p q r : Held) (what : Came) → DidMore servers begun a b p q came.On → DidMore servers begun b c q r what → DidMore servers begun a c p r what
+did_more servers begun a b c p q r what x y = record {
+  longer = longer_longer a b c x.longer y.longer;
+  went = goes-append x.longer.rest y.longer.rest p q r x.went y.went;
+  leaves = leaves_on begun a b c x.longer.rest y.longer.rest what x.longer.number x.longer.entries x.leaves y.leaves;
+  stuck = y.stuck;
+}
+
+-- what is written down of an answer, beside the pass
+pub goes_told : (server before : ℕ) (reply : Result (Stamped Reply) Miss) (told : Told) (pass : Held) → told_by server reply ≡ Some told → IfOk reply (λ reply. front_at pass server ≤ before) → IfOk reply (λ reply. sent_stamp pass < reply.stamp)
+    → GoesOn (told.entry ∷ []) pass (after_reply pass server before reply)
+goes_told server before (Ok reply) told pass is front rises = subst (λ (t : Told). GoesOn (t.entry ∷ []) pass (after_reply pass server before (Ok reply))) (same_Some _ told is) (before, front, rises, refl)
+goes_told server before (Err (Lack lack)) told pass is front rises = subst (λ (t : Told). GoesOn (t.entry ∷ []) pass pass) (same_Some _ told is) refl
+goes_told server before (Err Stale) told pass is front rises = cc
+
+pub told_asks : (server : ℕ) (reply : Result (Stamped Reply) Miss) (told : Told) → told_by server reply ≡ Some told → is_ask told.entry ≡ true
+told_asks server (Ok reply) told is = ap (λ (t : Told). is_ask t.entry) (sym (same_Some _ told is))
+told_asks server (Err (Lack lack)) told is = ap (λ (t : Told). is_ask t.entry) (sym (same_Some _ told is))
+told_asks server (Err Stale) told is = cc
+
+-- an agent heard, and what it had done before is counted
+pub heard : (servers begun : ℕ) (told : Told) (old new : Played) (p q : Held) (what : Came) → old.agent.state.count ≡ begins old.entries → is_ask told.entry ≡ true → GoesOn (told.entry ∷ []) p q
+    → Hears (number_of old) begun told old.agent old.entries new.agent new.entries what → DidMore servers begun old new p q what
+heard servers begun told old new p q came.On counted asks goes h = record { longer = record { fixed = h.0; number = h.1; rest = told.entry ∷ []; entries = h.3 }; went = goes; leaves = (asks, tt); stuck = λ e. cc }
+heard servers begun told old new p q came.Stuck counted asks goes h = absurd h.3
+heard servers begun told old new p q came.Lacked counted asks goes h = record { longer = record { fixed = h.0; number = h.1; rest = told.entry ∷ []; entries = h.3 }; went = goes; leaves = (asks, tt); stuck = λ e. cc }
+heard servers begun told old new p q (came.Ended ran) counted asks goes h =
+    let on = h.3 in
+    let ending = on.0 in
+    let end = end_entry (number_of old) ran.count (length old.entries + 1 - begun) ending in
+    record {
+      longer = record { fixed = h.0; number = h.1; rest = told.entry ∷ end ∷ []; entries = on.1 };
+      went = goes-append (told.entry ∷ []) (end ∷ []) p q q goes refl;
+      leaves = (told.entry ∷ [], ending, (asks, tt), refl, on.2, on.3 ∙ ap (λ n. n - 1) counted, on.4);
+      stuck = λ e. cc;
+    }
+
+ran_to : (job : Job) (old mid new : Played) (rest : List Entry) (what : Came) → number_of mid ≡ number_of old → mid.entries ≡ old.entries ++ Begun job ∷ [] → number_of new ≡ number_of mid → new.entries ≡ mid.entries ++ rest
+    → Leaves (length mid.entries) mid rest new what → RanTo job old new what
+ran_to job old mid new rest came.On same began number more leaves = tt
+ran_to job old mid new rest came.Stuck same began number more leaves = tt
+ran_to job old mid new rest came.Lacked same began number more leaves = tt
+ran_to job old mid new rest (came.Ended ran) same began number more leaves =
+    let asked = leaves.0 in
+    let ending = leaves.1 in
+    let steps : length mid.entries + length asked - length mid.entries ≡ length asked = omega arith in
+    let end = end_entry (number_of new) ran.count (length asked) ending in
+    let ends : end_entry (number_of mid) ran.count (length mid.entries + length asked - length mid.entries) ending ≡ end =
+    ap (λ n. end_entry (number_of mid) ran.count n ending) steps ∙ ap (λ n. end_entry n ran.count (length asked) ending) (sym number) in
+    let rests : rest ≡ asked ++ end ∷ [] = leaves.3 ∙ ap (λ e. asked ++ e ∷ []) ends in
+    let split : new.entries ≡ old.entries ++ Begun job ∷ (asked ++ end ∷ []) =
+    more ∙ ap (λ es. es ++ rest) began ∙ append_assoc old.entries (Begun job ∷ []) rest ∙ ap (λ es. old.entries ++ Begun job ∷ es) rests in
+    let none = no_begins asked leaves.2 in
+    let some : begins mid.entries ≡ begins old.entries + 1 = ap begins began ∙ begins-append old.entries (Begun job ∷ []) in
+    let all = ap begins split in
+    let a = begins-append old.entries (Begun job ∷ (asked ++ end ∷ [])) in
+    let b = begins-append asked (end ∷ []) in
+    let long = ap length began ∙ length-append old.entries (Begun job ∷ []) in
+    let count : ran.count ≡ begins old.entries = leaves.5 ∙ omega arith in (
+      record { before = old.entries; asked = asked; after = []; ending = ending; split = split; count = sym count; asks = leaves.2; at = (let at = leaves.4 in omega arith) },
+      count,
+      omega arith,
+      leaves.6,
+    )
+
+-- a job was begun, and then more was done for it
+pub did_job : (servers : ℕ) (job : Job) (old mid new : Played) (p q : Held) (what : Came) → mid.agent.fixed ≡ old.agent.fixed → number_of mid ≡ number_of old → mid.entries ≡ old.entries ++ Begun job ∷ []
+    → DidMore servers (length mid.entries) mid new p q what → DidJob servers job old new p q what
+did_job servers job old mid new p q what fixed same began more = record {
+  longer = longer_longer old mid new (record { fixed = fixed; number = same; rest = Begun job ∷ []; entries = began }) more.longer;
+  went = more.went;
+  ran = ran_to job old mid new more.longer.rest what same began more.longer.number more.longer.entries more.leaves;
+  stuck = λ e. inr (more.stuck e);
+}
+
+-- nothing was done, and the agent cannot go on
+pub did_stick : (servers begun : ℕ) (a b : Played) (p q : Held) → b.agent ≡ a.agent → b.entries ≡ a.entries → q ≡ p → CannotGoOn servers a p → DidMore servers begun a b p q came.Stuck
+did_stick servers begun a b p q agent entries pass why = record {
+  longer = record { fixed = ap (λ (s : Standing). s.fixed) agent; number = ap (λ (s : Standing). s.state.index) agent; rest = []; entries = entries ∙ sym (append-nil a.entries) };
+  went = pass;
+  leaves = tt;
+  stuck = λ e. subst (λ (r : Held). CannotGoOn servers b r) (sym pass)
+      (subst (λ (s : Standing). AsksNobody servers (next_of s.fixed s.state) ⊎ HasSeen p (next_of s.fixed s.state)) (sym agent) why);
+}
+
+pub did_lack : (servers begun : ℕ) (a b : Played) (p : Held) → b.agent ≡ a.agent → b.entries ≡ a.entries → DidMore servers begun a b p p came.Lacked
+did_lack servers begun a b p agent entries = record {
+  longer = record { fixed = ap (λ (s : Standing). s.fixed) agent; number = ap (λ (s : Standing). s.state.index) agent; rest = []; entries = entries ∙ sym (append-nil a.entries) };
+  went = refl;
+  leaves = tt;
+  stuck = λ e. cc;
+}
+
+pub no_job : (servers : ℕ) (job : Job) (a b : Played) (p : Held) → b ≡ a → begins_job a.agent.fixed a.agent.state job ≡ false → DidJob servers job a b p p came.Stuck
+no_job servers job a b p same not = record {
+  longer = record { fixed = ap (λ (p : Played). p.agent.fixed) same; number = ap (λ (p : Played). number_of p) same; rest = []; entries = ap (λ (p : Played). p.entries) same ∙ sym (append-nil a.entries) };
+  went = refl;
+  ran = tt;
+  stuck = λ e. inl (ap (λ (p : Played). begins_job p.agent.fixed p.agent.state job) same ∙ not);
+}
+
+pub lacked_job : (servers : ℕ) (job : Job) (a b : Played) (p : Held) → b ≡ a → DidJob servers job a b p p came.Lacked
+lacked_job servers job a b p same = record {
+  longer = record { fixed = ap (λ (p : Played). p.agent.fixed) same; number = ap (λ (p : Played). number_of p) same; rest = []; entries = ap (λ (p : Played). p.entries) same ∙ sym (append-nil a.entries) };
+  went = refl;
+  ran = tt;
+  stuck = λ e. cc;
+}
+
+-- the same as `heard`, where the fields are named apart
+pub heard_in : (servers begun number : ℕ) (told : Told) (old new : Played) (agent : Standing) (entries : List Entry) (p q : Held) (what : Came) → agent ≡ old.agent → entries ≡ old.entries → number ≡ number_of old → old.agent.state.count ≡ begins old.entries
+    → is_ask told.entry ≡ true → GoesOn (told.entry ∷ []) p q → Hears number begun told agent entries new.agent new.entries what → DidMore servers begun old new p q what
+heard_in servers begun number told old new agent entries p q what a e n counted asks goes h =
+    heard servers begun told old new p q what counted asks goes
+    (subst (λ (m : ℕ). Hears m begun told old.agent old.entries new.agent new.entries what) n
+    (subst (λ (es : List Entry). Hears number begun told old.agent es new.agent new.entries what) e (subst (λ (s : Standing). Hears number begun told s entries new.agent new.entries what) a h)))
+
+ask_first : (entry : Entry) (entries : List Entry) → is_ask entry ≡ true → begins (entry ∷ entries) ≡ begins entries
+ask_first (Begun job) entries asks = cc
+ask_first (Asked server stamp) entries asks = refl
+ask_first (Lacked server lack) entries asks = refl
+ask_first (Forgot site) entries asks = cc
+ask_first (Ended outcome) entries asks = cc
+
+pub heard_begins : (number begun : ℕ) (told : Told) (old : Standing) (entries : List Entry) (new : Standing) (more : List Entry) (what : Came) → is_ask told.entry ≡ true → Hears number begun told old entries new more what → begins more ≡ begins entries
+heard_begins number begun told old entries new more came.On asks h = ap begins h.3 ∙ begins-append entries (told.entry ∷ []) ∙ (let one = ask_first told.entry [] asks in omega arith)
+heard_begins number begun told old entries new more came.Stuck asks h = absurd h.3
+heard_begins number begun told old entries new more came.Lacked asks h = ap begins h.3 ∙ begins-append entries (told.entry ∷ []) ∙ (let one = ask_first told.entry [] asks in omega arith)
+heard_begins number begun told old entries new more (came.Ended ran) asks h =
+    let on = h.3 in
+    let end = end_entry number ran.count (length entries + 1 - begun) on.0 in
+    ap begins on.1 ∙ begins-append entries (told.entry ∷ end ∷ []) ∙ (let one = ask_first told.entry (end ∷ []) asks in omega arith)
+
+-- nothing is told where the pass is of other servers, of which it has seen something
+pub stale_seen : (server before : ℕ) (request : Request) (reply : Result (Stamped Reply) Miss) (pass : Held) (asked : Option (ℕ × Request)) → told_by server reply ≡ None → (reply ≡ Err Stale → before < front_at pass server)
+    → asked ≡ Some (server, request) → HasSeen pass asked
+stale_seen server before request (Ok reply) pass asked none stale is = cc
+stale_seen server before request (Err (Lack lack)) pass asked none stale is = cc
+stale_seen server before request (Err Stale) pass asked none stale is = subst (λ a. HasSeen pass a) (sym is) (let low = stale refl in omega arith)

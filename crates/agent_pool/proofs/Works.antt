@@ -1,0 +1,137 @@
+-- What holds of a thread's work, as it goes on.
+use Rattle.std.proofs.Common.{◌≡◌, ℕ, zero, suc, ◌+◌, ◌≤◌, List, [], ◌∷◌, ◌++◌, false, length, map, refl, ap, ◌∙◌, sym, subst, arith, append_assoc, append-nil}
+use Rattle.std.specs.Prelude.{is_some, slice_get, Contains, Option, Some, None}
+use Rattle.std.proofs.lemmas.List.{length-append}
+use Rattle.std.proofs.lemmas.Option.{same_Some}
+use Rattle.server_lock.specs.Passes.{Held}
+use Rattle.txn_core.specs.declared.job.Job.{Job}
+use Rattle.run_certify.specs.declared.entry.Entry.{Entry}
+use Rattle.run_certify.specs.declared.entry.Entry.TheVariants.{Begun}
+use Rattle.agent_pool.specs.declared.asking.Came.{Came}
+use Rattle.agent_pool.specs.declared.asking.Came.TheVariants as came
+use Rattle.agent_pool.specs.declared.work.Done.{Done}
+use Rattle.agent_pool.specs.declared.work.Halt.{Halt}
+use Rattle.agent_pool.specs.declared.work.Seat.{Seat}
+use Rattle.agent_pool.specs.declared.work.Worked.{Worked}
+use Rattle.agent_pool.specs.declared.workshop.NamedJob.{NamedJob}
+use Rattle.agent_pool.specs.code.Starts.{IsWorkOf}
+use Rattle.agent_pool.specs.code.Steps.{DidJob, end_entry}
+use Rattle.agent_pool.specs.Pools.{job_numbers}
+use Rattle.agent_pool.specs.Transcripts.{Played, GoesOn, IsIdle, IsLonger, IsTold, begins, number_of}
+use Rattle.agent_pool.specs.code.Working.{AllDone, IsDone, IsHalted, IsWorked, RiseBetween}
+use Rattle.agent_pool.proofs.Begins.{begins-append, goes-append}
+use Rattle.agent_pool.proofs.Leaving.{longer_longer}
+
+told_longer : (a b : Played) (job : Job) (count at : ℕ) → IsLonger a b → IsTold a job count at → IsTold b job count at
+told_longer a b job count at longer told =
+    let end = end_entry (number_of a) count (length told.asked) told.ending in
+    let same : end ≡ end_entry (number_of b) count (length told.asked) told.ending = ap (λ n. end_entry n count (length told.asked) told.ending) (sym longer.number) in
+    let rest = longer.rest in
+    let split : b.entries ≡ told.before ++ Begun job ∷ (told.asked ++ end ∷ (told.after ++ rest)) =
+    longer.entries ∙ ap (λ es. es ++ rest) told.split ∙ append_assoc told.before (Begun job ∷ (told.asked ++ end ∷ told.after)) rest
+    ∙ ap (λ es. told.before ++ Begun job ∷ es) (append_assoc told.asked (end ∷ told.after) rest) in
+    record {
+      before = told.before;
+      asked = told.asked;
+      after = told.after ++ rest;
+      ending = told.ending;
+      split = split ∙ ap (λ e. told.before ++ Begun job ∷ (told.asked ++ e ∷ (told.after ++ rest))) same;
+      count = told.count;
+      asks = told.asks;
+      at = told.at;
+    }
+
+done_longer : (jobs : List NamedJob) (began : ℕ) (a b : Played) (ds : List Done) → IsLonger a b → AllDone jobs began a ds → AllDone jobs began b ds
+done_longer jobs began a b [] longer all = tt
+done_longer jobs began a b (d ∷ ds) longer all =
+    let one = all.0 in
+    (record { named = one.named; there = one.there; told = told_longer a b one.named.job d.ran.count d.ran.at longer one.told; since = one.since }, done_longer jobs began a b ds longer all.1)
+
+done_more : (jobs : List NamedJob) (began : ℕ) (a : Played) (ds : List Done) (d : Done) → AllDone jobs began a ds → IsDone jobs began a d → AllDone jobs began a (ds ++ d ∷ [])
+done_more jobs began a [] d all one = (one, tt)
+done_more jobs began a (e ∷ ds) d all one = (all.0, done_more jobs began a ds d all.1 one)
+
+rise_longer : (low high higher : ℕ) (ds : List Done) → RiseBetween low ds high → high ≤ higher → RiseBetween low ds higher
+rise_longer low high higher [] rise more = omega arith
+rise_longer low high higher (d ∷ ds) rise more = (rise.0, rise_longer (d.ran.count + 1) high higher ds rise.1 more)
+
+rise_more : (low high : ℕ) (ds : List Done) (d : Done) → RiseBetween low ds high → high ≤ d.ran.count → RiseBetween low (ds ++ d ∷ []) (d.ran.count + 1)
+rise_more low high [] d rise more = (omega arith, omega arith)
+rise_more low high (e ∷ ds) d rise more = (rise.0, rise_more (e.ran.count + 1) high ds d rise.1 more)
+
+-- an agent that did nothing yet
+pub works_first : (jobs : List NamedJob) (seat : Seat) (w : Worked) → w.player ≡ seat.player → w.pass ≡ seat.pass → w.done.items ≡ [] → w.halt ≡ None → IsIdle seat.player → IsWorkOf jobs seat w
+works_first jobs seat w player pass none ran idle = record {
+  longer = record {
+    fixed = ap (λ (p : Played). p.agent.fixed) player;
+    number = ap (λ (p : Played). number_of p) player;
+    rest = [];
+    entries = ap (λ (p : Played). p.entries) player ∙ sym (append-nil seat.player.entries);
+  };
+  went = pass;
+  done = subst (λ ds. AllDone jobs (begins seat.player.entries) w.player ds) (sym none) tt;
+  rise = subst (λ ds. RiseBetween (begins seat.player.entries) ds (begins w.player.entries)) (sym none) (let e = ap (λ (p : Played). begins p.entries) player in omega arith);
+  halted = subst (λ h. IsHalted jobs w.player h) (sym ran) (subst (λ (p : Played). IsIdle p) (sym player) idle);
+  once = λ all. let same = ap (λ (p : Played). begins p.entries) player in let few = ap length none in omega arith;
+}
+
+-- the agent went on, and runs nothing more
+pub works_longer : (jobs : List NamedJob) (seat : Seat) (w v : Worked) (why : Halt) (longer : IsLonger w.player v.player) → IsWorkOf jobs seat w → GoesOn longer.rest w.pass v.pass → v.done.items ≡ w.done.items → v.halt ≡ Some why
+    → IsHalted jobs v.player (Some why) → IsWorkOf jobs seat v
+works_longer jobs seat w v why longer old went same is halted =
+    let more = begins-append w.player.entries longer.rest in
+    let there = ap begins longer.entries in
+    record {
+      longer = longer_longer seat.player w.player v.player old.longer longer;
+      went = goes-append old.longer.rest longer.rest seat.pass w.pass v.pass old.went went;
+      done = subst (λ ds. AllDone jobs (begins seat.player.entries) v.player ds) (sym same) (done_longer jobs (begins seat.player.entries) w.player v.player w.done.items longer old.done);
+      rise = subst (λ ds. RiseBetween (begins seat.player.entries) ds (begins v.player.entries)) (sym same) (rise_longer (begins seat.player.entries) (begins w.player.entries) (begins v.player.entries) w.done.items old.rise (omega arith));
+      halted = subst (λ h. IsHalted jobs v.player h) (sym is) halted;
+      once = λ all. let bad : Some why ≡ None = sym is ∙ all in cc;
+    }
+
+-- it runs nothing more, and did nothing since
+pub works_stop : (jobs : List NamedJob) (seat : Seat) (w v : Worked) (why : Halt) → IsWorkOf jobs seat w → v.player ≡ w.player → v.pass ≡ w.pass → v.done.items ≡ w.done.items → v.halt ≡ Some why → IsHalted jobs w.player (Some why) → IsWorkOf jobs seat v
+works_stop jobs seat w v why old player pass same is halted =
+    works_longer jobs seat w v why
+    (record {
+      fixed = ap (λ (p : Played). p.agent.fixed) player;
+      number = ap (λ (p : Played). number_of p) player;
+      rest = [];
+      entries = ap (λ (p : Played). p.entries) player ∙ sym (append-nil w.player.entries);
+    })
+    old pass same is (subst (λ (p : Played). IsHalted jobs p (Some why)) (sym player) halted)
+
+pub not_some : (halt : Option Halt) → is_some halt ≡ false → halt ≡ None
+not_some None none = refl
+not_some (Some why) none = cc
+
+-- and it did this one
+pub works_more : (servers : ℕ) (jobs : List NamedJob) (seat : Seat) (w v : Worked) (d : Done) (named : NamedJob) → IsWorkOf jobs seat w → DidJob servers named.job w.player v.player w.pass v.pass (came.Ended d.ran) → v.done.items ≡ w.done.items ++ d ∷ []
+    → slice_get jobs d.place ≡ Some named → w.halt ≡ None → v.halt ≡ None → IsWorkOf jobs seat v
+works_more servers jobs seat w v d named old did same there before ran =
+    let longer = did.longer in
+    let began = begins seat.player.entries in
+    let since : began ≤ d.ran.count = let more = ap begins old.longer.entries ∙ begins-append seat.player.entries old.longer.rest in let at = did.ran.1 in omega arith in
+    let one : IsDone jobs began v.player d = record { named = named; there = there; told = did.ran.0; since = since } in
+    record {
+      longer = longer_longer seat.player w.player v.player old.longer longer;
+      went = goes-append old.longer.rest longer.rest seat.pass w.pass v.pass old.went did.went;
+      done = subst (λ ds. AllDone jobs began v.player ds) (sym same) (done_more jobs began v.player w.done.items d (done_longer jobs began w.player v.player w.done.items longer old.done) one);
+      rise = subst (λ ds. RiseBetween (begins seat.player.entries) ds (begins v.player.entries)) (sym same)
+          (subst (λ n. RiseBetween (begins seat.player.entries) (w.done.items ++ d ∷ []) n) (sym did.ran.2)
+          (rise_more (begins seat.player.entries) (begins w.player.entries) w.done.items d old.rise (let e = did.ran.1 in omega arith)));
+      halted = subst (λ h. IsHalted jobs v.player h) (sym ran) did.ran.3;
+      once = λ all.
+          let all_done = ap length same ∙ length-append w.done.items (d ∷ []) in
+          let were = old.once before in
+          let at = did.ran.1 in
+          let next = did.ran.2 in
+          omega arith;
+    }
+
+-- the number of a job that was handed in is one of theirs
+pub number_there : (jobs : List NamedJob) (place : ℕ) (named : NamedJob) → slice_get jobs place ≡ Some named → Contains (job_numbers jobs) named.number
+number_there [] place named at = cc
+number_there (j ∷ jobs) zero named at = (0, omega arith, ap (λ (k : NamedJob). k.number) (same_Some j named at))
+number_there (j ∷ jobs) (suc place) named at = let more = number_there jobs place named at in (suc more.0, (let low = more.1 in omega arith), more.2)

@@ -1,0 +1,33 @@
+use Rattle.std.proofs.Common.{◌≡◌, ◌+◌, ◌-◌, ◌++◌, ◌∷◌, [], length, ap, sym, ◌∙◌, append_assoc, arith}
+use Rattle.txn_core.specs.Agents.{is_idle}
+use Rattle.txn_core.specs.Standing.{Standing}
+use Rattle.agent_pool.specs.code.Steps.{end_entry}
+use Rattle.agent_pool.proofs.Keeping.{take_count, take_idle, take_index}
+use Rattle.agent_pool.proofs.asking.hear.Goals as goal
+
+pub returns : goal.returns
+returns c =
+    let agent = c.args.agent.now in
+    let word = c.args.told.word in
+    let entries = c.args.entries.now.items in
+    let took = c.in-Ok.ensures.new in
+    let ending = c.in-Some.ending in
+    let count = c.saturating_sub-count.result in
+    let whole = c.args.entries.now.ok.0 in
+    let one = c.push_reserved.ensures.len in
+    let told = c.len-at.ensures in
+    let at : c.len-at.result ≡ length entries + 1 = omega arith in
+    let steps : c.len-at.result - c.args.begun ≡ length entries + 1 - c.args.begun = ap (λ n. n - c.args.begun) at in
+    let end = end_entry c.args.number count (c.len-at.result - c.args.begun) ending in (
+      ap (λ (s : Standing). s.fixed) took,
+      ap (λ (s : Standing). s.state.index) took ∙ take_index agent.fixed agent.state word,
+      ap (λ (s : Standing). s.state.count) took ∙ take_count agent.fixed agent.state word,
+      (
+        ending,
+        c.push_reserved-2.ensures.items ∙ ap (λ es. es ++ end ∷ []) c.push_reserved.ensures.items ∙ append_assoc entries (c.args.told.entry ∷ []) (end ∷ [])
+            ∙ ap (λ n. entries ++ c.args.told.entry ∷ end_entry c.args.number count n ending ∷ []) steps,
+        at,
+        (let a = c.saturating_sub-count.ensures in let b = c.count.ensures in omega arith),
+        ap (λ (s : Standing). is_idle s.state.doing) took ∙ take_idle agent.fixed agent.state word ending (sym c.in-Ok.ensures.ok ∙ c.in-Some.is),
+      ),
+    )

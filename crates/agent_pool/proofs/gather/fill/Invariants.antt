@@ -1,0 +1,15 @@
+use Rattle.std.proofs.Common.{◌≡◌, List, length, take}
+use Rattle.std.specs.List.{AllZip}
+use Rattle.agent_pool.specs.code.Filled.{AreApartIn, AreOfThese, IsFilled, done_in, filled_in, players_of, sitting}
+use Rattle.agent_pool.specs.Seats.{numbers_of}
+use Rattle.agent_pool.specs.code.Starts.{IsWorkOf}
+use Rattle.agent_pool.specs.declared.work.Seat.{Seat}
+use Rattle.agent_pool.proofs.gather.fill.Given as goal
+
+abbrev pub invariant-loop-one : goal.invariant-loop-one
+invariant-loop-one l =
+    ((seats : List Seat) → AllZip (IsWorkOf l.jobs) seats l.worked → AllZip (IsFilled (sitting seats) (players_of l.worked)) l.jobs l.slots.items)
+    × AreApartIn l.slots.items
+    × AreOfThese (take l.one-index (numbers_of (players_of l.worked))) l.slots.items
+    × (filled_in l.slots.items ≡ done_in (take l.one-index l.worked))
+    × (length l.slots.items ≡ length l.fn.slots.items)

@@ -1,0 +1,33 @@
+use Rattle.std.proofs.Common.{◌≡◌, List, ◌∙◌, ap, sym, subst, map, arith, take, length}
+use Rattle.std.proofs.lemmas.List.{length-map, take_all}
+use Rattle.std.specs.Prelude.{Option, Some}
+use Rattle.std.specs.List.{AllZip}
+use Rattle.agent_pool.specs.declared.outcome.JobOutcome.{JobOutcome}
+use Rattle.agent_pool.specs.code.Filled.{AreApartIn, IsFilled, filled_in}
+use Rattle.agent_pool.proofs.Apart.{apart_filled}
+use Rattle.agent_pool.proofs.Filling.{all_filled, some_many}
+use Rattle.agent_pool.proofs.gather.outcomes_of.Goals as goal
+
+pub returns-clause-each : goal.returns-clause-each
+returns-clause-each c was players filled =
+    let at = c.loop-place in
+    let past = c.loop-place-test.false in
+    let long = c.requires.long in
+    let whole : map (λ (o : JobOutcome). Some o) at.room.items ≡ c.args.slots.now = at.invariant ∙ take_all at.place c.args.slots.now (omega arith) in
+    all_filled was players c.args.jobs.now at.room.items (subst (λ (slots : List (Option JobOutcome)). AllZip (IsFilled was players) c.args.jobs.now slots) (sym whole) filled)
+
+pub returns-clause-apart : goal.returns-clause-apart
+returns-clause-apart c apart =
+    let at = c.loop-place in
+    let long = c.requires.long in
+    let past = c.loop-place-test.false in
+    let whole : map (λ (o : JobOutcome). Some o) at.room.items ≡ c.args.slots.now = at.invariant ∙ take_all at.place c.args.slots.now (omega arith) in
+    apart_filled at.room.items (subst (λ (slots : List (Option JobOutcome)). AreApartIn slots) (sym whole) apart)
+
+pub returns-clause-all : goal.returns-clause-all
+returns-clause-all c =
+    let at = c.loop-place in
+    let past = c.loop-place-test.false in
+    let long = c.requires.long in
+    let whole : map (λ (o : JobOutcome). Some o) at.room.items ≡ c.args.slots.now = at.invariant ∙ take_all at.place c.args.slots.now (omega arith) in
+    ap filled_in (sym whole) ∙ some_many at.room.items ∙ sym (length-map at.room.items (λ (o : JobOutcome). Some o)) ∙ ap length whole ∙ long

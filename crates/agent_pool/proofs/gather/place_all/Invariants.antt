@@ -1,0 +1,17 @@
+use Rattle.std.proofs.Common.{◌≡◌, ◌+◌, ℕ, List, drop, length}
+use Rattle.std.specs.Prelude.{Contains}
+use Rattle.agent_pool.specs.Transcripts.{Played, begins}
+use Rattle.agent_pool.specs.code.Working.{AllDone, RiseBetween}
+use Rattle.agent_pool.specs.Pools.{IsOf}
+use Rattle.agent_pool.specs.code.Filled.{AreApartIn, AreBelow, KeepFilled, filled_in}
+use Rattle.agent_pool.proofs.Apart.{At}
+use Rattle.agent_pool.proofs.gather.place_all.Given as goal
+
+abbrev pub invariant-loop-one : goal.invariant-loop-one
+invariant-loop-one l =
+    ((was players : List Played) (before player : Played) → IsOf was players l.agent before player → AllDone l.jobs (begins before.entries) player l.done
+    → KeepFilled l.jobs was players l.fn.slots.items l.slots.items)
+    × ((numbers : List ℕ) (low high : ℕ) → ¬ (Contains numbers l.agent) → RiseBetween low l.done high → AreApartIn l.fn.slots.items → AreBelow numbers l.agent low l.fn.slots.items
+    → At l.agent numbers high (drop l.one-index l.done) l.slots.items)
+    × (filled_in l.slots.items ≡ filled_in l.fn.slots.items + l.one-index)
+    × (length l.slots.items ≡ length l.fn.slots.items)

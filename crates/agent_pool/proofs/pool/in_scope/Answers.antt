@@ -1,0 +1,65 @@
+use Rattle.std.proofs.Common.{◌≡◌, ◌∷◌, [], ◌++◌, ◌+◌, ◌≤◌, vec_len, List, length, refl, sym, ap, subst, ◌∙◌, append_assoc, append-nil, arith, rules}
+use Rattle.std.proofs.lemmas.List.{length-append}
+use Rattle.std.proofs.lemmas.List.Elements.{All-head, All-same, All-tail}
+use Rattle.std.specs.List.{AllZip}
+use Rattle.std.specs.Vec.Iter.{into_iter_items}
+use Rattle.agent_pool.specs.declared.line.Hand.{Hand}
+use Rattle.agent_pool.specs.declared.start.Start.{Start}
+use Rattle.agent_pool.specs.declared.work.Seat.{Seat}
+use Rattle.agent_pool.specs.declared.work.Worked.{Worked}
+use Rattle.agent_pool.specs.Line.{feeder, with_taker}
+use Rattle.agent_pool.specs.code.Filled.{AreIdle}
+use Rattle.agent_pool.specs.code.Starts.{Comes, IsStart, IsWorkOf}
+use Rattle.agent_pool.specs.Transcripts.{IsIdle}
+use Rattle.agent_pool.proofs.Lines.{forks}
+use Rattle.agent_pool.proofs.Zips.{zip_push, zip_then, nothing_left}
+use Rattle.agent_pool.proofs.pool.in_scope.Goals as goal
+use Rattle.agent_pool.proofs.pool.in_scope.Goals.{in-Started, in_default}
+
+pub another-taker-requires-clause-rule : goal.another-taker-requires-clause-rule
+another-taker-requires-clause-rule g c = forks _ _ (ap (λ (hand : Hand). hand.puts) c.loop-seat.invariant.8)
+
+pub loop-seat-preserved : goal.loop-seat-preserved
+loop-seat-preserved g c =
+    let at = c.loop-seat in
+    let x = c.in-Some.seat in
+    let steps : into_iter_items at.seat-iterator ≡ x ∷ into_iter_items c.next.new.self = c.in-Some.ensures.steps.0 in
+    let gone = c.in-Some.ensures.steps.1 in
+    let pushed = c.push_reserved.ensures in
+    let more = pushed.len in
+    let longer = length-append at.yielded (x ∷ []) in (
+      tt,
+      tt,
+      append_assoc at.yielded (x ∷ []) _ ∙ rw (← steps) at.invariant.2,
+      subst (λ (ys : List Start). AllZip (IsStart c.args.shop.now.jobs.now) (at.yielded ++ x ∷ []) ys) (sym pushed.items)
+          (zip_push (IsStart c.args.shop.now.jobs.now) at.yielded at.starts.items x _ at.invariant.3 c.begin_thread-start.ensures),
+      (let room = at.invariant.4 in let same = pushed.capacity in omega arith),
+      (let was = at.invariant.5 in let short = ap length steps in omega arith),
+      (let few = at.invariant.6 in elim c.match-start.branch [ in-Started w ↦ (let is = w.started-is in omega arith) | in_default w ↦ (let is = w.started-is in omega arith) ]),
+      search rules,
+      c.another-taker.ensures.rule.0 ∙ ap with_taker at.invariant.8 ∙ ap (λ n. feeder 0 0 n) (sym more),
+      (let was = at.invariant.9 in omega arith),
+      All-tail (λ (seat : Seat). IsIdle seat.player) x _ (All-same (λ (seat : Seat). IsIdle seat.player) _ _ (sym steps) at.invariant.10),
+    )
+
+pub join_all-requires-clause-room : goal.join_all-requires-clause-room
+join_all-requires-clause-room g c =
+    let at = c.loop-seat in
+    let none = c.in-None.ensures.steps in
+    let empty : into_iter_items at.seat-iterator ≡ [] = nothing_left _ (sym at.invariant.5 ∙ none.0) in
+    let all = ap length (sym (append-nil at.yielded) ∙ rw empty at at.invariant.2 ∙ c.into_iter-seat-iterator.ensures.into_iter_gives.0) in
+    let long = at.invariant.9 in
+    let asked = c.len-2.ensures in
+    let room = c.in_ok-room.ensures.capacity in
+    let whole = c.args.seats.ok.0 in
+    omega arith
+
+pub returns : goal.returns
+returns g c =
+    let at = c.loop-seat in
+    let none = c.in-None.ensures.steps in
+    let empty : into_iter_items at.seat-iterator ≡ [] = nothing_left _ (sym at.invariant.5 ∙ none.0) in
+    let all = sym (append-nil at.yielded) ∙ rw empty at at.invariant.2 ∙ c.into_iter-seat-iterator.ensures.into_iter_gives.0 in
+    zip_then (IsStart c.args.shop.now.jobs.now) Comes (IsWorkOf c.args.shop.now.jobs.now) (λ seat start now begun comes. comes c.args.shop.now.jobs.now seat begun)
+    c.args.seats.items at.starts.items c.join_all.result.items
+    (subst (λ (l : List Seat). AllZip (IsStart c.args.shop.now.jobs.now) l at.starts.items) all at.invariant.3) c.join_all.ensures

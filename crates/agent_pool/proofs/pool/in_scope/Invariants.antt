@@ -1,0 +1,23 @@
+use Rattle.std.proofs.Common.{◌≡◌, ◌+◌, ◌≤◌, ◌++◌, vec_len, vec_capacity, length}
+use Rattle.std.specs.List.{AllZip}
+use Rattle.std.specs.Vec.Iter.{into_iter_items, into_iter_len}
+use Rattle.crossbeam_channel.specs.Claims.{view, IsSeatAt}
+use Rattle.crossbeam_channel.specs.Ends.{sends_on}
+use Rattle.agent_pool.specs.Line.{feeder}
+use Rattle.agent_pool.specs.code.Filled.{AreIdle}
+use Rattle.agent_pool.specs.code.Starts.{IsStart}
+use Rattle.agent_pool.proofs.pool.in_scope.Given as goal
+
+abbrev pub invariant-loop-seat : goal.invariant-loop-seat
+invariant-loop-seat g l =
+    (goal.iterator-loop-seat g).can_next l.seat-iterator
+    × (goal.iterator-loop-seat g).is_finite l.seat-iterator
+    × (l.yielded ++ into_iter_items l.seat-iterator ≡ into_iter_items l.initial.seat-iterator)
+    × AllZip (IsStart l.shop.jobs.now) l.yielded l.starts.items
+    × (into_iter_len l.seat-iterator + vec_len l.starts ≤ vec_capacity l.starts)
+    × (into_iter_len l.seat-iterator ≡ length (into_iter_items l.seat-iterator))
+    × (l.started ≤ vec_len l.starts)
+    × IsSeatAt (sends_on l.sender) l.ticket
+    × (view l.ticket ≡ feeder 0 0 (vec_len l.starts))
+    × (vec_len l.starts ≡ length l.yielded)
+    × AreIdle (into_iter_items l.seat-iterator)

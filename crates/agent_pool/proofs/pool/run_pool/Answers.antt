@@ -1,0 +1,52 @@
+use Rattle.std.proofs.Common.{rules, ◌≡◌, ◌+◌, ◌≤◌, ℕ, List, length, sym, ap, subst, ◌∙◌, arith}
+use Rattle.std.specs.Vec.{vec_len, vec_capacity}
+use Rattle.server_lock.specs.Passes.{Held}
+use Rattle.agent_pool.specs.code.Gathering.{HasRoom}
+use Rattle.agent_pool.specs.code.Seated.{AreSeated, IsSeated}
+use Rattle.agent_pool.specs.code.Starts.{IsWorkOf}
+use Rattle.agent_pool.proofs.Filling.{as_many, seats_idle, still_distinct}
+use Rattle.agent_pool.proofs.Lines.{begins}
+use Rattle.agent_pool.proofs.Pooling.{pool_is}
+use Rattle.agent_pool.proofs.pool.run_pool.Goals as goal
+
+pub bounded_with-requires-clause-rule : goal.bounded_with-requires-clause-rule
+bounded_with-requires-clause-rule g c = begins
+
+pub bounded_with-requires-clause-cap : goal.bounded_with-requires-clause-cap
+bounded_with-requires-clause-cap g c =
+    let many = as_many (IsSeated _ _) c.args.agents.items c.in_ok-seats.seats.items c.in_ok-seats.ensures.each in
+    let some = c.requires.some in
+    let a = c.args.agents.ok.0 in
+    let b = c.in_ok-seats.seats.ok.0 in
+    let long = c.len-count.ensures in
+    omega arith
+
+pub work_in_threads-requires-clause-idle : goal.work_in_threads-requires-clause-idle
+work_in_threads-requires-clause-idle g c κs within = seats_idle _ _ c.args.agents.items c.in_ok-seats.seats.items c.in_ok-seats.ensures.each c.requires.ready.idle
+
+pub gather-requires-clause-worked : goal.gather-requires-clause-worked
+gather-requires-clause-worked g c = (c.in_ok-seats.seats.items, c.in_ok-worked.ensures)
+
+pub gather-requires-clause-distinct : goal.gather-requires-clause-distinct
+gather-requires-clause-distinct g c = still_distinct c.args.jobs.now _ _ c.args.agents.items c.in_ok-seats.seats.items c.in_ok-worked.worked.items c.in_ok-seats.ensures.each c.in_ok-worked.ensures c.requires.ready.distinct
+
+pub gather-requires-clause-room : goal.gather-requires-clause-room
+gather-requires-clause-room g c =
+    let many = as_many (IsSeated _ _) c.args.agents.items c.in_ok-seats.seats.items c.in_ok-seats.ensures.each in
+    let more = as_many (IsWorkOf c.args.jobs.now) c.in_ok-seats.seats.items c.in_ok-worked.worked.items c.in_ok-worked.ensures in
+    let a = c.args.agents.ok.0 in
+    let b = c.in_ok-worked.worked.ok.0 in
+    subst (λ (n : ℕ). HasRoom (length c.args.jobs.now) n c.in_ok-room.room) (omega arith) c.in_ok-room.ensures
+
+pub gather-requires-clause-passes : goal.gather-requires-clause-passes
+gather-requires-clause-passes g c =
+    let more = as_many (IsWorkOf c.args.jobs.now) c.in_ok-seats.seats.items c.in_ok-worked.worked.items c.in_ok-worked.ensures in
+    let a = c.in_ok-seats.seats.ok.0 in
+    let b = c.in_ok-worked.worked.ok.0 in
+    let room : vec_len c.reserve.new.self + vec_len c.in_ok-seats.seats ≤ vec_capacity c.reserve.new.self = search rules in
+    omega arith
+
+pub returns-clause-pool : goal.returns-clause-pool
+returns-clause-pool g c =
+    pool_is c.args.jobs.now c.args.agents.items c.args.passes.items c.reserve.new.self.items c.in_ok-seats.seats.items c.in_ok-worked.worked.items c.gather.result c.requires.ready.distinct
+    (subst (λ (left : List Held). AreSeated c.args.passes.items left c.args.agents.items c.in_ok-seats.seats.items) (sym c.reserve.ensures.items) c.in_ok-seats.ensures) c.in_ok-worked.ensures c.gather.ensures.pool

@@ -1,0 +1,6 @@
+pub mod Line
+pub mod Transcripts
+pub mod Seats
+pub mod Pools
+pub mod Endings
+pub mod code

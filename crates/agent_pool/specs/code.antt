@@ -1,0 +1,7 @@
+pub mod Fields
+pub mod Steps
+pub mod Working
+pub mod Seated
+pub mod Starts
+pub mod Filled
+pub mod Gathering

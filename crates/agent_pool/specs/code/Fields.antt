@@ -1,0 +1,12 @@
+-- What a player shows, and what holds of its fields.
+use Rattle.std.specs.Prelude.{◌≡◌}
+use Rattle.agent_pool.specs.declared.player.Player.TheInside.{Inside}
+use Rattle.agent_pool.specs.Transcripts.{Played, begins}
+
+abbrev pub played_of : Inside → Played
+played_of fields = record { agent = fields.agent; entries = fields.entries.items }
+
+-- its agent has its number, and began as many jobs as are begun in its transcript
+pub record IsPlayer (fields : Inside) : Type 0 where
+  pub number : fields.agent.state.index ≡ fields.number
+  pub counted : fields.agent.state.count ≡ begins fields.entries.items

@@ -1,0 +1,93 @@
+//! What comes of asking a server.
+
+ghost use Rattle.std.specs.Prelude.{◌≡◌, ◌+◌, ◌-◌, ◌≤◌, ◌++◌, ◌∷◌, [], length, true, Ok, Err};
+ghost use Rattle.std.specs.Vec.{vec_len, vec_capacity};
+ghost use Rattle.txn_core.specs.Agents.{next_of};
+ghost use Rattle.txn_core.specs.Standing.{FitsAsked};
+ghost use Rattle.agent_pool.specs.code.Steps.{Hears, told_by};
+
+use run_certify::Entry;
+use run_core::Outcome;
+use server_lock::{Answer, Miss};
+use txn_core::{Agent, Word};
+
+/// Where a job ended: the count of its agent's jobs before it, and the place of its end in the transcript.
+#[derive(Clone, Copy)]
+pub struct Ran {
+    pub count: u64,
+    pub at: usize,
+}
+
+/// What came of a request, or of a job.
+#[derive(Clone, Copy)]
+pub enum Came {
+    /// The job goes on.
+    On,
+    /// The job ended.
+    Ended(Ran),
+    /// The job could not be begun, or it cannot go on.
+    Stuck,
+    /// Memory was refused to the agent.
+    Lacked,
+}
+
+/// What is written down of an answer, and what the agent is told.
+#[derive(Drop)]
+pub struct Told {
+    pub(crate) entry: Entry,
+    pub(crate) word: Word,
+}
+
+/// The same, of this answer of this server. There is none where the pass was of other servers.
+pub(crate) fn told_of(server: u8, answer: Answer) -> Option<Told>
+    ensures { result ≡ told_by server answer.reply }
+{
+    match answer.into_reply() {
+        Ok(reply) => Some(Told {
+            entry: Entry::Asked {
+                server,
+                stamp: reply.stamp,
+            },
+            word: Word::Replied(reply.value),
+        }),
+        Err(Miss::Lack(lack)) => Some(Told {
+            entry: Entry::Lacked { server, lack },
+            word: Word::Lacked(lack),
+        }),
+        Err(Miss::Stale) => None,
+    }
+}
+
+/// What came of a request is written down, and told to the agent of this number. Where its job, which was begun at
+/// so many entries, ends with that, the end is written down too.
+pub(crate) fn hear(
+    agent: &mut Agent,
+    entries: &mut Vec<Entry>,
+    told: Told,
+    number: u8,
+    begun: usize,
+) -> Came
+    requires room { vec_len entries.old + 2 ≤ vec_capacity entries.old }
+    requires fits { FitsAsked (next_of agent.old.fixed agent.old.state) told.word }
+    requires begun { begun ≤ vec_len entries.old }
+    ensures { Hears number begun told agent.old entries.old.items agent.new entries.new.items result }
+{
+    let count = agent.count().saturating_sub(1);
+    let Told { entry, word } = told;
+    entries.push_reserved(entry);
+    let Ok(ending) = agent.take(&word) else {
+        return Came::Lacked;
+    };
+    let Some(ending) = ending else {
+        return Came::On;
+    };
+    let at = entries.len();
+    let steps = (at - begun) as u64;
+    entries.push_reserved(Entry::Ended(Outcome {
+        agent: number,
+        count,
+        steps,
+        ending,
+    }));
+    Came::Ended(Ran { count, at })
+}

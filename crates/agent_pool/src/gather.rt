@@ -1,0 +1,234 @@
+//! What agents did, put together.
+
+ghost use Rattle.std.specs.Prelude.{◌≡◌, ◌≢◌, ℕ, ◌+◌, ◌≤◌, ◌++◌, List, [], Err, None, Some, length, slice_get, IfErr, IfOk, OnOk};
+ghost use Rattle.std.specs.Vec.{vec_len, vec_capacity};
+ghost use Rattle.std.specs.List.{AllZip};
+ghost use Rattle.agent_pool.specs.declared.fault.PoolFault.TheVariants.{Double, Memory};
+ghost use Rattle.agent_pool.specs.code.Gathering.{AllRan, HasRoom, IsGathered, NoneLacked};
+ghost use Rattle.agent_pool.specs.Pools.{AreApart, AreOutcomes, IsFaultOf, IsOf};
+ghost use Rattle.agent_pool.specs.code.Filled.{AreApartIn, AreNone, AreWorks, IsFilled, IsPut, KeepFilled, StayApart};
+ghost use Rattle.agent_pool.specs.code.Filled.{done_in, filled_in, passes_of, players_of, sitting};
+ghost use Rattle.agent_pool.specs.Seats.{AreDistinct, numbers_of};
+ghost use Rattle.agent_pool.specs.code.Starts.{IsWorkOf};
+ghost use Rattle.agent_pool.specs.Transcripts.{Played, begins};
+ghost use Rattle.agent_pool.specs.code.Working.{AllDone, IsDone};
+
+use crate::fault::PoolFault;
+use crate::outcome::JobOutcome;
+use crate::player::Player;
+use crate::pool::Pool;
+use crate::work::{Done, Halt, Seat, Worked};
+use crate::workshop::NamedJob;
+use server_lock::Pass;
+use std::alloc::{AllocError, Global};
+
+/// Room for what is put together, made before an agent begins: a place for each job, and none filled.
+#[derive(Drop)]
+pub(crate) struct Room {
+    pub(crate) slots: Vec<Option<JobOutcome>>,
+    pub(crate) outcomes: Vec<JobOutcome>,
+    pub(crate) agents: Vec<Player>,
+}
+
+impl Room {
+    /// Room for so many jobs and agents.
+    pub(crate) fn new(alloc: Global, jobs: usize, agents: usize) -> Result<Room, AllocError>
+        ensures { IfOk result (HasRoom jobs agents) }
+    {
+        let slots = no_outcomes(alloc, jobs)?;
+        let outcomes = Vec::with_capacity(alloc, jobs)?;
+        let agents = Vec::with_capacity(alloc, agents)?;
+        Ok(Room {
+            slots,
+            outcomes,
+            agents,
+        })
+    }
+}
+
+/// Places without an outcome.
+fn no_outcomes(alloc: Global, count: usize) -> Result<Vec<Option<JobOutcome>>, AllocError>
+    ensures none { IfOk result (λ slots. AreNone slots.items) }
+    ensures many { IfOk result (λ slots. length slots.items ≡ count) }
+{
+    let mut slots = Vec::new(alloc);
+    for _ in 0..count {
+        slots.push(None)?;
+    }
+    Ok(slots)
+}
+
+/// One outcome for each job, the agents, and the passes: those that are left, and then those of the agents.
+pub(crate) fn gather(
+    jobs: &[NamedJob],
+    worked: Vec<Worked>,
+    passes: Vec<Pass>,
+    room: Room,
+) -> Result<Pool, PoolFault>
+    requires worked { AreWorks jobs.now worked.items }
+    requires distinct { AreDistinct (numbers_of (players_of worked.items)) }
+    requires room { HasRoom (length jobs.now) (vec_len worked) room }
+    requires passes { vec_len passes + vec_len worked ≤ vec_capacity passes }
+    ensures pool { IfOk result (IsGathered jobs.now worked.items passes.items) }
+    ensures fault { IfErr result (IsFaultOf jobs.now) }
+{
+    let Room {
+        mut slots,
+        outcomes,
+        agents,
+    } = room;
+    none_halted(jobs, &worked)?;
+    fill(jobs, &worked, &mut slots)?;
+    let outcomes = outcomes_of(jobs, &slots, outcomes)?;
+    Ok(pool_of(worked, passes, agents, outcomes))
+}
+
+/// Whether all agents ran whatever they took. That memory was refused to one is told before what another could not
+/// do.
+fn none_halted(jobs: &[NamedJob], worked: &[Worked]) -> Result<(), PoolFault>
+    requires { AreWorks jobs.now worked.now }
+    ensures ran { OnOk result (AllRan worked.now) }
+    ensures fault { IfErr result (IsFaultOf jobs.now) }
+    ensures memory { (fault : PoolFault) → result ≡ Err fault → fault ≢ Memory → NoneLacked worked.now }
+{
+    let _jobs = jobs.len();
+    let mut met = None;
+    for one in worked {
+        match one.halt {
+            Some(Halt::Lacked) => return Err(PoolFault::Memory),
+            Some(Halt::Stuck(job)) => met = Some(PoolFault::Missing(job)),
+            Some(Halt::Strange(place)) => met = Some(PoolFault::Stranger(place as u64)),
+            None => {}
+        }
+    }
+    match met {
+        Some(fault) => Err(fault),
+        None => Ok(()),
+    }
+}
+
+/// The outcomes of all jobs, at their places.
+fn fill(
+    jobs: &[NamedJob],
+    worked: &[Worked],
+    slots: &mut Vec<Option<JobOutcome>>,
+) -> Result<(), PoolFault>
+    requires worked { AreWorks jobs.now worked.now }
+    requires distinct { AreDistinct (numbers_of (players_of worked.now)) }
+    requires none { AreNone slots.old.items }
+    requires long { length slots.old.items ≡ length jobs.now }
+    ensures filled { OnOk result ((seats : List Seat) → AllZip (IsWorkOf jobs.now) seats worked.now
+        → AllZip (IsFilled (sitting seats) (players_of worked.now)) jobs.now slots.new.items) }
+    ensures apart { OnOk result (AreApartIn slots.new.items) }
+    ensures many { OnOk result (filled_in slots.new.items ≡ done_in worked.now) }
+    ensures long { length slots.new.items ≡ length slots.old.items }
+    ensures fault { IfErr result (IsFaultOf jobs.now) }
+{
+    for one in worked {
+        place_all(jobs, slots, one.player.number(), &one.done)?;
+    }
+    Ok(())
+}
+
+/// What an agent did is put into its places.
+fn place_all(
+    jobs: &[NamedJob],
+    slots: &mut Vec<Option<JobOutcome>>,
+    agent: u8,
+    done: &[Done],
+) -> Result<(), PoolFault>
+    requires { length slots.old.items ≡ length jobs.now }
+    ensures filled { OnOk result ((was players : List Played) (before player : Played) → IsOf was players agent before player
+        → AllDone jobs.now (begins before.entries) player done.now → KeepFilled jobs.now was players slots.old.items slots.new.items) }
+    ensures apart { OnOk result (StayApart agent done.now slots.old.items slots.new.items) }
+    ensures many { OnOk result (filled_in slots.new.items ≡ filled_in slots.old.items + length done.now) }
+    ensures long { length slots.new.items ≡ length slots.old.items }
+    ensures fault { IfErr result (IsFaultOf jobs.now) }
+{
+    for one in done {
+        place_one(jobs, slots, agent, *one)?;
+    }
+    Ok(())
+}
+
+/// What an agent did once is put into its place.
+fn place_one(
+    jobs: &[NamedJob],
+    slots: &mut Vec<Option<JobOutcome>>,
+    agent: u8,
+    done: Done,
+) -> Result<(), PoolFault>
+    requires { length slots.old.items ≡ length jobs.now }
+    ensures filled { OnOk result ((was players : List Played) (before player : Played) → IsOf was players agent before player
+        → IsDone jobs.now (begins before.entries) player done → KeepFilled jobs.now was players slots.old.items slots.new.items) }
+    ensures put { OnOk result ((job : ℕ) × IsPut slots.old.items done.place (record { job = job; agent = agent; count = done.ran.count; at = done.ran.at }) slots.new.items) }
+    ensures long { length slots.new.items ≡ length slots.old.items }
+    ensures fault { IfErr result (IsFaultOf jobs.now) }
+    ensures double { (job : ℕ) → result ≡ Err (Double job) → slice_get slots.old.items done.place ≢ Some None }
+{
+    let place = done.place;
+    let Some(named) = jobs.get(place) else {
+        return Err(PoolFault::Stranger(place as u64));
+    };
+    if slots[place].is_some() {
+        return Err(PoolFault::Double(named.number));
+    }
+    slots[place] = Some(JobOutcome {
+        job: named.number,
+        agent,
+        count: done.ran.count,
+        at: done.ran.at,
+    });
+    Ok(())
+}
+
+/// The outcomes, where each job has one, put into this room.
+fn outcomes_of(
+    jobs: &[NamedJob],
+    slots: &[Option<JobOutcome>],
+    mut room: Vec<JobOutcome>,
+) -> Result<Vec<JobOutcome>, PoolFault>
+    requires none { room.items ≡ [] }
+    requires room { length jobs.now ≤ vec_capacity room }
+    requires long { length slots.now ≡ length jobs.now }
+    ensures each { IfOk result (λ outcomes. (was players : List Played) → AllZip (IsFilled was players) jobs.now slots.now
+        → AreOutcomes was players jobs.now outcomes.items) }
+    ensures apart { IfOk result (λ outcomes. AreApartIn slots.now → AreApart outcomes.items) }
+    ensures all { IfOk result (λ outcomes. filled_in slots.now ≡ length jobs.now) }
+    ensures fault { IfErr result (IsFaultOf jobs.now) }
+    ensures missing { (fault : PoolFault) → result ≡ Err fault → (place : ℕ) × (slice_get slots.now place ≡ Some None) }
+{
+    for place in 0..jobs.len() {
+        match slots[place] {
+            Some(outcome) => room.push_reserved(outcome),
+            None => return Err(PoolFault::Missing(jobs[place].number)),
+        }
+    }
+    Ok(room)
+}
+
+/// A pool of all these, put into this room.
+fn pool_of(
+    worked: Vec<Worked>,
+    mut passes: Vec<Pass>,
+    mut agents: Vec<Player>,
+    outcomes: Vec<JobOutcome>,
+) -> Pool
+    requires none { agents.items ≡ [] }
+    requires agents { vec_len worked ≤ vec_capacity agents }
+    requires passes { vec_len passes + vec_len worked ≤ vec_capacity passes }
+    ensures agents { result.agents.items ≡ players_of worked.items }
+    ensures passes { result.passes.items ≡ passes.items ++ passes_of worked.items }
+    ensures outcomes { result.outcomes.items ≡ outcomes.items }
+{
+    for one in worked {
+        let Worked { player, pass, .. } = one;
+        agents.push_reserved(player);
+        passes.push_reserved(pass);
+    }
+    Pool {
+        agents,
+        passes,
+        outcomes,
+    }
+}

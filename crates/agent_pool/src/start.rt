@@ -1,0 +1,117 @@
+//! Threads of agents.
+
+ghost use Rattle.std.specs.Prelude.{◌≡◌, ◌≤◌, [], false};
+ghost use Rattle.std.specs.Vec.{vec_len, vec_capacity};
+ghost use Rattle.std.specs.List.{AllZip};
+ghost use Rattle.crossbeam_channel.specs.Claims.{view, IsSeatAt};
+ghost use Rattle.crossbeam_channel.specs.Ends.{receives_on};
+ghost use Rattle.agent_pool.specs.code.Starts.{Comes, IsStart, IsWorkOf};
+ghost use Rattle.agent_pool.specs.Transcripts.{IsIdle};
+ghost use Rattle.agent_pool.specs.code.Working.{IsWorked};
+
+use crate::line::Ticket;
+use crate::work::{Seat, Worked, work};
+use crate::workshop::{NamedJob, Workshop};
+use server_lock::Gate;
+use std::snapshot::Snapshot;
+use std::sync::Wait;
+use std::sync::atomic::Ordering;
+use std::thread::{Promise, PromisedHandle, Scope, Threads};
+
+/// That an agent went on from where it was, and did jobs of these.
+#[derive(Drop)]
+pub(crate) struct Works<'a> {
+    pub(crate) jobs: &'a [NamedJob],
+    pub(crate) was: Snapshot<Seat>,
+}
+
+impl<'a> Promise<Worked> for Works<'a> {
+    ghost use Rattle.agent_pool.specs.code.Starts.{IsWorkOf};
+
+    ghost kept_by = { λ p r. IsWorkOf p.jobs.now p.was.value r };
+}
+
+/// An agent's thread, or the agent where none could be started.
+#[derive(Drop)]
+pub(crate) enum Start<'a> {
+    Started(PromisedHandle<Worked, Works<'a>>),
+    Rested(Worked),
+}
+
+/// Starts the thread of an agent. Where none can be started the agent comes back as it was: its closure, which is
+/// called here, then finds its number among those refused.
+pub(crate) fn begin_thread<'s, E, R: Threads + Wait + Sync, G: Gate + Sync>(
+    rt: &'s R,
+    scope: &Scope<'s, E>,
+    shop: &Workshop<'s, G>,
+    ticket: Ticket,
+    seat: Seat,
+) -> Start<'s>
+    requires ticket { IsSeatAt (receives_on shop.now.receiver.now) ticket × ((view ticket).puts ≡ false) }
+    requires idle { IsIdle seat.player }
+    ensures { IsStart shop.now.jobs.now seat result }
+{
+    let number = u64::from(seat.player.number());
+    let (alloc, gate, servers) = (shop.alloc, shop.gate, shop.servers);
+    let (jobs, receiver, refused) = (shop.jobs, shop.receiver, shop.refused);
+    let works = Works {
+        jobs,
+        was: Snapshot::of(&seat),
+    };
+    let Seat { player, pass } = seat;
+    let spawned = scope.spawn_with(
+        works,
+        move || -> Worked
+            requires { IsSeatAt (receives_on receiver.now) ticket × ((view ticket).puts ≡ false) × IsIdle player }
+            ensures { IsWorked jobs.entry.now player pass result }
+        {
+            let seat = Seat { player, pass };
+            if refused.load(Ordering::SeqCst) == number {
+                return Worked::new(alloc, seat, jobs);
+            }
+            let shop = Workshop {
+                alloc,
+                gate,
+                servers,
+                jobs,
+                receiver,
+                refused,
+            };
+            work(rt, &shop, ticket, seat)
+        },
+    );
+    match spawned {
+        Ok(handle) => Start::Started(handle),
+        Err(back) => {
+            refused.store(number, Ordering::SeqCst);
+            Start::Rested((back.value)())
+        }
+    }
+}
+
+/// The agents' work, once they have ended it, put into this room.
+pub(crate) fn join_all<'s, R: Threads>(
+    rt: &R,
+    starts: Vec<Start<'s>>,
+    mut room: Vec<Worked>,
+) -> Vec<Worked>
+    requires none { room.items ≡ [] }
+    requires room { vec_len starts ≤ vec_capacity room }
+    ensures { AllZip Comes starts.entry.items result.items }
+{
+    for start in starts {
+        let worked = join_one(rt, start);
+        room.push_reserved(worked);
+    }
+    room
+}
+
+/// An agent's work, once it has ended it.
+fn join_one<'s, R: Threads>(rt: &R, start: Start<'s>) -> Worked
+    ensures { Comes start.entry result }
+{
+    match start {
+        Start::Started(handle) => handle.join(rt),
+        Start::Rested(worked) => worked,
+    }
+}

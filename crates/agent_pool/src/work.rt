@@ -1,0 +1,201 @@
+//! What a thread does: it takes jobs, and has its agent carry them out.
+
+ghost use Rattle.std.specs.Prelude.{◌≡◌, ◌≤◌, false, length, Some};
+ghost use Rattle.crossbeam_channel.specs.Claims.{view, IsSeatAt};
+ghost use Rattle.crossbeam_channel.specs.Ends.{receives_on};
+ghost use Rattle.agent_pool.specs.code.Starts.{IsWorkOf};
+ghost use Rattle.agent_pool.specs.code.Steps.{DidJob, DidMore};
+ghost use Rattle.agent_pool.specs.Transcripts.{IsIdle};
+
+use crate::asking::{Came, Ran};
+use crate::line::{Item, Ticket, take};
+use crate::player::Player;
+use crate::workshop::{NamedJob, Workshop};
+use server_lock::{Gate, Pass};
+use std::alloc::Global;
+use std::snapshot::Snapshot;
+use std::sync::Wait;
+
+/// A job that was done: its place among those that were handed in, and where it ended.
+#[derive(Clone, Copy)]
+pub struct Done {
+    pub place: usize,
+    pub ran: Ran,
+}
+
+/// Why an agent runs nothing more.
+#[derive(Clone, Copy)]
+pub enum Halt {
+    /// Memory was refused to it.
+    Lacked,
+    /// The job of this number could not be begun, or could not go on.
+    Stuck(u64),
+    /// What it took names a place at which no job was handed in.
+    Strange(usize),
+}
+
+/// An agent with its pass.
+#[derive(Drop)]
+pub struct Seat {
+    pub player: Player,
+    pub pass: Pass,
+}
+
+/// An agent that has ended its work, with its pass, the jobs that it did, and why it ran no more.
+#[derive(Drop)]
+pub struct Worked {
+    pub player: Player,
+    pub pass: Pass,
+    pub done: Vec<Done>,
+    pub halt: Option<Halt>,
+}
+
+impl Worked {
+    /// It did nothing yet.
+    pub(crate) fn new(alloc: Global, seat: Seat, jobs: &[NamedJob]) -> Worked
+        requires { IsIdle seat.player }
+        ensures { IsWorkOf jobs.now seat result }
+    {
+        let _jobs = jobs.len();
+        let Seat { player, pass } = seat;
+        Worked {
+            player,
+            pass,
+            done: Vec::new(alloc),
+            halt: None,
+        }
+    }
+
+    /// The same, but that its agent runs nothing more.
+    fn halted(self, halt: Halt) -> Worked
+        ensures player { result.player ≡ self.player }
+        ensures pass { result.pass ≡ self.pass }
+        ensures done { result.done.items ≡ self.done.items }
+        ensures halt { result.halt ≡ Some halt }
+    {
+        let Worked {
+            player,
+            pass,
+            done,
+            ..
+        } = self;
+        Worked {
+            player,
+            pass,
+            done,
+            halt: Some(halt),
+        }
+    }
+
+    /// Carries out a job that was handed in at this place; nothing, once it halted.
+    fn carry_out<R: Wait, G: Gate>(
+        mut self,
+        rt: &R,
+        shop: &Workshop<'_, G>,
+        place: usize,
+        was: &Snapshot<Seat>,
+    ) -> Worked
+        requires { IsWorkOf shop.now.jobs.now was.now.value self }
+        ensures { IsWorkOf shop.now.jobs.now was.now.value result }
+    {
+        if self.halt.is_some() {
+            return self;
+        }
+        let Some(named) = shop.jobs.get(place) else {
+            return self.halted(Halt::Strange(place));
+        };
+        if self.done.reserve(1).is_err() {
+            return self.halted(Halt::Lacked);
+        }
+        let Worked {
+            mut player,
+            pass,
+            mut done,
+            ..
+        } = self;
+        let (pass, came) = run(rt, shop, &mut player, pass, named);
+        let halt = match came {
+            Came::Ended(ran) => {
+                done.push_reserved(Done { place, ran });
+                return Worked {
+                    player,
+                    pass,
+                    done,
+                    halt: None,
+                };
+            }
+            Came::Lacked => Halt::Lacked,
+            Came::Stuck | Came::On => Halt::Stuck(named.number),
+        };
+        Worked {
+            player,
+            pass,
+            done,
+            halt: Some(halt),
+        }
+    }
+}
+
+/// An agent carries out a job, from its begin to its end.
+fn run<R: Wait, G: Gate>(
+    rt: &R,
+    shop: &Workshop<'_, G>,
+    player: &mut Player,
+    pass: Pass,
+    named: &NamedJob,
+) -> (Pass, Came)
+    ensures { DidJob shop.now.servers.now.servers named.now.job player.old player.new pass result.0 result.1 }
+{
+    match player.begin(&named.job) {
+        Ok(true) => {}
+        Ok(false) => return (pass, Came::Stuck),
+        Err(_) => return (pass, Came::Lacked),
+    }
+    shop.gate.begun(player.number(), named.number);
+    go_on(rt, shop, player, pass)
+}
+
+/// It asks until its job is at its end, or cannot go on.
+fn go_on<R: Wait, G: Gate>(
+    rt: &R,
+    shop: &Workshop<'_, G>,
+    player: &mut Player,
+    pass: Pass,
+) -> (Pass, Came)
+    ensures { DidMore shop.now.servers.now.servers (length player.old.entries) player.old player.new pass result.0 result.1 }
+{
+    let begun = player.entries().len();
+    let mut current = pass;
+    for _ in rt.forever() {
+        let (next, came) = player.step(rt, shop, current, begun);
+        current = next;
+        match came {
+            Came::On => {}
+            _ => return (current, came),
+        }
+    }
+    (current, Came::On)
+}
+
+/// Takes jobs until an end mark comes.
+pub(crate) fn work<R: Wait, G: Gate>(
+    rt: &R,
+    shop: &Workshop<'_, G>,
+    mut ticket: Ticket,
+    seat: Seat,
+) -> Worked
+    requires ticket { IsSeatAt (receives_on shop.now.receiver.now) ticket × ((view ticket).puts ≡ false) }
+    requires idle { IsIdle seat.player }
+    ensures { IsWorkOf shop.now.jobs.now seat result }
+{
+    let was = Snapshot::of(&seat);
+    let mut worked = Worked::new(shop.alloc, seat, shop.jobs);
+    for _ in rt.forever() {
+        match take(rt, shop.receiver, &mut ticket) {
+            Ok(Item::Job(place)) => worked = worked.carry_out(rt, shop, place, &was),
+            Ok(Item::End) => break,
+            Err(_) => break,
+        }
+    }
+    worked
+}
