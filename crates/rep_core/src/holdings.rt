@@ -78,6 +78,7 @@ impl Holdings {
     /// Makes sure of the memory that a request takes: room, or the record itself.
     #[inline(always)]
     pub(crate) fn begin(&mut self, way: Way, request: &Request) -> Result<(), AllocError>
+        requires sound { changing.IsSoundChange way request.now (state_of self.old) }
         ensures ok { OnOk result (state_of self.new ≡ changing.begun way request.now (state_of self.old)) }
         ensures room { OnOk result (changing.HasRoom way request.now self.new) }
         ensures err { OnErr result (state_of self.new ≡ state_of self.old) }
@@ -88,7 +89,7 @@ impl Holdings {
         };
         match request {
             Request::Poll { .. } | Request::Upgrade { .. } => self.locks.make_room(),
-            Request::Prepare { parts, .. } => self.store.make_room(parts.as_slice()),
+            Request::Prepare { t, parts } => self.store.plan(*t, parts.as_slice()),
             Request::Decide { t, decision } => self.record_decision(*t, decision),
             Request::Resolve { t } => self.record(*t, Verdict::Aborted),
             _ => Ok(()),
@@ -184,8 +185,12 @@ impl Holdings {
         let Way::Through = way else {
             return;
         };
-        if let Request::Decide { t, .. } | Request::Resolve { t } = request {
-            self.verdicts.remove(t);
+        match request {
+            Request::Decide { t, .. } | Request::Resolve { t } => {
+                self.verdicts.remove(t);
+            }
+            Request::Prepare { .. } => self.store.leave_plan(),
+            _ => {}
         }
     }
 }

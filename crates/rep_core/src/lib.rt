@@ -24,6 +24,7 @@ mod copying;
 mod effect;
 mod fitting;
 mod holdings;
+mod installing;
 mod intention;
 mod laws;
 mod lock;
@@ -34,6 +35,7 @@ mod request;
 mod server;
 mod stamped;
 mod store;
+mod takes;
 mod types_fit;
 
 pub use effect::finish_keeps_effect;

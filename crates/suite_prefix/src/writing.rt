@@ -14,14 +14,15 @@ use suite_content::{Content, Name};
 use vote_core::Votes;
 
 /// The form of the bytes.
-const FORM: u8 = 2;
+pub(crate) const FORM: u8 = 2;
 
 /// The bytes of a valid copy.
 pub fn encode(alloc: Global, copy: &Replica) -> Result<Vec<u8>, AllocError>
     requires { IsCopy copy.now }
     ensures { IfOk result (λ bytes. bytes.items ≡ bytes_of copy.now) }
 {
-    let mut out = Vec::with_capacity(alloc, room_for(&copy.content))?;
+    let room = room_for_prefix(&copy.prefix).saturating_add(room_for(&copy.content));
+    let mut out = Vec::with_capacity(alloc, room)?;
     out.push(FORM)?;
     put_prefix(&mut out, &copy.prefix)?;
     out.extend_from_slice(&copy.dver.to_be_bytes())?;
@@ -29,16 +30,34 @@ pub fn encode(alloc: Global, copy: &Replica) -> Result<Vec<u8>, AllocError>
     Ok(out)
 }
 
-/// At least as many bytes as the bytes of a copy are, so that there is one growth: a prefix and the two
-/// versions take 833 bytes at most, and a name 73.
-fn room_for(content: &Content) -> usize
-    requires { IsContent content.now }
-    ensures { result ≤ 131072 }
-{
+/// As many bytes as the form, a prefix and a version take.
+pub(crate) fn room_for_prefix(prefix: &Prefix) -> usize {
+    let default = match &prefix.acl.default {
+        Some(default) => default.entries().len(),
+        None => 0,
+    };
+    let entries = prefix.acl.access.entries().len().saturating_add(default);
+    let reps = prefix.votes.reps().len();
+    entries
+        .saturating_mul(6)
+        .saturating_add(reps.saturating_mul(2))
+        .saturating_add(33)
+}
+
+/// As many bytes as a content takes.
+fn room_for(content: &Content) -> usize {
     match content {
-        Content::Bytes(bytes) => 1024 + bytes.len(),
-        Content::Names(names) => 1024 + 73 * names.len(),
+        Content::Bytes(bytes) => bytes.len().saturating_add(4),
+        Content::Names(names) => room_for_names(names.as_slice()).saturating_add(2),
     }
+}
+
+fn room_for_names(names: &[(Name, u64)]) -> usize {
+    let mut room: usize = 0;
+    for (name, _) in names {
+        room = room.saturating_add(name.as_bytes().len()).saturating_add(9);
+    }
+    room
 }
 
 /// A law: no valid copy's bytes begin those of another, so no two copies share bytes. It does nothing.
@@ -46,7 +65,7 @@ pub fn no_bytes_begin_others()
     ensures { NoneBeginsAnother }
 {}
 
-fn put_prefix(out: &mut Vec<u8>, prefix: &Prefix) -> Result<(), AllocError>
+pub(crate) fn put_prefix(out: &mut Vec<u8>, prefix: &Prefix) -> Result<(), AllocError>
     ensures { OnOk result (out.new.items ≡ out.old.items ++ prefix_bytes prefix.now) }
 {
     put_identity(out, prefix)?;

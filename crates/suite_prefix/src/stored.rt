@@ -1,0 +1,217 @@
+//! Copies kept as their bytes.
+
+ghost use Rattle.std.specs.Prelude.{◌≡◌, IfOk, OnErr};
+ghost use Rattle.suite_prefix.specs.Bytes.{bytes_of, content_bytes};
+ghost use Rattle.suite_prefix.specs.Copies.{IsCopy};
+ghost use Rattle.suite_prefix.specs.Stored.{under};
+ghost use Rattle.suite_prefix.specs.code.Heads.{head_of};
+
+use crate::copies::{Prefix, PrefixKind, Replica};
+use crate::decoding::{content_from, decode};
+use crate::heads::HeadParts;
+use crate::reading::content_at;
+use crate::writing::{FORM, encode, put_prefix, room_for_prefix};
+use std::alloc::{AllocError, Global};
+use std::marker::Model;
+use suite_content::Content;
+
+/// A valid copy, kept as its bytes. What was read of them is kept beside them, to be shared when it is asked
+/// for again, and does not show.
+#[derive(Drop)]
+pub struct StoredCopy {
+    bytes: Vec<u8>,
+    head: Option<(Prefix, u64)>,
+    content: Option<Content>,
+}
+
+impl Model for StoredCopy {
+    ghost use Rattle.suite_prefix.specs.declared.copies.Replica.{Replica};
+    ghost use Rattle.suite_prefix.specs.code.Records.{IsStored, copy_in};
+
+    ghost Value = { Replica };
+
+    ghost view = { λ stored. copy_in stored.bytes.items };
+
+    ghost invariant = { λ stored. IsStored stored.bytes.items stored.head stored.content };
+}
+
+impl Clone for StoredCopy {
+    ghost use Rattle.std.specs.Prelude.{◌≡◌};
+
+    ghost is_clone = { λ stored copy. copy ≡ stored };
+
+    fn clone(&self) -> Result<StoredCopy, AllocError> {
+        let bytes = self.bytes.clone()?;
+        Ok(StoredCopy {
+            bytes,
+            head: None,
+            content: None,
+        })
+    }
+}
+
+impl StoredCopy {
+    /// A valid copy.
+    pub fn new(alloc: Global, copy: &Replica) -> Result<StoredCopy, AllocError>
+        requires { IsCopy copy.now }
+        ensures { IfOk result (λ stored. stored ≡ copy.now) }
+    {
+        let bytes = encode(alloc, copy)?;
+        Ok(StoredCopy {
+            bytes,
+            head: None,
+            content: None,
+        })
+    }
+
+    /// The copy under another prefix. The bytes of its content are taken as they stand.
+    pub fn under(&self, alloc: Global, prefix: &Prefix) -> Result<StoredCopy, AllocError>
+        requires { IsCopy (under prefix.now self.now) }
+        ensures { IfOk result (λ stored. stored ≡ under prefix.now self.now) }
+    {
+        let mut reps = [(0, 0); 255];
+        let (head, content) = self.parts(&mut reps);
+        if head.identity.kind.is_absent() {
+            let prefix = prefix.clone()?;
+            let content = Content::empty(alloc, prefix.kind.held());
+            let copy = Replica {
+                prefix,
+                dver: head.dver,
+                content,
+            };
+            return StoredCopy::new(alloc, &copy);
+        }
+        let room = room_for_prefix(prefix).saturating_add(content.len());
+        let mut bytes = Vec::with_capacity(alloc, room)?;
+        bytes.push(FORM)?;
+        put_prefix(&mut bytes, prefix)?;
+        bytes.extend_from_slice(&head.dver.to_be_bytes())?;
+        bytes.extend_from_slice(content)?;
+        Ok(StoredCopy {
+            bytes,
+            head: None,
+            content: None,
+        })
+    }
+
+    /// The kind.
+    pub fn kind(&self) -> PrefixKind
+        ensures { result ≡ self.now.prefix.kind }
+    {
+        if let Some((prefix, _)) = &self.head {
+            return prefix.kind;
+        }
+        let mut reps = [(0, 0); 255];
+        let (head, _) = self.parts(&mut reps);
+        head.identity.kind
+    }
+
+    /// The prefix, and the version of the content.
+    pub fn head(&self, alloc: Global) -> Result<(Prefix, u64), AllocError>
+        ensures prefix { IfOk result (λ head. head.0 ≡ self.now.prefix) }
+        ensures dver { IfOk result (λ head. head.1 ≡ self.now.dver) }
+    {
+        match &self.head {
+            Some((prefix, dver)) => {
+                let prefix = prefix.clone()?;
+                Ok((prefix, *dver))
+            }
+            None => self.read_head(alloc),
+        }
+    }
+
+    /// The content, and its version.
+    pub fn given(&self, alloc: Global) -> Result<(u64, Content), AllocError>
+        ensures dver { IfOk result (λ given. given.0 ≡ self.now.dver) }
+        ensures content { IfOk result (λ given. given.1 ≡ self.now.content) }
+    {
+        match (&self.head, &self.content) {
+            (Some((_, dver)), Some(content)) => {
+                let content = content.clone()?;
+                Ok((*dver, content))
+            }
+            _ => self.read_content(alloc),
+        }
+    }
+
+    /// Reads the prefix and the version of the content where nobody did, and keeps them. The copy is the same.
+    pub fn keep_head(&mut self, alloc: Global) -> Result<(), AllocError>
+        ensures { self.new ≡ self.old }
+    {
+        if self.head.is_none() {
+            let head = self.read_head(alloc)?;
+            self.head = Some(head);
+        }
+        Ok(())
+    }
+
+    /// Reads all of it where nobody did, and keeps it. The copy is the same.
+    pub fn keep_content(&mut self, alloc: Global) -> Result<(), AllocError>
+        ensures { self.new ≡ self.old }
+    {
+        self.keep_head(alloc)?;
+        if self.content.is_none() {
+            let (_, content) = self.read_content(alloc)?;
+            self.content = Some(content);
+        }
+        Ok(())
+    }
+
+    /// Whether the prefix is kept beside the bytes.
+    pub fn keeps_head(&self) -> bool {
+        self.head.is_some()
+    }
+
+    /// Whether the content is kept beside the bytes.
+    pub fn keeps_content(&self) -> bool {
+        self.content.is_some()
+    }
+
+    /// The bytes. It takes no memory.
+    pub fn as_bytes(&self) -> &[u8]
+        ensures bytes { result.now ≡ bytes_of self.now }
+        ensures valid { IsCopy self.now }
+    {
+        &self.bytes
+    }
+
+    /// The copy. Only memory keeps it from being read.
+    pub fn copy(&self, alloc: Global) -> Result<Replica, AllocError>
+        ensures { IfOk result (λ copy. copy ≡ self.now) }
+    {
+        match decode(alloc, self.as_bytes()) {
+            Ok(copy) => Ok(copy),
+            Err(_) => Err(AllocError),
+        }
+    }
+
+    /// What stands before the content, and the bytes of the content.
+    fn parts<'a>(&'a self, reps: &'a mut [(u8, u8); 255]) -> (HeadParts<'a>, &'a [u8])
+        ensures head { result.0 ≡ head_of self.now }
+        ensures content { result.1.now ≡ content_bytes self.now.content }
+        ensures valid { IsCopy self.now }
+    {
+        HeadParts::at(self.as_bytes(), reps).unwrap()
+    }
+
+    fn read_head(&self, alloc: Global) -> Result<(Prefix, u64), AllocError>
+        ensures prefix { IfOk result (λ head. head.0 ≡ self.now.prefix) }
+        ensures dver { IfOk result (λ head. head.1 ≡ self.now.dver) }
+    {
+        let mut reps = [(0, 0); 255];
+        let (head, _) = self.parts(&mut reps);
+        let prefix = head.prefix(alloc)?;
+        Ok((prefix, head.dver))
+    }
+
+    fn read_content(&self, alloc: Global) -> Result<(u64, Content), AllocError>
+        ensures dver { IfOk result (λ given. given.0 ≡ self.now.dver) }
+        ensures content { IfOk result (λ given. given.1 ≡ self.now.content) }
+    {
+        let mut reps = [(0, 0); 255];
+        let (head, rest) = self.parts(&mut reps);
+        let (shape, _) = content_at(head.identity.kind, rest).unwrap();
+        let content = content_from(alloc, &shape)?;
+        Ok((head.dver, content))
+    }
+}
