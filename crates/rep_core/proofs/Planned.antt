@@ -14,7 +14,7 @@ use Rattle.rep_core.proofs.Intentions.{apart_behind}
 use Rattle.std.proofs.lemmas.List.{get_or-map}
 use Rattle.std.proofs.lemmas.Map.Made.{lookup-map_values, keys_of-map_values}
 use Rattle.std.proofs.lemmas.Option.{none-some, same_Some}
-use Rattle.sorted_map.specs.SortedMap.{IsOrdered, get, insert, remove}
+use Rattle.sorted_map.specs.SortedMap.{IsOrdered, get, insert, remove, replace}
 use Rattle.sorted_map.specs.Numbers.{get_insert_here, get_insert_apart, get_remove_here, get_remove_apart}
 use Rattle.vote_core.specs.Quorums.{Configuration}
 use Rattle.suite_prefix.specs.declared.copies.Replica.{Replica}
@@ -82,6 +82,18 @@ count_in p pairs = fold_in p 0 pairs
 pub at_in : (pairs : List (ℕ × Planned)) (i : ℕ) (pair : ℕ × Planned) → i < length pairs → pair ≡ get_or pairs i pair → (pair.0, intention_in pair.1) ≡ get_or (intentions_in pairs) i (pair.0, intention_in pair.1)
 at_in pairs i pair in_range is =
     ap (λ (e : ℕ × Planned). (e.0, intention_in e.1)) is ∙ sym (get_or-map (λ (e : ℕ × Planned). (e.0, intention_in e.1)) pairs i pair (pair.0, intention_in pair.1) in_range)
+
+-- where the value that is there is written again, nothing changes
+pub replaced_same : {V : Type 0} (pairs : List (ℕ × V)) (key : ℕ) (value : V) → get nat_cmp pairs key ≡ Some value → replace nat_cmp pairs key value ≡ pairs
+replaced_same [] key value has = refl
+replaced_same (e ∷ es) key value has = ⊎_elim
+    (λ here.
+    let is : e.1 ≡ value = same_Some e.1 value (sym (lookup_head (is_at (nat_cmp key)) e es here) ∙ has) in
+    ap (λ b. cond b ((e.0, value) ∷ es) (e ∷ replace nat_cmp es key value)) here ∙ ap (λ v. (e.0, v) ∷ es) (sym is))
+    (λ there.
+    ap (λ b. cond b ((e.0, value) ∷ es) (e ∷ replace nat_cmp es key value)) there
+    ∙ ap (λ l. e ∷ l) (replaced_same es key value (sym (lookup_tail (is_at (nat_cmp key)) e es there) ∙ has)))
+    (cases_Bool (is_at (nat_cmp key) e.0))
 
 -- ---- what is left
 

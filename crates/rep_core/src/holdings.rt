@@ -6,6 +6,7 @@ ghost use Rattle.std.specs.Ordering.{nat_cmp};
 ghost use Rattle.std.specs.Vec.{vec_len, vec_capacity};
 ghost use Rattle.sorted_map.specs.SortedMap.{insert};
 ghost use Rattle.rep_core.specs.code.Changing as changing;
+ghost use Rattle.rep_core.specs.code.Planning.{planned_of};
 ghost use Rattle.rep_core.specs.code.ServerFields.{state_of};
 ghost use Rattle.rep_core.specs.Locks as locking;
 ghost use Rattle.rep_core.specs.Service as service;
@@ -146,6 +147,7 @@ impl Holdings {
         requires sound { list_all (store.is_sound_part (state_of self.old).store) parts ≡ true }
         requires few { store.overfills t (state_of self.old).store parts ≡ false }
         requires room { length parts ≤ self.old.store.room }
+        requires made { self.old.store.pending ≡ planned_of self.old.store.store.c0 self.old.store.store.copies t parts }
         ensures { state_of self.new ≡ record (state_of self.old) { store = store.intended t parts (state_of self.old).store; locks = locking.with_prepared t parts (state_of self.old).locks } }
     {
         self.locks.prepare(t, parts.as_slice());
@@ -185,12 +187,11 @@ impl Holdings {
         let Way::Through = way else {
             return;
         };
-        match request {
-            Request::Decide { t, .. } | Request::Resolve { t } => {
-                self.verdicts.remove(t);
-            }
-            Request::Prepare { .. } => self.store.leave_plan(),
-            _ => {}
+        if let Request::Decide { t, .. } | Request::Resolve { t } = request {
+            self.verdicts.remove(t);
+        }
+        if let Request::Prepare { .. } = request {
+            self.store.leave_plan();
         }
     }
 }

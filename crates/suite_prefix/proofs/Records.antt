@@ -75,6 +75,15 @@ makes_default (Some list) acl = subst MakesDefaultAcl (sym (entries_back list)) 
     of_list [] acl = tt
     of_list (entry ∷ entries) acl = acl
 
+-- entries of a default list, where there are some
+pub acl_if_some : (entries : List EntryShape) → (entries ≡ [] → ⊥) → MakesDefaultAcl (map entry_from entries) → IsAcl (map entry_from entries)
+acl_if_some [] some makes = absurd (some refl)
+acl_if_some (entry ∷ entries) some makes = makes
+
+pub default_if_some : (entries : List EntryShape) → (entries ≡ [] → ⊥) → default_of (map entry_from entries) ≡ Some (map entry_from entries)
+default_if_some [] some = absurd (some refl)
+default_if_some (entry ∷ entries) some = refl
+
 pub is_of_valid : (copy : Replica) → IsCopy copy → IsOfValid (head_of copy)
 is_of_valid copy valid = record {
   known = all_known copy.prefix.acl.access;

@@ -1,10 +1,11 @@
 //! Copies kept as their bytes.
 
-ghost use Rattle.std.specs.Prelude.{◌≡◌, IfOk, OnErr};
+ghost use Rattle.std.specs.Prelude.{◌≡◌, IfOk};
 ghost use Rattle.suite_prefix.specs.Bytes.{bytes_of, content_bytes};
 ghost use Rattle.suite_prefix.specs.Copies.{IsCopy};
 ghost use Rattle.suite_prefix.specs.Stored.{under};
 ghost use Rattle.suite_prefix.specs.code.Heads.{head_of};
+ghost use Rattle.suite_prefix.specs.code.Records.{IsRecord, copy_in};
 
 use crate::copies::{Prefix, PrefixKind, Replica};
 use crate::decoding::{content_from, decode};
@@ -42,11 +43,7 @@ impl Clone for StoredCopy {
 
     fn clone(&self) -> Result<StoredCopy, AllocError> {
         let bytes = self.bytes.clone()?;
-        Ok(StoredCopy {
-            bytes,
-            head: None,
-            content: None,
-        })
+        Ok(kept(bytes))
     }
 }
 
@@ -57,11 +54,7 @@ impl StoredCopy {
         ensures { IfOk result (λ stored. stored ≡ copy.now) }
     {
         let bytes = encode(alloc, copy)?;
-        Ok(StoredCopy {
-            bytes,
-            head: None,
-            content: None,
-        })
+        Ok(kept(bytes))
     }
 
     /// The copy under another prefix. The bytes of its content are taken as they stand.
@@ -82,16 +75,12 @@ impl StoredCopy {
             return StoredCopy::new(alloc, &copy);
         }
         let room = room_for_prefix(prefix).saturating_add(content.len());
-        let mut bytes = Vec::with_capacity(alloc, room)?;
-        bytes.push(FORM)?;
-        put_prefix(&mut bytes, prefix)?;
-        bytes.extend_from_slice(&head.dver.to_be_bytes())?;
-        bytes.extend_from_slice(content)?;
-        Ok(StoredCopy {
-            bytes,
-            head: None,
-            content: None,
-        })
+        let mut left = Vec::with_capacity(alloc, room)?;
+        left.push(FORM)?;
+        put_prefix(&mut left, prefix)?;
+        left.extend_from_slice(&head.dver.to_be_bytes())?;
+        left.extend_from_slice(content)?;
+        Ok(kept(left))
     }
 
     /// The kind.
@@ -213,5 +202,17 @@ impl StoredCopy {
         let (shape, _) = content_at(head.identity.kind, rest).unwrap();
         let content = content_from(alloc, &shape)?;
         Ok((head.dver, content))
+    }
+}
+
+/// The copy with these bytes.
+fn kept(bytes: Vec<u8>) -> StoredCopy
+    requires { IsRecord bytes.items }
+    ensures { result ≡ copy_in bytes.items }
+{
+    StoredCopy {
+        bytes,
+        head: None,
+        content: None,
     }
 }
