@@ -1,11 +1,12 @@
 //! Names in a folder.
 
-ghost use Rattle.std.specs.Prelude.{◌≡◌, ◌↔◌, ◌⊎◌, ◌≤◌, All, IsSome, IfSome, IsTrue, codes, length, drop, min};
+ghost use Rattle.std.specs.Prelude.{◌≡◌, ◌++◌, ◌↔◌, OnOk, ◌⊎◌, ◌≤◌, All, IsSome, IfSome, IsTrue, codes, length, drop, min};
 ghost use Rattle.std.specs.Ordering.{nat_cmp};
 ghost use Rattle.std.specs.Cmp.Lexicographic.{slice_cmp};
 ghost use Rattle.suite_content.specs.Names.{IsName, is_name_byte};
 ghost use Rattle.suite_content.specs.code.Fronts.{front};
 
+use std::alloc::AllocError;
 use std::cmp::Ordering;
 use std::fmt;
 use std::fmt::Write;
@@ -138,6 +139,17 @@ impl Name {
         ensures is_name { IsName self.now }
     {
         &self.array[..self.count as usize]
+    }
+
+    /// Writes its bytes behind others. Its place is copied whole, and what stands behind them is cut off: that is
+    /// faster than to copy as many bytes as there are.
+    pub fn put(&self, out: &mut Vec<u8>) -> Result<(), AllocError>
+        ensures { OnOk result (out.new.items ≡ out.old.items ++ self.now) }
+    {
+        let end = out.len() + usize::from(self.count);
+        out.extend_from_slice(&self.array)?;
+        out.truncate(end);
+        Ok(())
     }
 
     /// Its first eight bytes as one number, with zeros behind a shorter name.

@@ -17,23 +17,32 @@ use std::marker::Model;
 use suite_content::Content;
 
 /// A valid copy, kept as its bytes. What was read of them is kept beside them, to be shared when it is asked
-/// for again, and does not show.
+/// for again, and does not show. It stands on the heap, so that the copy is cheap to move.
 #[derive(Drop)]
 pub struct StoredCopy {
     bytes: Vec<u8>,
-    head: Option<(Prefix, u64)>,
+    read: Option<Box<Read>>,
+}
+
+/// What was read of the bytes of a copy: all that stands before the content, and the content where it was
+/// asked for.
+#[derive(Drop)]
+struct Read {
+    prefix: Prefix,
+    dver: u64,
     content: Option<Content>,
 }
 
 impl Model for StoredCopy {
+    ghost use Rattle.std.specs.Prelude.{IfSome};
     ghost use Rattle.suite_prefix.specs.declared.copies.Replica.{Replica};
-    ghost use Rattle.suite_prefix.specs.code.Records.{IsStored, copy_in};
+    ghost use Rattle.suite_prefix.specs.code.Records.{IsReadOf, IsRecord, copy_in};
 
     ghost Value = { Replica };
 
     ghost view = { λ stored. copy_in stored.bytes.items };
 
-    ghost invariant = { λ stored. IsStored stored.bytes.items stored.head stored.content };
+    ghost invariant = { λ stored. IsRecord stored.bytes.items × IfSome stored.read (λ read. IsReadOf (copy_in stored.bytes.items) read.value) };
 }
 
 impl Clone for StoredCopy {
@@ -87,8 +96,8 @@ impl StoredCopy {
     pub fn kind(&self) -> PrefixKind
         ensures { result ≡ self.now.prefix.kind }
     {
-        if let Some((prefix, _)) = &self.head {
-            return prefix.kind;
+        if let Some(read) = &self.read {
+            return read.prefix.kind;
         }
         let mut reps = [(0, 0); 255];
         let (head, _) = self.parts(&mut reps);
@@ -100,60 +109,77 @@ impl StoredCopy {
         ensures prefix { IfOk result (λ head. head.0 ≡ self.now.prefix) }
         ensures dver { IfOk result (λ head. head.1 ≡ self.now.dver) }
     {
-        match &self.head {
-            Some((prefix, dver)) => {
-                let prefix = prefix.clone()?;
-                Ok((prefix, *dver))
+        match &self.read {
+            Some(read) => {
+                let prefix = read.prefix.clone()?;
+                Ok((prefix, read.dver))
             }
             None => self.read_head(alloc),
         }
     }
 
-    /// The content, and its version.
+    /// The version of the content, and the content.
     pub fn given(&self, alloc: Global) -> Result<(u64, Content), AllocError>
         ensures dver { IfOk result (λ given. given.0 ≡ self.now.dver) }
         ensures content { IfOk result (λ given. given.1 ≡ self.now.content) }
     {
-        match (&self.head, &self.content) {
-            (Some((_, dver)), Some(content)) => {
+        if let Some(read) = &self.read {
+            if let Some(content) = &read.content {
                 let content = content.clone()?;
-                Ok((*dver, content))
+                return Ok((read.dver, content));
             }
-            _ => self.read_content(alloc),
         }
+        self.read_content(alloc)
     }
 
-    /// Reads the prefix and the version of the content where nobody did, and keeps them. The copy is the same.
+    /// Reads the prefix and the version of the content, where nobody did, and keeps them. The copy is the same.
     pub fn keep_head(&mut self, alloc: Global) -> Result<(), AllocError>
         ensures { self.new ≡ self.old }
     {
-        if self.head.is_none() {
-            let head = self.read_head(alloc)?;
-            self.head = Some(head);
+        if self.keeps_head() {
+            return Ok(());
         }
+        let (prefix, dver) = self.read_head(alloc)?;
+        let read = Read {
+            prefix,
+            dver,
+            content: None,
+        };
+        let read = Box::new(alloc, read)?;
+        self.read = Some(read);
         Ok(())
     }
 
-    /// Reads all of it where nobody did, and keeps it. The copy is the same.
+    /// Reads all of it, where nobody did, and keeps it. The copy is the same.
     pub fn keep_content(&mut self, alloc: Global) -> Result<(), AllocError>
         ensures { self.new ≡ self.old }
     {
-        self.keep_head(alloc)?;
-        if self.content.is_none() {
-            let (_, content) = self.read_content(alloc)?;
-            self.content = Some(content);
+        if self.keeps_content() {
+            return Ok(());
         }
+        let (prefix, dver) = self.head(alloc)?;
+        let (_, content) = self.read_content(alloc)?;
+        let read = Read {
+            prefix,
+            dver,
+            content: Some(content),
+        };
+        let read = Box::new(alloc, read)?;
+        self.read = Some(read);
         Ok(())
     }
 
     /// Whether the prefix is kept beside the bytes.
     pub fn keeps_head(&self) -> bool {
-        self.head.is_some()
+        self.read.is_some()
     }
 
     /// Whether the content is kept beside the bytes.
     pub fn keeps_content(&self) -> bool {
-        self.content.is_some()
+        match &self.read {
+            Some(read) => read.content.is_some(),
+            None => false,
+        }
     }
 
     /// The bytes. It takes no memory.
@@ -210,9 +236,5 @@ fn kept(bytes: Vec<u8>) -> StoredCopy
     requires { IsRecord bytes.items }
     ensures { result ≡ copy_in bytes.items }
 {
-    StoredCopy {
-        bytes,
-        head: None,
-        content: None,
-    }
+    StoredCopy { bytes, read: None }
 }

@@ -10,7 +10,7 @@ use crate::copies::{Prefix, PrefixKind, Replica};
 use acl_core::{Acl, Entry, Lists, Tag};
 use bitflags::Flags;
 use std::alloc::{AllocError, Global};
-use suite_content::{Content, Name};
+use suite_content::{Content, MAX_NAME, Name};
 use vote_core::Votes;
 
 /// The form of the bytes.
@@ -44,11 +44,11 @@ pub(crate) fn room_for_prefix(prefix: &Prefix) -> usize {
         .saturating_add(33)
 }
 
-/// As many bytes as a content takes.
+/// As many bytes as a content takes, and behind names the place of one more, in which it is put before it is cut.
 fn room_for(content: &Content) -> usize {
     match content {
         Content::Bytes(bytes) => bytes.len().saturating_add(4),
-        Content::Names(names) => room_for_names(names.as_slice()).saturating_add(2),
+        Content::Names(names) => room_for_names(names.as_slice()).saturating_add(2 + MAX_NAME),
     }
 }
 
@@ -182,9 +182,8 @@ fn put_names(out: &mut Vec<u8>, names: &[(Name, u64)]) -> Result<(), AllocError>
 fn put_name(out: &mut Vec<u8>, name: &Name, suite: u64) -> Result<(), AllocError>
     ensures { OnOk result (out.new.items ≡ out.old.items ++ name_bytes (name.now, suite)) }
 {
-    let bytes = name.as_bytes();
-    out.push(bytes.len() as u8)?;
-    out.extend_from_slice(bytes)?;
+    out.push(name.as_bytes().len() as u8)?;
+    name.put(out)?;
     out.extend_from_slice(&suite.to_be_bytes())?;
     Ok(())
 }

@@ -1,9 +1,8 @@
 -- Bytes that are kept in place of a copy, and the copy whose bytes they are.
-use Rattle.std.specs.Prelude.{◌≡◌, ℕ, List, [], Option, IfSome, Result, Ok, Err}
-use Rattle.suite_content.specs.declared.content.Content.{Content}
-use Rattle.suite_prefix.specs.declared.copies.Prefix.{Prefix}
+use Rattle.std.specs.Prelude.{◌≡◌, ℕ, List, [], IfSome, Result, Ok, Err}
 use Rattle.suite_prefix.specs.declared.copies.Replica.{Replica}
 use Rattle.suite_prefix.specs.declared.faults.CopyFault.{CopyFault}
+use Rattle.suite_prefix.specs.declared.stored.Read.{Read}
 use Rattle.suite_prefix.specs.Absent.{absent_copy}
 use Rattle.suite_prefix.specs.Bytes.{bytes_of}
 use Rattle.suite_prefix.specs.Copies.{IsCopy}
@@ -22,9 +21,8 @@ pub record IsRecord (bytes : List ℕ) : Type 0 where
   pub valid : IsCopy (copy_in bytes)
   pub spelled : bytes ≡ bytes_of (copy_in bytes)
 
--- so they are, and what is kept beside them is what they spell
-pub record IsStored (bytes : List ℕ) (head : Option (Prefix × ℕ)) (content : Option Content) : Type 0 where
-  pub is : IsRecord bytes
-  pub prefix : IfSome head (λ kept. kept.0 ≡ (copy_in bytes).prefix)
-  pub dver : IfSome head (λ kept. kept.1 ≡ (copy_in bytes).dver)
-  pub content : IfSome content (λ kept. kept ≡ (copy_in bytes).content)
+-- what was read of them is the copy's
+pub record IsReadOf (copy : Replica) (read : Read) : Type 0 where
+  pub prefix : read.prefix ≡ copy.prefix
+  pub dver : read.dver ≡ copy.dver
+  pub content : IfSome read.content (λ kept. kept ≡ copy.content)
