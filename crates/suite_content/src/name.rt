@@ -1,6 +1,7 @@
 //! Names in a folder.
 
-ghost use Rattle.std.specs.Prelude.{◌≡◌, ◌++◌, ◌↔◌, OnOk, ◌⊎◌, ◌≤◌, All, IsSome, IfSome, IsTrue, codes, length, drop, min};
+ghost use Rattle.std.specs.Prelude.{◌≡◌, ◌++◌, ◌∷◌, ◌↔◌, OnOk, ◌⊎◌, ◌≤◌, All, IsSome, IfSome, IsTrue, codes, length, drop, min};
+ghost use Rattle.std.specs.Int.{w64, to_be_bytes};
 ghost use Rattle.std.specs.Ordering.{nat_cmp};
 ghost use Rattle.std.specs.Cmp.Lexicographic.{slice_cmp};
 ghost use Rattle.suite_content.specs.Names.{IsName, is_name_byte};
@@ -14,6 +15,9 @@ use std::marker::Model;
 
 /// The most bytes of a name.
 pub const MAX_NAME: usize = 64;
+
+/// The most bytes that a name takes where it is written with its length and a number.
+const NUMBERED: usize = 1 + MAX_NAME + 8;
 
 /// So many bytes of two names are compared at once, as numbers.
 const FRONT: usize = 8;
@@ -141,14 +145,19 @@ impl Name {
         &self.array[..self.count as usize]
     }
 
-    /// Writes its bytes behind others. Its place is copied whole, and what stands behind them is cut off: that is
-    /// faster than to copy as many bytes as there are.
-    pub fn put(&self, out: &mut Vec<u8>) -> Result<(), AllocError>
-        ensures { OnOk result (out.new.items ≡ out.old.items ++ self.now) }
+    /// Writes how many bytes it has, its bytes, and a number, whose highest byte comes first. Its place is copied
+    /// whole and what is too much is cut off, which is faster than to copy as many bytes as there are.
+    pub fn put(&self, number: u64, out: &mut Vec<u8>) -> Result<(), AllocError>
+        ensures { OnOk result (out.new.items ≡ out.old.items ++ (length self.now ∷ self.now ++ to_be_bytes w64 number)) }
     {
-        let end = out.len() + usize::from(self.count);
-        out.extend_from_slice(&self.array)?;
-        out.truncate(end);
+        let end = usize::from(self.count) + 1;
+        let mut written = [0; NUMBERED];
+        written[0] = self.count;
+        written[1..1 + MAX_NAME].copy_from_slice(&self.array);
+        written[end..end + 8].copy_from_slice(&number.to_be_bytes());
+        let all = out.len() + end + 8;
+        out.extend_from_slice(&written)?;
+        out.truncate(all);
         Ok(())
     }
 

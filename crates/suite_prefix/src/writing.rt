@@ -1,6 +1,7 @@
 //! The bytes of a copy.
 
-ghost use Rattle.std.specs.Prelude.{◌≡◌, ◌++◌, ◌<◌, ◌≤◌, length, OnOk, IfOk};
+ghost use Rattle.std.specs.Prelude.{◌≡◌, ◌++◌, ◌*◌, ◌<◌, ◌≤◌, length, OnOk, IfOk};
+ghost use Rattle.suite_content.specs.Limits.{max_names};
 ghost use Rattle.std.specs.List.{flat_map};
 ghost use Rattle.suite_prefix.specs.Copies.{IsCopy, IsContent};
 ghost use Rattle.suite_prefix.specs.Bytes.{NoneBeginsAnother, bytes_of, prefix_bytes, identity_bytes, list_bytes, lists_bytes, entry_bytes, votes_bytes, representative_bytes, content_bytes, name_bytes, kind_code, tag_code};
@@ -44,18 +45,24 @@ pub(crate) fn room_for_prefix(prefix: &Prefix) -> usize {
         .saturating_add(33)
 }
 
-/// As many bytes as a content takes, and behind names the place of one more, in which it is put before it is cut.
-fn room_for(content: &Content) -> usize {
+/// As many bytes as a content takes, and behind names room for what is written of one and cut off.
+fn room_for(content: &Content) -> usize
+    requires { IsContent content.now }
+    ensures { result ≤ 131072 }
+{
     match content {
-        Content::Bytes(bytes) => bytes.len().saturating_add(4),
-        Content::Names(names) => room_for_names(names.as_slice()).saturating_add(2 + MAX_NAME),
+        Content::Bytes(bytes) => 4 + bytes.len(),
+        Content::Names(names) => 2 + room_for_names(names.as_slice()) + MAX_NAME,
     }
 }
 
-fn room_for_names(names: &[(Name, u64)]) -> usize {
-    let mut room: usize = 0;
+fn room_for_names(names: &[(Name, u64)]) -> usize
+    requires { length names.now ≤ max_names }
+    ensures { result ≤ 73 * length names.now }
+{
+    let mut room = 0;
     for (name, _) in names {
-        room = room.saturating_add(name.as_bytes().len()).saturating_add(9);
+        room += 9 + name.as_bytes().len();
     }
     room
 }
@@ -174,16 +181,7 @@ fn put_names(out: &mut Vec<u8>, names: &[(Name, u64)]) -> Result<(), AllocError>
     ensures { OnOk result (out.new.items ≡ out.old.items ++ flat_map name_bytes names.now) }
 {
     for (name, suite) in names {
-        put_name(out, name, *suite)?;
+        name.put(*suite, out)?;
     }
-    Ok(())
-}
-
-fn put_name(out: &mut Vec<u8>, name: &Name, suite: u64) -> Result<(), AllocError>
-    ensures { OnOk result (out.new.items ≡ out.old.items ++ name_bytes (name.now, suite)) }
-{
-    out.push(name.as_bytes().len() as u8)?;
-    name.put(out)?;
-    out.extend_from_slice(&suite.to_be_bytes())?;
     Ok(())
 }
