@@ -16,8 +16,8 @@ ghost use Rattle.rep_core.specs.Service.{held, given};
 ghost use Rattle.rep_core.specs.Store as store;
 
 use crate::copying::copied;
-use crate::installing::{forget, install, keep_all, keep_content, keep_head};
 use crate::intention::Planned;
+use crate::maps::{forget, install, keep_all, keep_content, keep_head};
 use crate::reply::Reply;
 use crate::request::{Part, Take};
 use crate::takes::{any_holds_last, is_keep, is_whole, may_become, take_nothing};

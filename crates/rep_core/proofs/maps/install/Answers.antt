@@ -12,7 +12,7 @@ use Rattle.rep_core.specs.code.Planning.{Leaves, intention_in, intentions_in}
 use Rattle.rep_core.proofs.Intentions.{is_of}
 use Rattle.rep_core.proofs.Installing.{has_at, length-taken, passed-taken, others-taken, with_copies-taken, with_copies-other, passed-other, all_passed}
 use Rattle.rep_core.proofs.Planned.{at_in, becomes, get_in, leaves_taken, length_in, remove_in, rising_in}
-use Rattle.rep_core.proofs.installing.install.Goals as goal
+use Rattle.rep_core.proofs.maps.install.Goals as goal
 
 pub loop-place-init : goal.loop-place-init
 loop-place-init c = record { copies = λ c0. refl; others = refl; passed = refl; leaves = c.requires.leaves; within = omega arith; room = c.requires.room }

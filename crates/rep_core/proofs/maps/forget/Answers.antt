@@ -5,7 +5,7 @@ use Rattle.sorted_map.specs.SortedMap.{get}
 use Rattle.rep_core.specs.declared.intention.Planned.{Planned}
 use Rattle.rep_core.specs.code.Planning.{intentions_in}
 use Rattle.rep_core.proofs.Planned.{without_in, found_in_filter}
-use Rattle.rep_core.proofs.installing.forget.Goals as goal
+use Rattle.rep_core.proofs.maps.forget.Goals as goal
 
 pub returns-clause-others : goal.returns-clause-others
 returns-clause-others c =

@@ -4,7 +4,7 @@ use Rattle.vote_core.specs.Quorums.{Configuration}
 use Rattle.rep_core.specs.Store.{without_intentions, with_copies}
 use Rattle.rep_core.specs.code.Planning.{Leaves, intentions_in}
 use Rattle.rep_core.proofs.Intentions.{is_of}
-use Rattle.rep_core.proofs.installing.install.Given as goal
+use Rattle.rep_core.proofs.maps.install.Given as goal
 
 abbrev pub invariant-loop-place : goal.invariant-loop-place
 invariant-loop-place l = record {
