@@ -58,7 +58,7 @@ pub insert_in : (pairs : List (ℕ × Planned)) (suite : ℕ) (planned : Planned
 insert_in [] suite planned = refl
 insert_in (e ∷ es) suite planned =
     elim (nat_cmp suite e.0) as (λ o. match_ordering o ((suite, intention_in planned) ∷ intentions_in (e ∷ es)) ((e.0, intention_in planned) ∷ intentions_in es) ((e.0, intention_in e.1) ∷ insert nat_cmp (intentions_in es) suite (intention_in planned))
-        ≡ intentions_in (match_ordering o ((suite, planned) ∷ e ∷ es) ((e.0, planned) ∷ es) (e ∷ insert nat_cmp es suite planned))) [
+    ≡ intentions_in (match_ordering o ((suite, planned) ∷ e ∷ es) ((e.0, planned) ∷ es) (e ∷ insert nat_cmp es suite planned))) [
       | ord.Less ↦ refl
       | ord.Equal ↦ refl
       | ord.Greater ↦ ap (λ l. (e.0, intention_in e.1) ∷ l) (insert_in es suite planned)
@@ -166,6 +166,7 @@ planned_kept c0 copies t (part ∷ parts) pairs = ⊎_elim
   where
     made : Planned
     made = record { t = t; whole = is_whole part.take; left = left_by part.take (copy_in c0 copies part.suite) }
+
     new : Intention
     new = record { t = t; take = part.take }
 

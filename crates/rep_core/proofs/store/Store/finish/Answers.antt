@@ -17,6 +17,9 @@ pub invariant_of-self-else-answered : goal.invariant_of-self-else-answered
 invariant_of-self-else-answered c =
     let old : Store = store_of c.self.inside in
     let new : Store = record { c0 = old.c0; copies = old.copies; intentions = intentions_in c.forget.new.intentions.pairs } in
-    let is : new ≡ finished c.args.t false old = λ i. record { c0 = old.c0; copies = old.copies; intentions = c.forget.ensures.others i } in
-    (c.self.invariant.0, omega (arith, c.forget.ensures.fewer, c.self.invariant.1), sound_once_dropped old new c.args.t c.self.invariant.2 is (rising_in c.forget.new.intentions.pairs c.forget.ensures.rising),
-      λ c0 suite planned has. c.self.invariant.3 c0 suite planned (c.forget.ensures.kept suite planned has))
+    let is : new ≡ finished c.args.t false old = λ i. record { c0 = old.c0; copies = old.copies; intentions = c.forget.ensures.others i } in (
+      c.self.invariant.0,
+      omega (arith, c.forget.ensures.fewer, c.self.invariant.1),
+      sound_once_dropped old new c.args.t c.self.invariant.2 is (rising_in c.forget.new.intentions.pairs c.forget.ensures.rising),
+      λ c0 suite planned has. c.self.invariant.3 c0 suite planned (c.forget.ensures.kept suite planned has),
+    )

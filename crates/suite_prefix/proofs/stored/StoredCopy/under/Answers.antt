@@ -19,7 +19,7 @@ kept-requires c =
     let dver : c.head.inside.dver ≡ c.args.self.now.dver = ap (λ (head : Head). head.dver) (c.head.view_is ∙ c.parts-head.ensures.head) in
     let built : items ≡ ((2 ∷ prefix_bytes c.args.prefix.now) ++ to_be_bytes w64 c.head.inside.dver) ++ c.parts-head.result.1.now = search rules in
     let are : items ≡ bytes_of copy = built ∙ ap (λ d. ((2 ∷ prefix_bytes c.args.prefix.now) ++ to_be_bytes w64 d) ++ c.parts-head.result.1.now) dver
-        ∙ ap (λ t. ((2 ∷ prefix_bytes c.args.prefix.now) ++ to_be_bytes w64 c.args.self.now.dver) ++ t) (c.parts-head.ensures.content ∙ ap content_bytes (sym stays)) in
+    ∙ ap (λ t. ((2 ∷ prefix_bytes c.args.prefix.now) ++ to_be_bytes w64 c.args.self.now.dver) ++ t) (c.parts-head.ensures.content ∙ ap content_bytes (sym stays)) in
     is_record items copy c.requires are
 
 pub returns : goal.returns
@@ -31,5 +31,5 @@ returns c =
     let dver : c.head.inside.dver ≡ c.args.self.now.dver = ap (λ (head : Head). head.dver) (c.head.view_is ∙ c.parts-head.ensures.head) in
     let built : items ≡ ((2 ∷ prefix_bytes c.args.prefix.now) ++ to_be_bytes w64 c.head.inside.dver) ++ c.parts-head.result.1.now = search rules in
     let are : items ≡ bytes_of copy = built ∙ ap (λ d. ((2 ∷ prefix_bytes c.args.prefix.now) ++ to_be_bytes w64 d) ++ c.parts-head.result.1.now) dver
-        ∙ ap (λ t. ((2 ∷ prefix_bytes c.args.prefix.now) ++ to_be_bytes w64 c.args.self.now.dver) ++ t) (c.parts-head.ensures.content ∙ ap content_bytes (sym stays)) in
+    ∙ ap (λ t. ((2 ∷ prefix_bytes c.args.prefix.now) ++ to_be_bytes w64 c.args.self.now.dver) ++ t) (c.parts-head.ensures.content ∙ ap content_bytes (sym stays)) in
     c.kept.ensures ∙ copy_of_bytes items copy c.requires are
