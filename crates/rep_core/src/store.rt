@@ -72,11 +72,7 @@ impl Store {
     ) -> Result<Store, AllocError>
         ensures { IfOk result (λ made. made.store ≡ store.opening_store index settings.now) }
     {
-        let mut copies = RoomyMap::new(alloc);
-        if is_representative(settings.c0(), index) {
-            let root = root_record(alloc, settings)?;
-            copies.insert(ROOT, root)?;
-        }
+        let copies = opening_copies(alloc, index, settings)?;
         let absent = Prefix::absent(alloc, *settings.c0())?;
         Ok(Store {
             alloc,
@@ -394,6 +390,22 @@ impl Store {
             forget(&mut self.intentions, t);
         }
     }
+}
+
+/// The copies of a server as a service opens.
+fn opening_copies(
+    alloc: Global,
+    index: u8,
+    settings: &Settings,
+) -> Result<RoomyMap<u64, StoredCopy>, AllocError>
+    ensures { IfOk result (λ made. made.pairs ≡ (store.opening_store index settings.now).copies) }
+{
+    let mut copies = RoomyMap::new(alloc);
+    if is_representative(settings.c0(), index) {
+        let root = root_record(alloc, settings)?;
+        copies.insert(ROOT, root)?;
+    }
+    Ok(copies)
 }
 
 /// Whether a server is a representative of some votes.
