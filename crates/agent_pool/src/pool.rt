@@ -63,8 +63,7 @@ pub fn run_pool<R: Threads + Wait + Sync, G: Gate + Sync>(
     let seats = seats(alloc, agents, &mut passes)?;
     let count = seats.len();
     passes.reserve(count)?;
-    let (sender, receiver, ticket) =
-        bounded_with::<Item, Hand, EachOnce, Global>(alloc, count)?;
+    let (sender, receiver, ticket) = bounded_with::<Item, Hand, EachOnce, Global>(alloc, count)?;
     let refused = AtomicU64::new(u64::MAX);
     let shop = Workshop {
         alloc,
