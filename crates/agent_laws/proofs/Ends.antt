@@ -191,7 +191,7 @@ asks_whom_it_knows : AsksWhomItKnows
 asks_whom_it_knows fixed agent job events server asked idle valid is =
     whom fixed agent job events idle valid (λ server. is_known fixed agent (of_job fixed agent job events) server ≡ true) (λ server is. is) (server, asked) is
 
-caches_stay_valid : CachesStayValid
+pub caches_stay_valid : CachesStayValid
 caches_stay_valid fixed agent job events entry idle valid at =
     keeps fixed agent job events idle valid (λ server. is_known fixed agent (of_job fixed agent job events) server ≡ true) (λ server is. is) entry at
 

@@ -4,3 +4,5 @@ pub mod Walk
 pub mod Words
 pub mod Told
 pub mod Ends
+pub mod Sites
+pub mod Starts

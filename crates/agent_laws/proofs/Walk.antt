@@ -63,6 +63,19 @@ pub record Goes (fixed : Fixed) (V : Configuration → Type 0) (S : ℕ → Type
   pub home : (t : ℕ) → S (home_of fixed.service t)
   pub known : (votes : Configuration) → lists_unknown fixed.service votes ≡ false → AllReps V S votes.reps
 
+-- a suite of which something is known was asked for
+pub suite_known : (suites : Suites) (number : ℕ) → is_some (known.known_of (known_of suites) number) ≡ true → (suite : Suite) × (suite_of suites number ≡ Some suite)
+suite_known [] number is = cc
+suite_known (e ∷ suites) number is = of e.1.first (is_at (nat_cmp number) e.0) refl is (suite_known suites number)
+  where
+    of : (first : Option First) (b : Bool) → is_at (nat_cmp number) e.0 ≡ b → is_some (known.known_of (known_if e.0 e.1 first (known_of suites)) number) ≡ true
+        → (is_some (known.known_of (known_of suites) number) ≡ true → (suite : Suite) × (suite_of suites number ≡ Some suite)) → (suite : Suite) × (suite_of (e ∷ suites) number ≡ Some suite)
+    of first true at is rest = (e.1, ap (λ b. cond b (Some e.1) (suite_of suites number)) at)
+    of None false at is rest = let found = rest is in (found.0, ap (λ b. cond b (Some e.1) (suite_of suites number)) at ∙ found.1)
+    of (Some first) false at is rest =
+        let found = rest (sym (ap (λ b. is_some (cond b (Some (known_row e.1 first)) (known.known_of (known_of suites) number))) at) ∙ is) in
+        (found.0, ap (λ b. cond b (Some e.1) (suite_of suites number)) at ∙ found.1)
+
 module _ (fixed : Fixed) (V : Configuration → Type 0) (S : ℕ → Type 0) (goes : Goes fixed V S) where
   abbrev Names : Configuration → Type 0
   Names votes = AllReps V S votes.reps
@@ -307,18 +320,6 @@ module _ (fixed : Fixed) (V : Configuration → Type 0) (S : ℕ → Type 0) (go
   needed_first known' (Needs other) need is = let same : other ≡ need = cc in ap Needs same
   needed_first known' (Done (Ok ended)) need is = cc
   needed_first known' (Done (Err refusal)) need is = cc
-
-  suite_known : (suites : Suites) (number : ℕ) → is_some (known.known_of (known_of suites) number) ≡ true → (suite : Suite) × (suite_of suites number ≡ Some suite)
-  suite_known [] number is = cc
-  suite_known (e ∷ suites) number is = of e.1.first (is_at (nat_cmp number) e.0) refl is (suite_known suites number)
-    where
-      of : (first : Option First) (b : Bool) → is_at (nat_cmp number) e.0 ≡ b → is_some (known.known_of (known_if e.0 e.1 first (known_of suites)) number) ≡ true
-          → (is_some (known.known_of (known_of suites) number) ≡ true → (suite : Suite) × (suite_of suites number ≡ Some suite)) → (suite : Suite) × (suite_of (e ∷ suites) number ≡ Some suite)
-      of first true at is rest = (e.1, ap (λ b. cond b (Some e.1) (suite_of suites number)) at)
-      of None false at is rest = let found = rest is in (found.0, ap (λ b. cond b (Some e.1) (suite_of suites number)) at ∙ found.1)
-      of (Some first) false at is rest =
-          let found = rest (sym (ap (λ b. is_some (cond b (Some (known_row e.1 first)) (known.known_of (known_of suites) number))) at) ∙ is) in
-          (found.0, ap (λ b. cond b (Some e.1) (suite_of suites number)) at ∙ found.1)
 
   read_there : (task : Task) (suites : Suites) (number : ℕ) → heard_on fixed task suites ≡ exec.Need (Know number) → (suite : Suite) × (suite_of suites number ≡ Some suite)
   read_there task suites number is =

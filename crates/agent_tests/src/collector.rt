@@ -2,9 +2,10 @@
 //! what a server is asked; the prefix, its content's version, the members and the first source of a
 //! Current; or the votes of a Short, with the first Busy.
 
-use acl_core::{Acl, Lists, Mode};
+mod talks;
+
+use crate::fixtures::{lists, number};
 use rep_core::{Reply, Request};
-use std::alloc::AllocError;
 use std::process::Abort;
 use suite_collect::{
     Collect, Next, asks_are_few, current_is_a_quorum, nobody_is_asked_twice,
@@ -14,57 +15,55 @@ use suite_prefix::{LockMode, Prefix, PrefixKind};
 use talks::TALKS;
 use vote_core::Votes;
 
-mod talks;
-
-/// Which votes: where they are.
-#[derive(Clone, Copy)]
-enum Where {
-    /// One vote each at servers 0, 1 and 2; two to read and two to write.
-    Here,
-    /// The same at servers 3, 4 and 5.
-    There,
-    /// Server 0 without a vote, two votes at server 1, one at server 2; one to read and three to write.
-    Uneven,
-    /// One vote each at servers 0 and 1; one to read and two to write.
-    Pair,
-    /// One vote at server 1 and two at server 2; two to read and two to write.
-    Shifted,
-}
-
-/// What is done with a collector.
-#[derive(Clone, Copy)]
-enum Do {
-    /// It is told that the lock is held: the version of the prefix, its votes, the content's version.
-    Held(u64, Where, u64),
-    Busy(u64),
-    Down,
-    Raise,
-    Widen(Where),
-}
-
-/// What is done, and what comes next.
-struct Step(Do, &'static str);
-
-fn votes(rt: &impl Abort, place: Where) -> Votes {
+/// Votes by a word: `here` are one each at servers 0, 1 and 2, two to read and two to write; `there` the same at servers
+/// 3, 4 and 5; `uneven` none at server 0, two at server 1, one at server 2, one to read and three to write; `pair` one
+/// each at servers 0 and 1, one to read and two to write; `shifted` one at server 1 and two at server 2, two to read and
+/// two to write.
+fn votes(rt: &impl Abort, place: &str) -> Votes {
     let (reps, r, w): (&[(u8, u8)], u16, u16) = match place {
-        Where::Here => (&[(0, 1), (1, 1), (2, 1)], 2, 2),
-        Where::There => (&[(3, 1), (4, 1), (5, 1)], 2, 2),
-        Where::Uneven => (&[(0, 0), (1, 2), (2, 1)], 1, 3),
-        Where::Pair => (&[(0, 1), (1, 1)], 1, 2),
-        Where::Shifted => (&[(1, 1), (2, 2)], 2, 2),
+        "here" => (&[(0, 1), (1, 1), (2, 1)], 2, 2),
+        "there" => (&[(3, 1), (4, 1), (5, 1)], 2, 2),
+        "uneven" => (&[(0, 0), (1, 2), (2, 1)], 1, 3),
+        "pair" => (&[(0, 1), (1, 1)], 1, 2),
+        _ => (&[(1, 1), (2, 2)], 2, 2),
     };
     Votes::new(6, reps, r, w).ok().expect(rt, "votes")
 }
 
-fn prefix(rt: &(impl Abort + AllocGlobal), pver: u64, place: Where) -> Prefix {
-    let mode = Mode::new(0o644).expect(rt, "a mode");
+fn prefix(rt: &(impl Abort + AllocGlobal), pver: u64, place: &str) -> Prefix {
     Prefix {
         pver,
         kind: PrefixKind::File,
         owner: 1000,
         group: 100,
-        acl: Lists::from(Acl::from_mode(rt.alloc(), mode).expect(rt, "memory")),
+        acl: lists(rt, 0o644),
         votes: votes(rt, place),
+    }
+}
+
+/// A collector of suite 9 for transaction 7, from version 0 with these votes.
+fn collector(rt: &(impl Abort + AllocGlobal), mode: LockMode, place: &str) -> Collect {
+    Collect::new(7, 9, mode, prefix(rt, 0, place))
+}
+
+/// A reply as text: `held`, the version of the prefix, its votes, and the content's version; `busy` and a transaction;
+/// or `down`.
+fn reply(rt: &(impl Abort + AllocGlobal), text: &str) -> Reply {
+    let mut parts = text.split(' ');
+    let word = parts.next().unwrap_or_default();
+    let first = parts.next().unwrap_or("0");
+    let place = parts.next().unwrap_or_default();
+    let dver = parts.next().unwrap_or("0");
+    match word {
+        "held" => Reply::Held {
+            prefix: prefix(rt, number(rt, first), place),
+            dver: number(rt, dver),
+        },
+        "busy" => Reply::Busy {
+            holder: number(rt, first),
+            prepared: false,
+        },
+        _ => Reply::Down,
     }
 }
 
@@ -77,19 +76,12 @@ fn tell(rt: &impl Abort, collect: &mut Collect, reply: Reply) {
     collect.take(reply);
 }
 
-fn act(rt: &(impl Abort + AllocGlobal), collect: &mut Collect, what: &Do) {
-    match what {
-        Do::Held(pver, place, dver) => {
-            let (prefix, dver) = (prefix(rt, *pver, *place), *dver);
-            tell(rt, collect, Reply::Held { prefix, dver });
-        }
-        Do::Busy(holder) => {
-            let (holder, prepared) = (*holder, false);
-            tell(rt, collect, Reply::Busy { holder, prepared });
-        }
-        Do::Down => tell(rt, collect, Reply::Down),
-        Do::Raise => collect.raise(),
-        Do::Widen(place) => collect.widen(&votes(rt, *place)),
+/// What is done with a collector: it is raised, widened to votes, or told a reply.
+fn act(rt: &(impl Abort + AllocGlobal), collect: &mut Collect, text: &str) {
+    match text.split_once(' ') {
+        None if text == "raise" => collect.raise(),
+        Some(("widen", place)) => collect.widen(&votes(rt, place)),
+        _ => tell(rt, collect, reply(rt, text)),
     }
 }
 
@@ -105,120 +97,86 @@ fn words(rt: &(impl Abort + AllocGlobal), collect: &Collect) -> String {
             let (pver, members) = (prefix.pver, members.as_slice());
             format!(in alloc; "prefix {pver} content {dver} of {members:?} from {source:?}")
         }
-        Next::Ask { server, request } => asked(rt, server, &request),
+        Next::Ask {
+            server,
+            request: Request::Poll { mode, .. },
+        } => format!(in alloc; "{mode:?} at {server}"),
+        Next::Ask { server, request } => format!(in alloc; "{request:?} at {server}"),
         Next::Short { got, needed, busy } => format!(in alloc; "{got} of {needed} busy {busy:?}"),
     };
     words.expect(rt, "memory")
 }
 
-fn asked(
-    rt: &(impl Abort + AllocGlobal),
-    server: u8,
-    request: &Request,
-) -> Result<String, AllocError> {
-    let alloc = rt.alloc();
-    match request {
-        Request::Poll { mode, .. } => format!(in alloc; "{mode:?} at {server}"),
-        other => format!(in alloc; "{other:?} at {server}"),
-    }
+fn comes(rt: &(impl Abort + AllocGlobal), collect: &Collect, want: &str, about: &str) {
+    let got = words(rt, collect);
+    assert!(rt; got.as_str() == want, "{about}: {got}");
 }
 
-/// A collector of suite 9 for transaction 7, from version 0 with votes here.
-fn talk(rt: &(impl Abort + AllocGlobal), mode: LockMode, steps: &[Step]) {
-    let mut collect = Collect::new(7, 9, mode, prefix(rt, 0, Where::Here));
-    for Step(what, want) in steps {
+/// A talk, line by line: what is done, and what comes next.
+fn talk(rt: &(impl Abort + AllocGlobal), mode: LockMode, text: &str) {
+    let mut collect = collector(rt, mode, "here");
+    for line in text.lines().skip(1) {
+        let (what, want) = line.split_once(" -> ").expect(rt, "a line");
         act(rt, &mut collect, what);
         collect = collect.clone().expect(rt, "memory");
-        let got = words(rt, &collect);
-        assert_eq!(rt; got.as_str(), *want);
+        comes(rt, &collect, want, line);
     }
 }
 
-const HERE: Where = Where::Here;
+static ONE_DOWN: &str = "
+down -> Shared at 1
+held 1 here 4 -> Shared at 2
+held 2 here 3 -> prefix 2 content 4 of [1, 2] from Some(1)";
 
-const THERE: Where = Where::There;
+static TWO_BUSY: &str = "
+held 1 here 1 -> Shared at 1
+busy 5 -> Shared at 2
+busy 6 -> 1 of 2 busy Some((1, 5))";
 
-const UNEVEN: Where = Where::Uneven;
-
-const ONE_DOWN: [Step; 3] = [
-    Step(Do::Down, "Shared at 1"),
-    Step(Do::Held(1, HERE, 4), "Shared at 2"),
-    Step(
-        Do::Held(2, HERE, 3),
-        "prefix 2 content 4 of [1, 2] from Some(1)",
-    ),
-];
-
-const TWO_BUSY: [Step; 3] = [
-    Step(Do::Held(1, HERE, 1), "Shared at 1"),
-    Step(Do::Busy(5), "Shared at 2"),
-    Step(Do::Busy(6), "1 of 2 busy Some((1, 5))"),
-];
-
-const ALL_DOWN: [Step; 3] = [
-    Step(Do::Down, "Shared at 1"),
-    Step(Do::Down, "Shared at 2"),
-    Step(Do::Down, "0 of 2 busy None"),
-];
+static ALL_DOWN: &str = "
+down -> Shared at 1
+down -> Shared at 2
+down -> 0 of 2 busy None";
 
 /// The second member shows that the votes were moved away. Older prefixes change nothing.
-const MOVED: [Step; 4] = [
-    Step(Do::Held(1, HERE, 1), "Shared at 1"),
-    Step(Do::Held(3, THERE, 2), "Shared at 3"),
-    Step(Do::Held(2, HERE, 1), "Shared at 4"),
-    Step(
-        Do::Held(3, THERE, 2),
-        "prefix 3 content 2 of [3, 4] from Some(4)",
-    ),
-];
+static MOVED: &str = "
+held 1 here 1 -> Shared at 1
+held 3 there 2 -> Shared at 3
+held 2 here 1 -> Shared at 4
+held 3 there 2 -> prefix 3 content 2 of [3, 4] from Some(4)";
 
 /// A member without a vote is not asked; a read wants one vote, a write three.
-const WEAK: [Step; 3] = [
-    Step(Do::Held(1, UNEVEN, 1), "Shared at 1"),
-    Step(
-        Do::Held(1, UNEVEN, 1),
-        "prefix 1 content 1 of [1] from Some(1)",
-    ),
-    Step(Do::Raise, "Upgrade { t: 7, suite: 9 } at 1"),
-];
+static WEAK: &str = "
+held 1 uneven 1 -> Shared at 1
+held 1 uneven 1 -> prefix 1 content 1 of [1] from Some(1)
+raise -> Upgrade { t: 7, suite: 9 } at 1";
 
 /// A member that was busy is not asked again once the lock is raised.
-const RAISED: [Step; 6] = [
-    Step(Do::Busy(5), "Shared at 1"),
-    Step(Do::Held(1, HERE, 1), "Shared at 2"),
-    Step(
-        Do::Held(1, HERE, 1),
-        "prefix 1 content 1 of [1, 2] from Some(1)",
-    ),
-    Step(Do::Raise, "Upgrade { t: 7, suite: 9 } at 1"),
-    Step(Do::Held(1, HERE, 1), "Upgrade { t: 7, suite: 9 } at 2"),
-    Step(Do::Busy(6), "1 of 2 busy Some((0, 5))"),
-];
+static RAISED: &str = "
+busy 5 -> Shared at 1
+held 1 here 1 -> Shared at 2
+held 1 here 1 -> prefix 1 content 1 of [1, 2] from Some(1)
+raise -> Upgrade { t: 7, suite: 9 } at 1
+held 1 here 1 -> Upgrade { t: 7, suite: 9 } at 2
+busy 6 -> 1 of 2 busy Some((0, 5))";
 
 /// Votes that share no server with those before, and then votes that are held.
-const WIDENED: [Step; 6] = [
-    Step(Do::Held(1, HERE, 1), "Exclusive at 1"),
-    Step(
-        Do::Held(1, HERE, 2),
-        "prefix 1 content 2 of [0, 1] from Some(1)",
-    ),
-    Step(Do::Widen(THERE), "Exclusive at 3"),
-    Step(Do::Held(9, HERE, 9), "Exclusive at 4"),
-    Step(
-        Do::Held(0, THERE, 0),
-        "prefix 1 content 2 of [3, 4] from Some(1)",
-    ),
-    Step(Do::Widen(HERE), "prefix 1 content 2 of [0, 1] from Some(1)"),
-];
+static WIDENED: &str = "
+held 1 here 1 -> Exclusive at 1
+held 1 here 2 -> prefix 1 content 2 of [0, 1] from Some(1)
+widen there -> Exclusive at 3
+held 9 here 9 -> Exclusive at 4
+held 0 there 0 -> prefix 1 content 2 of [3, 4] from Some(1)
+widen here -> prefix 1 content 2 of [0, 1] from Some(1)";
 
 #[test]
 fn a_quorum_is_had_under_the_newest_prefix(rt: HostRuntime) {
     current_is_a_quorum();
     short_has_none_left();
-    talk(&rt, LockMode::Shared, &ONE_DOWN);
-    talk(&rt, LockMode::Shared, &TWO_BUSY);
-    talk(&rt, LockMode::Shared, &ALL_DOWN);
-    talk(&rt, LockMode::Shared, &MOVED);
+    talk(&rt, LockMode::Shared, ONE_DOWN);
+    talk(&rt, LockMode::Shared, TWO_BUSY);
+    talk(&rt, LockMode::Shared, ALL_DOWN);
+    talk(&rt, LockMode::Shared, MOVED);
 }
 
 #[test]
@@ -227,33 +185,31 @@ fn locks_are_raised_and_widened(rt: HostRuntime) {
     prefix_and_version_stay();
     nobody_is_asked_twice();
     asks_are_few();
-    talk(&rt, LockMode::Shared, &WEAK);
-    talk(&rt, LockMode::Shared, &RAISED);
-    talk(&rt, LockMode::Exclusive, &WIDENED);
+    talk(&rt, LockMode::Shared, WEAK);
+    talk(&rt, LockMode::Shared, RAISED);
+    talk(&rt, LockMode::Exclusive, WIDENED);
 }
 
 /// An act of the table of talks.
-fn act_of(rt: &impl Abort, letter: u8) -> Do {
+fn act_of(letter: u8) -> &'static str {
     match letter {
-        b'h' => Do::Held(1, Where::Pair, 1),
-        b'n' => Do::Held(2, Where::Shifted, 3),
-        b'b' => Do::Busy(5),
-        b'd' => Do::Down,
-        b'^' => Do::Raise,
-        b'w' => Do::Widen(Where::Shifted),
-        _ => panic!(rt; "an act"),
+        b'h' => "held 1 pair 1",
+        b'n' => "held 2 shifted 3",
+        b'b' => "busy 5",
+        b'd' => "down",
+        b'^' => "raise",
+        _ => "widen shifted",
     }
 }
 
 /// Plays a row of the table of talks.
 fn play(rt: &(impl Abort + AllocGlobal), row: &str) {
     let (acts, want) = row.split_once(' ').expect(rt, "a row");
-    let mut collect = Collect::new(7, 9, LockMode::Shared, prefix(rt, 0, Where::Pair));
+    let mut collect = collector(rt, LockMode::Shared, "pair");
     for letter in acts.as_bytes() {
-        act(rt, &mut collect, &act_of(rt, *letter));
+        act(rt, &mut collect, act_of(*letter));
     }
-    let got = words(rt, &collect);
-    assert_eq!(rt; got.as_str(), want, "after {acts}");
+    comes(rt, &collect, want, acts);
 }
 
 #[test]
@@ -265,10 +221,10 @@ fn all_short_talks_go_as_another_program_says(rt: HostRuntime) {
 
 #[test]
 fn only_some_replies_are_gone_on_with(rt: HostRuntime) {
-    let mut collect = Collect::new(7, 9, LockMode::Shared, prefix(&rt, 0, Where::Uneven));
+    let mut collect = collector(&rt, LockMode::Shared, "uneven");
     assert!(rt; collect.accepts(&Reply::Down));
     assert!(rt; !collect.accepts(&Reply::Lost));
-    act(&rt, &mut collect, &Do::Held(1, Where::Uneven, 1));
+    act(&rt, &mut collect, "held 1 uneven 1");
     assert!(rt; collect.holds(LockMode::Shared, 1));
     assert!(rt; !collect.holds(LockMode::Exclusive, 1));
     assert!(rt; !collect.accepts(&Reply::Down));
@@ -276,20 +232,26 @@ fn only_some_replies_are_gone_on_with(rt: HostRuntime) {
     assert!(rt; !collect.accepts(&Reply::Down));
 }
 
+/// What is taken in place only where it gives a quorum.
+fn is_last(rt: &(impl Abort + AllocGlobal), collect: &mut Collect, text: &str) -> bool {
+    collect.take_last(&reply(rt, text)).is_some()
+}
+
 #[test]
 fn a_lock_that_gives_a_quorum_is_taken_back(rt: HostRuntime) {
-    let mut collect = Collect::new(7, 9, LockMode::Shared, prefix(&rt, 0, Where::Here));
-    act(&rt, &mut collect, &Do::Held(1, Where::Here, 1));
-    let held = |pver| Reply::Held {
-        prefix: prefix(&rt, pver, Where::Here),
-        dver: 2,
-    };
-    assert!(rt; collect.take_last(&held(2)).is_none());
-    assert!(rt; collect.take_last(&Reply::Down).is_none());
-    let before = collect.take_last(&held(1)).expect(&rt, "a quorum");
-    let got = words(&rt, &collect);
-    assert_eq!(rt; got.as_str(), "prefix 1 content 2 of [0, 1] from Some(1)");
+    let mut collect = collector(&rt, LockMode::Shared, "here");
+    act(&rt, &mut collect, "held 1 here 1");
+    assert!(rt; !is_last(&rt, &mut collect, "held 2 here 2"));
+    assert!(rt; !is_last(&rt, &mut collect, "down"));
+    let before = collect.take_last(&reply(&rt, "held 1 here 2"));
+    let before = before.expect(&rt, "a quorum");
+    let about = "a lock that is taken back";
+    comes(
+        &rt,
+        &collect,
+        "prefix 1 content 2 of [0, 1] from Some(1)",
+        about,
+    );
     collect.undo(before);
-    let got = words(&rt, &collect);
-    assert_eq!(rt; got.as_str(), "Shared at 1");
+    comes(&rt, &collect, "Shared at 1", about);
 }

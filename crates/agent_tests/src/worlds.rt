@@ -1,18 +1,15 @@
-//! A world as its users meet it: a run event by event, by `step` and by `advance`, the same played at once, a denial in the audit, and
-//! events without sense.
+//! Worlds as their users meet them, event by event: what scripts of `play` cannot say. Each event is played by
+//! `step` in one world and by `advance` in another, and both tell the same.
 //!
 //! What memory was refused to is done again, so that each allocation can be refused in turn. What a test
 //! itself lacks stops it.
 
-use acl_core::{Acl, Caller, Lists, Mode};
-use file_ops::{Action, Init, Op, PathText};
-use rep_core::Lack;
+mod read;
+
+use self::read::{event, number};
+use crate::fixtures::settings;
 use run_core::{Event, Outcome, World, runs_go_on, worked_runs};
 use std::process::Abort;
-use suite_content::{FileBytes, Kind};
-use suite_prefix::Settings;
-use txn_core::{Ending, Job, Ops};
-use vote_core::Votes;
 
 /// What a call gives, where memory may be refused to it once.
 macro_rules! again {
@@ -24,112 +21,35 @@ macro_rules! again {
     };
 }
 
-/// Compares two texts.
-fn same(rt: &impl Abort, got: &str, want: &str) {
-    assert_eq!(rt; got, want);
+/// The same events are played in both.
+#[derive(Drop)]
+struct Pair {
+    stepped: World,
+    advanced: World,
 }
 
-fn lists(rt: &(impl Abort + AllocGlobal), bits: u16) -> Lists {
-    let mode = Mode::new(bits).expect(rt, "a mode");
-    Lists::from(Acl::from_mode(rt.alloc(), mode).expect(rt, "memory"))
-}
-
-/// Three servers with a vote each, two of them a quorum; two agents; no room for caches.
-fn settings(rt: &(impl Abort + AllocGlobal)) -> Settings {
-    let votes = Votes::new(3, &[(0, 1), (1, 1), (2, 1)], 2, 2);
-    let votes = votes.ok().expect(rt, "votes");
-    let settings = Settings::new(3, 2, votes, 1000, 100, lists(rt, 0o777), 0, 0, 0);
-    settings.ok().expect(rt, "settings")
-}
-
+/// Three servers, two of which are a quorum; two agents.
 fn world(rt: &(impl Abort + AllocGlobal)) -> World {
-    let settings = settings(rt);
+    let settings = settings(rt, &[(0, 1), (1, 1), (2, 1)], 2);
     again!(rt, World::opening(rt.alloc(), &settings))
 }
 
-/// An operation on `/a`, by a word.
-fn operation(rt: &(impl Abort + AllocGlobal), word: &str) -> Op {
-    let alloc = rt.alloc();
-    let mode = Mode::new(0o644).expect(rt, "a mode");
-    let action = match word {
-        "file" => Action::Make(Kind::File, Init::Mode(mode), None),
-        "write" => Action::Write(FileBytes::from_slice(alloc, b"hi").expect(rt, "memory")),
-        "close" => Action::SetAcl(lists(rt, 0o044)),
-        _ => Action::Read,
-    };
-    let path = PathText::new(alloc, b"/a").expect(rt, "memory");
-    Op { path, action }
+fn both(rt: &(impl Abort + AllocGlobal)) -> Pair {
+    Pair {
+        stepped: world(rt),
+        advanced: world(rt),
+    }
 }
 
-/// The owner's job of these operations.
-fn job(rt: &(impl Abort + AllocGlobal), words: &str) -> Job {
-    let mut ops = Vec::new(rt.alloc());
-    for word in words.split(' ') {
-        assert!(rt; ops.push(operation(rt, word)).is_ok());
-    }
-    let ops = Ops::from_vec(ops).expect(rt, "memory");
-    let caller = Caller::new(1000, 100, &[]).ok().expect(rt, "a caller");
-    Job::Transaction {
-        caller,
-        site: 0,
-        ops,
-    }
+fn same(rt: &impl Abort, got: &str, want: &str, about: &str) {
+    assert!(rt; got == want, "{about}: {got}");
 }
 
 /// How a job ended, in words.
 fn words(rt: &(impl Abort + AllocGlobal), outcome: &Outcome) -> String {
     let (agent, count, steps) = (outcome.agent, outcome.count, outcome.steps);
-    let made = match &outcome.ending {
-        Ending::Answered(answers) => {
-            let number = answers.as_slice().len();
-            format!(in rt.alloc(); "{agent}.{count} {steps} answered {number}")
-        }
-        Ending::Refused(refusal) => {
-            let op = refusal.op;
-            format!(in rt.alloc(); "{agent}.{count} {steps} refused op {op}")
-        }
-        Ending::Undecided(cause) => { format!(in rt.alloc(); "{agent}.{count} {steps} {cause:?}") }
-        Ending::Swept { .. } => format!(in rt.alloc(); "{agent}.{count} {steps} swept"),
-    };
-    made.expect(rt, "memory")
-}
-
-/// An event by its words: `begin A OPERATIONS`, `step A`, `crash S`, `return S`, `forget A`, `lack A`.
-fn event(rt: &(impl Abort + AllocGlobal), line: &str) -> Event {
-    let (word, rest) = line.split_once(' ').unwrap_or((line, ""));
-    let number = rest.bytes().next().unwrap_or(b'0').saturating_sub(b'0');
-    match word {
-        "begin" => Event::Begin {
-            agent: number,
-            job: job(rt, rest.split_once(' ').unwrap_or(("", "")).1),
-        },
-        "step" => Event::Step { agent: number },
-        "crash" => Event::Crash { server: number },
-        "return" => Event::Return { server: number },
-        "forget" => Event::Forget {
-            agent: number,
-            site: 0,
-        },
-        _ => Event::Lack {
-            agent: number,
-            lack: Lack::Full,
-        },
-    }
-}
-
-/// One event, and how a job ended by it.
-fn ended(rt: &(impl Abort + AllocGlobal), world: &mut World, line: &str) -> String {
-    let event = event(rt, line);
-    let done = again!(rt, world.step(&event));
-    ending(rt, &done.outcome)
-}
-
-/// The same, where only that is told.
-fn told(rt: &(impl Abort + AllocGlobal), world: &mut World, line: &str) -> String {
-    let event = event(rt, line);
-    let mut ended = None;
-    again!(rt, world.advance(&event, &mut ended));
-    ending(rt, &ended)
+    let made = format!(in rt.alloc(); "{agent}.{count} {steps} {:?}", outcome.ending);
+    made.ok().expect(rt, "memory")
 }
 
 /// How a job ended, in words; none, if none did.
@@ -140,83 +60,200 @@ fn ending(rt: &(impl Abort + AllocGlobal), outcome: &Option<Outcome>) -> String 
     }
 }
 
-/// So many steps of an agent: all but the last end no job.
-fn run(rt: &(impl Abort + AllocGlobal), world: &mut World, line: &str, steps: u8) -> String {
-    for _ in 1..steps {
-        let quiet = ended(rt, world, line);
-        same(rt, &quiet, "");
-    }
-    ended(rt, world, line)
+fn step(rt: &(impl Abort + AllocGlobal), world: &mut World, event: &Event) -> String {
+    let done = again!(rt, world.step(event));
+    ending(rt, &done.outcome)
 }
 
-#[test]
-fn a_run_event_by_event(rt: HostRuntime) {
-    let mut world = world(&rt);
-    same(&rt, &ended(&rt, &mut world, "begin 0 file write"), "");
-    assert!(&rt; !world.idle(0) && world.idle(1) && world.idle(7));
-    same(
-        &rt,
-        &run(&rt, &mut world, "step 0", 10),
-        "0.0 10 answered 2",
-    );
-    assert!(&rt; world.idle(0) && world.audit(0).is_empty() && world.audit(7).is_empty());
-    same(&rt, &ended(&rt, &mut world, "begin 0 close read"), "");
-    same(
-        &rt,
-        &run(&rt, &mut world, "step 0", 10),
-        "0.1 10 refused op 2",
-    );
-    assert!(&rt; world.audit(1).len() == 1 && world.audit(0).is_empty());
+fn advance(rt: &(impl Abort + AllocGlobal), world: &mut World, event: &Event) -> String {
+    let mut ended = None;
+    again!(rt, world.advance(event, &mut ended));
+    ending(rt, &ended)
 }
+
+/// An event, and how a job ended by it.
+fn happens(rt: &(impl Abort + AllocGlobal), worlds: &mut Pair, line: &str) -> String {
+    let event = event(rt, line);
+    let stepped = step(rt, &mut worlds.stepped, &event);
+    let advanced = advance(rt, &mut worlds.advanced, &event);
+    same(rt, &advanced, &stepped, line);
+    stepped
+}
+
+/// What is asked of the worlds: whether an agent is idle, or how many denials a server recorded.
+fn told(rt: &(impl Abort + AllocGlobal), world: &World, word: &str, at: u8) -> String {
+    let text = match word {
+        "idle" => format!(in rt.alloc(); "{}", world.idle(at)),
+        _ => format!(in rt.alloc(); "{}", world.audit(at).len()),
+    };
+    text.ok().expect(rt, "memory")
+}
+
+/// What comes of a line: `idle A`, `audit S`, or an event.
+fn play(rt: &(impl Abort + AllocGlobal), worlds: &mut Pair, line: &str) -> String {
+    match line.split_once(' ') {
+        Some(("idle", at)) => told(rt, &worlds.stepped, "idle", number(rt, at)),
+        Some(("audit", at)) => told(rt, &worlds.advanced, "audit", number(rt, at)),
+        _ => happens(rt, worlds, line),
+    }
+}
+
+/// Plays a line so many times: all but the last end no job.
+fn repeats(rt: &(impl Abort + AllocGlobal), worlds: &mut Pair, line: &str, times: &str) -> String {
+    for _ in 1..number(rt, times) {
+        let quiet = play(rt, worlds, line);
+        same(rt, &quiet, "", line);
+    }
+    play(rt, worlds, line)
+}
+
+/// Plays the lines of a text. Behind an arrow stands what is to come of a line, behind a colon how often it is played.
+fn plays(rt: &(impl Abort + AllocGlobal), worlds: &mut Pair, text: &str) {
+    for line in text.lines().skip(1) {
+        let (all, wanted) = line.split_once(" -> ").unwrap_or((line, ""));
+        let (line, times) = all.split_once(": ").unwrap_or((all, "1"));
+        let came = repeats(rt, worlds, line, times);
+        same(rt, &came, wanted, all);
+    }
+}
+
+/// Plays the lines of a text on worlds that have just been opened.
+fn run(rt: &(impl Abort + AllocGlobal), text: &str) {
+    plays(rt, &mut both(rt), text);
+}
+
+static DENIED: &str = "
+begin 0 file /a; write /a hi
+idle 0 -> false
+idle 1 -> true
+idle 7 -> true
+step 0: 10 -> 0.0 10 Answered(Answers { replies: [Made(1), Wrote] })
+idle 0 -> true
+audit 0 -> 0
+audit 7 -> 0
+begin 0 close /a; read /a
+step 0: 9
+step 0 -> 0.1 10 Refused(Refusal { op: 2, why: Denied(Denial { suite: 1, wanted: Perms(4), decider: UserObj }) })
+audit 1 -> 1
+audit 0 -> 0";
+
+#[test]
+fn a_denial_is_recorded_at_its_home(rt: HostRuntime) {
+    run(&rt, DENIED);
+}
+
+static LOST: &str = "
+begin 0 file /a; write /a hi
+step 0: 10 -> 0.0 10 Answered(Answers { replies: [Made(1), Wrote] })
+begin 0 read /a; write /a hi
+step 0: 6
+crash 0
+return 0
+begin 1 close /a
+step 1: 13 -> 1.0 13 Answered(Answers { replies: [Set] })
+step 0: 3 -> 0.1 9 Undecided(Lost { server: 0 })
+step 0";
 
 #[test]
 fn a_server_is_lost(rt: HostRuntime) {
-    let mut world = world(&rt);
-    same(&rt, &ended(&rt, &mut world, "begin 0 file write"), "");
-    same(
-        &rt,
-        &run(&rt, &mut world, "step 0", 10),
-        "0.0 10 answered 2",
-    );
-    same(&rt, &ended(&rt, &mut world, "begin 0 read write"), "");
-    same(&rt, &run(&rt, &mut world, "step 0", 6), "");
-    same(&rt, &ended(&rt, &mut world, "crash 0"), "");
-    same(&rt, &ended(&rt, &mut world, "return 0"), "");
-    same(&rt, &ended(&rt, &mut world, "begin 1 close"), "");
-    same(
-        &rt,
-        &run(&rt, &mut world, "step 1", 13),
-        "1.0 13 answered 1",
-    );
-    same(
-        &rt,
-        &run(&rt, &mut world, "step 0", 3),
-        "0.1 9 Lost { server: 0 }",
-    );
-    same(&rt, &ended(&rt, &mut world, "step 0"), "");
+    run(&rt, LOST);
 }
+
+/// Events without sense among others.
+static SENSELESS: &str = "
+step 0: 10
+lack 0: 10
+begin 0 file /a; write /a hi: 10
+step 0: 10 -> 0.0 10 Answered(Answers { replies: [Made(1), Wrote] })
+crash 1: 10
+begin 1 read /a: 10
+step 1: 13 -> 1.0 13 Undecided(HomeDown)
+return 1: 10
+lack 1: 10
+forget 0: 10
+begin 7 read /a
+step 7
+crash 7
+return 7
+forget 7
+lack 7";
 
 #[test]
-fn only_the_outcomes_of_a_run(rt: HostRuntime) {
-    let mut stepped = world(&rt);
-    let mut advanced = world(&rt);
-    let jobs =
-        "begin 0 file write,step 0,begin 0 close read,step 0,crash 1,begin 1 read,step 1,return 1,lack 1,forget 0";
-    let mut ends = false;
-    for line in jobs.split(',') {
-        for _ in 0..10 {
-            let want = ended(&rt, &mut stepped, line);
-            let got = told(&rt, &mut advanced, line);
-            same(&rt, &got, &want);
-            ends = ends || !got.is_empty();
-        }
-    }
-    assert!(&rt; ends && advanced.audit(1).len() == 1);
+fn events_without_sense(rt: HostRuntime) {
+    run(&rt, SENSELESS);
 }
 
-/// Plays events, and the others where memory is refused to it once; the words of the outcomes that were
-/// handed out.
-fn played(rt: &(impl Abort + AllocGlobal), world: &mut World, events: &[Event]) -> usize {
+/// A request is not served for want of memory: before the decision that ends a transaction, and after it changes
+/// nothing. So it is where a server is full.
+static LACKS: &str = "
+begin 0 file /a; write /a hi
+step 0: 10 -> 0.0 10 Answered(Answers { replies: [Made(1), Wrote] })
+begin 0 write /a no
+step 0: 4
+lack 0
+step 0: 2 -> 0.1 7 Undecided(Memory)
+begin 0 write /a ho
+step 0: 8
+lack 0: 2 -> 0.2 10 Answered(Answers { replies: [Wrote] })
+sweep 1 0
+step 1: 3 -> 1.0 3 Swept { broken: 0, finished: 1, left: 0 }
+sweep 1 1
+step 1: 3 -> 1.1 3 Swept { broken: 0, finished: 1, left: 0 }
+begin 0 read /a
+step 0: 11 -> 0.3 11 Answered(Answers { replies: [Read(FileBytes { shared: Some([104, 111]) })] })
+begin 0 write /a x
+step 0: 5
+full 0
+step 0: 2 -> 0.4 8 Undecided(Full { server: 0 })";
+
+#[test]
+fn requests_are_not_served(rt: HostRuntime) {
+    run(&rt, LACKS);
+}
+
+static FOLDERS: &str = "
+begin 0 folder /0; folder /1; folder /2; folder /3; folder /4
+step 0: 18 -> 0.0 18 Answered(Answers { replies: [Made(1), Made(2), Made(3), Made(4), Made(5)] })";
+
+/// Two places are left.
+static LAST_PLACES: &str = "
+begin 0 file /4/y; file /4/z
+step 0: 15 -> 0.512 15 Answered(Answers { replies: [Made(262145), Made(262146)] })
+begin 0 file /b
+step 0: 8 -> 0.513 8 Undecided(Full { server: 0 })
+begin 0 write /0/0a x
+step 0: 13 -> 0.514 13 Answered(Answers { replies: [Wrote] })
+begin 0 read /b
+step 0: 8 -> 0.515 8 Refused(Refusal { op: 1, why: NoName })";
+
+/// Eight files are made, in the folder of their thousand.
+fn eight_files(rt: &(impl Abort + AllocGlobal), worlds: &mut Pair, t: u16) {
+    let at = t / 125;
+    let line = format!(in rt.alloc();
+        "begin 0 file /{at}/{t}a; file /{at}/{t}b; file /{at}/{t}c; file /{at}/{t}d; file /{at}/{t}e; file /{at}/{t}f; file /{at}/{t}g; file /{at}/{t}h"
+    );
+    happens(rt, worlds, line.ok().expect(rt, "memory").as_str());
+    for _ in 0..40 {
+        if !happens(rt, worlds, "step 0").is_empty() {
+            return;
+        }
+    }
+}
+
+/// A server has copies or intentions of 4,096 suites at most. Where it has them a new one is made nowhere, and one
+/// that it has is written.
+#[test]
+fn a_server_is_full(rt: HostRuntime) {
+    let mut worlds = both(&rt);
+    plays(&rt, &mut worlds, FOLDERS);
+    for t in 0u16..511 {
+        eight_files(&rt, &mut worlds, t);
+    }
+    plays(&rt, &mut worlds, LAST_PLACES);
+}
+
+/// Plays events, and the others where memory is refused to it once; how many outcomes were handed out.
+fn played(rt: &impl Abort, world: &mut World, events: &[Event]) -> usize {
     match world.play(events) {
         Ok(outcomes) => outcomes.len(),
         Err(stopped) => {
@@ -226,15 +263,23 @@ fn played(rt: &(impl Abort + AllocGlobal), world: &mut World, events: &[Event]) 
     }
 }
 
+static AT_ONCE: &str = "
+begin 0 file /a; write /a hi
+lack 0
+lack 0
+forget 0
+begin 1 read /a
+step 1
+lack 1";
+
 #[test]
 fn events_at_once(rt: HostRuntime) {
     runs_go_on();
     worked_runs();
     let mut world = world(&rt);
     let mut events = Vec::new(rt.alloc());
-    for line in "begin 0 file write\nlack 0\nlack 0\nforget 0\nbegin 1 read\nstep 1\nlack 1".lines()
-    {
-        assert!(&rt; events.push(event(&rt, line)).is_ok());
+    for line in AT_ONCE.lines().skip(1) {
+        events.push(event(&rt, line)).ok().expect(&rt, "memory");
     }
     let outcomes = played(&rt, &mut world, &events);
     assert!(&rt; outcomes <= 1 && world.idle(0));

@@ -128,8 +128,13 @@ fn a_full_cache_is_turned_over(rt: HostRuntime) {
     for suite in 0..8192 {
         holds(&rt, put(&rt, &mut cache, 3, suite, 1), "a put");
     }
-    holds(&rt, cache.entries().count() == 4096, "how many");
     holds(&rt, cache.entries().next() == Some((3, 8191)), "the newest");
+    holds(
+        &rt,
+        cache.entries().nth(4095) == Some((3, 4096)),
+        "the oldest",
+    );
+    holds(&rt, cache.entries().nth(4096).is_none(), "how many");
     hints(&rt, &cache, 4095, false);
     hints(&rt, &cache, 4096, true);
 }

@@ -89,7 +89,7 @@ impl<'a> Heads<'a> {
 
 /// The one that is less by stamp, or the first of the two.
 fn lesser<'a>(least: Option<Head<'a>>, head: Head<'a>) -> Head<'a>
-    ensures { MatchOption least.entry (result ≡ head.entry) (λ before. Lesser before.item.now.stamp head.entry.item.now.stamp (result ≡ before) (result ≡ head.entry)) }
+    ensures { MatchOption least.entry (result ≡ head.entry) (λ it. Lesser it.item.now.stamp head.entry.item.now.stamp (result ≡ it) (result ≡ head.entry)) }
 {
     match least {
         Some(before) if before.item.stamp <= head.item.stamp => before,

@@ -14,7 +14,7 @@ ghost use Rattle.run_certify.specs.Weaves.{transcript_of};
 ghost use Rattle.run_certify.specs.code.Firsts.{AreAllPlayed, at_server};
 ghost use Rattle.run_certify.specs.code.Turns.{is_asked};
 ghost use Rattle.run_certify.specs.code.Uses.{EndsOtherwise};
-ghost use Rattle.run_certify.specs.code.Walks.{AskedFails, AskedGoes, EntryFails, EntryGoes, Fails, Goes, IsBegin, IsEnd, IsEvent, IsItemTaken, IsShorter, IsSound, IsStart, IsUse};
+ghost use Rattle.run_certify.specs.code.Walks.{AskedFails, AskedGoes, EntryFails, EntryGoes, Fails, Goes, IsBegin, IsEnd, IsEvent, IsItemTaken, IsShorter, IsSound, IsStart, IsUse, with_decision};
 ghost use Rattle.run_certify.specs.Merges.{ItemAt, IsMerge};
 
 use crate::begun::Begun;
@@ -351,7 +351,7 @@ impl<'a> Walk<'a> {
 
     /// Puts down what was decided, if what was served decided the transaction of an agent.
     fn decide(&mut self, agent: u8, done: &Done) -> Result<(), AllocError>
-        ensures { OnOk result (self.new ≡ record self.old { made = self.old.made ++ cons_option (decision_by (job_at self.old.begun.jobs agent) done.now.served) [] }) }
+        ensures { OnOk result (self.new ≡ with_decision self.old agent done.now.served) }
     {
         if let Some(decision) = self.decision(agent, done)? {
             self.decisions.push(decision)?;

@@ -1,5 +1,6 @@
 -- A walk through histories and transcripts: what is left of them, the world after what was played, and what was decided so far.
 use Rattle.std.specs.Prelude.{◌≡◌, ℕ, ◌+◌, ◌≤◌, List, [], ◌∷◌, ◌++◌, length, slice_set, Option, Some}
+use Rattle.std.specs.List.{cons_option}
 use Rattle.suite_prefix.specs.SettingsRules.{Opening, IsAccepted}
 use Rattle.txn_core.specs.Doing.{Fixed}
 use Rattle.txn_core.specs.declared.job.Job.{Job}
@@ -7,13 +8,14 @@ use Rattle.txn_core.specs.Agents.{fixed_of}
 use Rattle.run_core.specs.Decisions.{Decided, decisions_from}
 use Rattle.run_core.specs.declared.done.Done.{Done}
 use Rattle.run_core.specs.declared.done.Outcome.{Outcome}
+use Rattle.run_core.specs.declared.done.Served.{Served}
 use Rattle.run_core.specs.declared.event.Event.{Event}
 use Rattle.run_core.specs.Worlds.{World, opening, step}
 use Rattle.server_lock.specs.declared.item.Item.{Item}
 use Rattle.run_certify.specs.declared.entry.Entry.{Entry}
 use Rattle.run_certify.specs.declared.entry.Entry.TheVariants.{Asked}
 use Rattle.run_certify.specs.Certified.{AreOfRun}
-use Rattle.run_certify.specs.Deciding.{AreCounted, IsPlayed, count_at}
+use Rattle.run_certify.specs.Deciding.{AreCounted, IsPlayed, count_at, decision_by, job_at}
 use Rattle.run_certify.specs.Merges.{ItemAt, IsMerge}
 use Rattle.run_certify.specs.Weaves.{transcript_of, weave}
 use Rattle.run_certify.specs.code.Begins.{Begins}
@@ -79,6 +81,10 @@ pub record IsItemTaken (was : Walked) (server : ℕ) (item : Item) (now : Walked
 pub record IsEvent (was : Walked) (event : Event) (done : Done) (now : Walked) : Type 0 where
   pub is : step (fixed_of was.given) was.world event ≡ record { world = now.world; done = done }
   pub kept : now ≡ record was { world = now.world }
+
+-- what was served may have decided the transaction of an agent
+abbrev pub with_decision : Walked → ℕ → Option Served → Walked
+with_decision was agent served = record was { made = was.made ++ cons_option (decision_by (job_at was.begun.jobs agent) served) [] }
 
 -- the end of a job is used, if it ended, and nothing else has changed
 pub record IsEnd (was : Walked) (agent : ℕ) (outcome : Option Outcome) (now : Walked) : Type 0 where

@@ -1,40 +1,43 @@
-//! A sweep that is told, line by line.
+//! An agent that sweeps a server, and is told by hand what no server says: a list of locks that does not rise.
 
-ghost use Rattle.std.specs.Prelude.{◌≡◌, true};
+ghost use Rattle.std.specs.Prelude.{◌≡◌, true, Some};
+ghost use Rattle.txn_core.specs.Agents.{next_of};
 ghost use Rattle.txn_core.specs.Laws.{fits_word};
+ghost use Rattle.txn_core.specs.Standing.{FitsAsked};
 
-use super::{agent, asked, ending_text, settings, told};
+use crate::fixtures::{number, settings};
 use rep_core::{Lock, LockList, Reply, Request, Verdict};
 use std::process::Abort;
 use suite_prefix::LockMode;
 use txn_core::{Agent, Ending, Job, Word};
 
+/// What an agent asks, and of which server.
+fn asked(rt: &impl Abort, agent: &Agent) -> (u8, Request)
+    ensures { next_of agent.now.fixed agent.now.state ≡ Some result }
+{
+    agent
+        .next()
+        .ok()
+        .expect(rt, "memory")
+        .expect(rt, "a request")
+}
+
 /// What is asked: of which server, of which transaction, and of which suite.
 fn asked_text(rt: &(impl Abort + AllocGlobal), at: u8, request: &Request) -> String {
     let text = match request {
-        Request::Locks => format!(in rt.alloc(); "{at} locks"),
-        Request::Resolve { t } => format!(in rt.alloc(); "{at} resolve {t}"),
         Request::Finish { t, .. } => format!(in rt.alloc(); "{at} finish {t}"),
-        Request::Break { t, suite } => format!(in rt.alloc(); "{at} break {t} {suite}"),
-        _ => format!(in rt.alloc(); "{at} another"),
+        other => format!(in rt.alloc(); "{at} {other:?}"),
     };
     text.ok().expect(rt, "memory")
-}
-
-fn number(rt: &impl Abort, digits: &str) -> u64 {
-    digits.parse::<u64>().ok().expect(rt, "a number")
 }
 
 /// A transaction and a suite; a prepared lock has a mark.
 fn lock(rt: &impl Abort, text: &str) -> Lock {
     let (t, suite) = text.split_once('.').expect(rt, "a lock");
-    let (suite, prepared) = match suite.strip_suffix('!') {
-        Some(suite) => (suite, true),
-        None => (suite, false),
-    };
+    let prepared = suite.ends_with('!');
     Lock {
         t: number(rt, t),
-        suite: number(rt, suite),
+        suite: number(rt, suite.trim_end_matches('!')),
         mode: LockMode::Shared,
         prepared,
     }
@@ -66,6 +69,13 @@ fn fitting(rt: &impl Abort, request: &Request, reply: Reply) -> Word
     Word::Replied(reply)
 }
 
+/// An agent takes what came of what it asked.
+fn told(rt: &impl Abort, agent: &mut Agent, word: &Word) -> Option<Ending>
+    requires { FitsAsked (next_of agent.old.fixed agent.old.state) word.now }
+{
+    agent.take(word).ok().expect(rt, "memory")
+}
+
 /// The agent asks this, and is told that.
 fn tells(
     rt: &(impl Abort + AllocGlobal),
@@ -81,28 +91,27 @@ fn tells(
 }
 
 static TALK: &str = "
-1 locks -> 70.2 5.3! 70.1 5.1 129.1!
-2 resolve 5 -> aborted
+1 Locks -> 70.2 5.3! 70.1 5.1 129.1!
+2 Resolve { t: 5 } -> aborted
 1 finish 5 -> done
-1 break 70 1 -> done
-1 break 70 2 -> done
-0 resolve 129 -> down";
+1 Break { t: 70, suite: 1 } -> done
+1 Break { t: 70, suite: 2 } -> done
+0 Resolve { t: 129 } -> down";
 
 /// A list that does not rise, of a transaction with one prepared lock, of one without, and of one whose
 /// home is down.
 #[test]
 fn a_sweep_resolves_what_is_prepared(rt: HostRuntime) {
-    let mut agent = agent(&rt, 0, &settings(&rt, "3 0 1/1/1"));
-    agent
-        .begin(&Job::Sweep { server: 1 })
-        .ok()
-        .expect(&rt, "memory");
+    let made = Agent::new(rt.alloc(), 0, &settings(&rt, &[(0, 1)], 1));
+    let mut agent = made.ok().expect(&rt, "memory");
+    let begun = agent.begin(&Job::Sweep { server: 1 });
+    begun.ok().expect(&rt, "memory");
     let mut ended = None;
     for line in TALK.lines().skip(1) {
         let (wanted, said) = line.split_once(" -> ").expect(&rt, "a line");
         ended = tells(&rt, &mut agent, wanted, said);
     }
-    let ending = ended.expect(&rt, "an ending");
-    let text = ending_text(&rt, 6, &ending);
-    assert!(&rt; text.as_str() == "6 swept 2 1 1", "{text}");
+    let text = format!(in rt.alloc(); "{ended:?}").expect(&rt, "memory");
+    let wanted = "Some(Swept { broken: 2, finished: 1, left: 1 })";
+    assert!(&rt; text.as_str() == wanted, "{text}");
 }
