@@ -2,8 +2,8 @@
 """Looks whether all that README.md and examples/ show is played by the gate.
 
 Each file of examples/ has to be the input of a row of crates/rows/stdin; each script, command and output that
-README.md shows has to be that of a row, and an output that of the script or the command before it. What differs is
-told, and the status is 1. The rows themselves are played by the program of crates/rows.
+README.md shows has to be that of a row, and an output that of the script or the command before it. What
+differs is told, and the status is 1. The rows themselves are played by the program of crates/rows.
 """
 import os, re, sys
 

@@ -1,7 +1,5 @@
 -- From the jobs of a script's lines to what the script asks for.
-use Rattle.std.proofs.Common.{arith, ◌≡◌, ◌∙◌, ap, ap₂, sym, refl, ℕ, List, [], ◌∷◌, map, Option, Some, None, Result, Ok, Err, ◌<◌, ◌≤◌, nat_lt, suc, ◌-◌}
-use Rattle.std.specs.Prelude.{if◌then◌else◌}
-use Rattle.std.proofs.lemmas.Bool.Decides.{nat_tests}
+use Rattle.std.proofs.Common.{◌≡◌, ◌∙◌, ap, ap₂, sym, refl, ℕ, List, [], ◌∷◌, map, Option, Some, None, Result, Ok, Err, suc, ◌-◌}
 use Rattle.file_ops.specs.Steps.{ok_map}
 use Rattle.suite_play.specs.code.Kept.{kept_job}
 use Rattle.suite_prefix.specs.SettingsRules.{Opening}

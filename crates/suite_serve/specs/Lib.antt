@@ -1,4 +1,5 @@
 pub mod Commands
 pub mod Scripts
 pub mod Readings
+pub mod Served
 pub mod code

@@ -1,6 +1,6 @@
 -- A script of jobs: a header as `play` has it, but for the line of agents; names; then jobs, and at most once the word
 -- `together`. The jobs above it are done one after the other, those below it by all agents at once.
-use Rattle.std.specs.Prelude.{◌≡◌, ℕ, zero, suc, ◌+◌, ◌-◌, Bool, false, if◌then◌else◌, nat_lt, List, [], ◌∷◌, codes, Option, Some, None, Result, Ok, Err}
+use Rattle.std.specs.Prelude.{ℕ, suc, ◌+◌, ◌-◌, Bool, false, if◌then◌else◌, nat_lt, List, [], ◌∷◌, codes, Option, Some, None, Result, Ok, Err}
 use Rattle.std.specs.Str.{bytes_eq}
 use Rattle.std.specs.Str.Lines.{lines}
 use Rattle.file_ops.specs.Steps.{◌>>=◌, ok_map}

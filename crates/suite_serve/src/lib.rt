@@ -8,6 +8,10 @@ mod command;
 mod header;
 mod language;
 mod script;
+mod served;
+mod serving;
 mod verb;
 
 pub use script::{JobScript, read_script};
+pub use served::Served;
+pub use serving::serve;

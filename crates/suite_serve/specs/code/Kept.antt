@@ -2,7 +2,6 @@
 use Rattle.std.specs.Prelude.{map}
 use Rattle.file_ops.specs.Steps.{ok_map}
 use Rattle.suite_play.specs.code.Kept.{kept_job}
-use Rattle.suite_prefix.specs.SettingsRules.{Opening}
 use Rattle.suite_script.specs.Scripts.{Language, language_of}
 use Rattle.suite_serve.specs.Commands.{command_in, is_command, is_known}
 use Rattle.suite_serve.specs.Scripts.{Plan}

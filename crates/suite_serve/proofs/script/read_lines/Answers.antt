@@ -1,4 +1,4 @@
-use Rattle.std.proofs.Common.{◌≡◌, ◌∙◌, ap, sym, ◌-◌, ℕ}
+use Rattle.std.proofs.Common.{◌∙◌, ap, sym, ◌-◌, ℕ}
 use Rattle.suite_script.proofs.Gathering.{failed}
 use Rattle.suite_script.specs.Scripts.{whole}
 use Rattle.suite_serve.specs.Scripts.{header}

@@ -1,0 +1,38 @@
+-- What was certified is what came of a script's jobs.
+use Rattle.std.proofs.Common.{◌≡◌, ap, sym, subst, ℕ, List, map}
+use Rattle.server_lock.specs.declared.item.Item.{Item}
+use Rattle.run_certify.specs.declared.entry.Entry.{Entry}
+use Rattle.run_certify.specs.Certified.{IsCertified}
+use Rattle.agent_pool.specs.declared.outcome.JobOutcome.{JobOutcome}
+use Rattle.agent_pool.specs.declared.workshop.NamedJob.{NamedJob}
+use Rattle.suite_serve.specs.Scripts.{Plan}
+use Rattle.suite_serve.specs.Served.{AreApart, AreFirst, AreJobEnds, Came, IsServed, end_in, items_in}
+use Rattle.suite_serve.specs.code.Working.{AreDone, HaveEnded, named_from, transcripts_of}
+use Rattle.suite_serve.specs.declared.serving.Worked.{Worked}
+use Rattle.suite_serve.proofs.Ended.{all_ends, apart_ends, first_ends}
+
+-- what came of jobs, by the outcomes that a pool gave
+abbrev pub came_of : List (List Entry) → List JobOutcome → ℕ → Came
+came_of transcripts outcomes steps = record { ends = map (end_in transcripts) outcomes; steps = steps }
+
+pub is_served : (plan : Plan) (came : Came) (histories : List (List Item)) (transcripts : List (List Entry)) (jobs : List NamedJob) (worked : Worked)
+    → IsCertified plan.settings histories transcripts → jobs ≡ named_from 0 plan.jobs → transcripts ≡ transcripts_of worked.agents.items → AreDone jobs plan.alone worked
+    → came ≡ came_of transcripts worked.outcomes.items (items_in histories) → IsServed plan came
+is_served plan came histories transcripts jobs worked certified named told done is =
+    let players = worked.agents.items in
+    let outcomes = worked.outcomes.items in
+    let ended : HaveEnded players (named_from 0 plan.jobs) outcomes = subst (λ (js : List NamedJob). HaveEnded players js outcomes) named done.each in
+    let each = all_ends players done.numbered 0 plan.jobs outcomes ended in
+    let apart = apart_ends players done.numbered jobs outcomes done.each done.apart in
+    let first = first_ends players done.numbered plan.alone jobs outcomes done.each done.first in
+    record {
+      histories = histories;
+      transcripts = transcripts;
+      certified = certified;
+      each =
+          subst (λ (all : Came). AreJobEnds transcripts 0 plan.jobs all.ends) (sym is)
+          (subst (λ (ts : List (List Entry)). AreJobEnds ts 0 plan.jobs (map (end_in ts) outcomes)) (sym told) each);
+      apart = subst (λ (all : Came). AreApart all.ends) (sym is) (subst (λ (ts : List (List Entry)). AreApart (map (end_in ts) outcomes)) (sym told) apart);
+      alone = subst (λ (all : Came). AreFirst plan.alone all.ends) (sym is) (subst (λ (ts : List (List Entry)). AreFirst plan.alone (map (end_in ts) outcomes)) (sym told) first);
+      steps = ap (λ (all : Came). all.steps) is;
+    }

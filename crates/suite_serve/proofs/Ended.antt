@@ -1,0 +1,100 @@
+-- From outcomes to how jobs ended in the agents' transcripts.
+use Rattle.std.proofs.Common.{◌≡◌, ◌∙◌, ap, sym, refl, arith, ℕ, zero, suc, ◌+◌, List, [], ◌∷◌, ◌++◌, length, map}
+use Rattle.std.proofs.lemmas.Option.{none-some, same_Some, slice_get-map}
+use Rattle.std.specs.Prelude.{Contains, slice_get, Option, Some}
+use Rattle.std.specs.Prelude.{option_map}
+use Rattle.txn_core.specs.declared.job.Job.{Job}
+use Rattle.run_core.specs.declared.done.Outcome.{Outcome}
+use Rattle.run_certify.specs.declared.entry.Entry.{Entry}
+use Rattle.run_certify.specs.declared.entry.Entry.TheVariants.{Begun, Ended}
+use Rattle.agent_pool.specs.declared.outcome.JobOutcome.{JobOutcome}
+use Rattle.agent_pool.specs.declared.workshop.NamedJob.{NamedJob}
+use Rattle.agent_pool.specs.Transcripts.{Played, number_of}
+use Rattle.agent_pool.specs.Pools.{AreApart as ApartOutcomes}
+use Rattle.suite_serve.specs.Served.{AreApart, AreFirst, AreJobEnds, IsJobEnd, JobEnd, done_as, end_at, end_in, end_of, named_end}
+use Rattle.suite_serve.specs.code.Working.{AreNumbered, AreOfFirst, HasEnded, HaveEnded, named_from, transcripts_of}
+use Rattle.suite_serve.proofs.Numbers.{number_at}
+use Rattle.suite_serve.proofs.Places.{contained_get, get_past}
+
+-- its transcript stands at its number
+transcript_at : (players : List Played) → AreNumbered 0 players → (player : Played) → Contains players player → slice_get (transcripts_of players) (number_of player) ≡ Some player.entries
+transcript_at players are player has =
+    let there = contained_get players player has in
+    let number = number_at 0 players are player has.0 there in
+    let at : number_of player ≡ has.0 = omega arith in
+    ap (slice_get (transcripts_of players)) at
+    ∙ slice_get-map (λ (p : Played). p.entries) players has.0
+    ∙ ap (option_map (λ (p : Played). p.entries)) there
+
+end_there : (before asked after : List Entry) (begun : Entry) (end : Outcome) → end_of (slice_get (before ++ begun ∷ (asked ++ Ended end ∷ after)) (length before + (length asked + 1))) ≡ Some end
+end_there before asked after begun end =
+    let next : length asked + 1 ≡ suc (length asked + 0) = omega arith in
+    ap (λ n. end_of (slice_get (before ++ begun ∷ (asked ++ Ended end ∷ after)) (length before + n))) next
+    ∙ ap end_of (get_past before (begun ∷ (asked ++ Ended end ∷ after)) (suc (length asked + 0)))
+    ∙ ap end_of (get_past asked (Ended end ∷ after) 0)
+
+one_end : (players : List Played) → AreNumbered 0 players → (named : NamedJob) (outcome : JobOutcome) → HasEnded players named outcome
+    → IsJobEnd (transcripts_of players) named.number named.job (end_in (transcripts_of players) outcome)
+one_end players are named outcome has =
+    let told = has.told in
+    let end : Outcome = record { agent = number_of has.player; count = outcome.count; steps = length told.asked; ending = told.ending } in
+    let there = transcript_at players are has.player has.there ∙ ap Some told.split in
+    let name : named_end (transcripts_of players) outcome ≡ Some end =
+    ap (λ n. end_at (slice_get (transcripts_of players) n) outcome.at) (sym has.number)
+    ∙ ap (λ (o : Option (List Entry)). end_at o outcome.at) there
+    ∙ ap (λ n. end_of (slice_get (told.before ++ Begun named.job ∷ (told.asked ++ Ended end ∷ told.after)) n)) (sym told.at)
+    ∙ end_there told.before told.asked told.after (Begun named.job) end
+    in
+    record {
+      told = end;
+      is = λ i. record { job = has.of i; told = name i };
+      ended = record { before = told.before; asked = told.asked; after = told.after; there = there; count = told.count; asks = told.asks; steps = refl };
+    }
+
+pub all_ends : (players : List Played) → AreNumbered 0 players → (number : ℕ) (jobs : List Job) (outcomes : List JobOutcome) → HaveEnded players (named_from number jobs) outcomes
+    → AreJobEnds (transcripts_of players) number jobs (map (end_in (transcripts_of players)) outcomes)
+all_ends players are number [] [] all = tt
+all_ends players are number [] (o ∷ outcomes) all = absurd all
+all_ends players are number (job ∷ jobs) [] all = absurd all
+all_ends players are number (job ∷ jobs) (o ∷ outcomes) all =
+    (one_end players are (record { number = number; job = job }) o all.0, all_ends players are (number + 1) jobs outcomes all.1)
+
+-- ---- who did them
+
+done_by : (players : List Played) → AreNumbered 0 players → (named : NamedJob) (outcome : JobOutcome) → HasEnded players named outcome → done_as (end_in (transcripts_of players) outcome) ≡ Some (outcome.agent, outcome.count)
+unfolding one_end
+done_by players are named outcome has =
+    let one = one_end players are named outcome has in
+    ap done_as one.is ∙ ap (λ (n : ℕ). Some (n, outcome.count)) has.number
+
+-- the outcome of an end
+record From (players : List Played) (outcomes : List JobOutcome) (place : ℕ) (end : JobEnd) : Type 0 where
+  outcome : JobOutcome
+  there : slice_get outcomes place ≡ Some outcome
+  done : done_as end ≡ Some (outcome.agent, outcome.count)
+
+from_outcome : (players : List Played) → AreNumbered 0 players → (jobs : List NamedJob) (outcomes : List JobOutcome) → HaveEnded players jobs outcomes → (place : ℕ) (end : JobEnd)
+    → slice_get (map (end_in (transcripts_of players)) outcomes) place ≡ Some end → From players outcomes place end
+from_outcome players are [] [] all place end there = absurd (none-some end there)
+from_outcome players are [] (o ∷ outcomes) all place end there = absurd all
+from_outcome players are (j ∷ jobs) [] all place end there = absurd all
+from_outcome players are (j ∷ jobs) (o ∷ outcomes) all zero end there =
+    record { outcome = o; there = refl; done = ap done_as (sym (same_Some (end_in (transcripts_of players) o) end there)) ∙ done_by players are j o all.0 }
+from_outcome players are (j ∷ jobs) (o ∷ outcomes) all (suc place) end there =
+    let from = from_outcome players are jobs outcomes all.1 place end there in
+    record { outcome = from.outcome; there = from.there; done = from.done }
+
+pub first_ends : (players : List Played) → AreNumbered 0 players → (alone : ℕ) (jobs : List NamedJob) (outcomes : List JobOutcome) → HaveEnded players jobs outcomes → AreOfFirst alone outcomes
+    → AreFirst alone (map (end_in (transcripts_of players)) outcomes)
+first_ends players are alone jobs outcomes all first place end low there =
+    let from = from_outcome players are jobs outcomes all place end there in
+    let one = first place from.outcome low from.there in
+    (from.outcome.count, (from.done ∙ ap (λ (n : ℕ). Some (n, from.outcome.count)) one.0, one.1))
+
+pub apart_ends : (players : List Played) → AreNumbered 0 players → (jobs : List NamedJob) (outcomes : List JobOutcome) → HaveEnded players jobs outcomes → ApartOutcomes outcomes
+    → AreApart (map (end_in (transcripts_of players)) outcomes)
+apart_ends players are jobs outcomes all apart i j a b at_i at_j same =
+    let x = from_outcome players are jobs outcomes all i a at_i in
+    let y = from_outcome players are jobs outcomes all j b at_j in
+    let both : (x.outcome.agent, x.outcome.count) ≡ (y.outcome.agent, y.outcome.count) = same_Some (x.outcome.agent, x.outcome.count) (y.outcome.agent, y.outcome.count) (sym x.done ∙ same ∙ y.done) in
+    apart i j x.outcome y.outcome x.there y.there (ap (λ (p : ℕ × ℕ). p.0) both) (ap (λ (p : ℕ × ℕ). p.1) both)

@@ -1,0 +1,27 @@
+use Rattle.std.proofs.Common.{◌∙◌, ap, subst, List}
+use Rattle.suite_prefix.specs.SettingsRules.{Opening}
+use Rattle.server_lock.specs.Closed.{AreOf}
+use Rattle.agent_pool.specs.declared.workshop.NamedJob.{NamedJob}
+use Rattle.suite_serve.specs.Scripts.{Plan}
+use Rattle.suite_serve.specs.Served.{IsServed}
+use Rattle.suite_serve.specs.code.Working.{AreDone}
+use Rattle.suite_serve.proofs.Certified.{came_of, is_served}
+use Rattle.suite_serve.proofs.Counted.{few_items}
+use Rattle.suite_serve.proofs.serving.serve.Goals as goal
+
+pub returns : goal.returns
+returns g c =
+    let plan : Plan = record { settings = c.script.inside.settings; jobs = c.script.inside.jobs.items; alone = c.script.inside.alone } in
+    let worked = c.in_ok-agents.field-0 in
+    let transcripts = c.in_ok-transcripts.transcripts in
+    let jobs = c.in_ok-jobs.jobs.items in
+    let done : AreDone jobs plan.alone worked = subst (λ (js : List NamedJob). AreDone js plan.alone worked) c.deref.ensures.value c.in_ok-agents.ensures in
+    let told = c.new.ensures ∙ ap (came_of transcripts worked.outcomes.items) c.items_in-steps.ensures in
+    subst (λ (p : Plan). IsServed p c.new.result) c.script.view_is
+    (is_served plan c.new.result c.in-Ok.histories transcripts jobs worked c.in_ok-judge.ensures c.in_ok-jobs.ensures c.in_ok-transcripts.ensures done told)
+
+pub items_in-steps-requires : goal.items_in-steps-requires
+items_in-steps-requires g c =
+    let histories = c.in-Ok.histories in
+    few_items c.script.inside.settings histories c.servers-servers.ensures.accepted
+    (subst (λ (given : Opening). AreOf given histories) c.in_ok-servers.ensures.servers c.in-Ok.ensures.legal)

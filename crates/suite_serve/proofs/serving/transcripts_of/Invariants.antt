@@ -1,0 +1,7 @@
+use Rattle.std.proofs.Common.{◌≡◌, ◌++◌}
+use Rattle.std.specs.Vec.Iter.{into_iter_items}
+use Rattle.suite_serve.specs.code.Working.{transcripts_of}
+use Rattle.suite_serve.proofs.serving.transcripts_of.Given as goal
+
+abbrev pub invariant-loop-player : goal.invariant-loop-player
+invariant-loop-player l = l.transcripts.items ++ transcripts_of (into_iter_items l.player-iterator) ≡ transcripts_of (into_iter_items l.initial.player-iterator)

@@ -1,0 +1,107 @@
+-- What the jobs of a script came to, and how it is printed.
+use Rattle.std.specs.Prelude.{◌≡◌, ℕ, ◌+◌, ◌<◌, List, [], ◌∷◌, ◌++◌, codes, decimal, length, slice_get, Option, Some, None}
+use Rattle.std.specs.List.{flat_map}
+use Rattle.std.specs.Option.{option_map}
+use Rattle.txn_core.specs.declared.job.Job.{Job}
+use Rattle.run_core.specs.declared.done.Outcome.{Outcome}
+use Rattle.server_lock.specs.declared.item.Item.{Item}
+use Rattle.run_certify.specs.declared.entry.Entry.{Entry}
+use Rattle.run_certify.specs.declared.entry.Entry.TheVariants.{Begun, Ended}
+use Rattle.run_certify.specs.Certified.{IsCertified}
+use Rattle.agent_pool.specs.declared.outcome.JobOutcome.{JobOutcome}
+use Rattle.agent_pool.specs.Transcripts.{AreAsks, begins}
+use Rattle.suite_play.specs.Texts.{ending_text}
+use Rattle.suite_script.specs.Faults.{line_feed}
+use Rattle.suite_serve.specs.Scripts.{Plan}
+
+-- how a job ended, by its number; none, where that is not told
+pub record JobEnd : Type 0 where
+  pub job : ℕ
+  pub told : Option Outcome
+
+-- what the jobs of a script came to, in the order of their numbers, and how many requests were served
+pub record Came : Type 0 where
+  pub ends : List JobEnd
+  pub steps : ℕ
+
+-- ---- lines
+
+-- the number of a job, how many steps it took, and how it ended
+abbrev pub told_line : ℕ → Option Outcome → List ℕ
+told_line job (Some outcome) = decimal job ++ codes " " ++ decimal outcome.steps ++ codes " " ++ ending_text outcome.ending ++ line_feed
+told_line job None = []
+
+abbrev pub job_line : JobEnd → List ℕ
+job_line end = told_line end.job end.told
+
+abbrev pub job_lines : List JobEnd → List ℕ
+job_lines ends = flat_map job_line ends
+
+-- ---- ends in transcripts
+
+abbrev pub end_of : Option Entry → Option Outcome
+end_of (Some (Ended outcome)) = Some outcome
+end_of _ = None
+
+abbrev pub end_at : Option (List Entry) → ℕ → Option Outcome
+end_at (Some transcript) at = end_of (slice_get transcript at)
+end_at None at = None
+
+-- the end that a job's outcome names
+abbrev pub named_end : List (List Entry) → JobOutcome → Option Outcome
+named_end transcripts outcome = end_at (slice_get transcripts outcome.agent) outcome.at
+
+abbrev pub end_in : List (List Entry) → JobOutcome → JobEnd
+end_in transcripts outcome = record { job = outcome.job; told = named_end transcripts outcome }
+
+-- ---- what was certified
+
+-- all items of histories
+abbrev pub items_in : List (List Item) → ℕ
+items_in [] = 0
+items_in (history ∷ histories) = length history + items_in histories
+
+-- A job ended so: its agent's transcript has the job as its begin of that count, then as many requests as it took steps, and then this end.
+pub record EndedSo (transcripts : List (List Entry)) (job : Job) (told : Outcome) : Type 0 where
+  pub before : List Entry
+  pub asked : List Entry
+  pub after : List Entry
+  pub there : slice_get transcripts told.agent ≡ Some (before ++ Begun job ∷ (asked ++ Ended told ∷ after))
+  pub count : begins before ≡ told.count
+  pub asks : AreAsks asked
+  pub steps : length asked ≡ told.steps
+
+-- how the job of a number ended
+pub record IsJobEnd (transcripts : List (List Entry)) (number : ℕ) (job : Job) (end : JobEnd) : Type 0 where
+  pub told : Outcome
+  pub is : end ≡ record { job = number; told = Some told }
+  pub ended : EndedSo transcripts job told
+
+-- how all jobs ended, which are numbered from a number on
+abbrev pub AreJobEnds : List (List Entry) → ℕ → List Job → List JobEnd → Type 0
+AreJobEnds transcripts number [] [] = Unit {0}
+AreJobEnds transcripts number (job ∷ jobs) (end ∷ ends) = IsJobEnd transcripts number job end × AreJobEnds transcripts (number + 1) jobs ends
+AreJobEnds transcripts number _ _ = ⊥
+
+-- who did a job, and as which of its jobs
+abbrev pub done_as : JobEnd → Option (ℕ × ℕ)
+done_as end = option_map (λ (told : Outcome). (told.agent, told.count)) end.told
+
+-- no two were done by one agent as one job
+abbrev pub AreApart : List JobEnd → Type 0
+AreApart ends = (i j : ℕ) (a b : JobEnd) → slice_get ends i ≡ Some a → slice_get ends j ≡ Some b → done_as a ≡ done_as b → i ≡ j
+
+-- so many of the first were done by agent 0, as its first jobs
+abbrev pub AreFirst : ℕ → List JobEnd → Type 0
+AreFirst alone ends = (place : ℕ) (end : JobEnd) → place < alone → slice_get ends place ≡ Some end → (count : ℕ) × ((done_as end ≡ Some (0, count)) × (count < alone))
+
+-- What came of a script's jobs is what came of them in one run of servers and agents, which opens with the script's settings: each job ended so in what
+-- the agents did, those above `together` as the first jobs of agent 0, and so many requests were served.
+pub record IsServed (plan : Plan) (came : Came) : Type 0 where
+  pub histories : List (List Item)
+  pub transcripts : List (List Entry)
+  pub certified : IsCertified plan.settings histories transcripts
+  pub each : AreJobEnds transcripts 0 plan.jobs came.ends
+  pub apart : AreApart came.ends
+  pub alone : AreFirst plan.alone came.ends
+  pub steps : came.steps ≡ items_in histories

@@ -1,0 +1,46 @@
+-- Jobs as they are handed to agents, and what agents did with them.
+use Rattle.std.specs.Prelude.{◌≡◌, ℕ, ◌+◌, ◌<◌, Contains, List, [], ◌∷◌, map, slice_get, Some}
+use Rattle.std.specs.List.{AllZip}
+use Rattle.txn_core.specs.declared.job.Job.{Job}
+use Rattle.run_certify.specs.declared.entry.Entry.{Entry}
+use Rattle.agent_pool.specs.declared.outcome.JobOutcome.{JobOutcome}
+use Rattle.agent_pool.specs.declared.workshop.NamedJob.{NamedJob}
+use Rattle.agent_pool.specs.Pools.{AreApart}
+use Rattle.agent_pool.specs.Transcripts.{Played, IsTold, number_of}
+use Rattle.suite_serve.specs.declared.serving.Worked.{Worked}
+
+-- jobs, numbered from a number on
+abbrev pub named_from : ℕ → List Job → List NamedJob
+named_from number [] = []
+named_from number (job ∷ jobs) = record { number = number; job = job } ∷ named_from (number + 1) jobs
+
+-- agents are numbered from a number on
+abbrev pub AreNumbered : ℕ → List Played → Type 0
+AreNumbered number [] = Unit {0}
+AreNumbered number (player ∷ players) = (number_of player ≡ number) × AreNumbered (number + 1) players
+
+-- what agents did
+abbrev pub transcripts_of : List Played → List (List Entry)
+transcripts_of players = map (λ (player : Played). player.entries) players
+
+-- an outcome is of this job, and is told in the transcript of one of these agents
+pub record HasEnded (players : List Played) (named : NamedJob) (outcome : JobOutcome) : Type 0 where
+  pub of : outcome.job ≡ named.number
+  pub player : Played
+  pub there : Contains players player
+  pub number : number_of player ≡ outcome.agent
+  pub told : IsTold player named.job outcome.count outcome.at
+
+abbrev pub HaveEnded : List Played → List NamedJob → List JobOutcome → Type 0
+HaveEnded players jobs outcomes = AllZip (HasEnded players) jobs outcomes
+
+-- so many of the first outcomes are of agent 0, and of its first jobs
+abbrev pub AreOfFirst : ℕ → List JobOutcome → Type 0
+AreOfFirst alone outcomes = (place : ℕ) (outcome : JobOutcome) → place < alone → slice_get outcomes place ≡ Some outcome → (outcome.agent ≡ 0) × (outcome.count < alone)
+
+-- all jobs were done, so many of the first by agent 0
+pub record AreDone (jobs : List NamedJob) (alone : ℕ) (worked : Worked) : Type 0 where
+  pub numbered : AreNumbered 0 worked.agents.items
+  pub each : HaveEnded worked.agents.items jobs worked.outcomes.items
+  pub apart : AreApart worked.outcomes.items
+  pub first : AreOfFirst alone worked.outcomes.items

@@ -1,0 +1,124 @@
+//! What the jobs of a script came to.
+
+ghost use Rattle.std.specs.Prelude.{◌≡◌, ◌++◌, ◌^◌, ◌<◌, OnOk, map, option_map, []};
+ghost use Rattle.suite_script.specs.Gathering.{Prints};
+ghost use Rattle.suite_serve.specs.Served.{end_in, items_in, job_lines, named_end, told_line};
+
+use agent_pool::JobOutcome;
+use byte_streams::ByteOut;
+use run_certify::{Entry, Transcripts};
+use run_core::Outcome;
+use script_text::push_number;
+use server_lock::Histories;
+use std::alloc::{AllocError, Global};
+use std::marker::Model;
+use suite_play::push_ending;
+use suite_script::{PlayError, write_gathered, write_if_full};
+
+/// What the jobs of a script came to in a run that was certified: what agents did, where the jobs ended in it, in the order
+/// of their numbers, and how many requests were served.
+#[derive(Drop)]
+pub struct Served {
+    transcripts: Transcripts,
+    outcomes: Vec<JobOutcome>,
+    steps: u64,
+}
+
+impl Model for Served {
+    ghost use Rattle.std.specs.Prelude.{map};
+    ghost use Rattle.suite_serve.specs.Served.{Came, end_in};
+
+    ghost Value = { Came };
+
+    ghost view = { λ served. record { ends = map (end_in served.transcripts) served.outcomes.items; steps = served.steps } };
+}
+
+impl Served {
+    /// What jobs came to that ended so in these transcripts, and how many requests were served.
+    pub(crate) fn new(transcripts: Transcripts, outcomes: Vec<JobOutcome>, steps: u64) -> Served
+        ensures { result ≡ record { ends = map (end_in transcripts) outcomes.items; steps = steps } }
+    {
+        Served {
+            transcripts,
+            outcomes,
+            steps,
+        }
+    }
+
+    /// How many requests the servers served.
+    pub fn steps(&self) -> u64
+        ensures { result ≡ self.now.steps }
+    {
+        self.steps
+    }
+
+    /// Writes a line for each job, in the order of their numbers.
+    pub fn write_outcomes<O: ByteOut>(&self, alloc: Global, writer: &mut O) -> Result<(), PlayError>
+        ensures { Prints result (job_lines self.now.ends) [] (O.written writer.old) (O.written writer.new)
+            (O.failed_writes writer.old) (O.failed_writes writer.new) }
+    {
+        write_lines(alloc, &self.transcripts, &self.outcomes, writer)
+    }
+}
+
+/// Writes a line for each of these jobs, whose ends stand in these transcripts.
+fn write_lines<O: ByteOut>(
+    alloc: Global,
+    transcripts: &Transcripts,
+    outcomes: &[JobOutcome],
+    writer: &mut O,
+) -> Result<(), PlayError>
+    ensures { Prints result (job_lines (map (end_in transcripts.now) outcomes.now)) [] (O.written writer.old) (O.written writer.new)
+        (O.failed_writes writer.old) (O.failed_writes writer.new) }
+{
+    let mut text = Vec::new(alloc);
+    for outcome in outcomes {
+        push_told(alloc, &mut text, outcome.job, ended(transcripts, outcome))?;
+        write_if_full(writer, &mut text)?;
+    }
+    write_gathered(writer, &mut text)?;
+    Ok(())
+}
+
+/// The line of a job, where it is told how it ended.
+fn push_told(
+    alloc: Global,
+    text: &mut Vec<u8>,
+    job: u64,
+    told: Option<&Outcome>,
+) -> Result<(), AllocError>
+    ensures { OnOk result (text.new.items ≡ text.old.items ++ told_line job (option_map (λ told. told.now) told.entry)) }
+{
+    let Some(outcome) = told else {
+        return Ok(());
+    };
+    push_number(text, job)?;
+    text.extend_from_slice(b" ")?;
+    push_number(text, outcome.steps)?;
+    text.extend_from_slice(b" ")?;
+    push_ending(alloc, text, &outcome.ending)?;
+    text.extend_from_slice(b"\n")
+}
+
+/// How a job ended, where that stands in its agent's transcript.
+fn ended<'a>(transcripts: &'a Transcripts, outcome: &JobOutcome) -> Option<&'a Outcome>
+    ensures { option_map (λ told. told.now) result ≡ named_end transcripts.now outcome.now }
+{
+    let transcript = transcripts.as_slice().get(usize::from(outcome.agent))?;
+    match transcript.as_slice().get(outcome.at) {
+        Some(Entry::Ended(told)) => Some(told),
+        _ => None,
+    }
+}
+
+/// How many items histories have.
+pub(crate) fn items_in(histories: &Histories) -> u64
+    requires { items_in histories.now < 2 ^ 64 }
+    ensures { result ≡ items_in histories.now }
+{
+    let mut items = 0;
+    for history in histories.as_slice() {
+        items += history.as_slice().len() as u64;
+    }
+    items
+}

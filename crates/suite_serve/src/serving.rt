@@ -1,0 +1,164 @@
+//! The jobs of a script, carried out by agents in threads on servers under locks, and certified.
+
+ghost use Rattle.std.specs.Prelude.{◌≡◌, ◌++◌, ◌∷◌, [], IfOk, OnOk, Ok};
+ghost use Rattle.agent_pool.specs.Transcripts.{first_player, players_from};
+ghost use Rattle.server_lock.specs.Passes.{passes_of};
+ghost use Rattle.run_certify.specs.Certified.{IsCertified};
+ghost use Rattle.suite_serve.specs.Served.{IsServed};
+ghost use Rattle.suite_serve.specs.code.Working.{AreDone, named_from, transcripts_of};
+
+use crate::script::JobScript;
+use crate::served::{Served, items_in};
+use agent_pool::{JobOutcome, NamedJob, Player, Pool, PoolFault, first_players, run_pool};
+use run_certify::{CertifyFault, Transcripts, certify};
+use server_lock::{Histories, OpenGate, Pass, Servers};
+use std::alloc::{AllocError, Global};
+use std::sync::Wait;
+use std::thread::Threads;
+use suite_prefix::Settings;
+use txn_core::Job;
+
+/// Has the jobs of a script carried out, those above `together` by agent 0 and then the others by all agents, each as one is
+/// free. Then the servers are closed, and it is certified that what they served and what agents did is one run. Where it is
+/// none, or a job was not carried out, that is a mismatch, and nothing is told of the jobs.
+pub fn serve<R: Threads + Wait + Sync>(
+    rt: &R,
+    alloc: Global,
+    script: JobScript,
+) -> Result<Served, CertifyFault>
+    ensures { IfOk result (λ served. IsServed script served) }
+{
+    let JobScript {
+        settings,
+        jobs,
+        alone,
+    } = script;
+    let jobs = named(alloc, jobs)?;
+    let (servers, passes) = Servers::start(alloc, &settings)?;
+    let Worked {
+        agents,
+        passes,
+        outcomes,
+    } = work(rt, alloc, &servers, &jobs, alone, passes)?;
+    let Ok(histories) = servers.close(passes) else {
+        return Err(CertifyFault::Mismatch);
+    };
+    let transcripts = transcripts_of(alloc, agents)?;
+    judge(alloc, &settings, &histories, &transcripts)?;
+    let _servers = settings.servers();
+    let steps = items_in(&histories);
+    Ok(Served::new(transcripts, outcomes, steps))
+}
+
+/// Certifies that this is one run.
+fn judge(
+    alloc: Global,
+    settings: &Settings,
+    histories: &Histories,
+    transcripts: &Transcripts,
+) -> Result<(), CertifyFault>
+    ensures { OnOk result (IsCertified settings.now histories.now transcripts.now) }
+{
+    certify(alloc, settings, histories, transcripts)?;
+    Ok(())
+}
+
+/// The jobs, numbered from 0.
+fn named(alloc: Global, jobs: Vec<Job>) -> Result<Vec<NamedJob>, AllocError>
+    ensures { IfOk result (λ all. all.items ≡ named_from 0 jobs.items) }
+{
+    let mut all = Vec::with_capacity(alloc, jobs.len())?;
+    for job in jobs {
+        let number = all.len() as u64;
+        all.push(NamedJob { number, job })?;
+    }
+    Ok(all)
+}
+
+/// What agents did, the passes, and where the jobs ended.
+#[derive(Drop)]
+pub(crate) struct Worked {
+    agents: Vec<Player>,
+    passes: Vec<Pass>,
+    outcomes: Vec<JobOutcome>,
+}
+
+/// Has the first jobs carried out by agent 0, and then the others by all agents.
+fn work<R: Threads + Wait + Sync>(
+    rt: &R,
+    alloc: Global,
+    servers: &Servers,
+    jobs: &[NamedJob],
+    alone: usize,
+    passes: Vec<Pass>,
+) -> Result<Worked, CertifyFault>
+    requires { passes.items ≡ passes_of servers.now.agents }
+    ensures { IfOk result (λ worked. AreDone jobs.now alone worked) }
+{
+    let (first, others) = first_and_others(alloc, servers.settings())?;
+    let (above, below) = jobs.split_at(alone.min(jobs.len()));
+    let Pool {
+        agents,
+        passes,
+        outcomes: before,
+    } = judged(run_pool(rt, alloc, &OpenGate, servers, above, first, passes))?;
+    let agents = joined(agents, others)?;
+    let Pool {
+        agents,
+        passes,
+        outcomes: after,
+    } = judged(run_pool(rt, alloc, &OpenGate, servers, below, agents, passes))?;
+    let outcomes = joined(before, after)?;
+    Ok(Worked {
+        agents,
+        passes,
+        outcomes,
+    })
+}
+
+/// What a pool did; a job that has no outcome, or two, is a mismatch.
+fn judged(given: Result<Pool, PoolFault>) -> Result<Pool, CertifyFault>
+    ensures { IfOk result (λ pool. given ≡ Ok pool) }
+{
+    match given {
+        Ok(pool) => Ok(pool),
+        Err(PoolFault::Memory) => Err(CertifyFault::Memory),
+        Err(_) => Err(CertifyFault::Mismatch),
+    }
+}
+
+/// The agents of a service that opens with these settings: agent 0, and the others.
+fn first_and_others(
+    alloc: Global,
+    settings: &Settings,
+) -> Result<(Vec<Player>, Vec<Player>), AllocError>
+    ensures first { IfOk result (λ both. both.0.items ≡ first_player settings.now 0 ∷ []) }
+    ensures all { IfOk result (λ both. both.0.items ++ both.1.items ≡ players_from settings.now 0 settings.now.agents) }
+{
+    let _agents = settings.agents();
+    let mut first = first_players(alloc, settings)?;
+    let others = first.split_off(1)?;
+    Ok((first, others))
+}
+
+/// The items of both, those of the first before those of the second.
+fn joined<T: Drop>(first: Vec<T>, second: Vec<T>) -> Result<Vec<T>, AllocError>
+    ensures { IfOk result (λ all. all.items ≡ first.items ++ second.items) }
+{
+    let mut all = first;
+    for item in second {
+        all.push(item)?;
+    }
+    Ok(all)
+}
+
+/// What the agents did.
+fn transcripts_of(alloc: Global, agents: Vec<Player>) -> Result<Transcripts, AllocError>
+    ensures { IfOk result (λ transcripts. transcripts ≡ transcripts_of agents.items) }
+{
+    let mut transcripts = Vec::with_capacity(alloc, agents.len())?;
+    for player in agents {
+        transcripts.push(player.into_transcript())?;
+    }
+    Ok(Transcripts::from_vec(transcripts))
+}
