@@ -48,7 +48,7 @@ def codes_in(text):
     text = " ".join(text.split())
     if re.search(r"\bdenied\b", text):
         return ["F3"]
-    for words in ("fault command line", "fault memory", "fault word"):
+    for words in ("fault command line", "fault memory", "fault word", "certified", "mismatch"):
         if text.startswith(words):
             return [words]
     status = STATUS.match(text)

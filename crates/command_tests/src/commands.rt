@@ -2,11 +2,13 @@
 
 use byte_streams::{MemoryIn, MemoryOut};
 use std::process::Abort;
+use std::sync::Wait;
+use std::thread::Threads;
 use suite_cli::run;
 
 /// Runs a command, and gives its exit status and what it wrote.
 fn played(
-    rt: &(impl Abort + AllocGlobal),
+    rt: &(impl Abort + AllocGlobal + Threads + Wait + Sync),
     words: &[&str],
     mut reader: MemoryIn<'_>,
     mut writer: MemoryOut,
@@ -25,7 +27,7 @@ fn add(rt: &impl Abort, text: &mut Vec<u8>, piece: &[u8]) {
     text.extend_from_slice(piece).expect(rt, "memory");
 }
 
-fn tells_help(rt: &(impl Abort + AllocGlobal), words: &[&str]) {
+fn tells_help(rt: &(impl Abort + AllocGlobal + Threads + Wait + Sync), words: &[&str]) {
     let reader = MemoryIn::failing_at(&[], 0);
     let (status, writer) = played(rt, words, reader, MemoryOut::new(rt.alloc()));
     holds(rt, status == 0, "help: status", u64::from(status));
@@ -48,7 +50,12 @@ fn text_with(rt: &(impl Abort + AllocGlobal), before: &str, byte: u8, after: &st
 }
 
 /// Whether a text with a byte put into it is a list; else it has a fault.
-fn is_list(rt: &(impl Abort + AllocGlobal), before: &str, byte: u8, after: &str) -> bool {
+fn is_list(
+    rt: &(impl Abort + AllocGlobal + Threads + Wait + Sync),
+    before: &str,
+    byte: u8,
+    after: &str,
+) -> bool {
     let text = text_with(rt, before, byte, after);
     let writer = MemoryOut::new(rt.alloc());
     let (status, writer) = played(rt, &["acl"], MemoryIn::new(&text), writer);
@@ -68,7 +75,12 @@ fn is_list(rt: &(impl Abort + AllocGlobal), before: &str, byte: u8, after: &str)
 }
 
 /// So many bytes make a list between two texts.
-fn makes_lists(rt: &(impl Abort + AllocGlobal), before: &str, after: &str, lists: u64) {
+fn makes_lists(
+    rt: &(impl Abort + AllocGlobal + Threads + Wait + Sync),
+    before: &str,
+    after: &str,
+    lists: u64,
+) {
     let mut taken = 0u64;
     for byte in 0..=255u8 {
         if is_list(rt, before, byte, after) {
@@ -98,7 +110,7 @@ struct Case<'a> {
 }
 
 /// How many of the first 20 reads matter, each of which fails once: then nothing is written.
-fn failing_reads(rt: &(impl Abort + AllocGlobal), case: &Case<'_>) -> u64 {
+fn failing_reads(rt: &(impl Abort + AllocGlobal + Threads + Wait + Sync), case: &Case<'_>) -> u64 {
     let mut failed = 0u64;
     for call in 0..20u64 {
         let reader = MemoryIn::failing_at(case.input, call);
@@ -116,7 +128,7 @@ fn failing_reads(rt: &(impl Abort + AllocGlobal), case: &Case<'_>) -> u64 {
 }
 
 /// How many of the first 20 writes matter, each of which fails once: then a part of the output is written.
-fn failing_writes(rt: &(impl Abort + AllocGlobal), case: &Case<'_>) -> u64 {
+fn failing_writes(rt: &(impl Abort + AllocGlobal + Threads + Wait + Sync), case: &Case<'_>) -> u64 {
     let mut failed = 0u64;
     for call in 0..20u64 {
         let writer = MemoryOut::failing_at(rt.alloc(), call);
@@ -136,7 +148,12 @@ fn failing_writes(rt: &(impl Abort + AllocGlobal), case: &Case<'_>) -> u64 {
 }
 
 /// At least so many reads and writes are there, and fewer than 20.
-fn tells_failures(rt: &(impl Abort + AllocGlobal), case: &Case<'_>, reads: u64, writes: u64) {
+fn tells_failures(
+    rt: &(impl Abort + AllocGlobal + Threads + Wait + Sync),
+    case: &Case<'_>,
+    reads: u64,
+    writes: u64,
+) {
     let failed = failing_reads(rt, case);
     holds(rt, reads <= failed && failed < 20, case.word, failed);
     let failed = failing_writes(rt, case);
@@ -190,7 +207,7 @@ fn tells_each_stream_of_a_long_script_that_fails(rt: HostRuntime) {
 
 /// The same of a short text, which is written at once.
 fn tells_failures_of(
-    rt: &(impl Abort + AllocGlobal),
+    rt: &(impl Abort + AllocGlobal + Threads + Wait + Sync),
     word: &'static str,
     input: &str,
     status: u8,
@@ -218,7 +235,7 @@ fn tells_each_stream_that_fails(rt: HostRuntime) {
 
 /// Comments of this length give this status and output.
 fn reads_comment(
-    rt: &(impl Abort + AllocGlobal),
+    rt: &(impl Abort + AllocGlobal + Threads + Wait + Sync),
     word: &str,
     length: usize,
     status: u8,

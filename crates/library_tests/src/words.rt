@@ -24,6 +24,7 @@ fn told(rt: &(impl Abort + AllocGlobal), line: &str) -> String {
         }
         Ok(Request::Plays(Script::Table)) => format!(in alloc; "table"),
         Ok(Request::Plays(Script::Play)) => format!(in alloc; "play"),
+        Ok(Request::Serve(agents)) => format!(in alloc; "serve {agents}"),
         Ok(Request::Help(help)) => {
             let text = help.as_str();
             format!(in alloc; "{text}")
@@ -47,7 +48,11 @@ list -> fault
 '' -> fault
 Table -> fault
 play more -> fault
-serve --agents 4 -> fault
+serve --agents 4 -> serve 4
+serve --agents 64 -> serve 64
+serve --agents 65 -> fault
+serve --agents 0 -> fault
+serve -> fault
 -x -> fault
 -x table -> fault
 acl -x -> fault
@@ -78,6 +83,7 @@ Commands:
   acl    Reads list text, prints the list as canonical long text
   table  Reads a script, plays it on one plain table, prints a line an outcome
   play   Reads a script of events, plays it on servers and agents, prints a line an outcome
+  serve  Reads a script of jobs, has agents carry them out at once, prints a line a job, certifies all
   help   Print this message or the help of the given subcommand(s)
 
 Options:
@@ -90,6 +96,7 @@ Exit status:
   2  a fault in the command line
   3  a fault in the text or the script
   4  want of memory
+  5  what the agents and servers did is no run (of `serve` alone)
   6  a failed read or write, or input above 16 MiB
 ";
 

@@ -17,6 +17,8 @@ use row::Row;
 use std::alloc::{AllocError, Global};
 use std::io;
 use std::process::ExitCode;
+use std::sync::Wait;
+use std::thread::Threads;
 use suite_cli::run;
 
 /// The most bytes of rows.
@@ -44,7 +46,11 @@ fn main(rt: HostRuntime) -> ExitCode {
 }
 
 /// Plays all rows of a text: a row begins where a line begins with `$`.
-fn play_all<R>(rt: &R, alloc: Global, text: &str) -> Result<Report, AllocError> {
+fn play_all<R: Threads + Wait + Sync>(
+    rt: &R,
+    alloc: Global,
+    text: &str,
+) -> Result<Report, AllocError> {
     let text = text.strip_suffix('\n').unwrap_or(text);
     let mut report = Report::new(alloc);
     let mut place = Place { line: 1, title: "" };
@@ -59,7 +65,7 @@ fn play_all<R>(rt: &R, alloc: Global, text: &str) -> Result<Report, AllocError> 
 }
 
 /// Plays a row.
-fn play_one<R>(
+fn play_one<R: Threads + Wait + Sync>(
     rt: &R,
     alloc: Global,
     place: Place<'_>,
@@ -83,7 +89,7 @@ fn play_one<R>(
 }
 
 /// Runs the words of a row over an input, and compares what was printed.
-fn compare<R>(
+fn compare<R: Threads + Wait + Sync>(
     rt: &R,
     alloc: Global,
     place: Place<'_>,

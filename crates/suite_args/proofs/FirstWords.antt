@@ -19,7 +19,7 @@ start = walk_from nothing_held
 abbrev pub after_end : Walk
 after_end = record { held = nothing_held; waiting = idle; position = 1; is_trailing = true; stopped = None }
 
-module _ (s : Shape) (names : Names) (once : s.args_override_self ≡ false) (knows : KnowsHelp s.rules) (no_operand : arg_by_index s.rules 1 ≡ None) where
+module _ (s : Shape) (names : Names) (once : s.args_override_self ≡ false) (knows : KnowsHelp (λ name. false) s.rules) (no_operand : arg_by_index s.rules 1 ≡ None) where
   -- what a turn finds wrong, by what it finds wrong in the word
   abbrev turn_after : Kinds → Held × Step → Kinds
   turn_after of_word met = or_else of_word (step_fault s 1 met.0 met.1)
@@ -66,12 +66,12 @@ module _ (s : Shape) (names : Names) (once : s.args_override_self ≡ false) (kn
     unfolding walk_fault
     help_first end help words =
         ap (λ k. or_else (turn_after k (word_met s.rules names false idle 1 word nothing_held)) (walk_fault s names (walked s.rules names start word) words))
-        (fault_at false end ∙ help_faults s.rules [] None knows refl word help)
+        (fault_at false end ∙ help_faults s.rules [] None (λ name. false) knows refl word help)
 
     other_turn : (option : Bool) → is_option word ≡ option → ends_options word ≡ false → is_help_option word ≡ false → are_mistakes (turn_fault s names start word) ≡ true
     other_turn true option end help =
         mistakes_first (word_fault s names false idle word nothing_held) (step_fault s 1 (word_met s.rules names false idle 1 word nothing_held).0 (word_met s.rules names false idle 1 word nothing_held).1)
-        (ap are_mistakes (fault_at false end) ∙ wrong_faults s.rules [] None knows refl word end option help)
+        (ap are_mistakes (fault_at false end) ∙ wrong_faults s.rules [] None (λ name. false) knows refl word refl end option help)
     other_turn false option end help =
         ap are_mistakes (ap₂ turn_after (fault_at false end ∙ plain_faults s.rules [] None word option) (met_at false end ∙ plain_met s.rules [] None idle word option)) ∙ stray
 

@@ -7,7 +7,7 @@ use Rattle.clap.specs.Faults.{check_fault, defaults_fault, level_fault, settle_f
 use Rattle.clap.specs.Simple.{rows_at}
 use Rattle.clap.specs.Walk.{Held, Text, Walk, finished, nothing_held, settled, walk, walk_from}
 use Rattle.suite_args.specs.Answering.{asked_in}
-use Rattle.suite_args.specs.CommandLine.{Asked, acl, help, nothing, plays, topic, asked_by_option, asked_of_acl, asked_of_script, ends_options, is_help_option, nothing_more}
+use Rattle.suite_args.specs.CommandLine.{Asked, acl, help, nothing, plays, serves, topic, asked_by_option, asked_of_acl, asked_of_script, ends_options, is_help_option, nothing_more}
 use Rattle.clap.specs.declared.error.kind.ErrorKind.TheVariants.{DisplayHelp}
 use Rattle.suite_args.specs.declared.script.Script.{Script}
 use Rattle.suite_args.specs.declared.script.Script.TheVariants.{Play, Table}
@@ -45,6 +45,7 @@ acl_level (acl names) words ends = (
 acl_level help words ends = ap (λ k. or_else k (checks_of_acl (walk acl_shape.rules [] nothing_held words).held)) ends
 acl_level nothing words ends = mistakes_first (walk_fault acl_shape [] (walk_from nothing_held) words) (checks_of_acl (walk acl_shape.rules [] nothing_held words).held) ends
 acl_level (plays script) words ends = absurd ends
+acl_level (serves text) words ends = absurd ends
 acl_level topic words ends = absurd ends
 
 pub acl_meets : (words : List Text) → length words ≤ usize_max → Meets (asked_of_acl words) (level_fault acl_shape [] nothing_held words false []) (asked_in (Some (rows_at acl_shape words)))

@@ -6,5 +6,6 @@ mod BuiltCommands
 mod NameWalks
 mod FirstWords
 mod Levels
+mod ServeWalks
 mod WholeLines
 mod Verdicts

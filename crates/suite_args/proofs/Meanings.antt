@@ -3,12 +3,15 @@ use Rattle.std.proofs.Common.{◌≡◌, true, false, Bool, [], ◌∷◌}
 use Rattle.std.specs.List.{list_all}
 use Rattle.clap.specs.Kinds.{Kinds, or_else}
 use Rattle.clap.specs.declared.error.kind.ErrorKind.{ErrorKind}
-use Rattle.clap.specs.declared.error.kind.ErrorKind.TheVariants.{DisplayHelp, InvalidSubcommand, MissingSubcommand, TooManyValues, UnknownArgument}
-use Rattle.suite_args.specs.CommandLine.{Asked, acl, help, nothing, plays, topic}
+use Rattle.clap.specs.declared.error.kind.ErrorKind.TheVariants.{ArgumentConflict, DisplayHelp, InvalidSubcommand, InvalidValue, MissingRequiredArgument, MissingSubcommand, TooManyValues, UnknownArgument}
+use Rattle.suite_args.specs.CommandLine.{Asked, acl, help, nothing, plays, serves, topic}
 
 -- the kinds of error that a wrong command line may give
 abbrev pub is_mistake : ErrorKind → Bool
+is_mistake ArgumentConflict = true
 is_mistake InvalidSubcommand = true
+is_mistake InvalidValue = true
+is_mistake MissingRequiredArgument = true
 is_mistake MissingSubcommand = true
 is_mistake TooManyValues = true
 is_mistake UnknownArgument = true
@@ -22,6 +25,7 @@ are_mistakes (kind ∷ kinds) = list_all is_mistake (kind ∷ kinds)
 abbrev pub Meets : Asked → Kinds → Asked → Type 0
 Meets (plays script) faults found = (faults ≡ []) × (found ≡ plays script)
 Meets (acl names) faults found = (faults ≡ []) × (found ≡ acl names)
+Meets (serves text) faults found = (faults ≡ []) × (found ≡ serves text)
 Meets help faults found = faults ≡ DisplayHelp ∷ []
 Meets topic faults found = faults ≡ DisplayHelp ∷ InvalidSubcommand ∷ []
 Meets nothing faults found = are_mistakes faults ≡ true

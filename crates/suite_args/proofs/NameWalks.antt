@@ -9,7 +9,7 @@ use Rattle.clap.specs.Faults.{flag_word_fault, other_fault, settle_fault, step_f
 use Rattle.clap.specs.Walk.{Held, Step, Text, Waiting, Walk, after_step, idle, long_or_other, plain_word, positional, subcommand_met, subcommand_or_other, trailing, value, walked, word_met}
 use Rattle.clap.specs.declared.builder.value_parser.ValueParser.TheVariants as vp
 use Rattle.clap.specs.declared.error.kind.ErrorKind.TheVariants.{DisplayHelp}
-use Rattle.suite_args.specs.CommandLine.{Asked, acl, help, nothing, plays, topic, asked_by_option, asked_of_acl, ends_options, is_help_option, is_option, with_name}
+use Rattle.suite_args.specs.CommandLine.{Asked, acl, help, nothing, plays, serves, topic, asked_by_option, asked_of_acl, ends_options, is_help_option, is_option, with_name}
 use Rattle.suite_args.proofs.Meanings.{are_mistakes, mistakes_first}
 use Rattle.suite_args.proofs.OptionWords.{held_so_far, help_faults, plain_faults, plain_met, wrong_faults}
 use Rattle.suite_args.proofs.BuiltCommands.{acl_shape, acl_knows}
@@ -134,6 +134,7 @@ EndsAs names (acl more) faults w = (faults ≡ []) × ((is_trailing : Bool) × (
 EndsAs names help faults w = faults ≡ DisplayHelp ∷ []
 EndsAs names nothing faults w = are_mistakes faults ≡ true
 EndsAs names (plays script) faults w = ⊥
+EndsAs names (serves text) faults w = ⊥
 EndsAs names topic faults w = ⊥
 
 ends_as : (names : List Text) (asked asked' : Asked) (faults faults' : Kinds) (w w' : Walk) → asked ≡ asked' → faults ≡ faults' → w ≡ w'
@@ -150,6 +151,7 @@ one_more_name names word (acl more) faults w h = (
 one_more_name names word help faults w h = h
 one_more_name names word nothing faults w h = h
 one_more_name names word (plays script) faults w h = h
+one_more_name names word (serves text) faults w h = h
 one_more_name names word topic faults w h = h
 
 -- `--` ends the options
@@ -172,10 +174,10 @@ option_ends names word fits end option next w = go (is_help_option word) refl
     go true t =
         ends_as names _ help _ (DisplayHelp ∷ []) w w (ap (λ b. if b then help else nothing) t)
         (ap (λ k. or_else (turn_after k met) next)
-        (word_fault_at names word false end ∙ help_faults acl_shape.rules [] (pending_names names) acl_knows (names_settle names fits) word t))
+        (word_fault_at names word false end ∙ help_faults acl_shape.rules [] (pending_names names) (λ name. false) acl_knows (names_settle names fits) word t))
         refl refl
     go false t =
-        let wrong = ap are_mistakes (word_fault_at names word false end) ∙ wrong_faults acl_shape.rules [] (pending_names names) acl_knows (names_settle names fits) word end option t in
+        let wrong = ap are_mistakes (word_fault_at names word false end) ∙ wrong_faults acl_shape.rules [] (pending_names names) (λ name. false) acl_knows (names_settle names fits) word refl end option t in
         ends_as names _ nothing _ _ w w (ap (λ b. if b then help else nothing) t) refl refl
         (mistakes_first (turn_fault acl_shape [] (name_walk false names) word) next
         (mistakes_first (word_fault acl_shape [] false (after_names names) word (name_walk false names).held) (step_fault acl_shape 1 met.0 met.1) wrong))

@@ -1,5 +1,5 @@
--- What `clap` makes of a word that may be an option, where it knows no option but help.
-use Rattle.std.proofs.Common.{◌≡◌, ◌∙◌, ap, sym, refl, codes, true≢false, ℕ, Bool, true, false, ◌==◌, ◌||◌, List, [], ◌∷◌, Option, Some, None, is_some, length, drop}
+-- What `clap` makes of a word that may be an option, where it knows help, and perhaps options of the command's own.
+use Rattle.std.proofs.Common.{◌≡◌, ◌∙◌, ap, sym, refl, codes, true≢false, ℕ, Bool, true, false, ◌==◌, ◌&&◌, ◌||◌, List, [], ◌∷◌, Option, Some, None, is_some, length, drop}
 use Rattle.std.specs.Prelude.{encode_utf8, if◌then◌else◌, slice_get}
 use Rattle.std.specs.List.{after_first, before_first}
 use Rattle.std.specs.Option.{option_map_or}
@@ -8,19 +8,25 @@ use Rattle.std.proofs.lemmas.Slice.Eq.{bytes_eq-Decides}
 use Rattle.clap.specs.Lexer.{has_byte, long_of, short_of}
 use Rattle.clap.specs.Simple.{filled, help_rule}
 use Rattle.clap.specs.Kinds.{Kinds, or_else}
-use Rattle.clap.specs.Faults.{bundle_fault, bundle_step_fault, flag_word_fault, flags_fault, long_fault, react_fault, settle_fault, short_fault, use_fault}
-use Rattle.clap.specs.Walk.{Held, Outcome, Row, Rule, Text, Waiting, after_flag, arg_by_long, arg_by_short, bundle, bundle_met, bundle_step, long_or_other, plain, plain_word, reacted, settled, short_or_plain}
-use Rattle.clap.specs.declared.error.kind.ErrorKind.TheVariants.{DisplayHelp}
+use Rattle.clap.specs.Faults.{bundle_fault, bundle_step_fault, flag_word_fault, flags_fault, long_fault, option_fault, react_fault, settle_fault, short_fault, use_fault}
+use Rattle.clap.specs.Walk.{Held, Outcome, Row, Rule, Text, Waiting, after_flag, arg_by_long, arg_by_short, attached_value, bundle, bundle_met, bundle_step, long_or_other, plain, plain_word, reacted, settled, short_or_plain, takes_values}
+use Rattle.clap.specs.declared.error.kind.ErrorKind.TheVariants.{DisplayHelp, TooManyValues}
 use Rattle.suite_args.specs.CommandLine.{ends_options, flag_of, is_help_option, is_option}
-use Rattle.suite_args.proofs.Meanings.{are_mistakes}
+use Rattle.suite_args.proofs.Meanings.{are_mistakes, mistakes_first}
 use Rattle.suite_args.proofs.WordShapes.{Shaped, bare, lone, other, flags, dashes, shape_of_word, other_long, other_short, other_flag, flags_long, flags_short, dashes_flag, lone_flag, before_none}
 
 abbrev pub help_flag : Rule
 help_flag = filled help_rule
 
--- the only option among the rules is help
-pub record KnowsHelp (rules : List Rule) : Type 0 where
-  pub long : (name : Text) → arg_by_long rules name ≡ (if bytes_eq (codes "help") name then Some help_flag else None)
+-- the name of a word that is a long option
+abbrev pub name_in : Text → Text
+name_in (first ∷ second ∷ text) = if (first == 45) && (second == 45) then before_first (λ x. x == 61) text else []
+name_in _ = []
+
+-- the only option among the rules is help, but for those of the command's own, which have long names
+pub record KnowsHelp (own : Text → Bool) (rules : List Rule) : Type 0 where
+  pub help : own (codes "help") ≡ false
+  pub long : (name : Text) → own name ≡ false → arg_by_long rules name ≡ (if bytes_eq (codes "help") name then Some help_flag else None)
   pub short : (flag : ℕ) → arg_by_short rules flag ≡ (if 104 == flag then Some help_flag else None)
 
 abbrev pub held_so_far : List Row → Option (Text × List Text) → Held
@@ -103,7 +109,7 @@ module _ (rules : List Rule) (rows : List Row) (pending : Option (Text × List T
 
   -- ---- options, where those so far and what is pending have no fault
 
-  module _ (knows : KnowsHelp rules) (settles : settle_fault rules false h ≡ []) where
+  module _ (own : Text → Bool) (knows : KnowsHelp own rules) (settles : settle_fault rules false h ≡ []) where
     help_used : react_fault rules false help_flag [] h ≡ DisplayHelp ∷ []
     help_used = ap (λ k. or_else k (use_fault false help_flag [] (settled rules h).rows)) settles
 
@@ -132,7 +138,7 @@ module _ (rules : List Rule) (rows : List Row) (pending : Option (Text × List T
 
     -- `--help` itself
     long_help : faults_of (codes "--help") ≡ DisplayHelp ∷ []
-    long_help = ap (λ a. long_fault rules false a None h) (knows.long (codes "help")) ∙ help_used
+    long_help = ap (λ a. long_fault rules false a None h) (knows.long (codes "help") knows.help) ∙ help_used
 
     short_help : (word : Text) → Shaped word → option_map_or (λ y. 104 == y) (flag_of word) false ≡ true → faults_of word ≡ DisplayHelp ∷ []
     short_help word bare e = cc
@@ -149,27 +155,78 @@ module _ (rules : List Rule) (rows : List Row) (pending : Option (Text × List T
         go false t = short_help word (shape_of_word word) (sym (ap (λ b. b || option_map_or (λ y. 104 == y) (flag_of word) false) t) ∙ e)
 
     -- two hyphens and more, which is not `--help`
-    long_faults : (name : Text) (value : Option Text) (t : Bool) → bytes_eq (codes "help") name ≡ t
+    long_faults : (name : Text) (value : Option Text) (t : Bool) → own name ≡ false → bytes_eq (codes "help") name ≡ t
         → long_fault rules false (arg_by_long rules name) value h ≡ long_fault rules false (if t then Some help_flag else None) value h
-    long_faults name value t e = ap (λ a. long_fault rules false a value h) (knows.long name) ∙ ap (λ b. long_fault rules false (if b then Some help_flag else None) value h) e
+    long_faults name value t unowned e = ap (λ a. long_fault rules false a value h) (knows.long name unowned) ∙ ap (λ b. long_fault rules false (if b then Some help_flag else None) value h) e
 
-    long_unknown : (text : Text) → (text ≡ codes "help" → ⊥) → (t u : Bool) → bytes_eq (codes "help") (before_first (λ x. x == 61) text) ≡ t → has_byte 61 text ≡ u
+    long_unknown : (text : Text) → own (before_first (λ x. x == 61) text) ≡ false → (text ≡ codes "help" → ⊥) → (t u : Bool) → bytes_eq (codes "help") (before_first (λ x. x == 61) text) ≡ t → has_byte 61 text ≡ u
         → are_mistakes (long_fault rules false (arg_by_long rules (before_first (λ x. x == 61) text)) (if has_byte 61 text then Some (after_first (λ x. x == 61) text) else None) h) ≡ true
-    long_unknown text not_help false u named valued = ap are_mistakes (long_faults _ _ false named)
-    long_unknown text not_help true true named valued =
-        ap are_mistakes (long_faults _ _ true named ∙ ap (λ b. long_fault rules false (Some help_flag) (if b then Some (after_first (λ x. x == 61) text) else None) h) valued)
-    long_unknown text not_help true false named valued =
+    long_unknown text unowned not_help false u named valued = ap are_mistakes (long_faults _ _ false unowned named)
+    long_unknown text unowned not_help true true named valued =
+        ap are_mistakes (long_faults _ _ true unowned named ∙ ap (λ b. long_fault rules false (Some help_flag) (if b then Some (after_first (λ x. x == 61) text) else None) h) valued)
+    long_unknown text unowned not_help true false named valued =
         absurd (not_help (sym (before_none text valued) ∙ sym ((bytes_eq-Decides _ _).0 named)))
 
-    wrong_shaped : (word : Text) → Shaped word → ends_options word ≡ false → is_option word ≡ true → is_help_option word ≡ false → are_mistakes (faults_of word) ≡ true
-    wrong_shaped word bare end option help = cc
-    wrong_shaped word lone end option help = absurd (true≢false (sym option ∙ ap is_some lone_flag))
-    wrong_shaped word (other b rest o) end option help = absurd (true≢false (sym option ∙ ap is_some (other_flag b rest o)))
-    wrong_shaped word (flags x rest o) end option help =
+    wrong_shaped : (word : Text) → Shaped word → own (name_in word) ≡ false → ends_options word ≡ false → is_option word ≡ true → is_help_option word ≡ false → are_mistakes (faults_of word) ≡ true
+    wrong_shaped word bare unowned end option help = cc
+    wrong_shaped word lone unowned end option help = absurd (true≢false (sym option ∙ ap is_some lone_flag))
+    wrong_shaped word (other b rest o) unowned end option help = absurd (true≢false (sym option ∙ ap is_some (other_flag b rest o)))
+    wrong_shaped word (flags x rest o) unowned end option help =
         ap are_mistakes (cut_faults x rest o) ∙ char_unknown (slice_get (chars (x ∷ rest)) 0) x rest refl option (or_right_false _ _ help)
-    wrong_shaped word (dashes []) end option help = cc
-    wrong_shaped word (dashes (y ∷ rest)) end option help = long_unknown (y ∷ rest)
+    wrong_shaped word (dashes []) unowned end option help = cc
+    wrong_shaped word (dashes (y ∷ rest)) unowned end option help = long_unknown (y ∷ rest) unowned
         (λ is. true≢false (sym (ap (λ r. bytes_eq (45 ∷ 45 ∷ r) (codes "--help")) is) ∙ or_left _ _ help)) _ _ refl refl
 
-    pub wrong_faults : (word : Text) → ends_options word ≡ false → is_option word ≡ true → is_help_option word ≡ false → are_mistakes (faults_of word) ≡ true
-    wrong_faults word end option help = wrong_shaped word (shape_of_word word) end option help
+    pub wrong_faults : (word : Text) → own (name_in word) ≡ false → ends_options word ≡ false → is_option word ≡ true → is_help_option word ≡ false → are_mistakes (faults_of word) ≡ true
+    wrong_faults word unowned end option help = wrong_shaped word (shape_of_word word) unowned end option help
+
+  -- ---- options, where what is pending is faulty: each is a mistake
+
+  module _ (unsettled : are_mistakes (settle_fault rules false h) ≡ true) where
+    used_wrong : (a : Rule) (values : List Text) → are_mistakes (react_fault rules false a values h) ≡ true
+    used_wrong a values = mistakes_first (settle_fault rules false h) (use_fault false a values (settled rules h).rows) unsettled
+
+    option_wrong : (a : Rule) (value : Option Text) → are_mistakes (option_fault rules false a value h) ≡ true
+    option_wrong a (Some value) = used_wrong a (value ∷ [])
+    option_wrong a None = unsettled
+
+    flag_wrong : (a : Rule) (value : Option Text) → are_mistakes (if is_some value then TooManyValues ∷ [] else react_fault rules false a [] h) ≡ true
+    flag_wrong a (Some value) = refl
+    flag_wrong a None = used_wrong a []
+
+    either_wrong : (takes : Bool) (a : Rule) (value : Option Text) → are_mistakes (if takes then option_fault rules false a value h else (if is_some value then TooManyValues ∷ [] else react_fault rules false a [] h)) ≡ true
+    either_wrong true a value = option_wrong a value
+    either_wrong false a value = flag_wrong a value
+
+    long_wrong : (a : Option Rule) (value : Option Text) → are_mistakes (long_fault rules false a value h) ≡ true
+    long_wrong None value = refl
+    long_wrong (Some a) value = either_wrong (takes_values a) a value
+
+    bundled_wrong : (takes : Bool) (a : Rule) (rest : Text) (next : Held → Kinds)
+        → are_mistakes (if takes then option_fault rules false a (attached_value rest) h else or_else (react_fault rules false a [] h) (next (reacted rules a [] h))) ≡ true
+    bundled_wrong true a rest next = option_wrong a (attached_value rest)
+    bundled_wrong false a rest next = mistakes_first (react_fault rules false a [] h) (next (reacted rules a [] h)) (used_wrong a [])
+
+    short_wrong : (a : Option Rule) (rest : Text) (next : Held → Kinds) → are_mistakes (short_fault rules false a rest h next) ≡ true
+    short_wrong None rest next = refl
+    short_wrong (Some a) rest next = bundled_wrong (takes_values a) a rest next
+
+    char_wrong : (flag : Option ℕ) (x : ℕ) (rest : Text) → slice_get (chars (x ∷ rest)) 0 ≡ flag → is_some flag ≡ true → are_mistakes (bundle_fault rules false (x ∷ rest) h) ≡ true
+    unfolding flags_fault
+    char_wrong None x rest some given = cc
+    char_wrong (Some y) x rest some given =
+        let after : Text = drop (length (encode_utf8 y)) (x ∷ rest) in
+        ap (λ o. are_mistakes (bundle_step_fault rules false o (x ∷ rest) 0 h (flags_fault rules false (length rest)))) some
+        ∙ short_wrong (arg_by_short rules y) after (flags_fault rules false (length rest) after 0)
+
+    unsettled_shaped : (word : Text) → Shaped word → ends_options word ≡ false → is_option word ≡ true → are_mistakes (faults_of word) ≡ true
+    unsettled_shaped word bare end option = cc
+    unsettled_shaped word lone end option = absurd (true≢false (sym option ∙ ap is_some lone_flag))
+    unsettled_shaped word (other b rest o) end option = absurd (true≢false (sym option ∙ ap is_some (other_flag b rest o)))
+    unsettled_shaped word (flags x rest o) end option = ap are_mistakes (cut_faults x rest o) ∙ char_wrong (slice_get (chars (x ∷ rest)) 0) x rest refl option
+    unsettled_shaped word (dashes []) end option = cc
+    unsettled_shaped word (dashes (y ∷ rest)) end option =
+        long_wrong (arg_by_long rules (before_first (λ x. x == 61) (y ∷ rest))) (if has_byte 61 (y ∷ rest) then Some (after_first (λ x. x == 61) (y ∷ rest)) else None)
+
+    pub unsettled_faults : (word : Text) → ends_options word ≡ false → is_option word ≡ true → are_mistakes (faults_of word) ≡ true
+    unsettled_faults word end option = unsettled_shaped word (shape_of_word word) end option

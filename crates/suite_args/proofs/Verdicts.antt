@@ -1,30 +1,36 @@
 -- From what a parse comes to, to the answer.
-use Rattle.std.proofs.Common.{◌≡◌, ◌⊎◌, inl, inr, sym, subst, true, [], ◌∷◌, Result, Ok, Err}
+use Rattle.std.proofs.Common.{◌≡◌, ℕ, Option, Some, None, ◌⊎◌, inl, inr, sym, subst, true, [], ◌∷◌, Result, Ok, Err}
 use Rattle.std.specs.List.{list_all}
 use Rattle.clap.specs.Kinds.{IsAmong, Kinds}
 use Rattle.clap.proofs.WalkLemmas.{both}
 use Rattle.clap.specs.declared.error.kind.ErrorKind.{ErrorKind}
-use Rattle.clap.specs.declared.error.kind.ErrorKind.TheVariants.{DisplayHelp, InvalidSubcommand, MissingSubcommand, OutOfMemory, TooManyValues, UnknownArgument}
-use Rattle.suite_args.specs.Answering.{Answers, AnswersTo}
-use Rattle.suite_args.specs.CommandLine.{Asked, acl, help, nothing, plays, topic}
+use Rattle.clap.specs.declared.error.kind.ErrorKind.TheVariants.{ArgumentConflict, DisplayHelp, InvalidSubcommand, InvalidValue, MissingRequiredArgument, MissingSubcommand, OutOfMemory, TooManyValues, UnknownArgument}
+use Rattle.suite_args.specs.Answering.{Answers, AnswersServe, AnswersTo}
+use Rattle.suite_args.specs.CommandLine.{Asked, acl, agents_of, help, nothing, plays, serves, topic}
 use Rattle.suite_args.specs.declared.request.ArgsError.{ArgsError}
 use Rattle.suite_args.specs.declared.request.ArgsError.TheVariants.{CommandLine, Memory}
 use Rattle.suite_args.specs.declared.request.Request.{Request}
-use Rattle.suite_args.specs.declared.request.Request.TheVariants.{Acl, Help, Plays}
+use Rattle.suite_args.specs.declared.request.Request.TheVariants.{Acl, Help, Plays, Serve}
 use Rattle.suite_args.proofs.Meanings.{Meets, are_mistakes, is_mistake}
 
 -- a parse with matches has no fault, and they say what the words ask for
 pub parsed : (asked found : Asked) (faults : Kinds) (r : Result Request ArgsError) → Meets asked faults found → faults ≡ [] → Answers found r → Answers asked r
 parsed (plays script) found faults r meets right answers = subst (λ (x : Asked). Answers x r) meets.1 answers
 parsed (acl names) found faults r meets right answers = subst (λ (x : Asked). Answers x r) meets.1 answers
+parsed (serves text) found faults r meets right answers = subst (λ (x : Asked). Answers x r) meets.1 answers
 parsed help found faults r meets right answers = cc
 parsed topic found faults r meets right answers = cc
 parsed nothing found faults r meets right answers = let bad : are_mistakes [] ≡ true = subst (λ (k : Kinds). are_mistakes k ≡ true) right meets in cc
 
 -- want of memory answers anything
+no_room : (agents : Option ℕ) → AnswersServe agents (Err Memory)
+no_room (Some number) = tt
+no_room None = tt
+
 no_memory : (asked : Asked) (r : Result Request ArgsError) → AnswersTo OutOfMemory r → Answers asked r
 no_memory (plays script) (Err Memory) answers = tt
 no_memory (acl names) (Err Memory) answers = tt
+no_memory (serves text) (Err Memory) answers = no_room (agents_of text)
 no_memory help (Err Memory) answers = tt
 no_memory topic (Err Memory) answers = tt
 no_memory nothing (Err Memory) answers = tt
@@ -36,6 +42,7 @@ helped (Ok (Help text)) answers = tt
 helped (Err Memory) answers = tt
 helped (Ok (Plays script)) answers = absurd answers
 helped (Ok (Acl names)) answers = absurd answers
+helped (Ok (Serve agents)) answers = absurd answers
 helped (Err CommandLine) answers = absurd answers
 
 helped_on_topic : (r : Result Request ArgsError) → AnswersTo DisplayHelp r → Answers topic r
@@ -43,6 +50,7 @@ helped_on_topic (Ok (Help text)) answers = tt
 helped_on_topic (Err Memory) answers = tt
 helped_on_topic (Ok (Plays script)) answers = absurd answers
 helped_on_topic (Ok (Acl names)) answers = absurd answers
+helped_on_topic (Ok (Serve agents)) answers = absurd answers
 helped_on_topic (Err CommandLine) answers = absurd answers
 
 refused_topic : (r : Result Request ArgsError) → AnswersTo InvalidSubcommand r → Answers topic r
@@ -58,7 +66,10 @@ among_mistakes kind (k ∷ ks) all (inr among) = among_mistakes kind ks (both (i
 mistaken : (kind : ErrorKind) (r : Result Request ArgsError) → is_mistake kind ≡ true → AnswersTo kind r → Answers nothing r
 mistaken kind (Err CommandLine) mistake answers = tt
 mistaken kind (Err Memory) mistake answers = tt
+mistaken ArgumentConflict (Ok r) mistake answers = absurd answers
 mistaken InvalidSubcommand (Ok r) mistake answers = absurd answers
+mistaken InvalidValue (Ok r) mistake answers = absurd answers
+mistaken MissingRequiredArgument (Ok r) mistake answers = absurd answers
 mistaken MissingSubcommand (Ok r) mistake answers = absurd answers
 mistaken TooManyValues (Ok r) mistake answers = absurd answers
 mistaken UnknownArgument (Ok r) mistake answers = absurd answers
@@ -68,6 +79,7 @@ mistaken kind (Ok r) mistake answers = cc
 faulted : (asked found : Asked) (faults : Kinds) (kind : ErrorKind) (r : Result Request ArgsError) → Meets asked faults found → IsAmong kind faults → AnswersTo kind r → Answers asked r
 faulted (plays script) found faults kind r meets among answers = absurd (subst (IsAmong kind) meets.0 among)
 faulted (acl names) found faults kind r meets among answers = absurd (subst (IsAmong kind) meets.0 among)
+faulted (serves text) found faults kind r meets among answers = absurd (subst (IsAmong kind) meets.0 among)
 faulted help found faults kind r meets among answers = elim (subst (IsAmong kind) meets among) [
   | inl is ↦ helped r (subst (λ (k : ErrorKind). AnswersTo k r) is answers)
   | inr other ↦ absurd other

@@ -12,13 +12,14 @@ use Rattle.clap.proofs.WalkLemmas.{walk_stopped}
 use Rattle.clap.specs.declared.error.kind.ErrorKind.TheVariants.{DisplayHelp, InvalidSubcommand}
 use Rattle.suite_args.specs.Answering.{asked_in}
 use Rattle.suite_args.specs.code.Commands.{script_word, suites}
-use Rattle.suite_args.specs.CommandLine.{Asked, help, nothing, topic, asked_by, asked_by_option, asked_of_acl, asked_of_script, ends_options, is_help_option}
+use Rattle.suite_args.specs.CommandLine.{Asked, help, nothing, topic, asked_by, asked_by_option, asked_of_acl, asked_of_script, asked_of_serve, untold, ends_options, is_help_option}
 use Rattle.suite_args.proofs.Meanings.{Meets, are_mistakes, mistakes_first}
 use Rattle.suite_args.specs.declared.script.Script.{Script}
 use Rattle.suite_args.specs.declared.script.Script.TheVariants.{Play, Table}
-use Rattle.suite_args.proofs.BuiltCommands.{acl_shape, commands, script_shape, top, top_knows}
+use Rattle.suite_args.proofs.BuiltCommands.{acl_shape, commands, script_shape, serve_shape, top, top_knows}
 use Rattle.suite_args.proofs.FirstWords.{start, end_alone, end_and_more, end_walked, help_first, other_first}
 use Rattle.suite_args.proofs.Levels.{acl_meets, script_meets}
+use Rattle.suite_args.proofs.ServeWalks.{serve_meets}
 
 abbrev names : Names
 names = names_of commands
@@ -87,6 +88,10 @@ unfolding walked
 script_line Table words = command_meets (codes "table") (script_shape Table) refl refl (λ ws. refl) (λ ws. refl) (asked_of_script Table words) words (script_meets Table words)
 script_line Play words = command_meets (codes "play") (script_shape Play) refl refl (λ ws. refl) (λ ws. refl) (asked_of_script Play words) words (script_meets Play words)
 
+serve_line : (words : List Text) → Meets (asked_of_serve untold words) (fault_of suites (codes "serve" ∷ words)) (asked_in (subcommand_of suites (codes "serve" ∷ words)))
+unfolding walked
+serve_line words = command_meets (codes "serve") serve_shape refl refl (λ ws. refl) (λ ws. refl) (asked_of_serve untold words) words (serve_meets words)
+
 topic_line : (words : List Text) → fault_of suites (codes "help" ∷ words) ≡ DisplayHelp ∷ InvalidSubcommand ∷ []
 unfolding walk_fault
 topic_line words = refl
@@ -110,12 +115,13 @@ flipped a b e = go (bytes_eq b a) refl
     go false t = t
 
 -- the name of the first of the commands that is meant
-abbrev first_meant : Bool → Bool → Bool → Bool → Option Text
-first_meant is_acl is_table is_play is_help = option_map (λ (s : Text × List Text). s.0) (if (is_acl || false) then Some (codes "acl", [])
-    else (if (is_table || false) then Some (codes "table", []) else (if (is_play || false) then Some (codes "play", []) else (if (is_help || false) then Some (codes "help", []) else None))))
+abbrev first_meant : Bool → Bool → Bool → Bool → Bool → Option Text
+first_meant is_acl is_table is_play is_serve is_help = option_map (λ (s : Text × List Text). s.0) (if (is_acl || false) then Some (codes "acl", [])
+    else (if (is_table || false) then Some (codes "table", []) else (if (is_play || false) then Some (codes "play", []) else (if (is_serve || false) then Some (codes "serve", []) else (if (is_help || false) then Some (codes "help", []) else None)))))
 
-no_command : (word : Text) → bytes_eq word (codes "acl") ≡ false → bytes_eq word (codes "table") ≡ false → bytes_eq word (codes "play") ≡ false → bytes_eq word (codes "help") ≡ false → subcommand_met names idle word ≡ None
-no_command word a b c d = λ i. first_meant (flipped word (codes "acl") a i) (flipped word (codes "table") b i) (flipped word (codes "play") c i) (flipped word (codes "help") d i)
+no_command : (word : Text) → bytes_eq word (codes "acl") ≡ false → bytes_eq word (codes "table") ≡ false → bytes_eq word (codes "play") ≡ false → bytes_eq word (codes "serve") ≡ false → bytes_eq word (codes "help") ≡ false
+    → subcommand_met names idle word ≡ None
+no_command word a b c e d = λ i. first_meant (flipped word (codes "acl") a i) (flipped word (codes "table") b i) (flipped word (codes "play") c i) (flipped word (codes "serve") e i) (flipped word (codes "help") d i)
 
 end_asks_nothing : asked_by_option (codes "--") ≡ nothing
 unfolding chars
@@ -141,34 +147,38 @@ module _ (word : Text) (no : subcommand_met names idle word ≡ None) where
       go false false end asks =
           meets _ nothing _ _ _ _ (ap (λ b. if b then help else nothing) asks) refl refl (mistakes_are (word ∷ words) (other_first top names refl top_knows refl word no end asks words))
 
-abbrev asked_at : Text → List Text → Bool → Bool → Bool → Bool → Asked
-asked_at word words is_acl is_table is_play is_help =
+abbrev asked_at : Text → List Text → Bool → Bool → Bool → Bool → Bool → Asked
+asked_at word words is_acl is_table is_play is_serve is_help =
     if is_acl then asked_of_acl words
     else (if is_table then asked_of_script Table words
     else (if is_play then asked_of_script Play words
-    else (if is_help then topic else asked_by_option word)))
+    else (if is_serve then asked_of_serve untold words
+    else (if is_help then topic else asked_by_option word))))
 
 pub lines_meet : (words : List Text) → length words ≤ usize_max → Meets (asked_by words) (fault_of suites words) (asked_in (subcommand_of suites words))
 lines_meet [] fits = empty_line
-lines_meet (word ∷ words) fits = go (bytes_eq word (codes "acl")) (bytes_eq word (codes "table")) (bytes_eq word (codes "play")) (bytes_eq word (codes "help")) refl refl refl refl
+lines_meet (word ∷ words) fits = go (bytes_eq word (codes "acl")) (bytes_eq word (codes "table")) (bytes_eq word (codes "play")) (bytes_eq word (codes "serve")) (bytes_eq word (codes "help")) refl refl refl refl refl
   where
     named : (name : Text) (asked : Asked) → bytes_eq word name ≡ true
         → Meets asked (fault_of suites (name ∷ words)) (asked_in (subcommand_of suites (name ∷ words))) → Meets asked (fault_of suites (word ∷ words)) (asked_in (subcommand_of suites (word ∷ words)))
     named name asked is h = subst (λ (first : Text). Meets asked (fault_of suites (first ∷ words)) (asked_in (subcommand_of suites (first ∷ words)))) (sym ((bytes_eq-Decides word name).0 is)) h
 
-    go : (a b c d : Bool) → bytes_eq word (codes "acl") ≡ a → bytes_eq word (codes "table") ≡ b → bytes_eq word (codes "play") ≡ c → bytes_eq word (codes "help") ≡ d
+    go : (a b c s d : Bool) → bytes_eq word (codes "acl") ≡ a → bytes_eq word (codes "table") ≡ b → bytes_eq word (codes "play") ≡ c → bytes_eq word (codes "serve") ≡ s → bytes_eq word (codes "help") ≡ d
         → Meets (asked_by (word ∷ words)) (fault_of suites (word ∷ words)) (asked_in (subcommand_of suites (word ∷ words)))
-    go true b c d is_acl is_table is_play is_help =
-        meets _ (asked_of_acl words) _ _ _ _ (ap (λ v. asked_at word words v (bytes_eq word (codes "table")) (bytes_eq word (codes "play")) (bytes_eq word (codes "help"))) is_acl) refl refl
+    go true b c s d is_acl is_table is_play is_serve is_help =
+        meets _ (asked_of_acl words) _ _ _ _ (ap (λ v. asked_at word words v (bytes_eq word (codes "table")) (bytes_eq word (codes "play")) (bytes_eq word (codes "serve")) (bytes_eq word (codes "help"))) is_acl) refl refl
         (named (codes "acl") (asked_of_acl words) is_acl (acl_line words (omega arith)))
-    go false true c d is_acl is_table is_play is_help =
-        meets _ (asked_of_script Table words) _ _ _ _ (ap₂ (λ u v. asked_at word words u v (bytes_eq word (codes "play")) (bytes_eq word (codes "help"))) is_acl is_table) refl refl
+    go false true c s d is_acl is_table is_play is_serve is_help =
+        meets _ (asked_of_script Table words) _ _ _ _ (ap₂ (λ u v. asked_at word words u v (bytes_eq word (codes "play")) (bytes_eq word (codes "serve")) (bytes_eq word (codes "help"))) is_acl is_table) refl refl
         (named (codes "table") (asked_of_script Table words) is_table (script_line Table words))
-    go false false true d is_acl is_table is_play is_help =
-        meets _ (asked_of_script Play words) _ _ _ _ (λ i. asked_at word words (is_acl i) (is_table i) (is_play i) (bytes_eq word (codes "help"))) refl refl
+    go false false true s d is_acl is_table is_play is_serve is_help =
+        meets _ (asked_of_script Play words) _ _ _ _ (λ i. asked_at word words (is_acl i) (is_table i) (is_play i) (bytes_eq word (codes "serve")) (bytes_eq word (codes "help"))) refl refl
         (named (codes "play") (asked_of_script Play words) is_play (script_line Play words))
-    go false false false true is_acl is_table is_play is_help =
-        meets _ topic _ _ _ _ (λ i. asked_at word words (is_acl i) (is_table i) (is_play i) (is_help i)) refl refl (named (codes "help") topic is_help (topic_line words))
-    go false false false false is_acl is_table is_play is_help =
-        meets _ (asked_by_option word) _ _ _ _ (λ i. asked_at word words (is_acl i) (is_table i) (is_play i) (is_help i)) refl refl
-        (other_line word (no_command word is_acl is_table is_play is_help) words)
+    go false false false true d is_acl is_table is_play is_serve is_help =
+        meets _ (asked_of_serve untold words) _ _ _ _ (λ i. asked_at word words (is_acl i) (is_table i) (is_play i) (is_serve i) (bytes_eq word (codes "help"))) refl refl
+        (named (codes "serve") (asked_of_serve untold words) is_serve (serve_line words))
+    go false false false false true is_acl is_table is_play is_serve is_help =
+        meets _ topic _ _ _ _ (λ i. asked_at word words (is_acl i) (is_table i) (is_play i) (is_serve i) (is_help i)) refl refl (named (codes "help") topic is_help (topic_line words))
+    go false false false false false is_acl is_table is_play is_serve is_help =
+        meets _ (asked_by_option word) _ _ _ _ (λ i. asked_at word words (is_acl i) (is_table i) (is_play i) (is_serve i) (is_help i)) refl refl
+        (other_line word (no_command word is_acl is_table is_play is_serve is_help) words)

@@ -1,14 +1,16 @@
 //! What `clap` answered, as a request.
 
 ghost use Rattle.std.specs.Prelude.{◌≡◌, [], IfOk, codes, unwrap_or};
-ghost use Rattle.clap.specs.Words.{all_of, found_of, kind_of, rows_of, subcommand_rows_of};
-ghost use Rattle.suite_args.specs.Answering.{Answers, AnswersTo, asked_in};
+ghost use Rattle.clap.specs.Words.{all_of, first_of, found_of, kind_of, rows_of, subcommand_rows_of};
+ghost use Rattle.suite_args.specs.Answering.{Answers, AnswersServe, AnswersTo, asked_in};
+ghost use Rattle.suite_args.specs.CommandLine.{agents_of};
 
-use crate::commands::{ACL, NAME, PLAY, TABLE};
+use crate::commands::{ACL, AGENTS, NAME, PLAY, SERVE, TABLE};
 use crate::request::{ArgsError, HelpText, Names, Request};
 use crate::script::Script;
 use clap::error::ErrorKind;
 use clap::{ArgMatches, Error};
+use script_text::read_number;
 use std::alloc::{AllocError, Global};
 
 /// The names among the arguments of `acl`.
@@ -19,6 +21,20 @@ fn names_in<'a>(alloc: Global, arguments: &ArgMatches<'a>) -> Result<Names<'a>, 
     match arguments.get_raw(NAME) {
         Some(words) => Names::new(alloc, words),
         None => Names::new(alloc, &[]),
+    }
+}
+
+/// The most agents.
+const MAX_AGENTS: u64 = 64;
+
+/// The number of agents among the arguments of `serve`.
+fn agents_in<'a>(arguments: &ArgMatches<'a>) -> Result<Request<'a>, ArgsError>
+    ensures { AnswersServe (agents_of (unwrap_or (first_of (codes "agents") (rows_of (found_of arguments.now))) [])) result }
+{
+    let text = arguments.get_str(AGENTS).unwrap_or("");
+    match read_number(text.as_bytes(), MAX_AGENTS) {
+        Some(agents) if agents > 0 => Ok(Request::Serve(agents as u8)),
+        _ => Err(ArgsError::CommandLine),
     }
 }
 
@@ -40,6 +56,9 @@ pub(crate) fn request_of<'a>(
     }
     if command == PLAY {
         return Ok(Request::Plays(Script::Play));
+    }
+    if command == SERVE {
+        return agents_in(arguments);
     }
     Err(ArgsError::CommandLine)
 }

@@ -2,7 +2,7 @@
 
 ghost use Rattle.std.specs.Prelude.{◌≡◌, IfOk};
 ghost use Rattle.clap.specs.Words.{app_of};
-ghost use Rattle.suite_args.specs.code.Commands.{IsCommand, acl_command, script_command, suites};
+ghost use Rattle.suite_args.specs.code.Commands.{IsCommand, acl_command, script_command, serve_command, suites};
 ghost use Rattle.suite_args.specs.declared.script.Script.TheVariants.{Play, Table};
 
 use clap::{Arg, Command};
@@ -19,8 +19,14 @@ pub(crate) const TABLE: &str = "table";
 /// The command that plays a script of events.
 pub(crate) const PLAY: &str = "play";
 
+/// The command that has a script of jobs carried out.
+pub(crate) const SERVE: &str = "serve";
+
 /// The words after `acl`.
 pub(crate) const NAME: &str = "NAME";
+
+/// The option of `serve` that tells how many agents there are.
+pub(crate) const AGENTS: &str = "agents";
 
 const ABOUT: &str = "Reads access lists, and plays scripts over files that are guarded by them.";
 
@@ -33,6 +39,11 @@ const TABLE_ABOUT: &str = "Reads a script, plays it on one plain table, prints a
 
 const PLAY_ABOUT: &str =
     "Reads a script of events, plays it on servers and agents, prints a line an outcome";
+
+const SERVE_ABOUT: &str =
+    "Reads a script of jobs, has agents carry them out at once, prints a line a job, certifies all";
+
+const AGENTS_ABOUT: &str = "How many agents there are: 1 to 64";
 
 const TABLE_SCRIPT: &str = "A script is lines of words, with spaces or tabs between them.
 An empty line, and one that begins with #, says nothing.
@@ -116,6 +127,52 @@ prints
 
 The exit statuses are those that `suites --help` tells.";
 
+const SERVE_SCRIPT: &str = "A script is lines of words, with spaces or tabs between them.
+An empty line, and one that begins with #, says nothing.
+
+  servers N                             1 to 16 servers, numbered from 0
+  votes VOTES                           the votes at first
+  root UID GID INIT                     the root folder's owner, group and list
+  cache BUDGET QUOTA SLOTS              the most bytes of an agent's cache, of a site's part of it,
+                                        and the most entries
+
+These stand first and in this order. Names may follow, and then jobs, numbered from 0:
+
+  user NAME UID                         a name for the lists of the lines below
+  group NAME GID
+  do UID GIDS SITE OPERATION ; ..       a transaction of a user, at one of an agent's sites 0 to 15
+  sweep S                               what others have left at server S is ended
+  together                              once: the jobs above it are done one after the other, by agent 0;
+                                        those below it by all agents at once, each as one is free
+
+VOTES, INIT, GIDS and operations are those that `suites table --help` tells.
+
+Example:
+
+  servers 3
+  votes 1,1,1/2/2
+  root 1000 100 777
+  cache 0 0 0
+  do 1000 100 0 file /a 644
+  do 1000 100 0 file /b 644
+  together
+  do 1000 100 0 write /a 6869
+  do 1000 100 0 write /b 6f6b
+
+prints, for each number of agents,
+
+  0 10 answered made 1
+  1 10 answered made 513
+  2 10 answered wrote
+  3 10 answered wrote
+  certified 40 steps
+
+A line a job: its number, how many steps it took, and how it ended. The last line says that all these steps
+were those of one run of servers and agents; if they were not, `mismatch` is all that is printed. Where jobs
+are in one another's way, it is chance which of them are done: one that met another's lock is undecided.
+
+The exit statuses are those that `suites --help` tells.";
+
 const STREAMS: &str = "A command reads standard input to its end, and prints to standard output.
 
 Exit status:
@@ -123,6 +180,7 @@ Exit status:
   2  a fault in the command line
   3  a fault in the text or the script
   4  want of memory
+  5  what the agents and servers did is no run (of `serve` alone)
   6  a failed read or write, or input above 16 MiB";
 
 fn acl_command<'a>(alloc: Global) -> Result<Command<'a>, AllocError>
@@ -151,6 +209,20 @@ fn play_command<'a>(alloc: Global) -> Command<'a>
         .after_help(PLAY_SCRIPT)
 }
 
+fn serve_command<'a>(alloc: Global) -> Result<Command<'a>, AllocError>
+    ensures { IfOk result (IsCommand serve_command) }
+{
+    let agents = Arg::new(alloc, AGENTS)
+        .long(AGENTS)
+        .value_name("N")
+        .required(true)
+        .help(AGENTS_ABOUT);
+    Command::new(alloc, SERVE)
+        .about(SERVE_ABOUT)
+        .after_help(SERVE_SCRIPT)
+        .arg(agents)
+}
+
 /// All commands.
 pub(crate) fn commands<'a>(alloc: Global) -> Result<Command<'a>, AllocError>
     ensures { IfOk result (λ c. app_of c ≡ suites) }
@@ -163,5 +235,6 @@ pub(crate) fn commands<'a>(alloc: Global) -> Result<Command<'a>, AllocError>
         .subcommand_required(true)
         .subcommand(acl_command(alloc)?)?
         .subcommand(table_command(alloc))?
-        .subcommand(play_command(alloc))
+        .subcommand(play_command(alloc))?
+        .subcommand(serve_command(alloc)?)
 }

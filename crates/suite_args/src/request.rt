@@ -16,6 +16,8 @@ pub enum Request<'a> {
     Acl(Names<'a>),
     /// Play the script that standard input has.
     Plays(Script),
+    /// `suites serve --agents N`: have the jobs of the script that standard input has carried out by so many agents, 1 to 64.
+    Serve(u8),
     /// Print this text.
     Help(HelpText),
 }

@@ -88,3 +88,11 @@ command_line_fault = codes "fault command line" ++ line_feed
 -- the line of want of memory
 abbrev pub memory_line : List ℕ
 memory_line = codes "fault memory" ++ line_feed
+
+-- the line of so many steps that were certified
+abbrev pub certified_line : ℕ → List ℕ
+certified_line steps = codes "certified " ++ decimal steps ++ codes " steps" ++ line_feed
+
+-- the line where what was done is no run
+abbrev pub mismatch_line : List ℕ
+mismatch_line = codes "mismatch" ++ line_feed

@@ -1,12 +1,19 @@
 -- What a command that ended has done.
 use Rattle.std.specs.Prelude.{◌≡◌, Bool, true, false, alloc_error, Vec, ℕ, ◌<◌, ◌≤◌, ◌⊎◌, List, ◌++◌, length, Option, Some, None, Result, Ok, Err}
 use Rattle.byte_streams.specs.Streams.{Adds, one_more}
-use Rattle.suite_args.specs.CommandLine.{Asked}
+use Rattle.run_certify.specs.declared.fault.CertifyFault.{CertifyFault}
+use Rattle.run_certify.specs.declared.fault.CertifyFault.TheVariants as certify
+use Rattle.suite_args.specs.CommandLine.{Asked, agents_of}
 use Rattle.suite_args.specs.CommandLine as asked
+use Rattle.suite_script.specs.Faults.{fault_line}
 use Rattle.suite_script.specs.Outputs.{Output, Done, Faulty, IsBegun}
 use Rattle.suite_script.specs.Scripts.{no_names}
 use Rattle.suite_cli.specs.Names.{names_from}
-use Rattle.suite_cli.specs.Outputs.{acl_output, command_line_fault, memory_line, script_output_of, word_fault_line}
+use Rattle.suite_script.specs.declared.fault.ScriptFault.{ScriptFault}
+use Rattle.suite_serve.specs.Scripts.{Plan, plan_in}
+use Rattle.suite_serve.specs.Served.{Came, IsServed, job_lines}
+use Rattle.suite_serve.specs.code.Kept.{kept_plan}
+use Rattle.suite_cli.specs.Outputs.{acl_output, certified_line, command_line_fault, memory_line, mismatch_line, script_output_of, word_fault_line}
 use Rattle.suite_cli.specs.declared.acl.NamesError.{NamesError}
 use Rattle.suite_cli.specs.declared.acl.NamesError.TheVariants as names
 use Rattle.std.specs.declared.alloc.AllocError.{AllocError}
@@ -29,6 +36,9 @@ faulty = 3
 
 abbrev pub no_memory : ℕ
 no_memory = 4
+
+abbrev pub mismatched : ℕ
+mismatched = 5
 
 abbrev pub no_stream : ℕ
 no_stream = 6
@@ -122,10 +132,61 @@ abbrev pub RunsAcl : Result Tables ℕ → Streams → ℕ → Type 0
 RunsAcl (Ok names) streams status = Runs (acl_output names) streams status
 RunsAcl (Err place) streams status = Refuses (word_fault_line place) streams status
 
+-- ---- `serve`
+
+-- of an output that is not gathered first: it was written whole, with its status; or memory ran out on the way, and that was said; or a write failed
+abbrev pub Tells : Output → ℕ → Option (List ℕ) → Option (List ℕ) → ℕ → ℕ → Type 0
+Tells output status before after failures failures_after =
+    Writes output status before after
+    ⊎ (((status ≡ no_memory) × (((front : List ℕ) × (IsBegun output front × Adds before (front ++ memory_line) after)) ⊎ (failures_after ≡ one_more failures)))
+    ⊎ ((status ≡ no_stream) × (failures_after ≡ one_more failures)))
+
+-- what is printed for jobs: a line for each, of what came of them in one run of servers and agents, and last how many requests were served in it
+abbrev pub Prints : Plan → Output → Type 0
+Prints plan output = (came : Came) × (IsServed plan came × (output ≡ Done (job_lines came.ends ++ certified_line came.steps)))
+
+-- jobs were carried out, and what came of them was told; or that it was no run, and nothing else; or memory ran out before
+abbrev pub Concludes : Plan → ℕ → Option (List ℕ) → Option (List ℕ) → ℕ → ℕ → Type 0
+Concludes plan status before after failures failures_after =
+    ((output : Output) × (Prints plan output × Tells output status before after failures failures_after))
+    ⊎ (Finishes mismatch_line mismatched status before after failures failures_after
+    ⊎ ((status ≡ no_memory) × SaysMemory before after failures failures_after))
+
+-- a script was read: it was carried out; or its first fault was told
+abbrev pub ServesScript : Result Plan ScriptFault → ℕ → Option (List ℕ) → Option (List ℕ) → ℕ → ℕ → Type 0
+ServesScript (Ok plan) status before after failures failures_after = Concludes (kept_plan plan) status before after failures failures_after
+ServesScript (Err fault) status before after failures failures_after = Tells (Faulty (fault_line fault)) status before after failures failures_after
+
+-- for the input that a stream tells, which is within the limit, the script that it has was served; or memory ran out before, or a stream failed
+abbrev pub ServesOn : ℕ → Streams → ℕ → Option (List ℕ) → Type 0
+ServesOn agents streams status None = Unit {0}
+ServesOn agents streams status (Some input) =
+    ((length input ≤ max_input) × ServesScript (plan_in agents input) status streams.written streams.written_after streams.failed_writes streams.failed_writes_after)
+    ⊎ (LacksMemory streams status ⊎ ((status ≡ no_stream) × StreamFailed input streams))
+
+-- the script that the input has was carried out by so many agents
+abbrev pub Serves : ℕ → Streams → ℕ → Type 0
+Serves agents streams status = ServesOn agents streams status streams.input
+
+-- where the words tell how many agents there are
+abbrev pub ServesBy : Option ℕ → Streams → ℕ → Type 0
+ServesBy (Some agents) streams status = Serves agents streams status
+ServesBy None streams status = Refuses command_line_fault streams status
+
+-- the last line of `serve` was written
+abbrev pub Reports : Result ℕ CertifyFault → ℕ → Option (List ℕ) → Option (List ℕ) → ℕ → ℕ → Type 0
+Reports (Ok steps) status before after failures failures_after =
+    Finishes (certified_line steps) done status before after failures failures_after ⊎ ((status ≡ no_memory) × SaysMemory before after failures failures_after)
+Reports (Err certify.Mismatch) status before after failures failures_after = Finishes mismatch_line mismatched status before after failures failures_after
+Reports (Err certify.Memory) status before after failures failures_after = (status ≡ no_memory) × SaysMemory before after failures failures_after
+
+-- ---- all commands
+
 -- what the words ask for was done
 abbrev pub Does : Asked → Streams → ℕ → Type 0
 Does (asked.plays script) streams status = Runs (script_output_of script) streams status
 Does (asked.acl names) streams status = RunsAcl (names_from 1 no_names names) streams status
+Does (asked.serves text) streams status = ServesBy (agents_of text) streams status
 Does asked.help streams status = Helps streams status
 Does asked.topic streams status = Helps streams status ⊎ Refuses command_line_fault streams status
 Does asked.nothing streams status = Refuses command_line_fault streams status

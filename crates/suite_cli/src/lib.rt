@@ -7,7 +7,9 @@ mod job;
 mod language;
 mod player;
 mod scripts;
+mod serve;
 mod table;
 
 pub use byte_streams::{ByteIn, ByteOut};
 pub use commands::{lack_memory, run};
+pub use serve::report;

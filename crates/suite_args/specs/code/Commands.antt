@@ -27,13 +27,20 @@ script_word Play = codes "play"
 abbrev pub script_command : Script → App
 script_command script = new_app (script_word script)
 
+-- the option of `serve`
+abbrev pub agents_rule : Rule
+agents_rule = record (new_rule (codes "agents")) { long = Some (codes "agents"); value_names = 1; required = true }
+
+abbrev pub serve_command : App
+serve_command = with_rule (new_app (codes "serve")) agents_rule
+
 abbrev pub no_commands : App
 no_commands =
     let app = new_app (codes "suites") in
     record app { top = record app.top { no_binary_name = true; subcommand_required = true } }
 
 abbrev pub suites : App
-suites = with_subcommand (with_subcommand (with_subcommand no_commands acl_command.top) (script_command Table).top) (script_command Play).top
+suites = with_subcommand (with_subcommand (with_subcommand (with_subcommand no_commands acl_command.top) (script_command Table).top) (script_command Play).top) serve_command.top
 
 -- the command is this one, and no argument of it goes to the commands below it
 abbrev pub IsCommand : App → Command → Type 0

@@ -1,4 +1,5 @@
-use Rattle.std.proofs.Common.{rules}
+use Rattle.std.proofs.Common.{rules, ◌≡◌, ◌<◌, ◌-◌, length, arith, ap}
+use Rattle.std.specs.Vec.{vec_len}
 use Rattle.agent_pool.proofs.Seating.{taken_at}
 use Rattle.agent_pool.proofs.passes.take_pass.Goals as goal
 
