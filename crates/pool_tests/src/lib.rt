@@ -1,4 +1,6 @@
-//! Tests of agents in threads.
+//! Tests of agents in threads: what their jobs come to, and that it is certified.
+//!
+//! They stand here and not beside the code, since a crate with tests is proved a second time for them.
 #![tactic(auto)]
 
 /// What a call gives, where memory may be refused to it once.
@@ -13,8 +15,10 @@ macro_rules! again {
 }
 
 #[cfg(test)]
-mod pool_crew;
+mod crew;
 #[cfg(test)]
-mod pool_runs;
+mod ends;
 #[cfg(test)]
-mod town;
+mod files;
+#[cfg(test)]
+mod overlap;
