@@ -2,14 +2,16 @@
 """Looks whether all that README.md and examples/ show is played by the gate.
 
 Each file of examples/ has to be the input of a row of crates/rows/stdin; each script, command and output that
-README.md shows has to be that of a row, and an output that of the script or the command before it. What
+README.md shows has to be that of a row, and an output that of the script or the command before it. The picture has to
+be that of the trace which the program of crates/trace is to print of the same script (its stdin and stdout). What
 differs is told, and the status is 1. The rows themselves are played by the program of crates/rows.
 """
 import os, re, sys
 
-import sources
+import draw, sources
 
 TOP = os.path.join(os.path.dirname(os.path.abspath(__file__)), "..")
+PICTURE, STORY = "docs/revocation.svg", "examples/play/revocation.script"
 MARKS = {b"r": b"\r", b"t": b"\t", b"\\": b"\\"}
 
 
@@ -92,6 +94,10 @@ def main():
             outputs = {printed for _, given, printed in played if said(given) == said(text)}
             if not outputs:
                 wrong.append(f"README.md:{number}: this block is a script or an output of no row")
+    if content("crates/trace/stdin") != content(STORY):
+        wrong.append(f"crates/trace/stdin is not {STORY}")
+    if content(PICTURE).decode() != draw.picture_of(content("crates/trace/stdout").decode("latin1").splitlines()):
+        wrong.append(f"{PICTURE} is not that of crates/trace/stdout: ./suites draw < {STORY} > {PICTURE} makes it anew")
     if f"`{sources.KIT_LOGIC}`".encode() not in content("README.md"):
         wrong.append("README.md names another kit than tools/sources.py")
     for line in wrong:
