@@ -42,36 +42,43 @@ def output(command, script):
     return done.stdout.decode("latin1").splitlines()
 
 
+def number_of(agent, count):
+    """The number of the transaction that is an agent's job of this number."""
+    return 64 * count + agent
+
+
 class Run:
     """A run as its trace shows it: its transactions, those that were decided in their order, and the audits."""
 
     def __init__(self, lines):
         self.jobs, self.decided, self.audits, self.played = {}, [], {}, []
-        counts, begun = collections.Counter(), {}
+        counts = collections.Counter()
         for head, block in trace.blocks(lines):
+            if head[0] != ">":
+                break
             words = head[2:].split()
-            if words[0] in ("begin", "sweep") and head[0] == ">" and not any(line.startswith("  nothing") for line in block):
+            if words[0] in ("begin", "sweep") and not any(line.startswith("  nothing") for line in block):
                 agent = int(words[1])
-                begun[agent, counts[agent]] = 64 * counts[agent] + agent
                 if words[0] == "begin":
-                    self.jobs[64 * counts[agent] + agent] = Job(words)
+                    self.jobs[number_of(agent, counts[agent])] = Job(words)
                 counts[agent] += 1
             for line in block:
                 self.take(line)
-            if head[0] == ">":
-                self.played += [line for line in block if not line.startswith("  ")]
-                if words[0] == "audit":
-                    self.audits[int(words[1])] = block[1:]
+            self.played += [line for line in block if not line.startswith("  ")]
+            if words[0] == "audit":
+                self.audits[int(words[1])] = block[1:]
 
     def take(self, line):
+        """Keeps what a line tells. Of the audits those count that come after the last decision, and so tell all denials."""
         request, outcome = trace.REQUEST.match(line), trace.OUTCOME.match(line)
         decide = request and DECIDE.match(request[3])
         if decide and request[4] in ("verdict answered", "verdict refused"):
             job = self.jobs[int(decide[1])]
             job.verdict, job.home = request[4].split()[1], int(request[2])
             self.decided.append(int(decide[1]))
+            self.audits.clear()
         elif outcome:
-            job = self.jobs.get(64 * int(outcome[2]) + int(outcome[1]))
+            job = self.jobs.get(number_of(int(outcome[1]), int(outcome[2])))
             if job:
                 job.ending = outcome[4]
 
@@ -111,6 +118,8 @@ def differences(script):
     answers = [line.partition(" ")[2] for line in output("table", table_script(script, run))][1:]
     places = {t: place for place, t in enumerate(run.decided, 1)}
     audits = {server: [] for server in run.audits}
+    if len(answers) != len(run.decided):
+        wrong.append(f"{len(run.decided)} transactions are decided, and table answers {len(answers)}")
     for t, answer in zip(run.decided, answers):
         job = run.jobs[t]
         told[f"decided: {answer.split()[0]}"] += 1
@@ -127,8 +136,10 @@ def differences(script):
             told[f"undecided {job.ending.split()[1]}" if job.ending else "undecided, and the agent stopped"] += 1
             if job.ending and not job.ending.startswith("undecided"):
                 wrong.append(f"t {t}: ended as {job.ending}, and was never decided")
-    if any(line.startswith("> audit") for line in lines[-200:]):
-        wrong += [f"audit {server}: {run.audits[server]}, wanted {items}" for server, items in audits.items() if [mapped(item, places) for item in run.audits[server]] != items]
+    for server, items in audits.items():
+        if [mapped(item, places) for item in run.audits[server]] != items:
+            wrong.append(f"audit {server}: {run.audits[server]}, wanted {items}")
+    told["audits"] = len(audits)
     told["requests"] = sum(bool(trace.REQUEST.match(line)) for line in lines)
     told.update(f"events: {line.split()[1]}" for line in lines if line.startswith("> ") and line.split()[1] in ("crash", "return", "sweep", "forget"))
     return wrong, told

@@ -48,9 +48,10 @@ class Picture:
         self.x |= {f"server {server}": LEFT + len(agents) * OF_AGENTS + place * OF_SERVERS for place, server in enumerate(servers)}
         self.y, self.named, self.parts, self.greys, self.down, self.last = HEAD + 14, [20], [], [], {}, {}
 
-    def text(self, x, y, words, style="", anchor="start"):
+    def text(self, x, y, words, style="", anchor=""):
         words = words if len(words) <= 90 else words[:89] + "…"
-        self.parts.append(f'<text x="{x}" y="{y}"{f" class={chr(34)}{style}{chr(34)}" if style else ""}{f" text-anchor={chr(34)}{anchor}{chr(34)}" if anchor != "start" else ""}>{html.escape(words)}</text>')
+        style, anchor = style and f' class="{style}"', anchor and f' text-anchor="{anchor}"'
+        self.parts.append(f'<text x="{x}" y="{y}"{style}{anchor}>{html.escape(words)}</text>')
 
     def event(self, name, words):
         """A line of the script, at what it is about."""
@@ -72,7 +73,8 @@ class Picture:
     def exchange(self, agent, server, request, reply, decides):
         """A request and its reply."""
         a, b, y = self.x[f"agent {agent}"], self.x[f"server {server}"], self.y
-        self.parts.append(f'<path d="M{a} {y}H{b}" class="ask" marker-end="url(#a)"/><path d="M{b} {y + 13}H{a}" class="told" marker-end="url(#b)"/>')
+        there, back = f"M{a} {y}H{b}", f"M{b} {y + 13}H{a}"
+        self.parts.append(f'<path d="{there}" class="ask" marker-end="url(#a)"/><path d="{back}" class="told" marker-end="url(#b)"/>')
         self.text(a + 7, y - 3, request)
         self.text(b - 10, y + 10, reply, "reply", "end")
         if decides:
@@ -136,8 +138,10 @@ def drawn(lines, known):
         for line in block:
             request, outcome = trace.REQUEST.match(line), trace.OUTCOME.match(line)
             if request:
-                decides = " decide " in request[3] or " resolve" in request[3]
-                picture.exchange(int(request[1]), int(request[2]), *(short(part, known, int(request[1])) for part in (request[3], request[4])), decides and request[4].startswith("verdict"))
+                agent, server = int(request[1]), int(request[2])
+                asked, reply = (short(words, known, agent) for words in request.group(3, 4))
+                decides = re.search(" decide | resolve", request[3]) and request[4].startswith("verdict")
+                picture.exchange(agent, server, asked, reply, decides)
             elif outcome:
                 picture.outcome(int(outcome[1]), outcome[4])
     return picture.told()

@@ -5,6 +5,7 @@ Writes a random script of `suites play`: users who make, read, write, list, drop
 that fall down and come up, agents that stop in the middle of a job, sweeps, forgotten caches, and votes that are moved.
 The same SEED gives the same script. LINES is about how many events it has (default 120).
 """
+import argparse
 import random
 import sys
 
@@ -135,9 +136,11 @@ class Scenario:
 
 
 def main():
-    if not 2 <= len(sys.argv) <= 3:
-        sys.exit(__doc__.split("\n")[0])
-    sys.stdout.write(Scenario(int(sys.argv[1]), int(sys.argv[2]) if len(sys.argv) > 2 else 120).script())
+    read = argparse.ArgumentParser(description=__doc__, formatter_class=argparse.RawDescriptionHelpFormatter)
+    read.add_argument("seed", type=int)
+    read.add_argument("lines", type=int, nargs="?", default=120)
+    given = read.parse_args()
+    sys.stdout.write(Scenario(given.seed, given.lines).script())
 
 
 if __name__ == "__main__":

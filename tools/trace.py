@@ -24,9 +24,12 @@ OUTCOME = re.compile(r"(\d+)\.(\d+) (\d+) (.*)")
 SUITE = re.compile(r"\bsuite (\d+)\b")
 COPY = re.compile(r"    suite (\d+) (\w+) prefix (\d+) content (\d+) votes (\S+)")
 NAMES = re.compile(r"suite (\d+)\b[^;:]*(?:: given, content \d+)? names((?: \S+=\d+)+)")
-OF_SERVERS = ("crash", "return")
-
-
+OF_SERVERS, BEGIN, STEP = ("crash", "return"), ("begin", "sweep"), ("step", "run")
+# What a terminal is told where the program ends so (as `./suites` tells it of the other commands).
+EXPLAINED = {
+    3: "./suites explain 'THE LINE ABOVE' tells what it means",
+    6: "the input is above 16 MiB, or a read or a write failed (./suites explain 'status 6')",
+}
 ENV = {**os.environ, "SUITES_PROGRAM": "trace"}
 
 
@@ -49,6 +52,8 @@ def traced(script):
     if done.returncode != 0:
         sys.stdout.write(text)
         sys.stdout.flush()
+        if sys.stderr.isatty() and done.returncode in EXPLAINED:
+            console.Teller().say(EXPLAINED[done.returncode])
         sys.exit(done.returncode)
     return text.splitlines()
 
@@ -125,13 +130,22 @@ class AboutSuite:
 def narrowed(lines, agent, suite):
     """The lines that are about an agent, and about a suite."""
     about = AboutSuite(suite, lines) if suite is not None else None
+    shown, begun = [], {}
     for head, block in blocks(lines):
         words = head[2:].split()
         of_server = head.startswith("=") or words[0] in OF_SERVERS
-        if agent is not None and not of_server and words[0] != "audit" and words[1] != str(agent):
+        if agent is not None and not of_server and words[0] != "audit" and int(words[1]) != agent:
             continue
         kept = [line for line in block if (agent is None or is_of_agent(line, agent)) and (about is None or about(line))]
-        if kept or of_server or (words[0] in ("begin", "sweep") and about is None):
+        begins = words[0] in BEGIN
+        shown.append([bool(kept) or of_server or (begins and about is None), head, kept])
+        if begins and not kept:
+            begun[int(words[1])] = shown[-1]
+        elif kept and words[0] in STEP:
+            # the job came to be about it, so the line that began it is too
+            begun.pop(int(words[1]), shown[-1])[0] = True
+    for is_shown, head, kept in shown:
+        if is_shown:
             yield head
             yield from kept
 
@@ -144,7 +158,8 @@ def behind(lines):
         newest[found[1]] = max(before[0], int(found[3])), max(before[1], int(found[4]))
     for line in lines:
         found = COPY.match(line)
-        parts = [word for word, own, most in (("prefix", found[3], newest[found[1]][0]), ("content", found[4], newest[found[1]][1])) if int(own) < most] if found else []
+        versions = zip(("prefix", "content"), found.group(3, 4), newest[found[1]]) if found else ()
+        parts = [what for what, own, most in versions if int(own) < most]
         yield line + (f"   behind: {', '.join(parts)}" if parts else "")
 
 
@@ -160,7 +175,8 @@ def with_paths(lines, known):
 
 
 def asked(words, text):
-    read = argparse.ArgumentParser(prog="./suites trace", description=text, formatter_class=argparse.RawDescriptionHelpFormatter, add_help=False)
+    """The words of the command line; help is this text."""
+    read = argparse.ArgumentParser(prog=text.split(" [")[0], add_help=False)
     read.add_argument("--agent", type=int)
     read.add_argument("--suite")
     read.add_argument("-h", "--help", action="store_true")
@@ -187,13 +203,16 @@ def script():
     return sys.stdin.buffer.read()
 
 
+def shown(lines, agent=None, suite=None):
+    """The text of a trace as the program prints it, or of a part of it, with paths and what is behind."""
+    known = paths(lines)
+    kept = narrowed(list(behind(lines)), agent, number_of(suite, known))
+    return "".join(f"{line}\n" for line in with_paths(kept, known))
+
+
 def main():
     given = asked(sys.argv[1:], __doc__)
-    lines = traced(script())
-    known = paths(lines)
-    marked = list(behind(lines))
-    kept = narrowed(marked, given.agent, number_of(given.suite, known))
-    sys.stdout.buffer.write("".join(f"{line}\n" for line in with_paths(kept, known)).encode("latin1"))
+    sys.stdout.buffer.write(shown(traced(script()), given.agent, given.suite).encode("latin1"))
     return 0
 
 
