@@ -30,7 +30,8 @@ impl Standing {
         })
     }
 
-    /// Serves a request that a server of the world served.
+    /// Serves a request that a server of the world served. That one had room for it, and so has this: where it is not
+    /// served, memory is wanting.
     pub(crate) fn serve(
         &mut self,
         server: u8,
@@ -66,14 +67,18 @@ impl Standing {
         Ok(())
     }
 
-    /// Tells what each server has: its copies, with their versions and votes, and its locks.
+    /// Tells what each server has: its copies, with their versions and votes, and its locks. One that is down is asked for
+    /// that as it would come up.
     pub(crate) fn push(&self, text: &mut Vec<u8>) -> Result<(), AllocError> {
         for (number, server) in self.servers.iter().enumerate() {
             push_pair(text, b"= server ", number as u64)?;
             let mut copy = server.copy()?;
-            let is_down = matches!(answer(&copy, Request::Locks)?, Reply::Down);
-            text.extend_from_slice(if is_down { b" down\n" } else { b" up\n" })?;
-            tell(&mut copy, Request::Return)?;
+            if let Reply::Down = answer(&copy, Request::Locks)? {
+                text.extend_from_slice(b" down\n")?;
+                tell(&mut copy, Request::Return)?;
+            } else {
+                text.extend_from_slice(b" up\n")?;
+            }
             push_copies(self.alloc, &mut copy, &self.suites, text)?;
         }
         Ok(())
@@ -151,14 +156,13 @@ fn locks_of(alloc: Global, server: &Server) -> Result<Vec<Lock>, AllocError> {
 
 /// Tells a copy, where there is one.
 fn push_copy(text: &mut Vec<u8>, suite: u64, prefix: &Prefix, dver: u64) -> Result<(), AllocError> {
-    if prefix.pver == 0 {
-        return Ok(());
-    }
-    push_pair(text, b"    suite ", suite)?;
-    text.extend_from_slice(match prefix.kind {
+    let kind: &[u8] = match prefix.kind {
+        PrefixKind::Absent => return Ok(()),
+        PrefixKind::File => b" file",
         PrefixKind::Folder => b" folder",
-        _ => b" file",
-    })?;
+    };
+    push_pair(text, b"    suite ", suite)?;
+    text.extend_from_slice(kind)?;
     push_pair(text, b" prefix ", prefix.pver)?;
     push_pair(text, b" content ", dver)?;
     text.extend_from_slice(b" votes ")?;
