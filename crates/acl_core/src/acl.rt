@@ -18,7 +18,7 @@ use std::sync::ArcSlice;
 /// The most entries of a list.
 pub const MAX_ENTRIES: usize = 64;
 
-/// A valid list of at most 64 entries, in canonical order. A clone shares the entries.
+/// A valid list of at most [`MAX_ENTRIES`] entries, in canonical order. A clone shares the entries.
 #[derive(Debug, Drop)]
 pub struct Acl {
     entries: ArcSlice<Entry>,
