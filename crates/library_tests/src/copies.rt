@@ -104,7 +104,8 @@ fn are_read(rt: &(impl Abort + AllocGlobal), bytes: &[u8], want: &str) {
 /// Places of the worked copy with another byte there, and what that makes.
 static DAMAGED: &str = "
 0 7 = BadTag
-0 1 = BadTag
+0 1 = Invalid
+0 3 = BadTag
 9 3 = BadTag
 19 0 = BadTag
 31 7 = BadTag
@@ -148,11 +149,9 @@ fn damaged_copies_are_refused_by_their_fault(rt: HostRuntime) {
     no_more_and_no_less(&rt, DEFAULT);
 }
 
-/// Bytes that are read or refused: the worked copy in the form without default lists, a default list of a
-/// file, and of a folder one without its last entry, one out of order, one with another permission, and one that
+/// Bytes that are read or refused: a default list of a file, and of a folder one without its last entry, one out of order, one with another permission, and one that
 /// is as it should be.
 static READ: &str = "
-01 00 00 00 00 00 00 00 01 01 00 00 03 e8 00 00 00 64 03 01 00 00 00 00 06 03 00 00 00 00 04 06 00 00 00 00 04 03 00 01 01 01 02 01 00 02 00 02 00 00 00 00 00 00 00 01 00 00 00 02 68 69 = BadTag
 02 00 00 00 00 00 00 00 01 01 00 00 03 e8 00 00 00 64 03 01 00 00 00 00 06 03 00 00 00 00 04 06 00 00 00 00 04 03 01 00 00 00 00 06 03 00 00 00 00 04 06 00 00 00 00 04 03 00 01 01 01 02 01 00 02 00 02 00 00 00 00 00 00 00 01 00 00 00 02 68 69 = Invalid
 02 00 00 00 00 00 00 00 01 02 00 00 03 e8 00 00 00 64 03 01 00 00 00 00 06 03 00 00 00 00 04 06 00 00 00 00 04 02 01 00 00 00 00 06 03 00 00 00 00 04 03 00 01 01 01 02 01 00 02 00 02 00 00 00 00 00 00 00 01 00 00 = Invalid
 02 00 00 00 00 00 00 00 01 02 00 00 03 e8 00 00 00 64 03 01 00 00 00 00 06 03 00 00 00 00 04 06 00 00 00 00 04 03 03 00 00 00 00 06 01 00 00 00 00 04 06 00 00 00 00 04 03 00 01 01 01 02 01 00 02 00 02 00 00 00 00 00 00 00 01 00 00 = NotCanonical
@@ -186,7 +185,7 @@ fn with_a_byte_changed_it_is_refused_or_another_copy(rt: HostRuntime) {
         count_at(&rt, place, &mut counts);
     }
     let told = had(&rt, format!(in rt.alloc(); "{counts:?}"));
-    tells(&rt, &told, "[6804, 1273, 1766, 3069, 3213, 3, 0]", OUTCOMES);
+    tells(&rt, &told, "[6804, 1273, 1765, 3069, 3214, 3, 0]", OUTCOMES);
 }
 
 /// Adds an entry.
