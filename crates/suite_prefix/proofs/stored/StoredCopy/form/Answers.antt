@@ -12,9 +12,9 @@ use Rattle.suite_prefix.proofs.stored.StoredCopy.form.Goals as goal
 behind : Kept → List ℕ
 behind kept = prefix_bytes kept.form kept.copy.prefix ++ to_be_bytes w64 kept.copy.dver ++ content_bytes kept.copy.content
 
-pub unwrap-requires : goal.unwrap-requires
+pub unwrap-form-requires : goal.unwrap-form-requires
 unfolding behind
-unwrap-requires c =
+unwrap-form-requires c =
     let kept = c.args.self.now in
     let read : form_at c.as_bytes.result.now ≡ Ok (kept.form, behind kept) = ap form_at c.as_bytes.ensures.bytes ∙ form_again kept.form (behind kept) in
     search (rules, read)
@@ -24,4 +24,4 @@ unfolding behind
 returns c =
     let kept = c.args.self.now in
     let read : form_at c.as_bytes.result.now ≡ Ok (kept.form, behind kept) = ap form_at c.as_bytes.ensures.bytes ∙ form_again kept.form (behind kept) in
-    ap (λ (x : Form × List ℕ). x.0) (reads_ok _ c.form_at.result (form_at c.as_bytes.result.now) c.unwrap.result (kept.form, behind kept) c.form_at.ensures c.unwrap.ensures read)
+    ap (λ (x : Form × List ℕ). x.0) (reads_ok _ c.form_at.result (form_at c.as_bytes.result.now) c.unwrap-form.result (kept.form, behind kept) c.form_at.ensures c.unwrap-form.ensures read)
