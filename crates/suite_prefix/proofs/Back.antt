@@ -1,9 +1,9 @@
 -- What may be read begins nothing else that may be read.
-use Rattle.std.proofs.Common.{◌≡◌, ℕ, List, [], ◌++◌, Result, Ok, Err, sym, ap, ◌∙◌}
+use Rattle.std.proofs.Common.{◌≡◌, ℕ, List, [], ◌++◌, Ok, sym, ap, ◌∙◌}
 use Rattle.std.proofs.lemmas.List.{append-nil}
 use Rattle.suite_prefix.specs.declared.copies.Replica.{Replica}
 use Rattle.suite_prefix.specs.declared.forms.Form.{Form}
-use Rattle.suite_prefix.specs.Bytes.{AreBytesOf, NoneBeginsAnother, bytes_in}
+use Rattle.suite_prefix.specs.Bytes.{NoneBeginsAnother, bytes_in}
 use Rattle.suite_prefix.specs.Copies.{IsCopy}
 use Rattle.suite_prefix.specs.Forms.{CanHold}
 use Rattle.suite_prefix.specs.Reading.{Shape, shape_at, copy_of}

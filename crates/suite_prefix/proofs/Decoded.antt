@@ -27,7 +27,8 @@ use Rattle.suite_prefix.proofs.Judged.{canonical_parts}
 use Rattle.suite_prefix.proofs.Loop.{ok_is}
 use Rattle.suite_prefix.proofs.Orders.{numbers_of_entries, rise_if_canonical, rise_if_folder}
 use Rattle.suite_prefix.proofs.ShapeOf.{entry_shape, shape_of, copy_back}
-use Rattle.suite_prefix.proofs.Takes.{IsBytes, shape_takes, same_text}
+use Rattle.suite_prefix.proofs.Takes.{IsBytes, shape_takes}
+use Rattle.suite_prefix.proofs.Written.{same_text}
 
 -- ---- the shape of a valid copy
 

@@ -1,8 +1,8 @@
 -- A shape spells a valid copy exactly where each of its parts does.
-use Rattle.std.proofs.Common.{◌≡◌, ℕ, ◌<◌, ◌≤◌, ◌^◌, true, List, [], ◌∷◌, length, map, None, refl, subst, sym, ap, ◌∙◌}
+use Rattle.std.proofs.Common.{◌≡◌, ◌<◌, ◌≤◌, ◌^◌, true, List, [], ◌∷◌, length, map, None, refl, subst, sym, ap, ◌∙◌}
 use Rattle.std.specs.Prelude.{All, IfSome, IsTrue, ◌&&◌}
 use Rattle.suite_prefix.specs.TwoLists.{default_of}
-use Rattle.suite_prefix.proofs.Takes.{entries_again}
+use Rattle.suite_prefix.proofs.Written.{entries_again}
 use Rattle.std.proofs.lemmas.Bool.{and_parts}
 use Rattle.std.proofs.lemmas.List.{length-map}
 use Rattle.std.proofs.lemmas.List.Elements.{All-map}

@@ -19,9 +19,9 @@ use Rattle.suite_prefix.specs.Bytes.{bytes_in, identity_bytes, lists_bytes, vote
 use Rattle.suite_prefix.specs.Copies.{IsCopy, IsContent}
 use Rattle.suite_prefix.specs.Faults.{content_rises}
 use Rattle.suite_prefix.specs.Forms.{CanHold, form_code}
-use Rattle.suite_prefix.specs.Reading.{Shape, Reads, content_at, entry_from}
+use Rattle.suite_prefix.specs.Reading.{Reads, content_at, entry_from}
 use Rattle.suite_prefix.specs.TwoLists.{default_entries, default_of}
-use Rattle.suite_prefix.specs.code.Heads.{Head, IsOfValid, MakesDefaultAcl, head_at, head_of, prefix_of}
+use Rattle.suite_prefix.specs.code.Heads.{IsOfValid, MakesDefaultAcl, head_at, head_of, prefix_of}
 use Rattle.suite_prefix.specs.Stored.{Kept}
 use Rattle.suite_prefix.specs.code.Records.{IsRecord, kept_in, kept_read}
 use Rattle.suite_prefix.proofs.Back.{whole_again}
@@ -29,7 +29,7 @@ use Rattle.suite_prefix.proofs.Joins.{four_pieces}
 use Rattle.suite_prefix.proofs.Loop.{ok_is}
 use Rattle.suite_prefix.proofs.Orders.{rise_if_folder}
 use Rattle.suite_prefix.proofs.ReadAgain.{form_again, identity_again, is_known, lists_again, votes_again, number_again, wide64, content_again}
-use Rattle.suite_prefix.proofs.ShapeOf.{entry_shape, shape_of, copy_back, default_back, entries_back}
+use Rattle.suite_prefix.proofs.ShapeOf.{entry_shape, copy_back, default_back, entries_back}
 
 -- a copy kept in a form
 abbrev pub kept_as : Form → Replica → Kept

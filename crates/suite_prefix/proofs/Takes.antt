@@ -1,13 +1,12 @@
 -- What is read is what was written: each part that a reader takes from the front of bytes is spelled so.
-use Rattle.std.proofs.Common.{◌≡◌, ℕ, zero, suc, ◌+◌, ◌^◌, ◌<◌, ◌≤◌, Bool, true, false, cond, ltb, eqb, List, [], ◌∷◌, ◌++◌, length, get_or, take, drop, map, All, Result, Ok, Err, refl, sym, ap, subst, ◌∙◌, append_assoc, arith, inl, inr}
+use Rattle.std.proofs.Common.{◌≡◌, ℕ, zero, suc, ◌+◌, ◌^◌, ◌<◌, ◌≤◌, Bool, true, false, cond, ltb, List, [], ◌∷◌, ◌++◌, length, get_or, take, drop, All, Result, Ok, Err, refl, sym, ap, subst, ◌∙◌, append_assoc, arith, inl, inr}
 use Rattle.std.specs.List.{flat_map, AllByRecursion}
 use Rattle.std.specs.Int.{Width, w16, w32, w64, byte_len, from_be_bytes, to_be_bytes}
-use Rattle.std.proofs.lemmas.Bool.{cases_lt, ltb-false, le-ltb, eqb-true, and_parts}
-use Rattle.std.proofs.lemmas.List.{append-nil, take-append-drop, length-take, length-map, get_or-drop, get_or-take, get_or_past}
+use Rattle.std.proofs.lemmas.Bool.{cases_lt, ltb-false, le-ltb}
+use Rattle.std.proofs.lemmas.List.{take-append-drop, length-take, get_or-drop, get_or-take, get_or_past}
 use Rattle.std.proofs.lemmas.List.Concat.{flat_map-cons}
-use Rattle.std.proofs.lemmas.List.Elements.{All-from_recursion, All-head, All-tail}
+use Rattle.std.proofs.lemmas.List.Elements.{All-from_recursion}
 use Rattle.std.proofs.lemmas.Nat.{be_bytes_2, be_bytes_4, be_bytes_8}
-use Rattle.std.proofs.Math.Nat.{mod-eq_of_lt}
 use Rattle.acl_core.specs.Tags.{qualifier}
 use Rattle.vote_core.specs.Quorums.{Configuration, Representative}
 use Rattle.suite_content.specs.Contents.{kind_of}
@@ -21,14 +20,11 @@ use Rattle.suite_prefix.specs.declared.faults.CopyFault.{CopyFault}
 use Rattle.suite_prefix.specs.declared.faults.CopyFault.TheVariants.{Short, BadTag}
 use Rattle.suite_prefix.specs.declared.shapes.EntryShape.{EntryShape}
 use Rattle.suite_prefix.specs.declared.shapes.Identity.{Identity}
-use Rattle.suite_prefix.specs.Bytes.{kind_code, tag_code, entry_bytes, list_bytes, lists_bytes, representative_bytes, name_bytes, content_bytes, bytes_in}
-use Rattle.suite_prefix.specs.TwoLists.{default_entries, default_of}
-use Rattle.acl_core.specs.declared.entry.Entry.{Entry}
+use Rattle.suite_prefix.specs.Bytes.{kind_code, tag_code, representative_bytes, name_bytes, content_bytes}
 use Rattle.suite_prefix.specs.Copies.{held_by}
 use Rattle.suite_prefix.specs.Forms.{form_code}
-use Rattle.suite_prefix.specs.Faults.{numbers_belong}
 use Rattle.suite_prefix.specs.code.Judging.{FitsForm, ContentFits}
-use Rattle.suite_prefix.specs.Reading.{◌>>=◌, Shape, byte_at, number_at, bytes_at, default_at, form_at, kind_of_code, identity_at, code_at, tag_of, entry_at, representative_at, name_at, many_at, list_at, lists_at, listed_at, votes_at, file_at, folder_at, content_at, shape_at, entry_from, copy_of}
+use Rattle.suite_prefix.specs.Reading.{◌>>=◌, Shape, byte_at, number_at, bytes_at, default_at, form_at, kind_of_code, identity_at, code_at, tag_of, entry_at, representative_at, name_at, many_at, list_at, lists_at, listed_at, votes_at, file_at, folder_at, content_at, shape_at}
 use Rattle.suite_prefix.proofs.Loop.{ok_is}
 
 -- ---- bytes
@@ -145,7 +141,7 @@ kind_takes (suc zero) kind e = ap kind_code (sym (ok_is File kind e))
 kind_takes (suc (suc zero)) kind e = ap kind_code (sym (ok_is Folder kind e))
 kind_takes (suc (suc (suc n))) kind e = absurd cc
 
-abbrev identity_text : Identity → List ℕ
+abbrev pub identity_text : Identity → List ℕ
 identity_text i = to_be_bytes w64 i.pver ++ kind_code i.kind ∷ to_be_bytes w32 i.owner ++ to_be_bytes w32 i.group
 
 record IdentityFits (i : Identity) : Type 0 where
@@ -204,7 +200,7 @@ many_take one text Fits takes (suc n) bytes x fits e =
 
 -- ---- entries
 
-abbrev entry_text : EntryShape → List ℕ
+abbrev pub entry_text : EntryShape → List ℕ
 entry_text e = tag_code e.tag ∷ to_be_bytes w32 e.number ++ e.permissions ∷ []
 
 code_of_tag : (n number : ℕ) → n < 6 → tag_code (tag_of (suc n) number) ≡ suc n
@@ -273,7 +269,7 @@ entry_takes bytes x fits e =
     let made : EntryShape × List ℕ = (record { tag = tag_of a.0.0 b.0.0; number = b.0.0; permissions = c.0.0 }, c.0.1) in
     subst (λ (y : EntryShape × List ℕ). Takes bytes (entry_text y.0) y.1 × (qualifier y.0.tag < 2 ^ 32)) (ok_is made x c.2) (all, below)
 
-abbrev list_text : List EntryShape → List ℕ
+abbrev pub list_text : List EntryShape → List ℕ
 list_text entries = length entries ∷ flat_map entry_text entries
 
 list_takes : (bytes : List ℕ) (x : List EntryShape × List ℕ) → IsBytes bytes → list_at bytes ≡ Ok x → Takes bytes (list_text x.0) x.1 × All (λ entry. qualifier entry.tag < 2 ^ 32) x.0
@@ -285,14 +281,14 @@ list_takes bytes x fits e =
     let all = Takes-then bytes (a.0.0 ∷ []) a.0.1 (flat_map entry_text x.0) x.1 t0.0 t1.0 in
     (subst (λ n. Takes bytes (n ∷ flat_map entry_text x.0) x.1) (sym t1.1) all, All-from_recursion (λ (entry : EntryShape). qualifier entry.tag < 2 ^ 32) x.0 t1.2)
 
-abbrev Entries : Type 0
+abbrev pub Entries : Type 0
 Entries = List EntryShape × List EntryShape
 
-abbrev default_text : Form → List EntryShape → List ℕ
+abbrev pub default_text : Form → List EntryShape → List ℕ
 default_text One entries = []
 default_text Two entries = list_text entries
 
-abbrev lists_text : Form → Entries → List ℕ
+abbrev pub lists_text : Form → Entries → List ℕ
 lists_text form lists = list_text lists.0 ++ default_text form lists.1
 
 abbrev NumbersOf : Entries → Type 0
@@ -351,7 +347,7 @@ listed_takes bytes x fits e =
     let all = Takes-then bytes (a.0.0 ∷ []) a.0.1 (flat_map representative_bytes x.0) x.1 t0.0 t1.0 in
     subst (λ n. Takes bytes (n ∷ flat_map representative_bytes x.0) x.1) (sym t1.1) all
 
-abbrev votes_text : Configuration → List ℕ
+abbrev pub votes_text : Configuration → List ℕ
 votes_text votes = (length votes.reps ∷ flat_map representative_bytes votes.reps) ++ (to_be_bytes w16 votes.r ++ to_be_bytes w16 votes.w)
 
 abbrev pub votes_2 : List Representative → ℕ → ℕ × List ℕ → Result (Configuration × List ℕ) CopyFault
@@ -453,7 +449,7 @@ shape_1 form identity = lists_at form identity.1 >>= shape_2 form identity.0
 abbrev pub shape_0 : Form × List ℕ → Result (Shape × List ℕ) CopyFault
 shape_0 form = identity_at form.1 >>= shape_1 form.0
 
-abbrev shape_text : Shape → List ℕ
+abbrev pub shape_text : Shape → List ℕ
 shape_text s =
     form_code s.form ∷ ((((identity_text s.identity ++ lists_text s.form (s.entries, s.default)) ++ votes_text s.votes) ++ to_be_bytes w64 s.dver) ++ content_bytes s.content)
 
@@ -499,47 +495,3 @@ shape_takes bytes x fits e =
         no_default = tl.none;
       };
     })
-
--- ---- a canonical shape is how its copy is written
-
-same_entry_text : (e : EntryShape) → e.number ≡ qualifier e.tag → e.permissions < 8 → entry_text e ≡ entry_bytes (entry_from e)
-same_entry_text e belongs known =
-    ap (λ (n : ℕ). tag_code e.tag ∷ to_be_bytes w32 n ++ e.permissions ∷ []) belongs
-    ∙ ap (λ (p : ℕ). tag_code e.tag ∷ to_be_bytes w32 (qualifier e.tag) ++ p ∷ []) (sym (mod-eq_of_lt known))
-
-same_entries_text : (es : List EntryShape) → numbers_belong es ≡ true → All (λ entry. entry.permissions < 8) es → flat_map entry_text es ≡ flat_map entry_bytes (map entry_from es)
-same_entries_text [] belong known = refl
-same_entries_text (e ∷ es) belong known =
-    let parts = and_parts (eqb e.number (qualifier e.tag)) (numbers_belong es) belong in
-    let one = same_entry_text e (eqb-true e.number (qualifier e.tag) parts.0) (All-head (λ (entry : EntryShape). entry.permissions < 8) e es known) in
-    let others = same_entries_text es parts.1 (All-tail (λ (entry : EntryShape). entry.permissions < 8) e es known) in
-    flat_map-cons entry_text e es ∙ ap (λ (t : List ℕ). t ++ flat_map entry_text es) one ∙ ap (λ (t : List ℕ). entry_bytes (entry_from e) ++ t) others
-    ∙ sym (flat_map-cons entry_bytes (entry_from e) (map entry_from es))
-
-count_from : (es : List EntryShape) → length (map entry_from es) ≡ length es
-count_from es = simp length-map
-
-same_list_text : (es : List EntryShape) → numbers_belong es ≡ true → All (λ entry. entry.permissions < 8) es → list_text es ≡ list_bytes (map entry_from es)
-same_list_text es belong known =
-    ap (λ (n : ℕ). n ∷ flat_map entry_text es) (sym (count_from es)) ∙ ap (λ (t : List ℕ). length (map entry_from es) ∷ t) (same_entries_text es belong known)
-
-pub entries_again : (es : List Entry) → default_entries (default_of es) ≡ es
-entries_again [] = refl
-entries_again (e ∷ es) = refl
-
-same_lists_text : (form : Form) (entries default : List EntryShape) → numbers_belong entries ≡ true → numbers_belong default ≡ true → All (λ entry. entry.permissions < 8) entries → All (λ entry. entry.permissions < 8) default
-    → lists_text form (entries, default) ≡ lists_bytes form (record { access = map entry_from entries; default = default_of (map entry_from default) })
-same_lists_text One entries default belong default_belongs known default_known = append-nil (list_text entries) ∙ same_list_text entries belong known
-same_lists_text Two entries default belong default_belongs known default_known =
-    let access : list_text entries ≡ list_bytes (map entry_from entries) = same_list_text entries belong known in
-    let more : list_text default ≡ list_bytes (default_entries (default_of (map entry_from default))) =
-    same_list_text default default_belongs default_known ∙ ap list_bytes (sym (entries_again (map entry_from default))) in
-    (λ i. access i ++ more i)
-
-pub same_text : (s : Shape) → numbers_belong s.entries ≡ true → numbers_belong s.default ≡ true → All (λ entry. entry.permissions < 8) s.entries → All (λ entry. entry.permissions < 8) s.default
-    → shape_text s ≡ bytes_in s.form (copy_of s)
-same_text s belong default_belongs known default_known =
-    let lists = same_lists_text s.form s.entries s.default belong default_belongs known default_known in
-    let votes : votes_text s.votes ≡ (length s.votes.reps ∷ flat_map representative_bytes s.votes.reps ++ to_be_bytes w16 s.votes.r) ++ to_be_bytes w16 s.votes.w =
-    sym (append_assoc (length s.votes.reps ∷ flat_map representative_bytes s.votes.reps) (to_be_bytes w16 s.votes.r) (to_be_bytes w16 s.votes.w)) in
-    (λ i. form_code s.form ∷ ((((identity_text s.identity ++ lists i) ++ votes i) ++ to_be_bytes w64 s.dver) ++ content_bytes s.content))

@@ -1,5 +1,5 @@
 -- What stands before the content in the bytes of a copy.
-use Rattle.std.specs.Prelude.{◌≡◌, ℕ, ◌<◌, List, [], ◌∷◌, map, All, Result, Ok, Err}
+use Rattle.std.specs.Prelude.{ℕ, ◌<◌, List, [], ◌∷◌, map, All, Result, Ok}
 use Rattle.std.specs.Int.{w64}
 use Rattle.acl_core.specs.declared.entry.Entry.{Entry}
 use Rattle.acl_core.specs.AccessLists.{IsAcl}
