@@ -38,7 +38,7 @@ fn a_copy_in_form_1_is_read_and_written_in_form_2(rt: HostRuntime) {
 /// How bytes are read.
 fn are_read(rt: &(impl Abort + AllocGlobal), bytes: &[u8], want: &str) {
     let told = match decode(rt.alloc(), bytes) {
-        Ok(_) => had(rt, String::from(rt.alloc(), "copy")),
+        Ok(_) => had(rt, String::from_str(rt.alloc(), "copy")),
         Err(error) => had(rt, format!(in rt.alloc(); "{error:?}")),
     };
     tells(rt, &told, want, want);
