@@ -1,0 +1,174 @@
+#!/usr/bin/env python3
+"""tests/long-and-many.py [PROGRAM [RUNS]]
+
+Runs of `serve` that are too long for a row. The program is the checked build (out/suites; `./suites --help` makes it
+where nothing is proved) or the one that is named. Prints counts, seconds and memory; status 1 where something differs.
+
+many:   100,000 jobs by 64 agents on 16 servers: files made, written, read, given lists and dropped in 96 folders, sweeps
+        of servers at work, and a server that is filled with suites. Chance decides how most jobs end; looked at is that
+        each has its line, that each ending of those that the script is to bring about comes, and that the last line
+        counts the steps of all jobs but those that a full server did not serve.
+long:   lists by 4 agents on one server, until its history is full: 1,000,000 steps are certified, and whoever asks after
+        that is told that the server is full.
+often:  a thousand runs (RUNS another number) of `examples/serve/files.script`, with 2, 4 and 64 agents in turn: one output.
+"""
+import collections
+import os
+import random
+import re
+import subprocess
+import sys
+import tempfile
+import time
+
+TOP = os.path.join(os.path.dirname(os.path.abspath(__file__)), "..")
+FILES = os.path.join(TOP, "examples", "serve", "files.script")
+SERVERS, AGENTS, JOBS, FOLDERS, NAMES = 16, 64, 100_000, 96, 64
+HISTORY = 1_000_000
+SEED = 1
+# What a job may end with; a list and a read are cut off behind their first word.
+ENDINGS = re.compile(
+    r"answered|denied op [1-8] suite \d+ wants [rwx-]{3} by \S+|refused F\d+ op \d|swept \d+ \d+ \d+"
+    r"|undecided U1 suite \d+ got \d+ of \d+|undecided U2 server \d+ holder \d+|undecided U[36] server \d+|undecided U[457]"
+)
+
+
+class Run:
+    """One run of the program: its lines, its status, its seconds and the most memory that it had, in MB."""
+
+    def __init__(self, program, agents, script):
+        with tempfile.TemporaryFile() as given, tempfile.TemporaryFile() as told:
+            given.write(script)
+            given.seek(0)
+            begun = time.monotonic()
+            process = subprocess.Popen([program, "serve", "--agents", str(agents)], stdin=given, stdout=told)
+            _, status, used = os.wait4(process.pid, 0)
+            process.returncode = os.waitstatus_to_exitcode(status)
+            self.seconds, self.memory = time.monotonic() - begun, used.ru_maxrss // 1024
+            self.status = process.returncode
+            told.seek(0)
+            self.output = told.read()
+        self.lines = self.output.decode().splitlines()
+
+    def cost(self):
+        return f"{self.seconds:.1f} s, {self.memory} MB"
+
+
+def some_votes(first):
+    """One vote each at three servers in a row, of which two are a quorum."""
+    named = {place % SERVERS for place in range(first, first + 3)}
+    return ",".join("1" if place in named else "-" for place in range(max(named) + 1)) + "/2/2"
+
+
+def many_jobs():
+    """The script of many jobs."""
+    chance = random.Random(SEED)
+    last_server = ",".join(["-"] * (SERVERS - 1) + ["1"]) + "/1/1"
+    lines = [f"servers {SERVERS}", "votes 1,1,1/2/2", "root 1000 100 777", "cache 65536 65536 64"]
+    lines += [f"do 1000 100 0 folder /d{folder} 777 {some_votes(folder)}" for folder in range(FOLDERS)]
+    lines.append("together")
+
+    def path():
+        return f"/d{chance.randrange(FOLDERS)}/f{chance.randrange(NAMES)}"
+
+    def own(number):
+        name = f"/d{chance.randrange(FOLDERS)}/g{number}"
+        return f"file {name} 600 ; write {name} 00 ; read {name}"
+
+    # of a hundred jobs so many, each with who asks, and what
+    kinds = [
+        (8, lambda number: f"sweep {chance.randrange(SERVERS)}"),
+        (15, lambda number: f"do 1000 100 {chance.randrange(16)} file {path()} 644 {last_server}"),
+        (17, lambda number: f"do 1000 100 {chance.randrange(16)} write {path()} {chance.randrange(256):02x}"),
+        (30, lambda number: f"do {chance.choice([1000, 2000])} 300 {chance.randrange(16)} read {path()}"),
+        (14, lambda number: f"do 1000 100 {chance.randrange(16)} list /d{chance.randrange(FOLDERS)}"),
+        (8, lambda number: f"do 1000 100 0 setacl {path()} u::rw,g::r,o::- ; getacl {path()}"),
+        (3, lambda number: f"do 1000 100 0 drop {path()}"),
+        (5, lambda number: f"do 1000 100 0 {own(number)}"),
+    ]
+    shares = [share for share, _ in kinds]
+    for number in range(FOLDERS, JOBS):
+        lines.append(chance.choices(kinds, shares)[0][1](number))
+    return "\n".join(lines).encode() + b"\n"
+
+
+def kind_of(ending):
+    """An ending without its numbers, but with its code."""
+    first, _, rest = ending.partition(" ")
+    return f"{first} {rest.split()[0]}" if first in ("refused", "undecided") else first
+
+
+def judged(run, jobs):
+    """How often each ending came, what is wrong with a run of so many jobs, and their steps."""
+    wrong, counts, steps = [], collections.Counter(), 0
+    if run.status != 0 or len(run.lines) != jobs + 1:
+        wrong.append(f"status {run.status}, {len(run.lines)} lines: {run.lines[-1:]}")
+    for job, line in enumerate(run.lines[:-1] if not wrong else []):
+        number, own_steps, ending = line.split(" ", 2)
+        steps += int(own_steps)
+        counts[kind_of(ending)] += 1
+        if int(number) != job or not ENDINGS.match(ending):
+            wrong.append(f"job {job}: {line}")
+    return counts, wrong, steps
+
+
+def last(run):
+    return run.lines[-1] if run.lines else ""
+
+
+def many(program):
+    run = Run(program, AGENTS, many_jobs())
+    counts, wrong, steps = judged(run, JOBS)
+    served = steps - counts["undecided U6"]
+    if last(run) != f"certified {served} steps":
+        wrong.append(f"{last(run)}, where the jobs tell of {served}")
+    wanted = ["answered", "refused F4", "refused F5", "swept", *(f"undecided U{code}" for code in (2, 3, 4, 6))]
+    wrong += [f"no job ended as {kind}" for kind in wanted if not counts[kind]]
+    told = ", ".join(f"{count} {kind}" for kind, count in counts.most_common())
+    print(f"many: {JOBS} jobs, {AGENTS} agents, {SERVERS} servers: {last(run)}; {told}; {run.cost()}")
+    return wrong
+
+
+def long(program):
+    jobs = HISTORY // 5 + 200
+    script = "servers 1\nvotes 1/1/1\nroot 1000 100 777\ncache 0 0 0\ntogether\n" + "do 1000 100 0 list /\n" * jobs
+    run = Run(program, 4, script.encode())
+    counts, wrong, _ = judged(run, jobs)
+    if last(run) != f"certified {HISTORY} steps":
+        wrong.append(last(run))
+    answers = collections.Counter(line.split(" ", 2)[2] for line in run.lines[:-1])
+    if set(answers) != {"answered list -", "undecided U6 server 0"}:
+        wrong.append(f"{answers}")
+    print(f"long: {jobs} jobs, 4 agents, 1 server: {last(run)}; {answers}; {run.cost()}")
+    return wrong
+
+
+def often(program, runs):
+    with open(FILES, "rb") as file:
+        script = file.read()
+    outputs, seconds = collections.Counter(), 0
+    for number in range(runs):
+        run = Run(program, (2, 4, AGENTS)[number % 3], script)
+        outputs[(run.status, run.output)] += 1
+        seconds += run.seconds
+    ends = b"certified 192 steps\n"
+    wrong = [f"{count} runs: status {status}, {output!r}" for (status, output), count in outputs.items()]
+    print(f"often: {runs} runs of files.script, by 2, 4 and {AGENTS} agents in turn: {len(outputs)} output; {seconds:.1f} s")
+    is_one = len(outputs) == 1 and all(status == 0 and output.endswith(ends) for status, output in outputs)
+    return [] if is_one else wrong
+
+
+def main():
+    program = os.path.abspath(sys.argv[1] if len(sys.argv) > 1 else os.path.join(TOP, "out", "suites"))
+    runs = int(sys.argv[2]) if len(sys.argv) > 2 else 1000
+    if not os.path.exists(program):
+        sys.exit(f"{program} is not there: run ./suites --help first, which makes the checked build where nothing is proved")
+    wrong = often(program, runs) + many(program) + long(program)
+    for one in wrong[:20]:
+        print(one)
+    print(f"{len(wrong)} differ")
+    return 1 if wrong else 0
+
+
+if __name__ == "__main__":
+    sys.exit(main())
