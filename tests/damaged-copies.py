@@ -1,0 +1,89 @@
+#!/usr/bin/env python3
+"""tests/damaged-copies.py [CASES [SEED]]
+
+Changes two bytes of copies, in a million seeded cases (CASES another number), and looks whether what is read then is
+refused, or is a copy that is written in just these bytes. The copies are written here, by the rules of their bytes and
+not by ours: the worked one, files with many entries, folders with many names. Prints how many were read and refused, and
+why; status 1 where one was neither. Builds a program for it (tests/scratch.py), which needs `rt`.
+"""
+import subprocess
+import sys
+import time
+
+import scratch
+
+ABSENT, FILE, FOLDER = 0, 1, 2
+USER_OBJ, USER, GROUP_OBJ, GROUP, MASK, OTHER = range(1, 7)
+
+
+def number(value, size):
+    return value.to_bytes(size, "big")
+
+
+def entries(users, groups, mask):
+    """A list of so many users and groups, in the order of its bytes."""
+    tags = [(USER_OBJ, 0, 6), *((USER, 1000 + 3 * user, user % 8) for user in range(users)), (GROUP_OBJ, 0, 4)]
+    tags += [*((GROUP, 200 + 5 * group, group % 8) for group in range(groups)), *([(MASK, 0, 7)] if mask else []), (OTHER, 0, 4)]
+    return b"".join(bytes([tag]) + number(of, 4) + bytes([may]) for tag, of, may in tags), len(tags)
+
+
+def copy(kind, versions, lists, votes, content):
+    """The bytes of a copy: versions of prefix and content, its access list and default list, votes by server."""
+    pver, dver = versions
+    owner, group = (0, 0) if kind == ABSENT else (1000, 100)
+    parts = [bytes([2]), number(pver, 8), bytes([kind]), number(owner, 4), number(group, 4)]
+    for written, count in lists:
+        parts.append(bytes([count]) + written)
+    servers, read, write = votes
+    parts.append(bytes([len(servers)]) + b"".join(bytes(pair) for pair in servers))
+    parts += [number(read, 2), number(write, 2), number(dver, 8)]
+    if kind == FOLDER:
+        names = sorted(content.items())
+        parts.append(number(len(names), 2))
+        parts += [bytes([len(name)]) + name + number(suite, 8) for name, suite in names]
+    else:
+        parts.append(number(len(content), 4) + content)
+    return b"".join(parts)
+
+
+def mode(digits):
+    written = b"".join(bytes([tag, 0, 0, 0, 0, int(digit)]) for tag, digit in zip((USER_OBJ, GROUP_OBJ, OTHER), digits))
+    return written, 3
+
+
+def names(count, length):
+    return {b"%d" % place + b"n" * (place % length): 7 * place + 1 for place in range(count)}
+
+
+def copies():
+    none, three = (b"", 0), ([(0, 1), (1, 1), (2, 1)], 2, 2)
+    all_servers = [(server, 255 - server) for server in range(15, -1, -1)]
+    total = sum(votes for _, votes in all_servers)
+    return [
+        copy(FILE, (1, 1), [mode("644"), none], three, b"hi"),
+        copy(ABSENT, (0, 0), [mode("000"), none], three, b""),
+        copy(FILE, (9, 4), [entries(10, 7, True), none], ([(3, 2), (1, 0), (7, 1)], 2, 2), bytes(range(256))),
+        copy(FILE, (2**64 - 1, 2**63), [entries(30, 30, True), none], (all_servers, total // 2, total // 2 + 2), b""),
+        copy(FOLDER, (5, 3), [mode("755"), mode("750")], three, names(12, 9)),
+        copy(FOLDER, (5, 3), [entries(2, 1, True), entries(4, 4, True)], ([(5, 9)], 1, 9), names(40, 20)),
+        copy(FOLDER, (300, 200), [entries(30, 30, True), entries(30, 30, True)], (all_servers, 1, total), names(30, 60)),
+        copy(FOLDER, (2, 0), [mode("700"), entries(0, 0, True)], three, {}),
+    ]
+
+
+def main():
+    cases = int(sys.argv[1]) if len(sys.argv) > 1 else 1_000_000
+    seed = int(sys.argv[2]) if len(sys.argv) > 2 else 1
+    all_copies = copies()
+    program = scratch.built("damaged_copies", ["byte_streams", "suite_prefix"])
+    given = "\n".join([f"{seed} {cases}", *(one.hex() for one in all_copies)]) + "\n"
+    begun = time.monotonic()
+    done = subprocess.run([program], input=given.encode(), stdout=subprocess.PIPE)
+    lengths = ", ".join(str(len(one)) for one in all_copies)
+    print(f"{cases} cases of {len(all_copies)} copies of {lengths} bytes, seed {seed}; {time.monotonic() - begun:.1f} s")
+    print(done.stdout.decode(), end="")
+    return 0 if done.returncode == 0 else 1
+
+
+if __name__ == "__main__":
+    sys.exit(main())
