@@ -21,8 +21,9 @@ import sys
 import tempfile
 import time
 
-TOP = os.path.join(os.path.dirname(os.path.abspath(__file__)), "..")
-FILES = os.path.join(TOP, "examples", "serve", "files.script")
+import played
+
+FILES = os.path.join(played.TOP, "examples", "serve", "files.script")
 SERVERS, AGENTS, JOBS, FOLDERS, NAMES = 16, 64, 100_000, 96, 64
 HISTORY = 1_000_000
 SEED = 1
@@ -133,13 +134,14 @@ def long(program):
     jobs = HISTORY // 5 + 200
     script = "servers 1\nvotes 1/1/1\nroot 1000 100 777\ncache 0 0 0\ntogether\n" + "do 1000 100 0 list /\n" * jobs
     run = Run(program, 4, script.encode())
-    counts, wrong, _ = judged(run, jobs)
+    _, wrong, _ = judged(run, jobs)
     if last(run) != f"certified {HISTORY} steps":
         wrong.append(last(run))
     answers = collections.Counter(line.split(" ", 2)[2] for line in run.lines[:-1])
     if set(answers) != {"answered list -", "undecided U6 server 0"}:
         wrong.append(f"{answers}")
-    print(f"long: {jobs} jobs, 4 agents, 1 server: {last(run)}; {answers}; {run.cost()}")
+    told = ", ".join(f"{count} {answer}" for answer, count in answers.most_common())
+    print(f"long: {jobs} jobs, 4 agents, 1 server: {last(run)}; {told}; {run.cost()}")
     return wrong
 
 
@@ -159,10 +161,8 @@ def often(program, runs):
 
 
 def main():
-    program = os.path.abspath(sys.argv[1] if len(sys.argv) > 1 else os.path.join(TOP, "out", "suites"))
+    program = played.program(sys.argv[1:])
     runs = int(sys.argv[2]) if len(sys.argv) > 2 else 1000
-    if not os.path.exists(program):
-        sys.exit(f"{program} is not there: run ./suites --help first, which makes the checked build where nothing is proved")
     wrong = often(program, runs) + many(program) + long(program)
     for one in wrong[:20]:
         print(one)

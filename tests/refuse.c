@@ -1,21 +1,35 @@
-/* Stands before the allocator of the C library: refuses the calls from REFUSE_FROM to REFUSE_TO, counted from 1,
-   and makes the file REFUSE_MARK where it does. Outside the gate: tests/refuse-each.sh and tests/refuse-in-test.sh. */
+/* Stands before the allocator of the C library: refuses the calls from REFUSE_FROM to REFUSE_TO, counted from 1 over
+   all threads, and makes the file REFUSE_MARK where it does. Outside the gate: tests/refuse-each.sh and tests/refuse-in-test.sh. */
 #define _GNU_SOURCE
 #include <dlfcn.h>
 #include <errno.h>
 #include <fcntl.h>
+#include <stdatomic.h>
 #include <stdlib.h>
 #include <unistd.h>
 
-static unsigned long calls;
+static atomic_ulong calls;
+static unsigned long from = -1UL, to;
+static const char *mark;
+
+__attribute__((constructor)) static void begin(void)
+{
+    const char *first = getenv("REFUSE_FROM"), *last = getenv("REFUSE_TO");
+    mark = getenv("REFUSE_MARK");
+    if (first && last && mark) {
+        to = strtoul(last, 0, 10);
+        from = strtoul(first, 0, 10);
+    }
+    atomic_store(&calls, 0);
+}
 
 static int refused(void)
 {
-    calls++;
-    const char *from = getenv("REFUSE_FROM"), *to = getenv("REFUSE_TO"), *mark = getenv("REFUSE_MARK");
-    if (!from || !to || !mark || calls < strtoul(from, 0, 10) || calls > strtoul(to, 0, 10))
+    unsigned long call = atomic_fetch_add(&calls, 1) + 1;
+    if (call < from || call > to)
         return 0;
-    close(open(mark, O_CREAT | O_WRONLY, 0600));
+    if (call == from)
+        close(open(mark, O_CREAT | O_WRONLY, 0600));
     errno = ENOMEM;
     return 1;
 }

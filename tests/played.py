@@ -1,0 +1,52 @@
+"""The program that a test plays, and the rows of crates/rows/stdin."""
+import os
+import re
+import sys
+
+TOP = os.path.realpath(os.path.join(os.path.dirname(os.path.abspath(__file__)), ".."))
+ROWS = os.path.join(TOP, "crates", "rows", "stdin")
+MARKS = {b"r": b"\r", b"t": b"\t", b"\\": b"\\"}
+
+
+def program(words):
+    """The program that the words of a test name first, or the checked build; ends the test where it is not there."""
+    path = os.path.abspath(words[0] if words else os.path.join(TOP, "out", "suites"))
+    if not os.path.exists(path):
+        sys.exit(f"{path} is not there: run ./suites --help first, which makes the checked build where nothing is proved")
+    return path
+
+
+def unmarked(line):
+    """A line of a row as the bytes that it stands for."""
+    end = b"" if line.endswith(b"\\c") else b"\n"
+    line = line[:-2] if end == b"" else line
+    return re.sub(rb"\\(x..|.)", lambda mark: MARKS.get(mark[1]) or bytes([int(mark[1][1:], 16)]), line) + end
+
+
+def rows():
+    """The rows: the title and the number of the first line of each, its words, its input, and the status and output that are wanted."""
+    title, row, part = "", None, None
+    with open(ROWS, "rb") as file:
+        lines = file.read().split(b"\n")[:-1]
+    for number, line in enumerate([*lines, b"="], 1):
+        if line[:1] in (b"$", b"="):
+            if row:
+                yield {**row, "input": b"".join(row["input"]), "output": b"".join(row["output"])}
+            words = [b"" if word == b"''" else word for word in line[1:].split()]
+            row = {"title": title, "line": number, "words": words, "input": [], "output": []} if line[:1] == b"$" else None
+            part = "input"
+            title = title if row else line[1:].strip().decode()
+        elif row and line.startswith(b">"):
+            part, row["status"] = "output", int(line[1:])
+        elif row:
+            row[part].append(unmarked(line))
+
+
+def examples():
+    """The rows of the files of examples/."""
+    return [row for row in rows() if row["title"].startswith("examples/")]
+
+
+def said(text):
+    """A script without the lines that say nothing."""
+    return b"".join(line for line in text.splitlines(True) if line.strip() and not line.startswith(b"#"))
