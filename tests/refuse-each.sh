@@ -95,6 +95,8 @@ else
         *) refuse_each "$input" "${folder##*/}" ;;
         esac
     done
+    echo 'g:toolies:rw,u:lisa:rw,u::wr,g::r,o::r,m::r' > "$work/list"
+    refuse_each "$work/list" acl user:lisa=1001 group:toolies=200
     for command in acl table play 'serve --agents 1' 'acl no' 'acl --help' --help no; do
         refuse_each /dev/null $command
     done
