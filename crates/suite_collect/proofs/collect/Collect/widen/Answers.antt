@@ -12,7 +12,7 @@ pub invariant_of-self : goal.invariant_of-self
 invariant_of-self c =
     let was = c.self.inside in
     let value = c.due_of-due.ensures.value in
-    let placed = c.due_of-due.ensures.placed in
+    let known = c.due_of-due.ensures.known in
     let heard = c.heard.ensures ∙ ap (λ (was : Collecting). all_told was.collector) (sym c.self.view_is) in
     let Kept : Inside → Type 0 = λ inside. IsSummed (record inside { due = c.due_of-due.result }) in
     elim c.match-self.branch [
