@@ -13,11 +13,11 @@ use Rattle.suite_collect.specs.declared.widening.Widening.{Widening as Wide}
 use Rattle.suite_collect.specs.declared.due.Due.{Due as Coded}
 use Rattle.suite_collect.specs.declared.hearing.Quorum.{Quorum}
 use Rattle.suite_collect.specs.code.Dues as due
-use Rattle.suite_collect.specs.code.Dues.{Due, due_left, due_by, due_in, IsKnown}
-use Rattle.suite_collect.specs.Telling.{newer, newest, holds, first_busy, shown}
+use Rattle.suite_collect.specs.code.Dues.{Due, due_left, due_among, due_by, due_in, IsKnown}
+use Rattle.suite_collect.specs.Telling.{newer, newest, holds, has_refused, first_busy, shown}
 use Rattle.suite_collect.specs.Collecting.{Widening, Collector, all_told, counted, wanted, needed, needed_of, got, is_member, is_left, members_of, version, source, asked_of, ask_or_short, said_to, tell, told_by, Current, Ask, Short, next}
-use Rattle.suite_collect.specs.code.CollectFields.{widening_of, due_of, IsSummed}
-use Rattle.suite_collect.specs.Answering.{has_quorum, Gives}
+use Rattle.suite_collect.specs.code.CollectFields.{widening_of, collecting_of, due_of, IsSummed}
+use Rattle.suite_collect.specs.Answering.{has_quorum, IsQuorumOf}
 use Rattle.suite_collect.proofs.Collected.{asked_as_wanted}
 
 module _ (c : Collector) where
@@ -104,9 +104,6 @@ module _ (c : Collector) where
       at false (Some rep) = refl
       at false None = refl
 
-  pub no_quorum_due : has_quorum (next c) ≡ false → due_of c ≡ due.Current → ⊥
-  no_quorum_due none is = let e : has_quorum (next c) ≡ true = ap has_quorum (current_next is) in cc
-
 -- what is wanted stays once something is told
 pub wanted_still : (c : Collector) (last : Told) → wanted (tell last c) ≡ wanted c
 wanted_still c last = of c.widening
@@ -122,17 +119,17 @@ all_told_then c last = of c.widening
     of None = refl
     of (Some w) = refl
 
--- with something told there is a quorum where its votes reach what is needed
-pub completed : (c : Collector) (last : Told) (votes : Configuration) (held : ℕ → Bool)
-    → votes ≡ counted (tell last c) → ((other : ℕ) → held other ≡ holds (wanted c) (last ∷ all_told c) other)
-    → nat_le (needed_of (wanted c) votes) (votes_in votes.reps held) ≡ has_quorum (next (tell last c))
-completed c last votes held counting holding =
-    let same : held ≡ is_member (tell last c) =
-    (λ i other. (holding other) i) ∙ ap (λ told. holds (wanted c) told) (sym (all_told_then c last)) ∙ ap (λ mode. holds mode (all_told (tell last c))) (sym (wanted_still c last)) in
-    ap (λ (votes : Configuration). nat_le (needed_of (wanted c) votes) (votes_in votes.reps held)) counting
-    ∙ ap (λ held. nat_le (needed_of (wanted c) (counted (tell last c))) (votes_in (counted (tell last c)).reps held)) same
-    ∙ ap (λ mode. nat_le (needed_of mode (counted (tell last c))) (got (tell last c))) (sym (wanted_still c last))
-    ∙ sym (quorum_reached (tell last c))
+-- what is due once something is told
+pub due_then : (c : Collector) (last : Told) (votes : Configuration) (held refused : ℕ → Bool) (left : Due)
+    → votes ≡ counted (tell last c) → ((other : ℕ) → held other ≡ holds (wanted c) (last ∷ all_told c) other) → ((other : ℕ) → refused other ≡ has_refused (last ∷ all_told c) other)
+    → left ≡ due_among votes (wanted c) held refused → left ≡ due_of (tell last c)
+due_then c last votes held refused left counting holding refusing is =
+    is
+    ∙ ap (λ votes. due_among votes (wanted c) held refused) counting
+    ∙ ap (λ held. due_among (counted (tell last c)) (wanted c) held refused) (λ i other. (holding other) i)
+    ∙ ap (due_among (counted (tell last c)) (wanted c) (holds (wanted c) (last ∷ all_told c))) (λ i other. (refusing other) i)
+    ∙ ap (λ told. due_by (counted (tell last c)) (wanted c) told) (sym (all_told_then c last))
+    ∙ ap (λ mode. due_by (counted (tell last c)) mode (all_told (tell last c))) (sym (wanted_still c last))
 
 -- the votes that count then
 pub counted_narrow : (c : Collector) (last : Told) → c.widening ≡ None → counted (tell last c) ≡ (newer (newest c.start c.told) last.said).votes
@@ -144,14 +141,14 @@ counted_wide c last w wide = ap (λ widening. counted (tell last (record c { wid
 -- ---- what a quorum gives
 
 pub gives_narrow : (c : Collector) (last : Told) (quorum : Quorum) → c.widening ≡ None → quorum.prefix.now ≡ newer (newest c.start c.told) last.said
-    → (let after : Collector = record c { told = last ∷ c.told; widening = None } in (quorum.dver ≡ version after) × (quorum.source ≡ source after)) → Gives quorum (tell last c)
+    → (let after : Collector = record c { told = last ∷ c.told; widening = None } in (quorum.dver ≡ version after) × (quorum.source ≡ source after)) → IsQuorumOf quorum (tell last c)
 gives_narrow c last quorum narrow prefix rest =
-    subst (λ widening. Gives quorum (tell last (record c { widening = widening }))) (sym narrow) (record { prefix = prefix; dver = rest.0; source = rest.1 })
+    subst (λ widening. IsQuorumOf quorum (tell last (record c { widening = widening }))) (sym narrow) (record { prefix = prefix; dver = rest.0; source = rest.1 })
 
 pub gives_wide : (c : Collector) (last : Told) (w : Widening) (quorum : Quorum) → c.widening ≡ Some w → quorum.prefix.now ≡ newest c.start c.told → quorum.dver ≡ version c
-    → quorum.source ≡ find (λ server. shown c.told server == version c) (members_of w.votes (holds Exclusive (last ∷ (w.told ++ c.told)))) → Gives quorum (tell last c)
+    → quorum.source ≡ find (λ server. shown c.told server == version c) (members_of w.votes (holds Exclusive (last ∷ (w.told ++ c.told)))) → IsQuorumOf quorum (tell last c)
 gives_wide c last w quorum wide prefix dver source' =
-    subst (λ widening. Gives quorum (tell last (record c { widening = widening }))) (sym wide) (record { prefix = prefix; dver = dver; source = source' })
+    subst (λ widening. IsQuorumOf quorum (tell last (record c { widening = widening }))) (sym wide) (record { prefix = prefix; dver = dver; source = source' })
 
 -- ---- what the fields keep
 
@@ -179,6 +176,34 @@ module _ (was : Inside) (left : Coded) (votes : Configuration) where
     where
       of : Option Wide → Collector
       of w = record { start = was.start; mode = was.mode; told = was.told; widening = option_map widening_of w }
+
+-- what is told is put behind what was told
+module _ (was : Inside) (left : Coded) (last : Told) (known : IsKnown left) where
+  of : Option Wide → List Told → Collector
+  of w told = record { start = was.start; mode = was.mode; told = told; widening = option_map widening_of w }
+
+  pub put_narrow : (kept : Option Prefix) (told : List Told) → was.widening ≡ None → unwrap_or kept was.start ≡ newest was.start told → told ≡ last ∷ was.told
+      → due_in left ≡ due_of (tell last (collecting_of was).collector) → IsSummed (record was { newer = kept; told = told; due = left })
+  put_narrow kept told narrow newest' told' is = record {
+    newest = newest';
+    all = subst (λ (w : Option Wide). IfSome w (λ widening. widening.all ≡ widening.since.items ++ told)) (sym narrow) tt;
+    due = is ∙ ap (λ w. due_of (tell last (of w was.told))) narrow ∙ ap (λ told. due_of (of None told)) (sym told') ∙ ap (λ w. due_of (of w told)) (sym narrow);
+    known = known;
+  }
+
+  pub put_wide : (before after : Wide) → was.widening ≡ Some before → unwrap_or was.newer was.start ≡ newest was.start was.told
+      → before.all ≡ before.since.items ++ was.told → after.votes ≡ before.votes → after.all ≡ last ∷ before.all → after.since.items ≡ last ∷ before.since.items
+      → due_in left ≡ due_of (tell last (collecting_of was).collector) → IsSummed (record was { widening = Some after; due = left })
+  put_wide before after wide newest' all' votes' more since' is = record {
+    newest = newest';
+    all = more ∙ ap (λ told. last ∷ told) all' ∙ ap (λ items. items ++ was.told) (sym since');
+    due =
+        is
+        ∙ ap (λ w. due_of (tell last (of w was.told))) wide
+        ∙ ap (λ votes. due_of (record { start = was.start; mode = was.mode; told = was.told; widening = Some (record { votes = votes; told = last ∷ before.since.items }) })) (sym votes')
+        ∙ ap (λ told. due_of (record { start = was.start; mode = was.mode; told = was.told; widening = Some (record { votes = after.votes; told = told }) })) (sym since');
+    known = known;
+  }
 
 pub narrow_of : (w : Option Wide) → is_some w ≡ false → w ≡ None
 narrow_of None is = refl

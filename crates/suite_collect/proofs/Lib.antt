@@ -6,3 +6,4 @@ pub mod Shortness
 pub mod Fewness
 pub mod Staying
 pub mod Dues
+pub mod Refusals

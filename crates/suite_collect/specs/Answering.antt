@@ -63,6 +63,7 @@ pub record IsTold (before : Collecting) (reply : Reply) (after : Collecting) : T
 pub record Completes (last : Told) (before : Collecting) (reply : Reply) (after : Collecting) : Type 0 where
   pub known : last.server < MAX_SERVERS
   pub told : told_by (next before.collector) reply ≡ Some last
+  pub lock : shows_lock reply ≡ true
   pub quorum : has_quorum (next (tell last before.collector)) ≡ true
   pub same : after ≡ before
 
@@ -73,7 +74,7 @@ Hears hearing.Short before reply after = IsTold before reply after × IsShort (n
 Hears (hearing.Quorum last) before reply after = Completes last before reply after
 
 -- what a quorum gives, where there is one
-pub record Gives (quorum : Quorum) (c : Collector) : Type 0 where
+pub record IsQuorumOf (quorum : Quorum) (c : Collector) : Type 0 where
   pub prefix : quorum.prefix.now ≡ newest c.start c.told
   pub dver : quorum.dver ≡ version c
   pub source : quorum.source ≡ find (λ server. shown c.told server == version c) (members_of (counted c) (is_member c))

@@ -2,12 +2,14 @@
 
 ghost use Rattle.std.specs.Prelude.{◌≡◌, ◌<◌, unwrap_or, IsTrue, IfOk, IfSome, IfErr, OnErr};
 ghost use Rattle.vote_core.specs.Validity.{IsValid};
+ghost use Rattle.suite_collect.specs.code.CollectFields.{due_of};
+ghost use Rattle.suite_collect.specs.code.Dues.{IsKnown, due_in};
 ghost use Rattle.suite_collect.specs.Collecting as spec;
 ghost use Rattle.suite_collect.specs.Laws.{HasSource};
 ghost use Rattle.suite_collect.specs.Telling as telling;
 
 use crate::coming::{Asked, Coming};
-use crate::due::{Due, due_of, needed_of};
+use crate::due::{Due, due_among, due_of};
 use crate::heard::Heard;
 use crate::hearing::{Hearing, Quorum};
 use crate::log::Log;
@@ -52,7 +54,7 @@ impl Model for Collect {
 
 impl Collect {
     ghost use Rattle.suite_collect.specs.Telling.{newest};
-    ghost use Rattle.suite_collect.specs.Answering.{Comes, Gives, Hears, Tells, asked_in, has_quorum, shows_lock};
+    ghost use Rattle.suite_collect.specs.Answering.{Comes, Hears, IsQuorumOf, Tells, asked_in, shows_lock};
 
     /// A collector that was told nothing yet. `start` is any prefix that the suite once had, or that of
     /// what was never made.
@@ -157,14 +159,18 @@ impl Collect {
         let Some(last) = self.told_by(reply)? else {
             return Ok(Hearing::Lost);
         };
-        if self.completes(&last) {
-            return Ok(Hearing::Quorum(last));
+        let due = self.due_after(&last);
+        match due {
+            Due::Current => Ok(Hearing::Quorum(last)),
+            Due::Ask { .. } => {
+                self.put(last, due);
+                Ok(Hearing::Asks)
+            }
+            Due::Short { .. } => {
+                self.put(last, due);
+                Ok(Hearing::Short)
+            }
         }
-        self.tell(last);
-        Ok(match self.due {
-            Due::Short { .. } => Hearing::Short,
-            _ => Hearing::Asks,
-        })
     }
 
     /// Something is told: what a server said that was asked.
@@ -172,22 +178,14 @@ impl Collect {
         requires { last.server < MAX_SERVERS }
         ensures { self.new ≡ record self.old { collector = spec.tell last self.old.collector } }
     {
-        if let Some(widening) = &mut self.widening {
-            widening.all.add(&last);
-            widening.since = widening.since.and(&last);
-            self.due = due_of(&widening.votes, &widening.all, LockMode::Exclusive);
-            return;
-        }
-        self.told.add(&last);
-        show(&mut self.newer, &self.start, last.said);
-        let votes = &newest_of(&self.newer, &self.start).votes;
-        self.due = due_of(votes, &self.told, self.mode);
+        let due = self.due_after(&last);
+        self.put(last, due);
     }
 
     /// What the quorum gives that there is once this is told.
     pub fn quorum_after<'a>(&'a self, last: &'a Told) -> Quorum<'a>
         requires { last.now.server < MAX_SERVERS }
-        ensures { Gives result.entry (spec.tell last.now self.now.collector) }
+        ensures { IsQuorumOf result.entry (spec.tell last.now self.now.collector) }
     {
         if let Some(widening) = &self.widening {
             let dver = self.told.greatest(&self.first_members());
@@ -267,15 +265,34 @@ impl Collect {
         Ok(Some(Told { server, mode, said }))
     }
 
-    /// Whether there is a quorum once this is told.
-    fn completes(&self, last: &Told) -> bool
+    /// What is due once this is told.
+    fn due_after(&self, last: &Told) -> Due
         requires { last.now.server < MAX_SERVERS }
-        ensures { result ≡ has_quorum (spec.next (spec.tell last.now self.now.collector)) }
+        ensures value { due_in result ≡ due_of (spec.tell last.now self.now.collector) }
+        ensures known { IsKnown result }
     {
         let wanted = self.wanted();
-        let holders = self.heard().holders_after(last, wanted);
-        let votes = self.counted_after(last);
-        votes.votes_of(&holders) >= needed_of(votes, wanted)
+        let heard = self.heard();
+        let holders = heard.holders_after(last, wanted);
+        let refused = heard.refused_after(last);
+        due_among(self.counted_after(last), &holders, &refused, wanted)
+    }
+
+    /// Puts what is told behind what was told before, and what is due then.
+    fn put(&mut self, last: Told, due: Due)
+        requires server { last.server < MAX_SERVERS }
+        requires due { due_in due ≡ due_of (spec.tell last self.old.collector) }
+        requires known { IsKnown due }
+        ensures { self.new ≡ record self.old { collector = spec.tell last self.old.collector } }
+    {
+        self.due = due;
+        if let Some(widening) = &mut self.widening {
+            widening.all.add(&last);
+            widening.since = widening.since.and(&last);
+            return;
+        }
+        self.told.add(&last);
+        show(&mut self.newer, &self.start, last.said);
     }
 
     /// All that was told.

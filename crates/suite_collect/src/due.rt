@@ -9,7 +9,7 @@ ghost use Rattle.suite_collect.specs.Collecting.{needed_of};
 use crate::heard::Heard;
 use crate::members::first_left;
 use suite_prefix::LockMode;
-use vote_core::Votes;
+use vote_core::{ServerSet, Votes};
 
 /// What is due: a quorum is held, a server is to be asked, or nobody is left to ask.
 #[derive(Clone, Copy)]
@@ -24,19 +24,31 @@ pub(crate) fn due_of(votes: &Votes, heard: &Heard, wanted: LockMode) -> Due
     ensures value { due_in result ≡ spec.due_by votes.now wanted heard.now }
     ensures known { IsKnown result }
 {
-    let holders = heard.holders(wanted);
-    let (got, needed) = (votes.votes_of(&holders), needed_of(votes, wanted));
+    due_among(votes, &heard.holders(wanted), &heard.refused(), wanted)
+}
+
+/// What is due where these servers hold what is wanted, and those refused.
+pub(crate) fn due_among(
+    votes: &Votes,
+    holders: &ServerSet,
+    refused: &ServerSet,
+    wanted: LockMode,
+) -> Due
+    ensures value { due_in result ≡ spec.due_among votes.now wanted (contains holders.now) (contains refused.now) }
+    ensures known { IsKnown result }
+{
+    let (got, needed) = (votes.votes_of(holders), needed_of(votes, wanted));
     if got >= needed {
         return Due::Current;
     }
-    match first_left(votes, &holders, &heard.refused()) {
+    match first_left(votes, holders, refused) {
         Some(server) => Due::Ask { server },
         None => Due::Short { got, needed },
     }
 }
 
 /// The votes that are needed.
-pub(crate) fn needed_of(votes: &Votes, wanted: LockMode) -> u32
+fn needed_of(votes: &Votes, wanted: LockMode) -> u32
     ensures { result ≡ needed_of wanted votes.now }
 {
     match wanted {

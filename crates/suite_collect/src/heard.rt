@@ -141,6 +141,18 @@ impl Heard {
         self.refused
     }
 
+    /// The servers that were found down or busy, once this is told too.
+    pub(crate) fn refused_after(&self, last: &Told) -> ServerSet
+        requires { last.now.server < MAX_SERVERS }
+        ensures { (server : ℕ) → contains result server ≡ telling.has_refused (last.now ∷ self.now) server }
+    {
+        let mut refused = self.refused;
+        if !last.is_held() {
+            refused.insert(last.server);
+        }
+        refused
+    }
+
     /// The version of the content that a server showed last.
     pub(crate) fn shown(&self, server: u8) -> u64
         ensures { result ≡ telling.shown self.now server }

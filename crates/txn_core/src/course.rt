@@ -6,10 +6,10 @@ ghost use Rattle.weak_cache.specs.Cache.{Limits};
 ghost use Rattle.weak_cache.specs.Entries.{Cache};
 ghost use Rattle.txn_core.specs.Agents.{left};
 ghost use Rattle.txn_core.specs.Doing as doing;
-ghost use Rattle.txn_core.specs.code.Goings.{GoesBy, GoesStill, IsStep, IsUntouched, fixed_by};
-ghost use Rattle.txn_core.specs.code.Hearing.{heard_at, HearsAt, on_hearing};
-ghost use Rattle.txn_core.specs.code.Learning.{Fits, learned};
-ghost use Rattle.txn_core.specs.code.Reaching.{IsReachedBy, IsReachedIf, IsReachedIn};
+ghost use Rattle.txn_core.specs.code.Goings.{GoesBy, IsReady, IsStep, IsUntouched, Keeps, fixed_by, given, held, replied, widened};
+ghost use Rattle.txn_core.specs.code.Hearing.{HearsAt};
+ghost use Rattle.txn_core.specs.code.Learning.{Fits, content_news, learned};
+ghost use Rattle.txn_core.specs.code.Reaching.{IsReachedIf, IsReachedIn};
 ghost use Rattle.txn_core.specs.code.Sequels.{follow, gather_again};
 ghost use Rattle.txn_core.specs.Standing.{FitsAsked};
 ghost use Rattle.txn_core.specs.code.Steps.{taken};
@@ -223,7 +223,7 @@ impl Course {
     fn execute(&mut self, means: &mut Means, news: News) -> Result<Goes, AllocError>
         requires unused { HasUnused means.old.cache.entries }
         requires reached { IsReachedIn means.old.ground self.old.task self.old.suites means.old.progress }
-        requires fits { Fits news self.old.suites }
+        requires fits { Fits news }
         ensures ok { IfOk result (λ goes. IsStep means.old (course.execute (fixed_by means.old) self.old.task (learned news means.old.cache self.old.suites)) goes self.new means.new) }
         ensures err { OnErr result (IsUntouched means.old self.old self.new means.new) }
     {

@@ -40,7 +40,7 @@ impl<'a> Execution<'a> {
     ) -> Result<Sequel, AllocError>
         requires reached { IsReachedIn self.ground.now self.task.now suites.old.pairs progress.old }
         requires hints { HasUnused cache.old.entries }
-        requires fits { Fits news suites.old.pairs }
+        requires fits { Fits news }
         ensures ok { IfOk result (λ sequel. follow self.entry.task.now cache.new.entries suites.new.pairs sequel ≡ course.execute (planning.fixed_in self.entry cache.old) self.entry.task.now (learned news cache.old suites.old.pairs)) }
         ensures limits { cache.new.limits ≡ cache.old.limits }
         ensures unused { HasUnused cache.new.entries }

@@ -1,5 +1,8 @@
 //! What an agent works with.
 
+ghost use Rattle.std.specs.Prelude.{◌≡◌};
+ghost use Rattle.file_exec.specs.Reaching.{unbegun};
+
 use crate::ground::Ground;
 use file_exec::Progress;
 use std::alloc::Global;

@@ -1,6 +1,10 @@
 //! What a transaction learned of a suite.
 
-ghost use Rattle.std.specs.Prelude.{◌≡◌, OnOk, OnErr};
+ghost use Rattle.std.specs.Prelude.{◌≡◌, OnOk, OnErr, Some};
+ghost use Rattle.std.specs.Option.{option_copied};
+ghost use Rattle.txn_core.specs.code.Learning.{Fits, adds, kept_by, learned};
+ghost use Rattle.txn_core.specs.code.Seeing.{given_at, settled_at};
+ghost use Rattle.txn_core.specs.Suites.{suite_of};
 
 use crate::shelf::Fetched;
 use crate::suites::{Settling, Suite};

@@ -2,7 +2,7 @@
 
 ghost use Rattle.std.specs.Prelude.{◌≡◌, length, is_some, option_map};
 ghost use Rattle.std.specs.Option.{option_copied};
-ghost use Rattle.txn_core.specs.code.Seeing.{seen_in, sight_of, sight_of_suite};
+ghost use Rattle.txn_core.specs.code.Seeing.{first_at, seen_in, sight_of, sight_of_suite, told_of};
 ghost use Rattle.txn_core.specs.Suites.{suite_of};
 
 use crate::first::First;

@@ -8,7 +8,7 @@ ghost use Rattle.suite_collect.specs.Answering.{Comes, has_quorum};
 ghost use Rattle.suite_collect.specs.Collecting as spec;
 ghost use Rattle.txn_core.specs.code.Hearing.{Hears, IsFirstAfter};
 ghost use Rattle.txn_core.specs.code.Plans.{takes_in};
-ghost use Rattle.txn_core.specs.code.Seeing.{sight_of, settled_with};
+ghost use Rattle.txn_core.specs.code.Seeing.{settled_with, sight_of, sight_of_suite};
 ghost use Rattle.txn_core.specs.Suites as gathering;
 ghost use Rattle.txn_core.specs.code.Unused.{shows_unused, says_unused};
 
@@ -154,15 +154,15 @@ impl Suite {
         ensures err { OnErr result (self.new ≡ self.old) }
         ensures memory { IfErr result (λ _. IsTrue (is_held reply.now)) }
     {
-        Ok(match self.gathered.collect.hear(reply)? {
-            Hearing::Lost => Heard::Lost,
-            Hearing::Asks => Heard::Asks,
-            Hearing::Short => Heard::Short,
+        match self.gathered.collect.hear(reply)? {
+            Hearing::Lost => Ok(Heard::Lost),
+            Hearing::Asks => Ok(Heard::Asks),
+            Hearing::Short => Ok(Heard::Short),
             Hearing::Quorum(last) => {
                 let first = self.first_after(&last)?;
-                Heard::Settles(Settling { last, first })
+                Ok(Heard::Settles(Settling { last, first }))
             }
-        })
+        }
     }
 
     /// What the first quorum gives, where there is one once this is told, and was none before.
