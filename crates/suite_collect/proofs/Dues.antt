@@ -1,12 +1,12 @@
 -- What is due of a collector is what comes next, and what a reply leaves due.
 use Rattle.std.proofs.Common.{◌≡◌, ℕ, Bool, true, false, cond, ◌∷◌, ◌++◌, List, Option, Some, None, refl, sym, ap, subst, ◌∙◌}
 use Rattle.std.specs.Prelude.{nat_le, ◌==◌, find, option_map, is_some, unwrap_or, IfSome}
-use Rattle.vote_core.specs.Quorums.{Representative, Configuration, votes_in}
+use Rattle.vote_core.specs.Quorums.{Representative, Configuration}
 use Rattle.suite_prefix.specs.declared.copies.Prefix.{Prefix}
 use Rattle.suite_prefix.specs.declared.lock_mode.LockMode.{LockMode}
 use Rattle.suite_prefix.specs.declared.lock_mode.LockMode.TheVariants.{Exclusive}
 use Rattle.rep_core.specs.declared.reply.Reply.{Reply}
-use Rattle.rep_core.specs.declared.reply.Reply.TheVariants as reply
+use Rattle.suite_collect.specs.declared.told.Said.{Said}
 use Rattle.suite_collect.specs.declared.told.Told.{Told}
 use Rattle.suite_collect.specs.declared.collect.Collect.TheInside.{Inside}
 use Rattle.suite_collect.specs.declared.widening.Widening.{Widening as Wide}
@@ -15,7 +15,7 @@ use Rattle.suite_collect.specs.declared.hearing.Quorum.{Quorum}
 use Rattle.suite_collect.specs.code.Dues as due
 use Rattle.suite_collect.specs.code.Dues.{Due, due_left, due_among, due_by, due_in, IsKnown}
 use Rattle.suite_collect.specs.Telling.{newer, newest, holds, has_refused, first_busy, shown}
-use Rattle.suite_collect.specs.Collecting.{Widening, Collector, all_told, counted, wanted, needed, needed_of, got, is_member, is_left, members_of, version, source, asked_of, ask_or_short, said_to, tell, told_by, Current, Ask, Short, next}
+use Rattle.suite_collect.specs.Collecting.{Widening, Collector, all_told, counted, wanted, needed, got, is_member, is_left, members_of, version, source, asked_of, ask_or_short, said_to, tell, told_by, Current, Ask, Short, next}
 use Rattle.suite_collect.specs.code.CollectFields.{widening_of, collecting_of, due_of, IsSummed}
 use Rattle.suite_collect.specs.Answering.{has_quorum, IsQuorumOf}
 use Rattle.suite_collect.proofs.Collected.{asked_as_wanted}
@@ -76,23 +76,12 @@ module _ (c : Collector) where
       at (due.Ask server) is unasked = absurd (unasked server is)
       at (due.Short had wanting) is unasked = ap (λ next. told_by next answer) (short_next had wanting is)
 
-  -- nor where the reply is none to a request for a lock
-  pub told_other : (server : ℕ) (answer : Reply) → due_of c ≡ due.Ask server
-      → ((prefix : Prefix) (dver : ℕ) → answer ≡ reply.Held prefix dver → ⊥) → ((holder : ℕ) (prepared : Bool) → answer ≡ reply.Busy holder prepared → ⊥) → (answer ≡ reply.Down → ⊥)
-      → told_by (next c) answer ≡ None
-  told_other server answer is no_held no_busy no_down = told_asked server answer is ∙ of answer no_held no_busy no_down
-    where
-      of : (answer : Reply) → ((prefix : Prefix) (dver : ℕ) → answer ≡ reply.Held prefix dver → ⊥) → ((holder : ℕ) (prepared : Bool) → answer ≡ reply.Busy holder prepared → ⊥) → (answer ≡ reply.Down → ⊥)
-          → option_map (λ said. record { server = server; mode = wanted c; said = said }) (said_to (asked_of c server) answer) ≡ None
-      of (reply.Held prefix dver) no_held no_busy no_down = absurd (no_held prefix dver refl)
-      of (reply.Busy holder prepared) no_held no_busy no_down = absurd (no_busy holder prepared refl)
-      of reply.Down no_held no_busy no_down = absurd (no_down refl)
-      of reply.Lost no_held no_busy no_down = refl
-      of (reply.Given dver content) no_held no_busy no_down = refl
-      of reply.Prepared no_held no_busy no_down = refl
-      of (reply.Verdict v) no_held no_busy no_down = refl
-      of reply.Done no_held no_busy no_down = refl
-      of (reply.Locked locks) no_held no_busy no_down = refl
+  -- what a reply says is told
+  pub told_said : (server : ℕ) (answer : Reply) (said : Said) → due_of c ≡ due.Ask server → said_to (asked_of c server) answer ≡ Some said
+      → told_by (next c) answer ≡ Some (record { server = server; mode = wanted c; said = said })
+  told_said server answer said is says =
+      told_asked server answer is
+      ∙ ap (λ (said : Option Said). option_map {U = Told} (λ said. record { server = server; mode = wanted c; said = said }) said) says
 
   -- ---- whether there is a quorum
 
@@ -179,7 +168,7 @@ module _ (was : Inside) (left : Coded) (votes : Configuration) where
 
 -- what is told is put behind what was told
 module _ (was : Inside) (left : Coded) (last : Told) (known : IsKnown left) where
-  of : Option Wide → List Told → Collector
+  abbrev of : Option Wide → List Told → Collector
   of w told = record { start = was.start; mode = was.mode; told = told; widening = option_map widening_of w }
 
   pub put_narrow : (kept : Option Prefix) (told : List Told) → was.widening ≡ None → unwrap_or kept was.start ≡ newest was.start told → told ≡ last ∷ was.told

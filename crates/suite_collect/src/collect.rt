@@ -185,7 +185,7 @@ impl Collect {
     /// What the quorum gives that there is once this is told.
     pub fn quorum_after<'a>(&'a self, last: &'a Told) -> Quorum<'a>
         requires { last.now.server < MAX_SERVERS }
-        ensures { IsQuorumOf result.entry (spec.tell last.now self.now.collector) }
+        ensures { IsQuorumOf result (spec.tell last.now self.now.collector) }
     {
         if let Some(widening) = &self.widening {
             let dver = self.told.greatest(&self.first_members());

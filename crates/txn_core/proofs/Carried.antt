@@ -11,8 +11,7 @@ use Rattle.txn_core.specs.Suites.{First, Suite, Suites, suite_of, with_suite}
 use Rattle.txn_core.specs.Doing.{Task}
 use Rattle.txn_core.specs.Transactions.{Gathered}
 use Rattle.txn_core.specs.code.Plans.{opened_by, raised_at}
-use Rattle.txn_core.specs.code.Seeing.{settled_with, settled_at, given_at}
-use Rattle.txn_core.specs.declared.suites.Settling.{Settling}
+use Rattle.txn_core.specs.code.Seeing.{changed_at}
 use Rattle.txn_core.proofs.Rounds.{opens}
 
 -- another value of a suite that is there
@@ -39,16 +38,9 @@ opens_some task all number content suite new first ordered is was more =
     ∙ ap (λ (g : Gathered). g.suites) (sym (opens task all number content suite (Some first) (sym is) was))
 
 -- a suite gets what was learned of it
-pub settled_there : (suites : Suites) (number : ℕ) (settling : Settling) (suite new : Suite) → IsOrdered nat_cmp suites → Some suite ≡ suite_of suites number → new ≡ settled_with settling suite
-    → replace nat_cmp suites number new ≡ settled_at number settling (suite_of suites number) suites
-settled_there suites number settling suite new ordered is more =
+pub changed_there : (change : Suite → Suite) (suites : Suites) (number : ℕ) (suite new : Suite) → IsOrdered nat_cmp suites → Some suite ≡ suite_of suites number → new ≡ change suite
+    → replace nat_cmp suites number new ≡ changed_at change number (suite_of suites number) suites
+changed_there change suites number suite new ordered is more =
     set_there suites number suite new ordered (sym is)
     ∙ ap (λ new. with_suite number new suites) more
-    ∙ ap (λ found. settled_at number settling found suites) is
-
-pub given_there : (suites : Suites) (number : ℕ) (content : Content) (suite new : Suite) → IsOrdered nat_cmp suites → Some suite ≡ suite_of suites number → new ≡ record suite { content = Some content }
-    → replace nat_cmp suites number new ≡ given_at number content (suite_of suites number) suites
-given_there suites number content suite new ordered is more =
-    set_there suites number suite new ordered (sym is)
-    ∙ ap (λ new. with_suite number new suites) more
-    ∙ ap (λ found. given_at number content found suites) is
+    ∙ ap (λ found. changed_at change number found suites) is

@@ -15,7 +15,7 @@ pub(crate) fn known_of<'a>(
     ground: &'a Ground,
     seen: Seen<'a>,
 ) -> Result<Known<'a>, AllocError>
-    ensures { IfOk result (λ known. known ≡ record { service = ground.now; suites = gathering.known_of (seen_in seen) }) }
+    ensures { IfOk result (λ known. known ≡ record { service = ground.now; suites = gathering.known_of (seen_in seen.entry) }) }
 {
     let mut known = Vec::with_capacity(alloc, seen.len())?;
     for (number, suite) in seen.suites.as_slice() {
@@ -30,7 +30,7 @@ fn tell<'a>(
     number: u64,
     sight: Sight<'a>,
 ) -> Result<(), AllocError>
-    ensures { OnOk result (known.new.items ≡ known.old.items ++ known_by number (sight_of sight) []) }
+    ensures { OnOk result (known.new.items ≡ known.old.items ++ known_by number (sight_of sight.entry) []) }
 {
     let Some(first) = sight.first else {
         return Ok(());

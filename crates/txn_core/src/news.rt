@@ -3,7 +3,7 @@
 ghost use Rattle.std.specs.Prelude.{◌≡◌, OnOk, OnErr, Some};
 ghost use Rattle.std.specs.Option.{option_copied};
 ghost use Rattle.txn_core.specs.code.Learning.{Fits, adds, kept_by, learned};
-ghost use Rattle.txn_core.specs.code.Seeing.{given_at, settled_at};
+ghost use Rattle.txn_core.specs.code.Seeing.{changed_at, settled_with, with_content};
 ghost use Rattle.txn_core.specs.Suites.{suite_of};
 
 use crate::shelf::Fetched;

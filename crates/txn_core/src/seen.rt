@@ -53,7 +53,7 @@ impl<'a> Seen<'a> {
 
     /// What is known of the suite of a number.
     pub(crate) fn at(self, number: u64, suite: &'a Suite) -> Sight<'a>
-        ensures { sight_of result.entry ≡ sight_of_suite (told_of self.entry.news.now number suite.now) }
+        ensures { sight_of result ≡ sight_of_suite (told_of self.entry.news.now number suite.now) }
     {
         match self.news {
             News::Quorum(place, settling) if *place == number => suite.sight_settled(settling),

@@ -197,7 +197,7 @@ impl Suite {
 
     /// What is known of it.
     pub(crate) fn sight(&self) -> Sight<'_>
-        ensures { sight_of result.entry ≡ sight_of_suite self.now }
+        ensures { sight_of result ≡ sight_of_suite self.now }
     {
         let gathered = &self.gathered;
         Sight {
@@ -209,7 +209,7 @@ impl Suite {
 
     /// What is known of it once it has a quorum.
     pub(crate) fn sight_settled<'a>(&'a self, settling: &'a Settling) -> Sight<'a>
-        ensures { sight_of result.entry ≡ sight_of_suite (settled_with settling.now self.now) }
+        ensures { sight_of result ≡ sight_of_suite (settled_with settling.now self.now) }
     {
         let gathered = &self.gathered;
         Sight {

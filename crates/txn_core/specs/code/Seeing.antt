@@ -20,25 +20,25 @@ settled_with settling suite = record suite {
   mode = suite.collector.mode;
 }
 
+-- a suite once its content is there
+abbrev pub with_content : Content → Suite → Suite
+with_content content suite = record suite { content = Some content }
+
 -- the suite of a number, once something was learned
 abbrev pub told_of : News → ℕ → Suite → Suite
 told_of Nothing number suite = suite
 told_of (Quorum place settling) number suite = if place == number then settled_with settling suite else suite
-told_of (Given content fetched) number suite = if fetched.suite == number then record suite { content = Some content } else suite
+told_of (Given content fetched) number suite = if fetched.suite == number then with_content content suite else suite
 
 -- the suites, once it was set
-abbrev pub settled_at : ℕ → Settling → Option Suite → Suites → Suites
-settled_at number settling (Some suite) suites = with_suite number (settled_with settling suite) suites
-settled_at number settling None suites = suites
-
-abbrev pub given_at : ℕ → Content → Option Suite → Suites → Suites
-given_at number content (Some suite) suites = with_suite number (record suite { content = Some content }) suites
-given_at number content None suites = suites
+abbrev pub changed_at : (Suite → Suite) → ℕ → Option Suite → Suites → Suites
+changed_at change number (Some suite) suites = with_suite number (change suite) suites
+changed_at change number None suites = suites
 
 abbrev pub learned_suites : News → Suites → Suites
 learned_suites Nothing suites = suites
-learned_suites (Quorum number settling) suites = settled_at number settling (suite_of suites number) suites
-learned_suites (Given content fetched) suites = given_at fetched.suite content (suite_of suites fetched.suite) suites
+learned_suites (Quorum number settling) suites = changed_at (settled_with settling) number (suite_of suites number) suites
+learned_suites (Given content fetched) suites = changed_at (with_content content) fetched.suite (suite_of suites fetched.suite) suites
 
 abbrev pub seen_in : Seen → Suites
 seen_in seen = learned_suites seen.news.now seen.suites.now.pairs

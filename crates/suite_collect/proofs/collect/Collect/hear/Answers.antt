@@ -1,7 +1,5 @@
 use Rattle.std.proofs.Common.{◌≡◌, true, Some, refl, sym, ap, ◌∙◌, rules}
-use Rattle.suite_collect.specs.code.Dues as due
 use Rattle.suite_collect.specs.code.Dues.{due_in}
-use Rattle.suite_collect.specs.code.CollectFields.{due_of}
 use Rattle.suite_collect.specs.Answering.{has_quorum}
 use Rattle.suite_collect.specs.Telling.{first_busy}
 use Rattle.suite_collect.specs.Collecting.{Collecting, all_told, asked_of, next, tell, told_by}
@@ -24,9 +22,10 @@ returns-in-Ask-clause-ok c =
     let after = tell last was in
     let told : told_by (next was) c.args.reply.now ≡ Some last = search rules in
     let server = c.in-Ask.server in
-    let new = c.put.ensures in
-    (record { last = last; told = told; new = new },
-    (server, asked_of after server, ap (λ (now : Collecting). next now.collector) new ∙ ask_next after server (sym c.due_after-due.ensures.value ∙ ap due_in c.in-Ask.is)))
+    let new = c.put.ensures in (
+      record { last = last; told = told; new = new },
+      (server, asked_of after server, ap (λ (now : Collecting). next now.collector) new ∙ ask_next after server (sym c.due_after-due.ensures.value ∙ ap due_in c.in-Ask.is)),
+    )
 
 pub returns-in-Short-clause-ok : goal.returns-in-Short-clause-ok
 returns-in-Short-clause-ok c =
@@ -36,6 +35,7 @@ returns-in-Short-clause-ok c =
     let told : told_by (next was) c.args.reply.now ≡ Some last = search rules in
     let got = c.in-Short.got in
     let needed = c.in-Short.needed in
-    let new = c.put-in-Short.ensures in
-    (record { last = last; told = told; new = new },
-    (got, needed, first_busy (all_told after), ap (λ (now : Collecting). next now.collector) new ∙ short_next after got needed (sym c.due_after-due.ensures.value ∙ ap due_in c.in-Short.is)))
+    let new = c.put-in-Short.ensures in (
+      record { last = last; told = told; new = new },
+      (got, needed, first_busy (all_told after), ap (λ (now : Collecting). next now.collector) new ∙ short_next after got needed (sym c.due_after-due.ensures.value ∙ ap due_in c.in-Short.is)),
+    )

@@ -1,4 +1,4 @@
-use Rattle.std.proofs.Common.{◌≡◌, ◌∷◌, ◌++◌, ap, sym, ◌∙◌, subst, refl, rules, None, Some}
+use Rattle.std.proofs.Common.{◌≡◌, ◌++◌, ap, sym, ◌∙◌, subst, refl, rules, None}
 use Rattle.std.specs.Prelude.{unwrap_or, IfSome, Option}
 use Rattle.suite_collect.specs.Telling.{newer, newest}
 use Rattle.suite_collect.specs.Collecting.{Collecting, tell}
