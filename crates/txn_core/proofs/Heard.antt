@@ -17,7 +17,7 @@ use Rattle.weak_cache.specs.Entries.{Cache}
 use Rattle.txn_core.specs.Suites.{First, Suite, Suites, first_or, source_of}
 use Rattle.txn_core.specs.Doing.{Task, Phase}
 use Rattle.txn_core.specs.Transactions.{Step, said_to, collected, hear}
-use Rattle.txn_core.specs.declared.suites.Settling.{Settling}
+use Rattle.txn_core.specs.declared.settling.Settling.{Settling}
 use Rattle.txn_core.specs.code.Hearing as hearing
 use Rattle.txn_core.specs.code.Hearing.{heard_next, heard_one, heard, on_hearing, FallsShort, IsFirstAfter}
 use Rattle.txn_core.specs.code.Seeing.{settled_with}
@@ -91,11 +91,15 @@ module _ (suite : Suite) (answer : Reply) where
 
   pub hears_short : (last : Told) (after : Collector) → told_by (next suite.collector) answer ≡ Some last → after ≡ tell last suite.collector → IsShort (next after)
       → FallsShort (heard suite answer) (record suite { collector = after })
-  hears_short last after told new short =
-      (short.0, short.1, short.2, short.3,
-      ap (heard_one suite) told
-      ∙ ap (λ (after : Collector). heard_next (record suite { collector = after }) (next after)) (sym new)
-      ∙ ap (heard_next (record suite { collector = after })) short.3)
+  hears_short last after told new short = (
+    short.0,
+    short.1,
+    short.2,
+    short.3,
+    ap (heard_one suite) told
+        ∙ ap (λ (after : Collector). heard_next (record suite { collector = after }) (next after)) (sym new)
+        ∙ ap (heard_next (record suite { collector = after })) short.3,
+  )
 
   -- with a quorum the suite is settled
   pub hears_settles : (settling : Settling) → told_by (next suite.collector) answer ≡ Some settling.last → has_quorum (next (tell settling.last suite.collector)) ≡ true → IsFirstAfter suite settling.last settling.first

@@ -12,7 +12,7 @@ use Rattle.sorted_map.specs.Edits.{replace_same}
 use Rattle.suite_collect.specs.Answering.{shows_lock}
 use Rattle.txn_core.specs.declared.suites.Heard.{Heard}
 use Rattle.txn_core.specs.declared.suites.Heard.TheVariants.{Lost, Asks, Short, Settles}
-use Rattle.txn_core.specs.declared.suites.Settling.{Settling}
+use Rattle.txn_core.specs.declared.settling.Settling.{Settling}
 use Rattle.txn_core.specs.Doing.{Course}
 use Rattle.txn_core.specs.code.Hearing as hearing
 use Rattle.txn_core.specs.code.Hearing.{heard, heard_at, Hears, HearsIn, HearsAt, FallsShort}

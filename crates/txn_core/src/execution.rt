@@ -1,15 +1,19 @@
 //! A transaction on what it gathered: all that it comes to is set, or nothing.
 
-ghost use Rattle.std.specs.Prelude.{◌≡◌, IfOk, OnErr};
+ghost use Rattle.std.specs.Prelude.{◌≡◌, ◌<◌, IfOk, IsSome, OnOk, OnErr};
+ghost use Rattle.std.specs.Ordering.{nat_cmp};
+ghost use Rattle.sorted_map.specs.SortedMap.{IsOrdered};
 ghost use Rattle.txn_core.specs.code.Learning.{Fits, learned};
 ghost use Rattle.txn_core.specs.code.Plans as planning;
 ghost use Rattle.txn_core.specs.code.Reaching.{IsReachedIn};
+ghost use Rattle.txn_core.specs.code.Seeing.{learned_suites};
 ghost use Rattle.txn_core.specs.code.Sequels.{follow};
 ghost use Rattle.txn_core.specs.Transactions as course;
 ghost use Rattle.txn_core.specs.code.Unused.{HasUnused};
 
 use crate::ground::Ground;
 use crate::news::News;
+use crate::plan::Plan;
 use crate::seen::Seen;
 use crate::sequel::Sequel;
 use crate::shelf::Shelf;
@@ -50,17 +54,36 @@ impl<'a> Execution<'a> {
         if !news.adds_to(suites) {
             *progress = Progress::new(self.alloc);
         }
-        let seen = Seen {
-            suites,
-            news: &news,
-        };
-        let shelf = Shelf {
-            cache,
-            fetched: news.fetched(),
-        };
-        let plan = self.plan(seen, shelf, progress)?;
-        plan.make_room(suites)?;
+        let plan = self.prepare(suites, cache, progress, &news)?;
         news.set(suites, cache)?;
         Ok(plan.carry_out(self.task, suites, cache))
+    }
+
+    /// The plan of an execution, and room for what it sets.
+    fn prepare(
+        self,
+        suites: &mut RoomyMap<u64, Suite>,
+        cache: &WeakCache,
+        progress: &mut Progress,
+        news: &News,
+    ) -> Result<Plan, AllocError>
+        requires unused { HasUnused (learned news.now cache.now suites.old.pairs).cache }
+        requires reached { IsReachedIn self.ground.now self.task.now (learned_suites news.now suites.old.pairs) progress.old }
+        ensures plan { IfOk result (λ plan. planning.IsPlanOf (planning.fixed_in self.entry cache.now) self.entry.task.now (learned news.now cache.now suites.old.pairs) plan) }
+        ensures reached { IfOk result (λ plan. IsReachedIn self.entry.ground.now self.entry.task.now (planning.opened_all self.entry.task.now plan.opened.items (learned news.now cache.now suites.old.pairs)).suites progress.new) }
+        ensures ordered { OnOk result (IsOrdered nat_cmp suites.old.pairs) }
+        ensures room { IfOk result (λ plan. IsSome plan.new → 0 < suites.new.room) }
+        ensures pairs { suites.new.pairs ≡ suites.old.pairs }
+    {
+        let plan = self.plan(
+            Seen { suites, news },
+            Shelf {
+                cache,
+                fetched: news.fetched(),
+            },
+            progress,
+        )?;
+        plan.make_room(suites)?;
+        Ok(plan)
     }
 }

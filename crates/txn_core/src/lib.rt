@@ -23,6 +23,7 @@ mod plan;
 mod seen;
 mod sequel;
 mod servers;
+mod settling;
 mod shelf;
 mod sorting;
 mod suites;

@@ -6,8 +6,9 @@ ghost use Rattle.txn_core.specs.code.Learning.{Fits, adds, kept_by, learned};
 ghost use Rattle.txn_core.specs.code.Seeing.{changed_at, settled_with, with_content};
 ghost use Rattle.txn_core.specs.Suites.{suite_of};
 
+use crate::settling::Settling;
 use crate::shelf::Fetched;
-use crate::suites::{Settling, Suite};
+use crate::suites::Suite;
 use sorted_map::RoomyMap;
 use std::alloc::AllocError;
 use suite_content::Content;

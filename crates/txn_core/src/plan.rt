@@ -47,7 +47,7 @@ impl<'a> Execution<'a> {
     ) -> Result<Plan, AllocError>
         requires unused { HasUnused (spec.entries_on shelf) }
         requires reached { IsReachedIn self.ground.now self.task.now (seen_in seen.entry) progress.old }
-        ensures ordered { OnOk result (IsOrdered nat_cmp (seen_in seen.entry)) }
+        ensures ordered { OnOk result (IsOrdered nat_cmp seen.entry.suites.now.pairs) }
         ensures plan { IfOk result (λ plan. spec.IsPlanOf (spec.fixed_in self.entry shelf.entry.cache.now) self.entry.task.now (spec.seen_on shelf.entry (seen_in seen.entry)) plan) }
         ensures reached { IfOk result (λ plan. IsReachedIn self.entry.ground.now self.entry.task.now (spec.opened_all self.entry.task.now plan.opened.items (spec.seen_on shelf.entry (seen_in seen.entry))).suites progress.new) }
     {
@@ -69,7 +69,7 @@ impl<'a> Execution<'a> {
     ) -> Result<(Vec<(u64, Content)>, Outcome), AllocError>
         requires { IsReachedIn self.ground.now self.task.now (seen_in seen.entry) progress.old }
         ensures reached { IfOk result (λ played. IsReachedIn self.entry.ground.now self.entry.task.now (spec.opened_all self.entry.task.now played.0.items (spec.seen_on shelf.entry (seen_in seen.entry))).suites progress.new) }
-        ensures ordered { OnOk result (IsOrdered nat_cmp (seen_in seen.entry)) }
+        ensures ordered { OnOk result (IsOrdered nat_cmp seen.entry.suites.now.pairs) }
         ensures played { IfOk result (λ played. spec.IsPlayed (spec.fixed_in self.entry shelf.entry.cache.now) self.entry.task.now (spec.seen_on shelf.entry (seen_in seen.entry)) played.0.items played.1) }
     {
         let task = self.task;

@@ -14,6 +14,7 @@ ghost use Rattle.txn_core.specs.code.Unused.{shows_unused, says_unused};
 
 use crate::first::First;
 use crate::seen::Sight;
+use crate::settling::Settling;
 use rep_core::Reply;
 use std::alloc::{AllocError, Global};
 use std::marker::Model;
@@ -49,15 +50,6 @@ pub(crate) enum Heard {
     Short,
     /// With it there is a quorum, which the suite does not have yet.
     Settles(Settling),
-}
-
-/// A quorum that a suite is to have: the lock that completes it, and what it gives, where it is the first.
-#[derive(Drop)]
-pub(crate) struct Settling {
-    pub(crate) last: Told,
-    pub(crate) first: Option<First>,
-    ghost known: { last.server < MAX_SERVERS },
-    ghost unused: { says_unused last.said ≡ true },
 }
 
 impl Model for Suite {

@@ -5,7 +5,7 @@ use Rattle.suite_content.specs.declared.content.Content.{Content}
 use Rattle.suite_prefix.specs.declared.lock_mode.LockMode.{LockMode}
 use Rattle.suite_collect.specs.Collecting.{tell}
 use Rattle.file_exec.specs.Known.{Known}
-use Rattle.txn_core.specs.declared.suites.Settling.{Settling}
+use Rattle.txn_core.specs.declared.settling.Settling.{Settling}
 use Rattle.txn_core.specs.declared.news.News.{News}
 use Rattle.txn_core.specs.declared.news.News.TheVariants.{Nothing, Quorum, Content as Given}
 use Rattle.txn_core.specs.declared.seen.Seen.{Seen}
