@@ -1,7 +1,7 @@
 -- How far a transaction came, as its suites and its phase go on.
 use Rattle.std.proofs.Common.{◌≡◌, ℕ, Bool, true, false, cond, List, [], ◌∷◌, Option, Some, None, Result, Ok, Err, refl, sym, ap, subst, ◌∙◌}
 use Rattle.std.specs.declared.alloc.AllocError.{AllocError}
-use Rattle.std.specs.Prelude.{is_some, option_map, IfOk}
+use Rattle.std.specs.Prelude.{is_some, not, option_map, IfOk}
 use Rattle.std.specs.Option.{MatchOption, IsSomeAnd}
 use Rattle.std.specs.Ordering.{nat_cmp}
 use Rattle.std.proofs.lemmas.Bool.{false≢true}
@@ -45,7 +45,10 @@ use Rattle.txn_core.specs.declared.agent.Doing.{Doing as Coded}
 use Rattle.txn_core.specs.declared.agent.Doing.TheVariants as coded
 use Rattle.txn_core.specs.code.Hearing.{heard_next, heard_one, heard, FallsShort}
 use Rattle.txn_core.specs.code.Goings.{GoesBy}
-use Rattle.txn_core.specs.code.Seeing.{changed_at, settled_with, with_content}
+use Rattle.txn_core.specs.code.Seeing.{changed_at, settled_with, with_content, learned_suites}
+use Rattle.txn_core.specs.code.Learning.{adds, is_fresh}
+use Rattle.txn_core.specs.declared.news.News.{News}
+use Rattle.txn_core.specs.declared.news.News.TheVariants.{Nothing, Quorum, Content as Given}
 use Rattle.txn_core.specs.declared.ending.Goes.{Goes as Going}
 use Rattle.txn_core.specs.declared.ending.Goes.TheVariants.{On, Ended}
 use Rattle.txn_core.specs.declared.settling.Settling.{Settling}
@@ -308,6 +311,18 @@ module _ (service : Service) (reached : Reached) where
       of : (found : Option Suite) → suite_of suites number ≡ found → takes_in found content ≡ true → now ≡ changed_at (with_content content) number found suites → IsReachedIn service task now reached
       of (Some suite) there may given = had suite suite.first there refl may given
       of None there may given = cc
+
+-- something was learned by which more is known
+pub reached_learned : (service : Service) (reached : Reached) (task : Task) (suites : Suites) (news : News) → IsOrdered nat_cmp suites → adds news suites ≡ true → IsReachedIn service task suites reached → IsReachedIn service task (learned_suites news suites) reached
+reached_learned service reached task suites Nothing ordered may is = is
+reached_learned service reached task suites (Quorum number settling) ordered may is =
+    reached_settled service reached task suites number settling ordered (λ suite there. fresh suite.first (sym (ap is_fresh there) ∙ may)) is
+  where
+    fresh : (first : Option First) → not (is_some first) ≡ true → first ≡ None
+    fresh None none = refl
+    fresh (Some first) none = cc
+reached_learned service reached task suites (Given content fetched) ordered may is =
+    reached_given service reached task suites (learned_suites (Given content fetched) suites) fetched.suite content ordered may refl is
 
 -- ---- by an execution
 

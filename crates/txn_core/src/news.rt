@@ -39,7 +39,10 @@ impl News {
     pub(crate) fn adds_to(&self, suites: &RoomyMap<u64, Suite>) -> bool {
         match self {
             News::Nothing => true,
-            News::Quorum(_, settling) => settling.first.is_some(),
+            News::Quorum(number, _) => match suites.get(number) {
+                Some(suite) => suite.first().is_none(),
+                None => true,
+            },
             News::Content(content, fetched) => match suites.get(&fetched.suite) {
                 Some(suite) => suite.takes(content),
                 None => false,

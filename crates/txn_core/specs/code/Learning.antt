@@ -1,5 +1,5 @@
 -- What a transaction learned of a suite, set.
-use Rattle.std.specs.Prelude.{◌≡◌, ◌<◌, ℕ, Bool, true, false, is_some, option_map, Option, Some, None}
+use Rattle.std.specs.Prelude.{◌≡◌, ◌<◌, ℕ, Bool, true, false, not, is_some, option_map, Option, Some, None}
 use Rattle.suite_content.specs.declared.content.Content.{Content}
 use Rattle.rep_core.specs.Store.{is_used_up}
 use Rattle.weak_cache.specs.Entries.{max_sites}
@@ -22,10 +22,15 @@ kept_by other = None
 abbrev pub learned : News → Limited → Suites → Gathered
 learned news cache suites = record { suites = learned_suites news suites; cache = shelved cache (kept_by news) }
 
+-- a suite had no quorum
+abbrev pub is_fresh : Option Suite → Bool
+is_fresh (Some suite) = not (is_some suite.first)
+is_fresh None = true
+
 -- more is known by it, and nothing else than before
 abbrev pub adds : News → Suites → Bool
 adds Nothing suites = true
-adds (Quorum number settling) suites = is_some settling.first
+adds (Quorum number settling) suites = is_fresh (suite_of suites number)
 adds (Given content fetched) suites = takes_in (suite_of suites fetched.suite) content
 
 -- what the cache is to keep is of one of its sites, and its prefix not used up

@@ -1,0 +1,17 @@
+use Rattle.std.proofs.Common.{ap, nat_cmp}
+use Rattle.sorted_map.specs.SortedMap.{replace}
+use Rattle.txn_core.specs.Doing.{Course}
+use Rattle.txn_core.proofs.InPlace.{hears_there, left_err}
+use Rattle.txn_core.proofs.course.Course.hear.Goals as goal
+
+pub returns-in-Some-clause-ok : goal.returns-in-Some-clause-ok
+returns-in-Some-clause-ok c =
+    let held = c.self.inside.suites.pairs in
+    hears_there c.args.self.now _ held c.args.number c.in-Some.suite.now c.hear.new.self c.args.said.now (ap (λ (course : Course). course.suites) c.self.view_is) c.in-Some.ensures.value c.get_mut.ensures.ordered
+    (ap (λ (course : Course). record course { suites = replace nat_cmp held c.args.number c.hear.new.self }) c.self.view_is) c.hear.result c.hear.ensures.ok
+
+pub returns-in-Some-clause-err : goal.returns-in-Some-clause-err
+returns-in-Some-clause-err c =
+    let held = c.self.inside.suites.pairs in
+    left_err c.args.self.now _ held c.args.number c.in-Some.suite.now c.hear.new.self c.args.said.now (ap (λ (course : Course). course.suites) c.self.view_is) c.in-Some.ensures.value c.get_mut.ensures.ordered
+    (ap (λ (course : Course). record course { suites = replace nat_cmp held c.args.number c.hear.new.self }) c.self.view_is) c.hear.result c.hear.ensures.err
