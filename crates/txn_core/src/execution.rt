@@ -6,7 +6,6 @@ ghost use Rattle.sorted_map.specs.SortedMap.{IsOrdered};
 ghost use Rattle.txn_core.specs.code.Learning.{Fits, learned};
 ghost use Rattle.txn_core.specs.code.Plans as planning;
 ghost use Rattle.txn_core.specs.code.Reaching.{IsReachedIn};
-ghost use Rattle.txn_core.specs.code.Seeing.{learned_suites};
 ghost use Rattle.txn_core.specs.code.Sequels.{follow};
 ghost use Rattle.txn_core.specs.Transactions as course;
 ghost use Rattle.txn_core.specs.code.Unused.{HasUnused};
@@ -51,9 +50,6 @@ impl<'a> Execution<'a> {
         ensures reached { IfOk result (λ _. IsReachedIn self.entry.ground.now self.entry.task.now suites.new.pairs progress.new) }
         ensures err { OnErr result ((suites.new.pairs ≡ suites.old.pairs) × (cache.new ≡ cache.old)) }
     {
-        if !news.adds_to(suites) {
-            *progress = Progress::new(self.alloc);
-        }
         let plan = self.prepare(suites, cache, progress, &news)?;
         news.set(suites, cache)?;
         Ok(plan.carry_out(self.task, suites, cache))
@@ -68,7 +64,7 @@ impl<'a> Execution<'a> {
         news: &News,
     ) -> Result<Plan, AllocError>
         requires unused { HasUnused (learned news.now cache.now suites.old.pairs).cache }
-        requires reached { IsReachedIn self.ground.now self.task.now (learned_suites news.now suites.old.pairs) progress.old }
+        requires reached { IsReachedIn self.ground.now self.task.now suites.old.pairs progress.old }
         ensures plan { IfOk result (λ plan. planning.IsPlanOf (planning.fixed_in self.entry cache.now) self.entry.task.now (learned news.now cache.now suites.old.pairs) plan) }
         ensures reached { IfOk result (λ plan. IsReachedIn self.entry.ground.now self.entry.task.now (planning.opened_all self.entry.task.now plan.opened.items (learned news.now cache.now suites.old.pairs)).suites progress.new) }
         ensures ordered { OnOk result (IsOrdered nat_cmp suites.old.pairs) }

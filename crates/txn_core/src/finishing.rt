@@ -7,7 +7,6 @@ ghost use Rattle.weak_cache.specs.Entries.{Cache};
 ghost use Rattle.txn_core.specs.code.CourseFields.{phase_of};
 ghost use Rattle.txn_core.specs.Doing as doing;
 ghost use Rattle.txn_core.specs.code.Goings.{GoesBy};
-ghost use Rattle.txn_core.specs.code.Steps.{Steps};
 ghost use Rattle.txn_core.specs.code.Passing.{passed, passes_last};
 ghost use Rattle.txn_core.specs.Transactions as course;
 ghost use Rattle.txn_core.specs.declared.ending.Ending.{Ending as Ends};
@@ -41,7 +40,7 @@ impl Course {
             return self.give_up(Cause::Lost { server });
         }
         if self.pass() {
-            self.decide();
+            return self.decide();
         }
         Goes::On
     }
@@ -60,13 +59,14 @@ impl Course {
     }
 
     /// All servers have prepared: the home decides.
-    fn decide(&mut self)
-        ensures { (outcome : doing.Outcome) (cache : Cache) → self.old.phase ≡ doing.Preparing [] outcome → Steps (course.prepare self.old.task cache self.old.suites outcome []) None self.new cache }
+    fn decide(&mut self) -> Goes
+        ensures { (outcome : doing.Outcome) (cache : Cache) → self.old.phase ≡ doing.Preparing [] outcome → GoesBy (course.prepare self.old.task cache self.old.suites outcome []) result self.new cache }
     {
         self.phase = match self.leave() {
             Phase::Preparing(_, outcome) => Phase::Deciding(outcome),
             other => other,
         };
+        Goes::On
     }
 
     /// What the home said. Only to tell answers again it may want memory.

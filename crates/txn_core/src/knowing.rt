@@ -1,6 +1,8 @@
 //! What a transaction knows of the suites that it gathered.
 
 ghost use Rattle.std.specs.Prelude.{◌≡◌, ◌++◌, [], IfOk, OnOk};
+ghost use Rattle.std.specs.Ordering.{nat_cmp};
+ghost use Rattle.sorted_map.specs.SortedMap.{IsOrdered};
 ghost use Rattle.txn_core.specs.Suites as gathering;
 ghost use Rattle.txn_core.specs.code.Seeing.{seen_in, known_by, sight_of};
 
@@ -15,7 +17,8 @@ pub(crate) fn known_of<'a>(
     ground: &'a Ground,
     seen: Seen<'a>,
 ) -> Result<Known<'a>, AllocError>
-    ensures { IfOk result (λ known. known ≡ record { service = ground.now; suites = gathering.known_of (seen_in seen.entry) }) }
+    ensures ordered { OnOk result (IsOrdered nat_cmp seen.entry.suites.now.pairs) }
+    ensures known { IfOk result (λ known. known ≡ record { service = ground.now; suites = gathering.known_of (seen_in seen.entry) }) }
 {
     let mut known = Vec::with_capacity(alloc, seen.len())?;
     for (number, suite) in seen.suites.as_slice() {

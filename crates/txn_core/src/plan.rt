@@ -46,7 +46,7 @@ impl<'a> Execution<'a> {
         progress: &mut Progress,
     ) -> Result<Plan, AllocError>
         requires unused { HasUnused (spec.entries_on shelf) }
-        requires reached { IsReachedIn self.ground.now self.task.now (seen_in seen) progress.old }
+        requires reached { IsReachedIn self.ground.now self.task.now seen.suites.now.pairs progress.old }
         ensures ordered { OnOk result (IsOrdered nat_cmp seen.entry.suites.now.pairs) }
         ensures plan { IfOk result (λ plan. spec.IsPlanOf (spec.fixed_in self.entry shelf.entry.cache.now) self.entry.task.now (spec.seen_on shelf.entry (seen_in seen.entry)) plan) }
         ensures reached { IfOk result (λ plan. IsReachedIn self.entry.ground.now self.entry.task.now (spec.opened_all self.entry.task.now plan.opened.items (spec.seen_on shelf.entry (seen_in seen.entry))).suites progress.new) }
@@ -67,7 +67,7 @@ impl<'a> Execution<'a> {
         shelf: Shelf<'_>,
         progress: &mut Progress,
     ) -> Result<(Vec<(u64, Content)>, Outcome), AllocError>
-        requires { IsReachedIn self.ground.now self.task.now (seen_in seen) progress.old }
+        requires { IsReachedIn self.ground.now self.task.now seen.suites.now.pairs progress.old }
         ensures reached { IfOk result (λ played. IsReachedIn self.entry.ground.now self.entry.task.now (spec.opened_all self.entry.task.now played.0.items (spec.seen_on shelf.entry (seen_in seen.entry))).suites progress.new) }
         ensures ordered { OnOk result (IsOrdered nat_cmp seen.entry.suites.now.pairs) }
         ensures played { IfOk result (λ played. spec.IsPlayed (spec.fixed_in self.entry shelf.entry.cache.now) self.entry.task.now (spec.seen_on shelf.entry (seen_in seen.entry)) played.0.items played.1) }
@@ -75,6 +75,9 @@ impl<'a> Execution<'a> {
         let task = self.task;
         task.facts();
         let mut known = known_of(self.alloc, self.ground, seen)?;
+        if !seen.news.adds_to(seen.suites) {
+            *progress = Progress::new(self.alloc);
+        }
         let mut opened = Vec::new(self.alloc);
         loop {
             let outcome = exec_on(

@@ -147,24 +147,18 @@ impl Round {
                 Ok(Goes::On)
             }
             (Asking::Resolve(t), _) if home_of(ground, *t) != self.server => {
-                let counts = Counts {
-                    left: self.counts.left + 1,
-                    ..self.counts
-                };
+                let mut counts = self.counts;
+                counts.left += 1;
                 Ok(self.go_on(counts))
             }
             (Asking::Finish(..), Reply::Done) => {
-                let counts = Counts {
-                    finished: self.counts.finished + 1,
-                    ..self.counts
-                };
+                let mut counts = self.counts;
+                counts.finished += 1;
                 Ok(self.go_on(counts))
             }
             (Asking::Break(_), Reply::Done) => {
-                let counts = Counts {
-                    broken: self.counts.broken + 1,
-                    ..self.counts
-                };
+                let mut counts = self.counts;
+                counts.broken += 1;
                 Ok(self.go_on(counts))
             }
             _ => Ok(self.lost()),
