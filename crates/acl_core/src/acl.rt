@@ -113,6 +113,15 @@ impl Acl {
         Ok(Acl { entries })
     }
 
+    /// The list of these entries, which are those of one in their order. They are not looked at.
+    pub fn from_canonical(entries: Vec<Entry>) -> Result<Acl, AllocError>
+        requires { IsAcl entries.items }
+        ensures { IfOk result (λ acl. acl ≡ entries.items) }
+    {
+        let entries = ArcSlice::from_vec(entries)?;
+        Ok(Acl { entries })
+    }
+
     /// The list of a mode: the owner's, the group's and the others' permissions.
     pub fn from_mode(alloc: Global, mode: Mode) -> Result<Acl, AllocError>
         ensures list { IfOk result (λ acl. acl ≡ minimal_list mode) }

@@ -5,8 +5,8 @@ ghost use Rattle.std.specs.Vec.{vec_ptr, vec_len, vec_capacity};
 ghost use Rattle.recency.specs.Rings.{IsAlone};
 ghost use Rattle.recency.specs.Links.{index_of, IsNode, number};
 
-use crate::node::{Link, Node, Place, enter_all, enter_own, leave_all, leave_own, relist};
-use crate::place::{look, place};
+use crate::node::{Link, Node, Place, enter_all, enter_own, leave_all, leave_own, look, relist};
+use crate::place::place;
 use std::alloc::{AllocError, Global};
 use std::marker::Model;
 
@@ -105,8 +105,8 @@ impl Rings {
         ensures fresh { IfSome result (λ slot. (slot < self.old.slots) × (In slot (keys self.old.order) → ⊥)) }
     {
         let free = place_of(&self.nodes, self.slots + FREE);
-        let at = look(&self.nodes, free.ptr).own.older;
-        let slot = look(&self.nodes, at.ptr).slot;
+        let at = look(&self.nodes, free).own.older;
+        let slot = look(&self.nodes, at).slot;
         if slot >= self.slots {
             return None;
         }
@@ -125,7 +125,7 @@ impl Rings {
         ensures { (self.new.order ≡ touched slot self.old.order) × (self.new.slots ≡ self.old.slots) }
     {
         let here = place_of(&self.nodes, slot);
-        let site = look(&self.nodes, here.ptr).list;
+        let site = look(&self.nodes, here).list;
         leave_own(&mut self.nodes, here);
         let own = place_of(&self.nodes, self.slots + site);
         enter_own(&mut self.nodes, own, here);
@@ -141,7 +141,7 @@ impl Rings {
         ensures order { (self.new.order ≡ without_slot slot self.old.order) × (self.new.slots ≡ self.old.slots) }
     {
         let gone = place_of(&self.nodes, slot);
-        let site = look(&self.nodes, gone.ptr).list;
+        let site = look(&self.nodes, gone).list;
         leave_own(&mut self.nodes, gone);
         leave_all(&mut self.nodes, gone);
         relist(&mut self.nodes, gone, FREE);
@@ -155,8 +155,8 @@ impl Rings {
         ensures { result ≡ option_map (λ e. e.0) (first_of self.now.order) }
     {
         let all = place_of(&self.nodes, self.slots + ALL);
-        let at = look(&self.nodes, all.ptr).all.older;
-        let slot = look(&self.nodes, at.ptr).slot;
+        let at = look(&self.nodes, all).all.older;
+        let slot = look(&self.nodes, at).slot;
         (slot < self.slots).then_some(slot)
     }
 
@@ -166,8 +166,8 @@ impl Rings {
         ensures { result ≡ option_map (λ e. e.0) (older_than slot self.now.order) }
     {
         let here = place_of(&self.nodes, slot);
-        let at = look(&self.nodes, here.ptr).all.older;
-        let next = look(&self.nodes, at.ptr).slot;
+        let at = look(&self.nodes, here).all.older;
+        let next = look(&self.nodes, at).slot;
         (next < self.slots).then_some(next)
     }
 
@@ -176,8 +176,8 @@ impl Rings {
         ensures { result ≡ option_map (λ e. e.0) (last_of self.now.order) }
     {
         let all = place_of(&self.nodes, self.slots + ALL);
-        let at = look(&self.nodes, all.ptr).all.newer;
-        let slot = look(&self.nodes, at.ptr).slot;
+        let at = look(&self.nodes, all).all.newer;
+        let slot = look(&self.nodes, at).slot;
         (slot < self.slots).then_some(slot)
     }
 
@@ -187,8 +187,8 @@ impl Rings {
         ensures { result ≡ option_map (λ e. e.0) (last_of (of_site site self.now.order)) }
     {
         let own = place_of(&self.nodes, self.slots + site);
-        let at = look(&self.nodes, own.ptr).own.newer;
-        let slot = look(&self.nodes, at.ptr).slot;
+        let at = look(&self.nodes, own).own.newer;
+        let slot = look(&self.nodes, at).slot;
         (slot < self.slots).then_some(slot)
     }
 }

@@ -15,7 +15,7 @@ use Rattle.suite_prefix.specs.SettingsRules.{Opening}
 use Rattle.suite_prefix.specs.declared.lock_mode.LockMode.{LockMode}
 use Rattle.suite_prefix.specs.declared.lock_mode.LockMode.TheVariants.{Shared, Exclusive}
 use Rattle.suite_prefix.specs.LockModes.{is_exclusive, serves}
-use Rattle.rep_core.specs.declared.intention.Intention.{Intention}
+use Rattle.rep_core.specs.Intentions.{Intention}
 use Rattle.rep_core.specs.declared.lock.Lock.{Lock}
 use Rattle.rep_core.specs.declared.request.Part.{Part}
 use Rattle.rep_core.specs.declared.request.Request.{Request}

@@ -15,7 +15,7 @@ use Rattle.sorted_map.specs.SortedMap.{IsOrdered, get, insert}
 use Rattle.sorted_map.specs.Comparisons.{by_answer}
 use Rattle.sorted_map.specs.Laws.{insert_step, get_below, IsOrdered-insert}
 use Rattle.sorted_map.specs.Numbers.{get_insert_apart}
-use Rattle.rep_core.specs.declared.intention.Intention.{Intention}
+use Rattle.rep_core.specs.Intentions.{Intention}
 use Rattle.rep_core.specs.declared.request.Part.{Part}
 use Rattle.rep_core.proofs.Rising.{count_cons}
 use Rattle.rep_core.specs.Store.{Store, max_suites, is_keep, lists_twice, has_copy, suites_with, with_intention, with_intentions, intended}

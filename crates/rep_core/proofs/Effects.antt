@@ -4,7 +4,7 @@ use Rattle.std.specs.Ordering.{nat_cmp}
 use Rattle.std.proofs.lemmas.Bool.{cases_Bool, eqb-true}
 use Rattle.sorted_map.specs.SortedMap.{get}
 use Rattle.suite_prefix.specs.declared.copies.Replica.{Replica}
-use Rattle.rep_core.specs.declared.intention.Intention.{Intention}
+use Rattle.rep_core.specs.Intentions.{Intention}
 use Rattle.rep_core.specs.Store.{copy_of, left_by, in_effect, FinishKeepsEffect}
 use Rattle.rep_core.proofs.IntentionLookups.{others, stored, get-without_intentions, copy_finished}
 

@@ -12,7 +12,7 @@ use Rattle.suite_prefix.specs.Copies.{PrefixFits}
 use Rattle.suite_prefix.specs.TwoLists.{closed_lists}
 use Rattle.suite_prefix.specs.SettingsRules.{Opening}
 use Rattle.suite_prefix.specs.declared.lock_mode.LockMode.TheVariants.{Exclusive}
-use Rattle.rep_core.specs.declared.intention.Intention.{Intention}
+use Rattle.rep_core.specs.Intentions.{Intention}
 use Rattle.rep_core.specs.declared.lock.Lock.{Lock}
 use Rattle.rep_core.specs.declared.request.Part.{Part}
 use Rattle.rep_core.specs.declared.request.Take.TheVariants as take

@@ -12,7 +12,7 @@ use Rattle.std.proofs.lemmas.Map.Keys.{sorted_head, sorted_tail}
 use Rattle.sorted_map.specs.SortedMap.{IsOrdered, get, remove}
 use Rattle.vote_core.specs.Quorums.{Configuration}
 use Rattle.suite_prefix.specs.declared.copies.Replica.{Replica}
-use Rattle.rep_core.specs.declared.intention.Intention.{Intention}
+use Rattle.rep_core.specs.Intentions.{Intention}
 use Rattle.rep_core.specs.Store.{with_taken, with_copies, without_intentions}
 use Rattle.rep_core.proofs.Intentions.{is_of, at_index, at_itself, swapped}
 

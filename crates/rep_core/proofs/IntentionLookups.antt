@@ -12,7 +12,7 @@ use Rattle.std.proofs.lemmas.Map.Keys.{sorted_tail}
 use Rattle.sorted_map.specs.SortedMap.{IsOrdered, get, insert}
 use Rattle.sorted_map.specs.Numbers.{get_insert_here, get_insert_apart}
 use Rattle.suite_prefix.specs.declared.copies.Replica.{Replica}
-use Rattle.rep_core.specs.declared.intention.Intention.{Intention}
+use Rattle.rep_core.specs.Intentions.{Intention}
 use Rattle.rep_core.specs.declared.request.Part.{Part}
 use Rattle.rep_core.specs.Store.{Store, IsSound, copy_of, is_keep, lists_twice, with_intention, with_intentions, without_intentions, finished, in_effect}
 use Rattle.rep_core.proofs.Members.{Has}

@@ -23,6 +23,8 @@ pub mod Reached
 pub mod Validity
 mod Example
 pub mod Changes
+pub mod Planned
+pub mod LeftCopies
 mod Searching
 mod Ranges
 mod Places

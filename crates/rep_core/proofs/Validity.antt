@@ -32,7 +32,7 @@ use Rattle.suite_prefix.specs.SettingsRules.{Opening}
 use Rattle.suite_prefix.specs.Tests.{is_absent, is_valid_copy}
 use Rattle.suite_prefix.specs.TestsExact.{ContentFits, CopyFits}
 use Rattle.suite_prefix.proofs.TestsExact.{valid_copy_if_passes}
-use Rattle.rep_core.specs.declared.intention.Intention.{Intention}
+use Rattle.rep_core.specs.Intentions.{Intention}
 use Rattle.rep_core.specs.declared.request.Part.{Part}
 use Rattle.rep_core.specs.declared.request.Take.{Take}
 use Rattle.rep_core.specs.declared.request.Take.TheVariants as take
@@ -114,7 +114,7 @@ is_small entry = entry.1 < 2 ^ 64
 abbrev is_named : List ℕ × ℕ → Type 0
 is_named entry = IsName entry.0
 
-absent_fits : (c0 : Configuration) → IsValid c0 → c0.r < 2 ^ 16 → c0.w < 2 ^ 16 → CopyFits (absent_copy c0)
+pub absent_fits : (c0 : Configuration) → IsValid c0 → c0.r < 2 ^ 16 → c0.w < 2 ^ 16 → CopyFits (absent_copy c0)
 absent_fits c0 valid r w = record {
   prefix = record { acl = closed_acls; votes = valid; pver = lit< tt; owner = lit< tt; group = lit< tt; qualifiers = nobody; r = r; w = w };
   dver = lit< tt;
@@ -176,7 +176,7 @@ kept_fits Absent next content fits = empty_fits next
 kept_fits File next content fits = fits
 kept_fits Folder next content fits = fits
 
-left_fits : (what : Take) (copy : Replica) → TakeFits what → CopyFits copy → CopyFits (left_by what copy)
+pub left_fits : (what : Take) (copy : Replica) → TakeFits what → CopyFits copy → CopyFits (left_by what copy)
 left_fits take.Keep copy takes fits = fits
 left_fits (take.Prefix prefix) copy takes fits = record { prefix = takes; dver = fits.dver; content = kept_fits copy.prefix.kind prefix.kind copy.content fits.content }
 left_fits (take.Whole replica) copy takes fits = takes
@@ -220,7 +220,7 @@ fit_opening index given fits = let copies : Bool → List (ℕ × Replica) = λ 
 
 -- ---- a sound copy that fits is valid
 
-sound_valid : (copy : Replica) → is_sound copy ≡ true → CopyFits copy → IsCopy copy
+pub sound_valid : (copy : Replica) → is_sound copy ≡ true → CopyFits copy → IsCopy copy
 sound_valid copy sound fits =
     let ends = and_parts (is_valid_copy copy && not (is_used_up copy.prefix.pver)) (not (is_used_up copy.dver)) sound in
     valid_copy_if_passes copy fits (and_parts (is_valid_copy copy) (not (is_used_up copy.prefix.pver)) ends.0).0

@@ -3,7 +3,7 @@ use Rattle.std.specs.Prelude.{◌≡◌, ℕ, ◌≤◌, true, IsTrue, List, Som
 use Rattle.std.specs.Ordering.{nat_cmp}
 use Rattle.sorted_map.specs.SortedMap.{IsOrdered, get}
 use Rattle.suite_prefix.specs.LockModes.{is_exclusive}
-use Rattle.rep_core.specs.declared.intention.Intention.{Intention}
+use Rattle.rep_core.specs.Intentions.{Intention}
 use Rattle.rep_core.specs.declared.lock.Lock.{Lock}
 use Rattle.rep_core.specs.Locks.{rise}
 use Rattle.rep_core.specs.Store.{IsSound, suites_with, max_suites}

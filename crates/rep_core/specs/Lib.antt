@@ -1,4 +1,5 @@
 pub mod Locks
+pub mod Intentions
 pub mod Store
 pub mod State
 pub mod Service

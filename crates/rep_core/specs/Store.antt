@@ -18,7 +18,7 @@ use Rattle.suite_prefix.specs.SettingsRules.{Opening}
 use Rattle.rep_core.specs.declared.request.Take.{Take}
 use Rattle.rep_core.specs.declared.request.Take.TheVariants as take
 use Rattle.rep_core.specs.declared.request.Part.{Part}
-use Rattle.rep_core.specs.declared.intention.Intention.{Intention}
+use Rattle.rep_core.specs.Intentions.{Intention}
 
 -- the stored copies and the intentions, each by its suite, the suites rising; and the votes of a suite without others
 pub record Store : Type 0 where

@@ -1,3 +1,4 @@
+pub mod Planning
 pub mod Holding
 pub mod Ranges
 pub mod StoreFields

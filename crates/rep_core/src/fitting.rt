@@ -5,7 +5,7 @@ ghost use Rattle.rep_core.specs.Fits as fitting;
 
 use crate::reply::Reply;
 use crate::request::Request;
-use crate::store::is_used_up;
+use crate::takes::is_used_up;
 
 impl Request {
     /// Whether a reply is of a form that this request may be answered, with versions that are not used

@@ -6,6 +6,7 @@ ghost use Rattle.std.specs.Ordering.{nat_cmp};
 ghost use Rattle.std.specs.Vec.{vec_len, vec_capacity};
 ghost use Rattle.sorted_map.specs.SortedMap.{insert};
 ghost use Rattle.rep_core.specs.code.Changing as changing;
+ghost use Rattle.rep_core.specs.code.Planning.{planned_of};
 ghost use Rattle.rep_core.specs.code.ServerFields.{state_of};
 ghost use Rattle.rep_core.specs.Locks as locking;
 ghost use Rattle.rep_core.specs.Service as service;
@@ -78,6 +79,7 @@ impl Holdings {
     /// Makes sure of the memory that a request takes: room, or the record itself.
     #[inline(always)]
     pub(crate) fn begin(&mut self, way: Way, request: &Request) -> Result<(), AllocError>
+        requires sound { changing.IsSoundChange way request.now (state_of self.old) }
         ensures ok { OnOk result (state_of self.new ≡ changing.begun way request.now (state_of self.old)) }
         ensures room { OnOk result (changing.HasRoom way request.now self.new) }
         ensures err { OnErr result (state_of self.new ≡ state_of self.old) }
@@ -88,7 +90,7 @@ impl Holdings {
         };
         match request {
             Request::Poll { .. } | Request::Upgrade { .. } => self.locks.make_room(),
-            Request::Prepare { parts, .. } => self.store.make_room(parts.as_slice()),
+            Request::Prepare { t, parts } => self.store.plan(*t, parts.as_slice()),
             Request::Decide { t, decision } => self.record_decision(*t, decision),
             Request::Resolve { t } => self.record(*t, Verdict::Aborted),
             _ => Ok(()),
@@ -145,6 +147,7 @@ impl Holdings {
         requires sound { list_all (store.is_sound_part (state_of self.old).store) parts ≡ true }
         requires few { store.overfills t (state_of self.old).store parts ≡ false }
         requires room { length parts ≤ self.old.store.room }
+        requires made { self.old.store.pending ≡ planned_of self.old.store.store.c0 self.old.store.store.copies t parts }
         ensures { state_of self.new ≡ record (state_of self.old) { store = store.intended t parts (state_of self.old).store; locks = locking.with_prepared t parts (state_of self.old).locks } }
     {
         self.locks.prepare(t, parts.as_slice());
@@ -186,6 +189,9 @@ impl Holdings {
         };
         if let Request::Decide { t, .. } | Request::Resolve { t } = request {
             self.verdicts.remove(t);
+        }
+        if let Request::Prepare { .. } = request {
+            self.store.leave_plan();
         }
     }
 }

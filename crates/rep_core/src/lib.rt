@@ -28,12 +28,14 @@ mod intention;
 mod laws;
 mod lock;
 mod locks;
+mod maps;
 mod plan;
 mod reply;
 mod request;
 mod server;
 mod stamped;
 mod store;
+mod takes;
 mod types_fit;
 
 pub use effect::finish_keeps_effect;

@@ -18,7 +18,7 @@ use crate::locks;
 use crate::reply::{LockList, Reply, Verdict};
 use crate::request::{Decision, Part, Request};
 use crate::stamped::{Lack, Stamped};
-use crate::store::is_used_up;
+use crate::takes::is_used_up;
 use file_ops::{AuditItem, Why};
 use std::alloc::AllocError;
 use suite_prefix::LockMode;
@@ -89,9 +89,28 @@ impl Holdings {
     {
         let plan = self.plan(request)?;
         reply.stamp = plan.stamp;
+        self.read(plan.way, &request.value)?;
         self.answer(plan.way, &request.value, &mut reply.value)?;
         self.begin(plan.way, &request.value)?;
         Ok(plan.way)
+    }
+
+    /// Reads what is asked of a suite's copy where nobody did. From then on it is shared.
+    #[inline(always)]
+    fn read(&mut self, way: Way, request: &Request) -> Result<(), AllocError>
+        ensures same { state_of self.new ≡ state_of self.old }
+        ensures bare { IsTrue (serving.is_bare (changing.answered way (state_of self.old) request.now)) → IsOk result }
+    {
+        let Way::Through = way else {
+            return Ok(());
+        };
+        match request {
+            Request::Poll { suite, .. } | Request::Upgrade { suite, .. } => {
+                self.store.keep_head(*suite)
+            }
+            Request::Fetch { suite, .. } => self.store.keep_content(*suite),
+            _ => Ok(()),
+        }
     }
 
     fn way(&self, request: &Request) -> Result<Way, Lack>

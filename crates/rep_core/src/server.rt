@@ -1,6 +1,7 @@
 //! A server.
 
-ghost use Rattle.std.specs.Prelude.{◌≡◌, ◌≢◌, ◌↔◌, IfOk, OnOk, OnErr, IsTrue, Err};
+ghost use Rattle.std.specs.Prelude.{◌≡◌, ◌≢◌, ◌↔◌, IfOk, IfSome, OnOk, OnErr, IsTrue, Err, is_some};
+ghost use Rattle.suite_prefix.specs.Bytes.{bytes_of};
 ghost use Rattle.rep_core.specs.declared.stamped.Lack.TheVariants.{Full, Memory};
 ghost use Rattle.rep_core.specs.Fits.{fits};
 ghost use Rattle.rep_core.specs.Given.{Gives, MayBeGiven};
@@ -129,6 +130,14 @@ impl Server {
         ensures { store.IsSound self.now.store }
     {
         self.held.store.sound();
+    }
+
+    /// Lends the bytes of the copy of a suite that has one. It takes no memory.
+    pub fn stored(&self, suite: u64) -> Option<&[u8]>
+        ensures stored { is_some result ≡ store.has_copy self.now.store suite }
+        ensures bytes { IfSome result (λ bytes. bytes.now ≡ bytes_of (store.copy_of self.now.store suite)) }
+    {
+        self.held.store.record(suite)
     }
 
     /// The denials that it recorded, in their order.

@@ -1,26 +1,32 @@
 //! Stored copies and intentions. Nothing else touches them.
 
-ghost use Rattle.std.specs.Prelude.{◌≡◌, ℕ, ◌≤◌, ◌<◌, ◌+◌, ◌==◌, ◌&&◌, not, length, [], is_some, IfOk, OnOk, OnErr, IsTrue, IfSome, true, false, unwrap_or, None, Some, nat_le, nat_lt, min, count_by};
+ghost use Rattle.std.specs.Prelude.{◌≡◌, ◌++◌, ◌∷◌, ℕ, ◌≤◌, ◌<◌, ◌+◌, ◌==◌, ◌&&◌, not, length, [], is_some, IfOk, OnOk, OnErr, IsTrue, IfSome, true, false, unwrap_or, None, Some, nat_le, nat_lt, min, count_by};
 ghost use Rattle.std.specs.List.{list_any, list_all};
 ghost use Rattle.std.specs.Option.{option_copied};
 ghost use Rattle.std.specs.Ordering.{nat_cmp};
-ghost use Rattle.sorted_map.specs.SortedMap.{IsOrdered, get, remove};
+ghost use Rattle.sorted_map.specs.SortedMap.{IsOrdered, get};
+ghost use Rattle.suite_prefix.specs.Bytes.{bytes_of};
+ghost use Rattle.suite_prefix.specs.Copies.{IsCopy};
+ghost use Rattle.suite_prefix.specs.TestsExact.{CopyFits};
 ghost use Rattle.vote_core.specs.Quorums.{Configuration};
 ghost use Rattle.suite_prefix.specs.declared.copies.Replica.{Replica};
 ghost use Rattle.suite_prefix.specs.Absent.{absent_copy};
-ghost use Rattle.rep_core.specs.declared.intention.Intention.{Intention};
+ghost use Rattle.rep_core.specs.code.Planning.{planned_of};
 ghost use Rattle.rep_core.specs.Service.{held, given};
 ghost use Rattle.rep_core.specs.Store as store;
 
 use crate::copying::copied;
-use crate::intention::Intention;
+use crate::intention::Planned;
+use crate::maps::{forget, install, keep_all, keep_content, keep_head};
 use crate::reply::Reply;
 use crate::request::{Part, Take};
+use crate::takes::{any_holds_last, is_keep, is_whole, may_become, take_nothing};
 use sorted_map::RoomyMap;
 use std::alloc::{AllocError, Global};
 use std::marker::Model;
+use std::mem;
 use suite_content::{Content, Kind};
-use suite_prefix::{Prefix, PrefixKind, Replica, Settings};
+use suite_prefix::{Prefix, PrefixKind, Replica, Settings, StoredCopy};
 use vote_core::Votes;
 
 /// The most suites that a server has a copy or an intention of.
@@ -36,8 +42,9 @@ const ROOT: u64 = 0;
 pub(crate) struct Store {
     alloc: Global,
     absent: Prefix,
-    copies: RoomyMap<u64, Replica>,
-    intentions: RoomyMap<u64, Intention>,
+    copies: RoomyMap<u64, StoredCopy>,
+    intentions: RoomyMap<u64, Planned>,
+    pending: Vec<(u64, Planned)>,
 }
 
 impl Model for Store {
@@ -46,12 +53,13 @@ impl Model for Store {
     ghost use Rattle.rep_core.specs.Store.{IsSound};
     ghost use Rattle.rep_core.specs.code.Holding.{Storing};
     ghost use Rattle.rep_core.specs.code.StoreFields.{store_of, storing_of};
+    ghost use Rattle.rep_core.specs.code.Planning.{Leaves};
 
     ghost Value = { Storing };
 
     ghost view = { storing_of };
 
-    ghost invariant = { λ fields. (fields.absent ≡ absent_prefix fields.absent.votes) × (length fields.intentions.pairs ≤ fields.copies.room) × IsSound (store_of fields) };
+    ghost invariant = { λ fields. (fields.absent ≡ absent_prefix fields.absent.votes) × (length fields.intentions.pairs ≤ fields.copies.room) × IsSound (store_of fields) × Leaves fields.copies.pairs fields.intentions.pairs };
 }
 
 impl Store {
@@ -64,17 +72,14 @@ impl Store {
     ) -> Result<Store, AllocError>
         ensures { IfOk result (λ made. made.store ≡ store.opening_store index settings.now) }
     {
-        let mut copies = RoomyMap::new(alloc);
-        if is_representative(settings.c0(), index) {
-            let root = root_copy(alloc, settings)?;
-            copies.insert(ROOT, root)?;
-        }
+        let copies = opening_copies(alloc, index, settings)?;
         let absent = Prefix::absent(alloc, *settings.c0())?;
         Ok(Store {
             alloc,
             absent,
             copies,
             intentions: RoomyMap::new(alloc),
+            pending: Vec::new(alloc),
         })
     }
 
@@ -98,18 +103,50 @@ impl Store {
             absent,
             copies,
             intentions,
+            pending: Vec::new(self.alloc),
         })
+    }
+
+    /// Reads the prefix of a suite's copy where nobody did, and keeps it.
+    pub(crate) fn keep_head(&mut self, suite: u64) -> Result<(), AllocError>
+        ensures { self.new.store ≡ self.old.store }
+    {
+        let kept = match self.stored(suite) {
+            Some(copy) => copy.keeps_head(),
+            None => true,
+        };
+        if kept {
+            return Ok(());
+        }
+        keep_head(self.alloc, &mut self.copies, suite)
+    }
+
+    /// Reads all of a suite's copy where nobody did, and keeps it.
+    pub(crate) fn keep_content(&mut self, suite: u64) -> Result<(), AllocError>
+        ensures { self.new.store ≡ self.old.store }
+    {
+        let kept = match self.stored(suite) {
+            Some(copy) => copy.keeps_content(),
+            None => true,
+        };
+        if kept {
+            return Ok(());
+        }
+        keep_content(self.alloc, &mut self.copies, suite)
     }
 
     /// Writes that a suite is held: the prefix of its copy, and the version of the content.
     pub(crate) fn hold(&self, suite: u64, reply: &mut Reply) -> Result<(), AllocError>
         ensures { OnOk result (reply.new ≡ held (store.copy_of self.now.store suite)) }
     {
-        let (prefix, dver) = match self.stored(suite) {
-            Some(copy) => (&copy.prefix, copy.dver),
-            None => (&self.absent, 0),
-        };
-        tell_held(prefix, dver, reply)
+        match self.stored(suite) {
+            Some(copy) => {
+                let (prefix, dver) = copy.head(self.alloc)?;
+                *reply = Reply::Held { prefix, dver };
+                Ok(())
+            }
+            None => tell_held(&self.absent, 0, reply),
+        }
     }
 
     /// Writes the content of a suite's copy, and its version.
@@ -117,7 +154,7 @@ impl Store {
         ensures { OnOk result (reply.new ≡ given (store.copy_of self.now.store suite)) }
     {
         let (dver, content) = match self.stored(suite) {
-            Some(copy) => (copy.dver, copy.content.clone()?),
+            Some(copy) => copy.given(self.alloc)?,
             None => (0, Content::empty(self.alloc, Kind::File)),
         };
         *reply = Reply::Given { dver, content };
@@ -151,7 +188,7 @@ impl Store {
         ensures { result ≡ (store.copy_of self.now.store suite).prefix.kind }
     {
         match self.stored(suite) {
-            Some(copy) => copy.prefix.kind,
+            Some(copy) => copy.kind(),
             None => self.absent.kind,
         }
     }
@@ -159,7 +196,7 @@ impl Store {
     /// The copy of a suite that has one. The place of its number is looked at before the others are searched:
     /// there stands a suite that no lower one is missing before, as the root folder, and the first folders
     /// that were made, through which most ways lead.
-    fn stored(&self, suite: u64) -> Option<&Replica>
+    fn stored(&self, suite: u64) -> Option<&StoredCopy>
         ensures { option_copied result ≡ get nat_cmp self.now.store.copies suite }
     {
         match self.copies.as_slice().get(suite as usize) {
@@ -216,28 +253,130 @@ impl Store {
             && !self.intentions.contains_key(&part.suite)
     }
 
-    /// Makes room for the intentions of a Prepare, and for the copies that they will be.
-    pub(crate) fn make_room(&mut self, parts: &[Part]) -> Result<(), AllocError>
+    /// Makes the bytes that the intentions of a Prepare will leave, room for them, and for the copies that they will be.
+    pub(crate) fn plan(&mut self, t: u64, parts: &[Part]) -> Result<(), AllocError>
+        requires sound { list_all (store.is_sound_part self.old.store) parts.now ≡ true }
+        requires few { store.overfills t self.old.store parts.now ≡ false }
         ensures ok { OnOk result (length parts.now ≤ self.new.room) }
+        ensures pending { OnOk result (self.new.pending ≡ planned_of self.old.store.c0 self.old.store.copies t parts.now) }
         ensures store { self.new.store ≡ self.old.store }
     {
+        let planned = self.planned(t, parts)?;
         self.copies
             .reserve(self.intentions.as_slice().len() + parts.len())?;
-        self.intentions.reserve(parts.len())
+        self.intentions.reserve(parts.len())?;
+        self.pending = planned;
+        Ok(())
     }
 
-    /// Keeps the intentions of a Prepare, for which there is room. Most only lock what was read: then no part is moved.
+    /// The intentions of a Prepare.
+    fn planned(&self, t: u64, parts: &[Part]) -> Result<Vec<(u64, Planned)>, AllocError>
+        requires sound { list_all (store.is_sound_part self.now.store) parts.now ≡ true }
+        requires new { list_any (λ part. store.holds_last part.take) parts.now ≡ false }
+        ensures { IfOk result (λ made. made.items ≡ planned_of self.now.store.c0 self.now.store.copies t parts.now) }
+    {
+        let mut made = Vec::new(self.alloc);
+        for part in parts {
+            self.plan_part(t, part, &mut made)?;
+        }
+        Ok(made)
+    }
+
+    /// Adds the intention of a part, where it takes something.
+    fn plan_part(
+        &self,
+        t: u64,
+        part: &Part,
+        made: &mut Vec<(u64, Planned)>,
+    ) -> Result<(), AllocError>
+        requires sound { store.is_sound_part self.now.store part.now ≡ true }
+        requires new { store.holds_last part.now.take ≡ false }
+        ensures { OnOk result (made.new.items ≡ made.old.items ++ planned_of self.now.store.c0 self.now.store.copies t (part.now ∷ [])) }
+    {
+        if is_keep(&part.take) {
+            return Ok(());
+        }
+        let left = self.left(part)?;
+        let whole = is_whole(&part.take);
+        made.push((part.suite, Planned { t, whole, left }))?;
+        Ok(())
+    }
+
+    /// What a part leaves of its suite's copy.
+    fn left(&self, part: &Part) -> Result<StoredCopy, AllocError>
+        requires sound { store.is_sound_part self.now.store part.now ≡ true }
+        requires new { store.holds_last part.now.take ≡ false }
+        requires takes { store.is_keep part.now.take ≡ false }
+        ensures { IfOk result (λ left. left ≡ store.left_by part.now.take (store.copy_of self.now.store part.now.suite)) }
+    {
+        self.sound();
+        self.fits(part.suite);
+        match &part.take {
+            Take::Keep => Err(AllocError),
+            Take::Prefix(prefix) => {
+                prefix.fits();
+                self.under(part.suite, prefix)
+            }
+            Take::Whole(replica) => {
+                replica.fits();
+                StoredCopy::new(self.alloc, replica)
+            }
+        }
+    }
+
+    /// A law: the copy of a suite fits its types. It does nothing.
+    fn fits(&self, suite: u64)
+        ensures { CopyFits (store.copy_of self.now.store suite) }
+    {
+        self.absent.fits();
+        if let Some(copy) = self.stored(suite) {
+            let _bytes = copy.as_bytes();
+        }
+    }
+
+    /// The copy of a suite under another prefix.
+    fn under(&self, suite: u64, prefix: &Prefix) -> Result<StoredCopy, AllocError>
+        requires { IsCopy (store.with_prefix prefix.now (store.copy_of self.now.store suite)) }
+        ensures { IfOk result (λ left. left ≡ store.with_prefix prefix.now (store.copy_of self.now.store suite)) }
+    {
+        match self.stored(suite) {
+            Some(copy) => copy.under(self.alloc, prefix),
+            None => first_copy(self.alloc, prefix),
+        }
+    }
+
+    /// Keeps the intentions of a Prepare that were made, for which there is room.
     #[inline(always)]
     pub(crate) fn intend(&mut self, t: u64, parts: Vec<Part>)
         requires sound { list_all (store.is_sound_part self.old.store) parts.items ≡ true }
         requires few { store.overfills t self.old.store parts.items ≡ false }
         requires room { length parts.items ≤ self.old.room }
+        requires made { self.old.pending ≡ planned_of self.old.store.c0 self.old.store.copies t parts.items }
         ensures { self.new.store ≡ store.intended t parts.items self.old.store }
     {
         if take_nothing(parts.as_slice()) {
             return;
         }
-        keep_all(&mut self.intentions, t, parts);
+        let pending = mem::replace(&mut self.pending, Vec::new(self.alloc));
+        keep_all(&mut self.intentions, pending);
+    }
+
+    /// Lets go what was made of a Prepare that was not served.
+    pub(crate) fn leave_plan(&mut self)
+        ensures { self.new.store ≡ self.old.store }
+    {
+        self.pending = Vec::new(self.alloc);
+    }
+
+    /// Lends the bytes of the copy of a suite that has one.
+    pub(crate) fn record(&self, suite: u64) -> Option<&[u8]>
+        ensures stored { is_some result ≡ store.has_copy self.now.store suite }
+        ensures bytes { IfSome result (λ bytes. bytes.now ≡ bytes_of (store.copy_of self.now.store suite)) }
+    {
+        match self.stored(suite) {
+            Some(copy) => Some(copy.as_bytes()),
+            None => None,
+        }
     }
 
     /// Lets the intentions of a transaction go. Where it was answered they become copies.
@@ -246,11 +385,27 @@ impl Store {
         ensures { self.new.store ≡ store.finished t answered self.old.store }
     {
         if answered {
-            install(self.alloc, &mut self.copies, &mut self.intentions, t);
+            install(&mut self.copies, &mut self.intentions, t);
         } else {
             forget(&mut self.intentions, t);
         }
     }
+}
+
+/// The copies of a server as a service opens.
+fn opening_copies(
+    alloc: Global,
+    index: u8,
+    settings: &Settings,
+) -> Result<RoomyMap<u64, StoredCopy>, AllocError>
+    ensures { IfOk result (λ made. made.pairs ≡ (store.opening_store index settings.now).copies) }
+{
+    let mut copies = RoomyMap::new(alloc);
+    if is_representative(settings.c0(), index) {
+        let root = root_record(alloc, settings)?;
+        copies.insert(ROOT, root)?;
+    }
+    Ok(copies)
 }
 
 /// Whether a server is a representative of some votes.
@@ -287,173 +442,26 @@ fn tell_held(prefix: &Prefix, dver: u64, reply: &mut Reply) -> Result<(), AllocE
     Ok(())
 }
 
-/// Whether nothing is taken.
-fn is_keep(what: &Take) -> bool
-    ensures { result ≡ store.is_keep what.now }
-{
-    match what {
-        Take::Keep => true,
-        Take::Prefix(_) | Take::Whole(_) => false,
-    }
-}
-
-/// Whether a copy of a kind may get a prefix of another kind: any where nothing was made, and else its
-/// own.
-fn may_become(kind: PrefixKind, next: PrefixKind) -> bool
-    ensures { result ≡ store.may_become kind next }
-{
-    match kind {
-        PrefixKind::Absent => true,
-        PrefixKind::File | PrefixKind::Folder => kind == next,
-    }
-}
-
-/// Whether a version is used up.
-pub(crate) fn is_used_up(number: u64) -> bool
-    ensures { result ≡ store.is_used_up number }
-{
-    number >= u64::MAX
-}
-
-/// Whether what is taken holds a version that is used up.
-fn holds_last(what: &Take) -> bool
-    ensures { result ≡ store.holds_last what.now }
-{
-    match what {
-        Take::Keep => false,
-        Take::Prefix(prefix) => is_used_up(prefix.pver),
-        Take::Whole(replica) => is_used_up(replica.prefix.pver) || is_used_up(replica.dver),
-    }
-}
-
-fn any_holds_last(parts: &[Part]) -> bool
-    ensures { result ≡ list_any (λ part. store.holds_last part.take) parts.now }
-{
-    parts.iter().any(|part| holds_last(&part.take))
-}
-
-fn take_nothing(parts: &[Part]) -> bool
-    ensures { result ≡ list_all (λ part. store.is_keep part.take) parts.now }
-{
-    parts.iter().all(|part| is_keep(&part.take))
-}
-
-/// Keeps the intentions of parts, for which there is room.
-fn keep_all(intentions: &mut RoomyMap<u64, Intention>, t: u64, parts: Vec<Part>)
-    requires { length parts.items ≤ intentions.old.room }
-    ensures pairs { intentions.new.pairs ≡ store.with_intentions t parts.items intentions.old.pairs }
-    ensures few { length intentions.new.pairs ≤ length intentions.old.pairs + length parts.items }
-    ensures rising { IsOrdered nat_cmp intentions.new.pairs }
-{
-    for part in parts {
-        keep(intentions, t, part);
-    }
-    let _ = intentions.len();
-}
-
-/// Keeps the intention of a part.
-fn keep(intentions: &mut RoomyMap<u64, Intention>, t: u64, part: Part)
-    requires { 0 < intentions.old.room }
-    ensures pairs { intentions.new.pairs ≡ store.with_intention t part intentions.old.pairs }
-    ensures few { length intentions.new.pairs ≤ length intentions.old.pairs + 1 }
-    ensures room { intentions.old.room ≤ intentions.new.room + 1 }
-{
-    let Part { suite, take, .. } = part;
-    if is_keep(&take) {
-        return;
-    }
-    intentions.insert_in_room(suite, Intention { t, take });
-}
-
-/// Makes the intentions of a transaction copies, in the room that there is.
-fn install(
-    alloc: Global,
-    copies: &mut RoomyMap<u64, Replica>,
-    intentions: &mut RoomyMap<u64, Intention>,
-    t: u64,
-)
-    requires { length intentions.old.pairs ≤ copies.old.room }
-    ensures copies { (c0 : Configuration) → copies.new.pairs ≡ store.with_copies c0 t intentions.old.pairs copies.old.pairs }
-    ensures others { intentions.new.pairs ≡ store.without_intentions t intentions.old.pairs }
-    ensures room { length intentions.new.pairs ≤ copies.new.room }
-    ensures rising { IsOrdered nat_cmp intentions.new.pairs }
-{
-    let mut place = 0;
-    while place < intentions.len() {
-        let pair = &intentions.as_slice()[place];
-        if pair.1.t == t {
-            let suite = pair.0;
-            install_at(alloc, copies, intentions, suite);
-        } else {
-            place += 1;
-        }
-    }
-}
-
-/// Makes the intention on a suite a copy, and takes it out.
-fn install_at(
-    alloc: Global,
-    copies: &mut RoomyMap<u64, Replica>,
-    intentions: &mut RoomyMap<u64, Intention>,
-    suite: u64,
-)
-    requires { 0 < copies.old.room }
-    ensures copies { IfSome (get nat_cmp intentions.old.pairs suite) (λ intention. (c0 : Configuration) → copies.new.pairs ≡ store.with_taken c0 suite intention.take copies.old.pairs) }
-    ensures intentions { intentions.new.pairs ≡ remove nat_cmp intentions.old.pairs suite }
-    ensures room { copies.old.room ≤ copies.new.room + 1 }
-{
-    if let Some(intention) = intentions.remove(&suite) {
-        put(alloc, copies, suite, intention.take);
-    }
-}
-
-/// Drops the intentions of a transaction.
-fn forget(intentions: &mut RoomyMap<u64, Intention>, t: u64)
-    ensures others { intentions.new.pairs ≡ store.without_intentions t intentions.old.pairs }
-    ensures fewer { length intentions.new.pairs ≤ length intentions.old.pairs }
-    ensures rising { IsOrdered nat_cmp intentions.new.pairs }
-{
-    intentions.retain(|pair| pair.1.t != t);
-}
-
-/// Leaves of a suite's copy what is taken. Where the copy is new, there is room for it.
-fn put(alloc: Global, copies: &mut RoomyMap<u64, Replica>, suite: u64, what: Take)
-    requires { 0 < copies.old.room }
-    ensures copies { (c0 : Configuration) → copies.new.pairs ≡ store.with_taken c0 suite what copies.old.pairs }
-    ensures room { copies.old.room ≤ copies.new.room + 1 }
-{
-    match what {
-        Take::Keep => {}
-        Take::Prefix(prefix) => match copies.get_mut(&suite) {
-            Some(copy) => change_prefix(alloc, copy, prefix),
-            None => {
-                copies.insert_in_room(suite, first_copy(alloc, prefix));
-            }
-        },
-        Take::Whole(replica) => {
-            copies.insert_in_room(suite, replica);
-        }
-    }
-}
-
-/// Puts a copy under another prefix.
-fn change_prefix(alloc: Global, copy: &mut Replica, prefix: Prefix)
-    ensures { copy.new ≡ store.with_prefix prefix copy.old }
-{
-    if copy.prefix.kind.is_absent() {
-        copy.content = Content::empty(alloc, prefix.kind.held());
-    }
-    copy.prefix = prefix;
-}
-
 /// What a prefix makes of what was never made.
-fn first_copy(alloc: Global, prefix: Prefix) -> Replica
-    ensures { (c0 : Configuration) → result ≡ store.with_prefix prefix (absent_copy c0) }
+fn first_copy(alloc: Global, prefix: &Prefix) -> Result<StoredCopy, AllocError>
+    requires { (c0 : Configuration) → IsCopy (store.with_prefix prefix.now (absent_copy c0)) }
+    ensures { (c0 : Configuration) → IfOk result (λ left. left ≡ store.with_prefix prefix.now (absent_copy c0)) }
 {
+    let prefix = prefix.clone()?;
     let content = Content::empty(alloc, prefix.kind.held());
-    Replica {
+    let copy = Replica {
         prefix,
         dver: 0,
         content,
-    }
+    };
+    StoredCopy::new(alloc, &copy)
+}
+
+/// The bytes of the root folder as a service opens.
+fn root_record(alloc: Global, settings: &Settings) -> Result<StoredCopy, AllocError>
+    ensures { IfOk result (λ root. root ≡ store.root_copy settings.now) }
+{
+    let root = root_copy(alloc, settings)?;
+    root.fits();
+    StoredCopy::new(alloc, &root)
 }

@@ -12,7 +12,7 @@ use Rattle.suite_prefix.specs.SettingsRules.{Opening}
 use Rattle.suite_prefix.specs.Tests.{is_valid_prefix, is_valid_copy, is_within_limits, holds, version_agrees}
 use Rattle.suite_prefix.specs.declared.copies.Prefix.{Prefix}
 use Rattle.suite_prefix.specs.declared.copies.Replica.{Replica}
-use Rattle.rep_core.specs.declared.intention.Intention as server
+use Rattle.rep_core.specs.Intentions as server
 use Rattle.rep_core.specs.Store.{Store, IsSound, is_sound, is_used_up, copy_of, left_by}
 use Rattle.suite_collect.specs.Collecting.{all_told}
 use Rattle.txn_core.specs.Suites.{First, Suite, suite_of, told_in}

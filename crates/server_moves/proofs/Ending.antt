@@ -5,7 +5,7 @@ use Rattle.std.specs.Ordering.{nat_cmp}
 use Rattle.sorted_map.specs.SortedMap.{get}
 use Rattle.suite_prefix.specs.declared.copies.Replica.{Replica}
 use Rattle.file_ops.specs.declared.audit.AuditItem.{AuditItem}
-use Rattle.rep_core.specs.declared.intention.Intention as server
+use Rattle.rep_core.specs.Intentions as server
 use Rattle.rep_core.specs.declared.request.Decision.{Decision}
 use Rattle.rep_core.specs.declared.request.Request.TheVariants as request
 use Rattle.rep_core.specs.declared.reply.Reply.TheVariants as reply

@@ -11,7 +11,7 @@ use Rattle.suite_prefix.specs.declared.lock_mode.LockMode.{LockMode}
 use Rattle.suite_prefix.specs.declared.lock_mode.LockMode.TheVariants.{Shared, Exclusive}
 use Rattle.suite_prefix.specs.LockModes.{is_exclusive, serves}
 use Rattle.suite_prefix.specs.Tests.{is_valid_copy}
-use Rattle.rep_core.specs.declared.intention.Intention as server
+use Rattle.rep_core.specs.Intentions as server
 use Rattle.rep_core.specs.declared.request.Part.{Part}
 use Rattle.rep_core.specs.declared.request.Request.TheVariants as request
 use Rattle.rep_core.specs.declared.reply.Reply.TheVariants as reply

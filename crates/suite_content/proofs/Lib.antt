@@ -1,3 +1,4 @@
 mod ByteOrder
 mod Lists
 mod Fronts
+pub mod Numbered

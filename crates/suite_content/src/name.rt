@@ -1,11 +1,13 @@
 //! Names in a folder.
 
-ghost use Rattle.std.specs.Prelude.{◌≡◌, ◌↔◌, ◌⊎◌, ◌≤◌, All, IsSome, IfSome, IsTrue, codes, length, drop, min};
+ghost use Rattle.std.specs.Prelude.{◌≡◌, ◌++◌, ◌∷◌, ◌↔◌, OnOk, ◌⊎◌, ◌≤◌, All, IsSome, IfSome, IsTrue, codes, length, drop, min};
+ghost use Rattle.std.specs.Int.{w64, to_be_bytes};
 ghost use Rattle.std.specs.Ordering.{nat_cmp};
 ghost use Rattle.std.specs.Cmp.Lexicographic.{slice_cmp};
 ghost use Rattle.suite_content.specs.Names.{IsName, is_name_byte};
 ghost use Rattle.suite_content.specs.code.Fronts.{front};
 
+use std::alloc::AllocError;
 use std::cmp::Ordering;
 use std::fmt;
 use std::fmt::Write;
@@ -13,6 +15,9 @@ use std::marker::Model;
 
 /// The most bytes of a name.
 pub const MAX_NAME: usize = 64;
+
+/// The most bytes that a name takes where it is written with its length and a number.
+const NUMBERED: usize = 1 + MAX_NAME + 8;
 
 /// So many bytes of two names are compared at once, as numbers.
 const FRONT: usize = 8;
@@ -138,6 +143,22 @@ impl Name {
         ensures is_name { IsName self.now }
     {
         &self.array[..self.count as usize]
+    }
+
+    /// Writes how many bytes it has, its bytes, and a number, whose highest byte comes first. Its place is copied
+    /// whole and what is too much is cut off, which is faster than to copy as many bytes as there are.
+    pub fn put(&self, number: u64, out: &mut Vec<u8>) -> Result<(), AllocError>
+        ensures { OnOk result (out.new.items ≡ out.old.items ++ (length self.now ∷ self.now ++ to_be_bytes w64 number)) }
+    {
+        let end = usize::from(self.count) + 1;
+        let mut written = [0; NUMBERED];
+        written[0] = self.count;
+        written[1..1 + MAX_NAME].copy_from_slice(&self.array);
+        written[end..end + 8].copy_from_slice(&number.to_be_bytes());
+        let all = out.len() + end + 8;
+        out.extend_from_slice(&written)?;
+        out.truncate(all);
+        Ok(())
     }
 
     /// Its first eight bytes as one number, with zeros behind a shorter name.

@@ -12,3 +12,4 @@ pub mod Takes
 pub mod Decoded
 pub mod Names
 pub mod Fronts
+pub mod Records

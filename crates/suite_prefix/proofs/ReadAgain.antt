@@ -104,7 +104,7 @@ unfolding list_at
 list_again entries rest fits =
     many_again entry_at entry_bytes entry_shape (λ entry. qualifier entry.tag < 2 ^ 32) entry_again entries rest (recursion_from_All (λ entry. qualifier entry.tag < 2 ^ 32) entries fits)
 
-lists_again : (lists : Lists) (rest : List ℕ) → NumbersFit lists → lists_at (lists_bytes lists ++ rest) ≡ Ok ((map entry_shape lists.access, map entry_shape (default_entries lists.default)), rest)
+pub lists_again : (lists : Lists) (rest : List ℕ) → NumbersFit lists → lists_at (lists_bytes lists ++ rest) ≡ Ok ((map entry_shape lists.access, map entry_shape (default_entries lists.default)), rest)
 unfolding lists_at
 lists_again lists rest fits =
     let default = list_bytes (default_entries lists.default) in
@@ -127,7 +127,7 @@ names_again : (names : List (List ℕ × ℕ)) (rest : List ℕ) → All (λ ent
 names_again names rest fits =
     many_again name_at name_bytes (λ entry. entry) (λ entry. entry.1 < 2 ^ 64) name_again names rest (recursion_from_All (λ entry. entry.1 < 2 ^ 64) names fits) ∙ ap (λ xs. Ok (xs, rest)) (same_map names)
 
-votes_again : (votes : Configuration) (rest : List ℕ) → votes.r < 2 ^ 16 → votes.w < 2 ^ 16 → votes_at (votes_bytes votes ++ rest) ≡ Ok (votes, rest)
+pub votes_again : (votes : Configuration) (rest : List ℕ) → votes.r < 2 ^ 16 → votes.w < 2 ^ 16 → votes_at (votes_bytes votes ++ rest) ≡ Ok (votes, rest)
 unfolding votes_at listed_at
 votes_again votes rest r_fits w_fits =
     let reps = flat_map representative_bytes votes.reps in
@@ -143,11 +143,11 @@ kind_again Absent = refl
 kind_again File = refl
 kind_again Folder = refl
 
-identity_of : Prefix → Identity
+abbrev pub identity_of : Prefix → Identity
 identity_of prefix = record { pver = prefix.pver; kind = prefix.kind; owner = prefix.owner; group = prefix.group }
 
-identity_again : (prefix : Prefix) (rest : List ℕ) → PrefixFits prefix → identity_at (identity_bytes prefix ++ rest) ≡ Ok (identity_of prefix, rest)
-unfolding identity_at identity_of
+pub identity_again : (prefix : Prefix) (rest : List ℕ) → PrefixFits prefix → identity_at (identity_bytes prefix ++ rest) ≡ Ok (identity_of prefix, rest)
+unfolding identity_at
 identity_again prefix rest fits =
     let pver = to_be_bytes w64 prefix.pver in
     let owner = to_be_bytes w32 prefix.owner in
@@ -174,7 +174,7 @@ folder_again names rest fits suites =
     ap folder_at (append_assoc len (flat_map name_bytes names) rest)
     ∙ rw (number_again w16 (2 ^ 16) wide16 (length names) (flat_map name_bytes names ++ rest) fits, names_again names rest suites) refl
 
-content_again : (kind : PrefixKind) (content : Content) (rest : List ℕ) → kind_of content ≡ held_by kind → IsContent content → content_at kind (content_bytes content ++ rest) ≡ Ok (content, rest)
+pub content_again : (kind : PrefixKind) (content : Content) (rest : List ℕ) → kind_of content ≡ held_by kind → IsContent content → content_at kind (content_bytes content ++ rest) ≡ Ok (content, rest)
 content_again Absent (Bytes bytes) rest agree fits = file_again bytes rest (omega (arith, fits.few))
 content_again File (Bytes bytes) rest agree fits = file_again bytes rest (omega (arith, fits.few))
 content_again Folder (Names names) rest agree fits = folder_again names rest (omega (arith, fits.few)) fits.suites_fit
@@ -185,7 +185,7 @@ content_again Folder (Bytes bytes) rest agree fits = absurd cc
 -- ---- a copy
 
 pub shape_again : (copy : Replica) (rest : List ℕ) → IsCopy copy → shape_at (bytes_of copy ++ rest) ≡ Ok (shape_of copy, rest)
-unfolding shape_at identity_of
+unfolding shape_at
 shape_again copy rest valid =
     let p = copy.prefix in
     let identity = identity_bytes p in

@@ -54,7 +54,7 @@ some_of : (list : List Entry) → IsAcl list → default_of list ≡ Some list
 some_of [] acl = let none = acl.accepted.valid.one_user_obj in absurd cc
 some_of (entry ∷ entries) acl = refl
 
-default_back : (default : Option (List Entry)) → IfSome default IsAcl → default_of (map entry_from (map entry_shape (default_entries default))) ≡ default
+pub default_back : (default : Option (List Entry)) → IfSome default IsAcl → default_of (map entry_from (map entry_shape (default_entries default))) ≡ default
 default_back None acl = refl
 default_back (Some list) acl = ap default_of (entries_back list) ∙ some_of list acl
 

@@ -7,5 +7,6 @@ pub mod LockModes
 pub mod Bytes
 pub mod Reading
 pub mod Faults
+pub mod Stored
 pub mod SettingsRules
 pub mod code

@@ -189,3 +189,7 @@ listed (Err fault) = []
 
 abbrev pub names_in : ℕ → List ℕ → List (List ℕ × ℕ)
 names_in count bytes = listed (many_at name_at count bytes)
+
+-- and the entries
+abbrev pub entries_in : ℕ → List ℕ → List EntryShape
+entries_in count bytes = listed (many_at entry_at count bytes)

@@ -2,3 +2,5 @@ pub mod Judging
 pub mod SettingsView
 pub mod Equality
 pub mod SettingsEquality
+pub mod Heads
+pub mod Records

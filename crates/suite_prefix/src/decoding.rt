@@ -307,7 +307,7 @@ fn put_entries(shapes: &[EntryShape], entries: &mut [Entry])
     }
 }
 
-fn content_from(alloc: Global, content: &ContentShape) -> Result<Content, AllocError>
+pub(crate) fn content_from(alloc: Global, content: &ContentShape) -> Result<Content, AllocError>
     requires rises { IsTrue (content_rises (content_in content.now)) }
     requires within { IsWithin (content_in content.now) }
     ensures { IfOk result (λ made. made ≡ content_in content.now) }

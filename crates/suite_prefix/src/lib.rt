@@ -12,11 +12,14 @@
 mod absent;
 mod copies;
 mod decoding;
+mod entries;
 mod faults;
+mod heads;
 mod lock_mode;
 mod reading;
 mod settings;
 mod shapes;
+mod stored;
 mod validity;
 mod writing;
 
@@ -25,6 +28,7 @@ pub use decoding::{decode, faults_tell_apart, fronts_are_short};
 pub use faults::{CopyFault, DecodeError};
 pub use lock_mode::LockMode;
 pub use settings::{MAX_AGENTS, MAX_CACHE, MAX_SLOTS, Settings, SettingsFault};
+pub use stored::StoredCopy;
 pub use suite_content::Content;
 pub use validity::tests_are_exact;
 pub use writing::{encode, no_bytes_begin_others};

@@ -129,7 +129,7 @@ fn tag_of(code: u8, number: u32) -> Tag
 }
 
 #[tactic(auto, unfolding(crate::specs::Reading::entry_at))]
-fn entry_at(bytes: &[u8]) -> Result<(EntryShape, &[u8]), CopyFault>
+pub(crate) fn entry_at(bytes: &[u8]) -> Result<(EntryShape, &[u8]), CopyFault>
     ensures { Reads (λ x. (x.0, x.1.now)) result (entry_at bytes.now) }
 {
     let (code, rest) = code_at(bytes)?;
@@ -224,7 +224,7 @@ fn lists_at<'a>(
 
 /// The representatives of votes, put into the first places.
 #[tactic(auto, unfolding(crate::specs::Reading::listed_at))]
-fn listed_at<'a>(
+pub(crate) fn listed_at<'a>(
     bytes: &'a [u8],
     places: &'a mut [(u8, u8); 255],
 ) -> Result<(&'a [(u8, u8)], &'a [u8]), CopyFault>
@@ -244,7 +244,7 @@ fn file_at(bytes: &[u8]) -> Result<(&[u8], &[u8]), CopyFault>
     bytes_at(len as usize, rest)
 }
 
-fn content_at(kind: PrefixKind, bytes: &[u8]) -> Result<(ContentShape, &[u8]), CopyFault>
+pub(crate) fn content_at(kind: PrefixKind, bytes: &[u8]) -> Result<(ContentShape, &[u8]), CopyFault>
     ensures { Reads (λ x. (content_in x.0, x.1.now)) result (content_at kind bytes.now) }
 {
     match kind {

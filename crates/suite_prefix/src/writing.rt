@@ -1,6 +1,7 @@
 //! The bytes of a copy.
 
-ghost use Rattle.std.specs.Prelude.{◌≡◌, ◌++◌, ◌<◌, ◌≤◌, length, OnOk, IfOk};
+ghost use Rattle.std.specs.Prelude.{◌≡◌, ◌++◌, ◌*◌, ◌<◌, ◌≤◌, length, OnOk, IfOk};
+ghost use Rattle.suite_content.specs.Limits.{max_names};
 ghost use Rattle.std.specs.List.{flat_map};
 ghost use Rattle.suite_prefix.specs.Copies.{IsCopy, IsContent};
 ghost use Rattle.suite_prefix.specs.Bytes.{NoneBeginsAnother, bytes_of, prefix_bytes, identity_bytes, list_bytes, lists_bytes, entry_bytes, votes_bytes, representative_bytes, content_bytes, name_bytes, kind_code, tag_code};
@@ -10,18 +11,19 @@ use crate::copies::{Prefix, PrefixKind, Replica};
 use acl_core::{Acl, Entry, Lists, Tag};
 use bitflags::Flags;
 use std::alloc::{AllocError, Global};
-use suite_content::{Content, Name};
+use suite_content::{Content, MAX_NAME, Name};
 use vote_core::Votes;
 
 /// The form of the bytes.
-const FORM: u8 = 2;
+pub(crate) const FORM: u8 = 2;
 
 /// The bytes of a valid copy.
 pub fn encode(alloc: Global, copy: &Replica) -> Result<Vec<u8>, AllocError>
     requires { IsCopy copy.now }
     ensures { IfOk result (λ bytes. bytes.items ≡ bytes_of copy.now) }
 {
-    let mut out = Vec::with_capacity(alloc, room_for(&copy.content))?;
+    let room = room_for_prefix(&copy.prefix).saturating_add(room_for(&copy.content));
+    let mut out = Vec::with_capacity(alloc, room)?;
     out.push(FORM)?;
     put_prefix(&mut out, &copy.prefix)?;
     out.extend_from_slice(&copy.dver.to_be_bytes())?;
@@ -29,16 +31,40 @@ pub fn encode(alloc: Global, copy: &Replica) -> Result<Vec<u8>, AllocError>
     Ok(out)
 }
 
-/// At least as many bytes as the bytes of a copy are, so that there is one growth: a prefix and the two
-/// versions take 833 bytes at most, and a name 73.
+/// As many bytes as the form, a prefix and a version take.
+pub(crate) fn room_for_prefix(prefix: &Prefix) -> usize {
+    let default = match &prefix.acl.default {
+        Some(default) => default.entries().len(),
+        None => 0,
+    };
+    let entries = prefix.acl.access.entries().len().saturating_add(default);
+    let reps = prefix.votes.reps().len();
+    entries
+        .saturating_mul(6)
+        .saturating_add(reps.saturating_mul(2))
+        .saturating_add(33)
+}
+
+/// As many bytes as a content takes, and behind names room for what is written of one and cut off.
 fn room_for(content: &Content) -> usize
     requires { IsContent content.now }
     ensures { result ≤ 131072 }
 {
     match content {
-        Content::Bytes(bytes) => 1024 + bytes.len(),
-        Content::Names(names) => 1024 + 73 * names.len(),
+        Content::Bytes(bytes) => 4 + bytes.len(),
+        Content::Names(names) => 2 + room_for_names(names.as_slice()) + MAX_NAME,
     }
+}
+
+fn room_for_names(names: &[(Name, u64)]) -> usize
+    requires { length names.now ≤ max_names }
+    ensures { result ≤ 73 * length names.now }
+{
+    let mut room = 0;
+    for (name, _) in names {
+        room += 9 + name.as_bytes().len();
+    }
+    room
 }
 
 /// A law: no valid copy's bytes begin those of another, so no two copies share bytes. It does nothing.
@@ -46,7 +72,7 @@ pub fn no_bytes_begin_others()
     ensures { NoneBeginsAnother }
 {}
 
-fn put_prefix(out: &mut Vec<u8>, prefix: &Prefix) -> Result<(), AllocError>
+pub(crate) fn put_prefix(out: &mut Vec<u8>, prefix: &Prefix) -> Result<(), AllocError>
     ensures { OnOk result (out.new.items ≡ out.old.items ++ prefix_bytes prefix.now) }
 {
     put_identity(out, prefix)?;
@@ -155,17 +181,7 @@ fn put_names(out: &mut Vec<u8>, names: &[(Name, u64)]) -> Result<(), AllocError>
     ensures { OnOk result (out.new.items ≡ out.old.items ++ flat_map name_bytes names.now) }
 {
     for (name, suite) in names {
-        put_name(out, name, *suite)?;
+        name.put(*suite, out)?;
     }
-    Ok(())
-}
-
-fn put_name(out: &mut Vec<u8>, name: &Name, suite: u64) -> Result<(), AllocError>
-    ensures { OnOk result (out.new.items ≡ out.old.items ++ name_bytes (name.now, suite)) }
-{
-    let bytes = name.as_bytes();
-    out.push(bytes.len() as u8)?;
-    out.extend_from_slice(bytes)?;
-    out.extend_from_slice(&suite.to_be_bytes())?;
     Ok(())
 }

@@ -77,14 +77,22 @@ impl Votes {
         if let Some(fault) = first_fault_of(servers, reps, r, w) {
             return Err(fault);
         }
+        Ok(Votes::known(reps, r, w))
+    }
+
+    /// The votes of these parts, which are known to be valid.
+    pub fn known(reps: &[(u8, u8)], r: u16, w: u16) -> Votes
+        requires { IsValid (record { reps = reps.now; r = r; w = w }) }
+        ensures { result ≡ record { reps = reps.now; r = r; w = w } }
+    {
         let mut kept = [(0, 0); MAX_SERVERS];
         kept[..reps.len()].copy_from_slice(reps);
-        Ok(Votes {
+        Votes {
             reps: kept,
             count: reps.len(),
             r,
             w,
-        })
+        }
     }
 
     /// The representatives, each by its server and its votes, in listed order.

@@ -19,6 +19,7 @@ use Rattle.rep_core.specs.Locks.{in_the_way, locked, with_prepared, released, br
 use Rattle.rep_core.specs.Store.{copy_of, is_sound_part, overfills, intended, finished}
 use Rattle.rep_core.specs.Service.{held, given, recorded, verdict_of, audit_of, with_item, is_answered, after_crash}
 use Rattle.rep_core.specs.State.{State, record_of}
+use Rattle.rep_core.specs.code.Planning.{planned_of}
 
 -- the reply where nothing keeps the request from going through
 abbrev pub granted : State → Request → Reply
@@ -102,6 +103,6 @@ IsFirstRecord _ _ st = Unit {0}
 abbrev pub HasRoom : Way → Request → Holdings → Type 0
 HasRoom way.Through (request.Poll t suite mode) held = 0 < held.locks.room
 HasRoom way.Through (request.Upgrade t suite) held = 0 < held.locks.room
-HasRoom way.Through (request.Prepare t parts) held = length parts ≤ held.store.room
+HasRoom way.Through (request.Prepare t parts) held = (length parts ≤ held.store.room) × (held.store.pending ≡ planned_of held.store.store.c0 held.store.store.copies t parts)
 HasRoom way.Through (request.Decide t decision) held = is_some (audit_of t decision) ≡ true → vec_len held.audit < vec_capacity held.audit
 HasRoom _ _ held = Unit {0}

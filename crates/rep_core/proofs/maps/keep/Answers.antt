@@ -1,6 +1,6 @@
 use Rattle.std.proofs.Common.{◌+◌, ◌≤◌, length, subst, sym}
 use Rattle.rep_core.proofs.Intentions.{length-inserted}
-use Rattle.rep_core.proofs.store.keep.Goals as goal
+use Rattle.rep_core.proofs.maps.keep.Goals as goal
 
 pub returns-clause-few : goal.returns-clause-few
 returns-clause-few c =

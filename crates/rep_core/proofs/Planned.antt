@@ -1,0 +1,210 @@
+-- Intentions that are kept as what they leave, seen as intentions.
+use Rattle.std.proofs.Common.{◌≡◌, ℕ, ◌==◌, ◌+◌, ◌≤◌, ◌<◌, Bool, true, false, cond, not, get_or, filter, List, [], ◌∷◌, length, map, Option, Some, None, refl, sym, ap, subst, ◌∙◌, ⊎_elim, ◌⊎◌, inl, inr, arith}
+use Rattle.std.specs.Prelude.{is_some, option_map, count_by, unwrap_or, IsTrue, ◌||◌, ◌&&◌}
+use Rattle.std.specs.List.{list_all, list_any, fold}
+use Rattle.std.specs.List.Sorted.{IsStrictlySortedBy}
+use Rattle.std.specs.Ordering.{nat_cmp, match_ordering}
+use Rattle.std.specs.declared.cmp.Ordering.TheVariants as ord
+use Rattle.std.specs.BTreeMap.{is_at}
+use Rattle.std.specs.Map.{keys_of}
+use Rattle.std.proofs.lemmas.Bool.{cases_Bool, and_parts, false≢true, eqb-true, eq-eqb}
+use Rattle.std.proofs.lemmas.Map.Entries.{lookup_head, lookup_tail}
+use Rattle.std.proofs.lemmas.Map.Keys.{sorted_tail}
+use Rattle.rep_core.proofs.Intentions.{apart_behind}
+use Rattle.std.proofs.lemmas.List.{get_or-map}
+use Rattle.std.proofs.lemmas.Map.Made.{lookup-map_values, keys_of-map_values}
+use Rattle.std.proofs.lemmas.Option.{none-some, same_Some}
+use Rattle.sorted_map.specs.SortedMap.{IsOrdered, get, insert, remove, replace}
+use Rattle.sorted_map.specs.Numbers.{get_insert_here, get_insert_apart, get_remove_here, get_remove_apart}
+use Rattle.vote_core.specs.Quorums.{Configuration}
+use Rattle.suite_prefix.specs.declared.copies.Replica.{Replica}
+use Rattle.suite_prefix.specs.Absent.{absent_copy}
+use Rattle.rep_core.specs.declared.intention.Planned.{Planned}
+use Rattle.rep_core.specs.declared.request.Part.{Part}
+use Rattle.rep_core.specs.declared.request.Take.{Take}
+use Rattle.rep_core.specs.declared.request.Take.TheVariants as take
+use Rattle.rep_core.specs.Intentions.{Intention}
+use Rattle.rep_core.specs.Store.{copy_in, left_by, is_keep, with_taken, with_intention, with_intentions}
+use Rattle.rep_core.specs.code.Planning.{intention_in, intentions_in, take_in, is_whole, planned_of, with_all, Leaves}
+
+-- ---- look-ups and edits
+
+pub get_in : (pairs : List (ℕ × Planned)) (suite : ℕ) → get nat_cmp (intentions_in pairs) suite ≡ option_map intention_in (get nat_cmp pairs suite)
+get_in pairs suite = lookup-map_values intention_in (is_at (nat_cmp suite)) pairs
+
+some_in : {X Y : Type 0} (f : X → Y) (o : Option X) → is_some (option_map f o) ≡ is_some o
+some_in f None = refl
+some_in f (Some x) = refl
+
+pub there_in : (pairs : List (ℕ × Planned)) (suite : ℕ) → is_some (get nat_cmp (intentions_in pairs) suite) ≡ is_some (get nat_cmp pairs suite)
+there_in pairs suite = ap is_some (get_in pairs suite) ∙ some_in intention_in (get nat_cmp pairs suite)
+
+pub length_in : (pairs : List (ℕ × Planned)) → length (intentions_in pairs) ≡ length pairs
+length_in [] = refl
+length_in (e ∷ es) = let rest = length_in es in omega (arith, rest)
+
+pub rising_in : (pairs : List (ℕ × Planned)) → IsOrdered nat_cmp pairs → IsOrdered nat_cmp (intentions_in pairs)
+rising_in pairs rising = subst (λ keys. IsStrictlySortedBy nat_cmp keys) (sym (keys_of-map_values intention_in pairs)) rising
+
+pub remove_in : (pairs : List (ℕ × Planned)) (suite : ℕ) → remove nat_cmp (intentions_in pairs) suite ≡ intentions_in (remove nat_cmp pairs suite)
+remove_in [] suite = refl
+remove_in (e ∷ es) suite =
+    elim (is_at (nat_cmp suite) e.0) as (λ b. cond b (intentions_in es) ((e.0, intention_in e.1) ∷ remove nat_cmp (intentions_in es) suite) ≡ intentions_in (cond b es (e ∷ remove nat_cmp es suite))) [
+      | true ↦ refl
+      | false ↦ ap (λ l. (e.0, intention_in e.1) ∷ l) (remove_in es suite)
+    ]
+
+pub insert_in : (pairs : List (ℕ × Planned)) (suite : ℕ) (planned : Planned) → insert nat_cmp (intentions_in pairs) suite (intention_in planned) ≡ intentions_in (insert nat_cmp pairs suite planned)
+insert_in [] suite planned = refl
+insert_in (e ∷ es) suite planned =
+    elim (nat_cmp suite e.0) as (λ o. match_ordering o ((suite, intention_in planned) ∷ intentions_in (e ∷ es)) ((e.0, intention_in planned) ∷ intentions_in es) ((e.0, intention_in e.1) ∷ insert nat_cmp (intentions_in es) suite (intention_in planned))
+    ≡ intentions_in (match_ordering o ((suite, planned) ∷ e ∷ es) ((e.0, planned) ∷ es) (e ∷ insert nat_cmp es suite planned))) [
+      | ord.Less ↦ refl
+      | ord.Equal ↦ refl
+      | ord.Greater ↦ ap (λ l. (e.0, intention_in e.1) ∷ l) (insert_in es suite planned)
+    ]
+
+pub without_in : (t : ℕ) (pairs : List (ℕ × Planned)) → intentions_in (filter (λ pair. not (pair.1.t == t)) pairs) ≡ filter (λ pair. not (pair.1.t == t)) (intentions_in pairs)
+without_in t [] = refl
+without_in t (e ∷ es) =
+    elim (not (e.1.t == t)) as (λ b. intentions_in (cond b (e ∷ filter (λ pair. not (pair.1.t == t)) es) (filter (λ pair. not (pair.1.t == t)) es)) ≡ cond b ((e.0, intention_in e.1) ∷ filter (λ pair. not (pair.1.t == t)) (intentions_in es)) (filter (λ pair. not (pair.1.t == t)) (intentions_in es))) [
+      | true ↦ ap (λ l. (e.0, intention_in e.1) ∷ l) (without_in t es)
+      | false ↦ without_in t es
+    ]
+
+fold_in : (p : ℕ → Bool) (n : ℕ) (pairs : List (ℕ × Planned)) → fold (λ a (x : ℕ × Intention). a + cond (p x.0) 1 0) n (intentions_in pairs) ≡ fold (λ a (x : ℕ × Planned). a + cond (p x.0) 1 0) n pairs
+fold_in p n [] = refl
+fold_in p n (e ∷ es) = fold_in p (n + cond (p e.0) 1 0) es
+
+pub count_in : (p : ℕ → Bool) (pairs : List (ℕ × Planned)) → count_by (λ (pair : ℕ × Intention). p pair.0) (intentions_in pairs) ≡ count_by (λ (pair : ℕ × Planned). p pair.0) pairs
+count_in p pairs = fold_in p 0 pairs
+
+pub at_in : (pairs : List (ℕ × Planned)) (i : ℕ) (pair : ℕ × Planned) → i < length pairs → pair ≡ get_or pairs i pair → (pair.0, intention_in pair.1) ≡ get_or (intentions_in pairs) i (pair.0, intention_in pair.1)
+at_in pairs i pair in_range is =
+    ap (λ (e : ℕ × Planned). (e.0, intention_in e.1)) is ∙ sym (get_or-map (λ (e : ℕ × Planned). (e.0, intention_in e.1)) pairs i pair (pair.0, intention_in pair.1) in_range)
+
+-- where the value that is there is written again, nothing changes
+pub replaced_same : {V : Type 0} (pairs : List (ℕ × V)) (key : ℕ) (value : V) → get nat_cmp pairs key ≡ Some value → replace nat_cmp pairs key value ≡ pairs
+replaced_same [] key value has = refl
+replaced_same (e ∷ es) key value has = ⊎_elim
+    (λ here.
+    let is : e.1 ≡ value = same_Some e.1 value (sym (lookup_head (is_at (nat_cmp key)) e es here) ∙ has) in
+    ap (λ b. cond b ((e.0, value) ∷ es) (e ∷ replace nat_cmp es key value)) here ∙ ap (λ v. (e.0, v) ∷ es) (sym is))
+    (λ there.
+    ap (λ b. cond b ((e.0, value) ∷ es) (e ∷ replace nat_cmp es key value)) there
+    ∙ ap (λ l. e ∷ l) (replaced_same es key value (sym (lookup_tail (is_at (nat_cmp key)) e es there) ∙ has)))
+    (cases_Bool (is_at (nat_cmp key) e.0))
+
+-- ---- what is left
+
+-- what is left does not depend on the votes of what was never made
+same_left : (what : Take) (c0 c1 : Configuration) (o : Option Replica) → is_keep what ≡ false → left_by what (unwrap_or o (absent_copy c0)) ≡ left_by what (unwrap_or o (absent_copy c1))
+same_left take.Keep c0 c1 o changes = absurd cc
+same_left (take.Prefix prefix) c0 c1 None changes = refl
+same_left (take.Prefix prefix) c0 c1 (Some copy) changes = refl
+same_left (take.Whole replica) c0 c1 o changes = refl
+
+take_back : (what : Take) (copy : Replica) → is_keep what ≡ false → take_in (is_whole what) (left_by what copy) ≡ what
+take_back take.Keep copy changes = absurd cc
+take_back (take.Prefix prefix) copy changes = refl
+take_back (take.Whole replica) copy changes = refl
+
+keeps_nothing : (whole : Bool) (left : Replica) → is_keep (take_in whole left) ≡ false
+keeps_nothing true left = refl
+keeps_nothing false left = refl
+
+-- an intention that becomes a copy
+pub becomes : (c0 : Configuration) (suite : ℕ) (planned : Planned) (copies : List (ℕ × Replica)) → planned.left ≡ left_by (take_in planned.whole planned.left) (copy_in c0 copies suite)
+    → insert nat_cmp copies suite planned.left ≡ with_taken c0 suite (intention_in planned).take copies
+becomes c0 suite planned copies leaves =
+    ap (insert nat_cmp copies suite) leaves
+    ∙ ap (λ b. cond b copies (insert nat_cmp copies suite (left_by (take_in planned.whole planned.left) (copy_in c0 copies suite)))) (sym (keeps_nothing planned.whole planned.left))
+
+-- what is found without a key was there, and is another's
+found_without : (pairs : List (ℕ × Planned)) (suite q : ℕ) (planned : Planned) → IsOrdered nat_cmp pairs → get nat_cmp (remove nat_cmp pairs suite) q ≡ Some planned → (q ≡ suite → ⊥) × (get nat_cmp pairs q ≡ Some planned)
+found_without pairs suite q planned rising has =
+    let apart : q ≡ suite → ⊥ = λ same. none-some planned (sym (get_remove_here pairs suite rising) ∙ ap (get nat_cmp (remove nat_cmp pairs suite)) (sym same) ∙ has) in
+    (apart, sym (get_remove_apart pairs suite q rising apart) ∙ has)
+
+pub leaves_taken : (copies : List (ℕ × Replica)) (pairs : List (ℕ × Planned)) (suite : ℕ) (left : Replica) → IsOrdered nat_cmp pairs → Leaves copies pairs → Leaves (insert nat_cmp copies suite left) (remove nat_cmp pairs suite)
+leaves_taken copies pairs suite left rising leaves c0 q planned has =
+    let found = found_without pairs suite q planned rising has in
+    leaves c0 q planned found.1 ∙ ap (λ o. left_by (take_in planned.whole planned.left) (unwrap_or o (absent_copy c0))) (sym (get_insert_apart copies suite left q found.0))
+
+-- what is found in a filtered list was there
+pub found_in_filter : (p : ℕ × Planned → Bool) (pairs : List (ℕ × Planned)) (suite : ℕ) (planned : Planned) → IsOrdered nat_cmp pairs → get nat_cmp (filter p pairs) suite ≡ Some planned → get nat_cmp pairs suite ≡ Some planned
+found_in_filter p [] suite planned rising has = has
+found_in_filter p (e ∷ es) suite planned rising has = ⊎_elim
+    (λ kept.
+    let has' : get nat_cmp (e ∷ filter p es) suite ≡ Some planned = ap (λ b. get nat_cmp (cond b (e ∷ filter p es) (filter p es)) suite) (sym kept) ∙ has in
+    ⊎_elim
+    (λ here. lookup_head (is_at (nat_cmp suite)) e es here ∙ sym (lookup_head (is_at (nat_cmp suite)) e (filter p es) here) ∙ has')
+    (λ there.
+    let rest = found_in_filter p es suite planned (sorted_tail nat_cmp e.0 (keys_of es) rising) (sym (lookup_tail (is_at (nat_cmp suite)) e (filter p es) there) ∙ has') in
+    lookup_tail (is_at (nat_cmp suite)) e es there ∙ rest)
+    (cases_Bool (is_at (nat_cmp suite) e.0)))
+    (λ dropped.
+    let rest = found_in_filter p es suite planned (sorted_tail nat_cmp e.0 (keys_of es) rising) (ap (λ b. get nat_cmp (cond b (e ∷ filter p es) (filter p es)) suite) (sym dropped) ∙ has) in
+    lookup_tail (is_at (nat_cmp suite)) e es (apart_behind e es suite rising (ap (λ o. is_some o) rest)) ∙ rest)
+    (cases_Bool (p e))
+
+-- ---- a Prepare
+
+pub planned_kept : (c0 : Configuration) (copies : List (ℕ × Replica)) (t : ℕ) (parts : List Part) (pairs : List (ℕ × Planned)) → intentions_in (with_all (planned_of c0 copies t parts) pairs) ≡ with_intentions t parts (intentions_in pairs)
+planned_kept c0 copies t [] pairs = refl
+planned_kept c0 copies t (part ∷ parts) pairs = ⊎_elim
+    (λ keep.
+    ap (λ b. intentions_in (with_all (cond b (planned_of c0 copies t parts) ((part.suite, made) ∷ planned_of c0 copies t parts)) pairs)) keep
+    ∙ planned_kept c0 copies t parts pairs
+    ∙ ap (λ b. with_intentions t parts (cond b (intentions_in pairs) (insert nat_cmp (intentions_in pairs) part.suite new))) (sym keep))
+    (λ changes.
+    ap (λ b. intentions_in (with_all (cond b (planned_of c0 copies t parts) ((part.suite, made) ∷ planned_of c0 copies t parts)) pairs)) changes
+    ∙ planned_kept c0 copies t parts (insert nat_cmp pairs part.suite made)
+    ∙ ap (λ l. with_intentions t parts l) (sym (insert_in pairs part.suite made) ∙ ap (λ what. insert nat_cmp (intentions_in pairs) part.suite (let i : Intention = record { t = t; take = what } in i)) (take_back part.take (copy_in c0 copies part.suite) changes))
+    ∙ ap (λ b. with_intentions t parts (cond b (intentions_in pairs) (insert nat_cmp (intentions_in pairs) part.suite new))) (sym changes))
+    (cases_Bool (is_keep part.take))
+  where
+    made : Planned
+    made = record { t = t; whole = is_whole part.take; left = left_by part.take (copy_in c0 copies part.suite) }
+
+    new : Intention
+    new = record { t = t; take = part.take }
+
+suite_or_apart : (a b : ℕ) → (a ≡ b) ⊎ (a ≡ b → ⊥)
+suite_or_apart a b = ⊎_elim
+    (λ same. inl (eqb-true a b same))
+    (λ differ. inr (λ same. false≢true (sym differ ∙ eq-eqb a b same)))
+    (cases_Bool (a == b))
+
+leaves_more : (c0 : Configuration) (copies : List (ℕ × Replica)) (t : ℕ) (part : Part) (pairs : List (ℕ × Planned)) → is_keep part.take ≡ false → Leaves copies pairs
+    → Leaves copies (insert nat_cmp pairs part.suite (record { t = t; whole = is_whole part.take; left = left_by part.take (copy_in c0 copies part.suite) }))
+leaves_more c0 copies t part pairs changes leaves c1 suite planned has =
+    let made : Planned = record { t = t; whole = is_whole part.take; left = left_by part.take (copy_in c0 copies part.suite) } in
+    ⊎_elim
+    (λ same.
+    let is : made ≡ planned = same_Some made planned (sym (get_insert_here pairs part.suite made) ∙ ap (λ k. get nat_cmp (insert nat_cmp pairs part.suite made) k) (sym same) ∙ has) in
+    let own : made.left ≡ left_by (take_in made.whole made.left) (copy_in c1 copies part.suite) =
+    same_left part.take c0 c1 (get nat_cmp copies part.suite) changes ∙ ap (λ what. left_by what (copy_in c1 copies part.suite)) (sym (take_back part.take (copy_in c0 copies part.suite) changes)) in
+    subst (λ (x : Planned). x.left ≡ left_by (take_in x.whole x.left) (copy_in c1 copies suite)) is (subst (λ k. made.left ≡ left_by (take_in made.whole made.left) (copy_in c1 copies k)) (sym same) own))
+    (λ apart. leaves c1 suite planned (sym (get_insert_apart pairs part.suite made suite apart) ∙ has))
+    (suite_or_apart suite part.suite)
+
+pub leaves_planned : (c0 : Configuration) (copies : List (ℕ × Replica)) (t : ℕ) (parts : List Part) (pairs : List (ℕ × Planned)) → Leaves copies pairs → Leaves copies (with_all (planned_of c0 copies t parts) pairs)
+leaves_planned c0 copies t [] pairs leaves = leaves
+leaves_planned c0 copies t (part ∷ parts) pairs leaves =
+    let made : Planned = record { t = t; whole = is_whole part.take; left = left_by part.take (copy_in c0 copies part.suite) } in
+    ⊎_elim
+    (λ keep. subst (λ b. Leaves copies (with_all (cond b (planned_of c0 copies t parts) ((part.suite, made) ∷ planned_of c0 copies t parts)) pairs)) (sym keep) (leaves_planned c0 copies t parts pairs leaves))
+    (λ changes. subst (λ b. Leaves copies (with_all (cond b (planned_of c0 copies t parts) ((part.suite, made) ∷ planned_of c0 copies t parts)) pairs)) (sym changes)
+    (leaves_planned c0 copies t parts (insert nat_cmp pairs part.suite made) (leaves_more c0 copies t part pairs changes leaves)))
+    (cases_Bool (is_keep part.take))
+
+pub few_planned : (c0 : Configuration) (copies : List (ℕ × Replica)) (t : ℕ) (parts : List Part) → length (planned_of c0 copies t parts) ≤ length parts
+few_planned c0 copies t [] = omega arith
+few_planned c0 copies t (part ∷ parts) =
+    let rest = few_planned c0 copies t parts in
+    let made : ℕ × Planned = (part.suite, record { t = t; whole = is_whole part.take; left = left_by part.take (copy_in c0 copies part.suite) }) in
+    elim (is_keep part.take) as (λ b. length (cond b (planned_of c0 copies t parts) (made ∷ planned_of c0 copies t parts)) ≤ length (part ∷ parts)) [
+      | true ↦ omega (arith, rest)
+      | false ↦ omega (arith, rest)
+    ]

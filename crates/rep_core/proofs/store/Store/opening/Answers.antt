@@ -1,0 +1,11 @@
+use Rattle.std.proofs.Common.{rules, ◌≡◌, ap}
+use Rattle.rep_core.specs.Store.{Store, opening_store}
+use Rattle.rep_core.specs.code.Planning.{intentions_in}
+use Rattle.rep_core.proofs.store.Store.opening.Goals as goal
+
+pub returns : goal.returns
+returns c =
+    let opened : Store = opening_store c.args.index c.args.settings.now in
+    let votes : c.in_ok-absent.absent.votes ≡ opened.c0 = search rules in
+    let none : intentions_in c.new.result.pairs ≡ opened.intentions = ap intentions_in c.new.ensures in
+    λ i. record { c0 = votes i; copies = c.in_ok-copies.ensures i; intentions = none i }

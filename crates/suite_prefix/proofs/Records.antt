@@ -1,0 +1,120 @@
+-- The bytes of a valid copy are a record of it, and what stands before its content is read again.
+use Rattle.std.proofs.Common.{◌≡◌, ℕ, ◌^◌, ◌<◌, List, [], ◌∷◌, ◌++◌, map, get_or, Result, Ok, Err, Option, None, Some, refl, sym, ap, subst, ◌∙◌}
+use Rattle.std.specs.Prelude.{All, IfSome, IsTrue}
+use Rattle.std.specs.Int.{w64, to_be_bytes}
+use Rattle.std.proofs.lemmas.List.Elements.{All-map}
+use Rattle.std.proofs.lemmas.List.{append-nil}
+use Rattle.acl_core.specs.declared.entry.Entry.{Entry}
+use Rattle.acl_core.specs.declared.lists.Lists.{Lists}
+use Rattle.acl_core.specs.AccessLists.{IsAcl}
+use Rattle.suite_content.specs.declared.content.Content.{Content}
+use Rattle.suite_content.specs.declared.content.Content.TheVariants.{Bytes, Names}
+use Rattle.suite_prefix.specs.code.Judging.{IsWithin}
+use Rattle.suite_prefix.specs.declared.copies.Prefix.{Prefix}
+use Rattle.suite_prefix.specs.declared.copies.Replica.{Replica}
+use Rattle.suite_prefix.specs.declared.faults.CopyFault.{CopyFault}
+use Rattle.suite_prefix.specs.declared.shapes.EntryShape.{EntryShape}
+use Rattle.suite_prefix.specs.Bytes.{bytes_of, identity_bytes, lists_bytes, votes_bytes, content_bytes}
+use Rattle.suite_prefix.specs.Copies.{IsCopy, IsContent}
+use Rattle.suite_prefix.specs.Faults.{content_rises}
+use Rattle.suite_prefix.specs.Reading.{Shape, Reads, content_at, entry_from}
+use Rattle.suite_prefix.specs.TwoLists.{default_entries, default_of}
+use Rattle.suite_prefix.specs.code.Heads.{Head, IsOfValid, MakesDefaultAcl, head_at, head_of, prefix_of}
+use Rattle.suite_prefix.specs.code.Records.{IsRecord, copy_in, copy_read}
+use Rattle.suite_prefix.proofs.Back.{whole_again}
+use Rattle.suite_prefix.proofs.Joins.{four_pieces}
+use Rattle.suite_prefix.proofs.Loop.{ok_is}
+use Rattle.suite_prefix.proofs.Orders.{rise_if_folder}
+use Rattle.suite_prefix.proofs.ReadAgain.{identity_again, lists_again, votes_again, number_again, wide64, content_again}
+use Rattle.suite_prefix.proofs.ShapeOf.{entry_shape, shape_of, copy_back, default_back, entries_back}
+
+-- the copy of a valid copy's bytes is that copy
+pub copy_again : (copy : Replica) → IsCopy copy → copy_in (bytes_of copy) ≡ copy
+copy_again copy valid = ap copy_read (whole_again copy valid) ∙ copy_back copy valid.prefix.fits.acl.default
+
+pub copy_of_bytes : (bytes : List ℕ) (copy : Replica) → IsCopy copy → bytes ≡ bytes_of copy → copy_in bytes ≡ copy
+copy_of_bytes bytes copy valid are = ap copy_in are ∙ copy_again copy valid
+
+pub is_record : (bytes : List ℕ) (copy : Replica) → IsCopy copy → bytes ≡ bytes_of copy → IsRecord bytes
+is_record bytes copy valid are =
+    let same = copy_of_bytes bytes copy valid are in
+    record { valid = subst IsCopy (sym same) valid; spelled = are ∙ ap bytes_of (sym same) }
+
+-- what stands before the content is read again
+pub head_again : (copy : Replica) → IsCopy copy → head_at (bytes_of copy) ≡ Ok (head_of copy, content_bytes copy.content)
+unfolding head_at
+head_again copy valid =
+    let p = copy.prefix in
+    let identity = identity_bytes p in
+    let lists = lists_bytes p.acl in
+    let votes = votes_bytes p.votes in
+    let dver = to_be_bytes w64 copy.dver in
+    let content = content_bytes copy.content in
+    let after_votes = dver ++ content in
+    let after_lists = votes ++ after_votes in
+    let regrouped : bytes_of copy ≡ 2 ∷ (identity ++ (lists ++ after_lists)) =
+    ap (λ t. 2 ∷ t) (four_pieces identity lists votes dver content) in
+    ap head_at regrouped
+    ∙ rw (
+      identity_again p (lists ++ after_lists) valid.prefix.fits,
+      lists_again p.acl after_lists valid.prefix.fits.qualifiers,
+      votes_again p.votes after_votes valid.prefix.fits.r valid.prefix.fits.w,
+      number_again w64 (2 ^ 64) wide64 copy.dver content valid.dver_fits,
+    ) refl
+
+-- ---- the prefix of what stands there
+
+all_known : (entries : List Entry) → All (λ (entry : EntryShape). entry.permissions < 8) (map entry_shape entries)
+all_known entries = All-map (λ (entry : EntryShape). entry.permissions < 8) entry_shape entries (λ k d in_list. (get_or entries k d).known)
+
+makes_default : (default : Option (List Entry)) → IfSome default IsAcl → MakesDefaultAcl (map entry_from (map entry_shape (default_entries default)))
+makes_default None acl = tt
+makes_default (Some list) acl = subst MakesDefaultAcl (sym (entries_back list)) (of_list list acl)
+  where
+    of_list : (list : List Entry) → IsAcl list → MakesDefaultAcl list
+    of_list [] acl = tt
+    of_list (entry ∷ entries) acl = acl
+
+-- entries of a default list, where there are some
+pub acl_if_some : (entries : List EntryShape) → (entries ≡ [] → ⊥) → MakesDefaultAcl (map entry_from entries) → IsAcl (map entry_from entries)
+acl_if_some [] some makes = absurd (some refl)
+acl_if_some (entry ∷ entries) some makes = makes
+
+pub default_if_some : (entries : List EntryShape) → (entries ≡ [] → ⊥) → default_of (map entry_from entries) ≡ Some (map entry_from entries)
+default_if_some [] some = absurd (some refl)
+default_if_some (entry ∷ entries) some = refl
+
+pub is_of_valid : (copy : Replica) → IsCopy copy → IsOfValid (head_of copy)
+is_of_valid copy valid = record {
+  known = all_known copy.prefix.acl.access;
+  access = subst IsAcl (sym (entries_back copy.prefix.acl.access)) valid.prefix.fits.acl.access;
+  default_known = all_known (default_entries copy.prefix.acl.default);
+  default = makes_default copy.prefix.acl.default valid.prefix.fits.acl.default;
+  votes = valid.prefix.fits.votes;
+}
+
+with_lists : Prefix → Lists → Prefix
+with_lists prefix acl = record { pver = prefix.pver; kind = prefix.kind; owner = prefix.owner; group = prefix.group; acl = acl; votes = prefix.votes }
+
+pub prefix_again : (copy : Replica) → IsCopy copy → prefix_of (head_of copy) ≡ copy.prefix
+unfolding with_lists
+prefix_again copy valid =
+    ap (with_lists copy.prefix) (λ i. record { access = entries_back copy.prefix.acl.access i; default = default_back copy.prefix.acl.default valid.prefix.fits.acl.default i })
+
+-- ---- the content of what stands there
+
+pub content_read : (copy : Replica) → IsCopy copy → content_at copy.prefix.kind (content_bytes copy.content) ≡ Ok (copy.content, [])
+content_read copy valid = ap (content_at copy.prefix.kind) (sym (append-nil (content_bytes copy.content))) ∙ content_again copy.prefix.kind copy.content [] valid.kinds_agree valid.content
+
+pub content_rises_again : (content : Content) → IsContent content → IsTrue (content_rises content)
+content_rises_again (Bytes bytes) valid = refl
+content_rises_again (Names names) valid = rise_if_folder names valid.rising
+
+pub content_within_again : (content : Content) → IsContent content → IsWithin content
+content_within_again (Bytes bytes) valid = valid.few
+content_within_again (Names names) valid = record { few = valid.few; are_names = valid.are_names }
+
+-- what a reader gave, where what it reads is known
+pub reads_ok : {X Y : Type 0} (view : X → Y) (r : Result X CopyFault) (read : Result Y CopyFault) (x : X) (y : Y) → Reads view r read → r ≡ Ok x → read ≡ Ok y → view x ≡ y
+reads_ok view (Ok z) read x y reads is known = ap view (sym (ok_is z x is)) ∙ ok_is (view z) y (sym reads ∙ known)
+reads_ok view (Err fault) read x y reads is known = absurd cc

@@ -1,0 +1,19 @@
+use Rattle.std.proofs.Common.{◌∙◌, sym}
+use Rattle.std.proofs.lemmas.Result.{err_from_is_err_and}
+use Rattle.suite_prefix.specs.Reading.{many_at, entry_at}
+use Rattle.suite_prefix.proofs.Loop.{rest_goes_on, rest_ends, rest_done, read_to, read_fails}
+use Rattle.suite_prefix.proofs.entries.after_entries.Goals as goal
+
+pub returns-in_err-after : goal.returns-in_err-after
+returns-in_err-after c =
+    let p = err_from_is_err_and c.from_residual.result c.from_residual.ensures.1 in
+    rw (p.1, p.2) (read_fails (many_at entry_at c.args.count c.args.bytes.now) c.in_err-after.field-0.0
+    (sym c.loop.invariant ∙ rest_ends entry_at c.args.count c.loop.counter c.loop.rest.now c.in_err-after.field-0.0 c.loop-test.true c.in_err-after.ensures))
+
+pub loop-preserved : goal.loop-preserved
+loop-preserved c =
+    sym (rest_goes_on entry_at c.args.count c.loop.counter c.loop.rest.now _ c.in_ok-after.after.now c.loop-test.true c.in_ok-after.ensures) ∙ c.loop.invariant
+
+pub returns : goal.returns
+returns c =
+    read_to (many_at entry_at c.args.count c.args.bytes.now) c.loop.rest.now (sym c.loop.invariant ∙ rest_done entry_at c.args.count c.loop.counter c.loop.rest.now c.loop-test.false)

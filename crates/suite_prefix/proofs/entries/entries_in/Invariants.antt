@@ -1,0 +1,12 @@
+use Rattle.std.proofs.Common.{◌≡◌, ◌-◌, ◌<◌, ◌++◌, map}
+use Rattle.std.specs.Prelude.{All, IsOk}
+use Rattle.suite_prefix.specs.Reading.{entries_in, entry_at, entry_from, many_at}
+use Rattle.suite_prefix.specs.declared.shapes.EntryShape.{EntryShape}
+use Rattle.suite_prefix.proofs.entries.entries_in.Given as goal
+
+abbrev pub invariant-loop-place : goal.invariant-loop-place
+invariant-loop-place l = record {
+  so_far : l.entries.items ++ map entry_from (entries_in (l.count - l.place) l.rest) ≡ map entry_from (entries_in l.count l.bytes);
+  whole : IsOk (many_at entry_at (l.count - l.place) l.rest);
+  known : All (λ (entry : EntryShape). entry.permissions < 8) (entries_in (l.count - l.place) l.rest);
+}

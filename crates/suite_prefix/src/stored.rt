@@ -1,0 +1,240 @@
+//! Copies kept as their bytes.
+
+ghost use Rattle.std.specs.Prelude.{◌≡◌, IfOk};
+ghost use Rattle.suite_prefix.specs.Bytes.{bytes_of, content_bytes};
+ghost use Rattle.suite_prefix.specs.Copies.{IsCopy};
+ghost use Rattle.suite_prefix.specs.Stored.{under};
+ghost use Rattle.suite_prefix.specs.code.Heads.{head_of};
+ghost use Rattle.suite_prefix.specs.code.Records.{IsRecord, copy_in};
+
+use crate::copies::{Prefix, PrefixKind, Replica};
+use crate::decoding::{content_from, decode};
+use crate::heads::HeadParts;
+use crate::reading::content_at;
+use crate::writing::{FORM, encode, put_prefix, room_for_prefix};
+use std::alloc::{AllocError, Global};
+use std::marker::Model;
+use suite_content::Content;
+
+/// A valid copy, kept as its bytes. What was read of them is kept beside them, to be shared when it is asked
+/// for again, and does not show. It stands on the heap, so that the copy is cheap to move.
+#[derive(Drop)]
+pub struct StoredCopy {
+    bytes: Vec<u8>,
+    read: Option<Box<Read>>,
+}
+
+/// What was read of the bytes of a copy: all that stands before the content, and the content where it was
+/// asked for.
+#[derive(Drop)]
+struct Read {
+    prefix: Prefix,
+    dver: u64,
+    content: Option<Content>,
+}
+
+impl Model for StoredCopy {
+    ghost use Rattle.std.specs.Prelude.{IfSome};
+    ghost use Rattle.suite_prefix.specs.declared.copies.Replica.{Replica};
+    ghost use Rattle.suite_prefix.specs.code.Records.{IsReadOf, IsRecord, copy_in};
+
+    ghost Value = { Replica };
+
+    ghost view = { λ stored. copy_in stored.bytes.items };
+
+    ghost invariant = { λ stored. IsRecord stored.bytes.items × IfSome stored.read (λ read. IsReadOf (copy_in stored.bytes.items) read.value) };
+}
+
+impl Clone for StoredCopy {
+    ghost use Rattle.std.specs.Prelude.{◌≡◌};
+
+    ghost is_clone = { λ stored copy. copy ≡ stored };
+
+    fn clone(&self) -> Result<StoredCopy, AllocError> {
+        let bytes = self.bytes.clone()?;
+        Ok(kept(bytes))
+    }
+}
+
+impl StoredCopy {
+    /// A valid copy.
+    pub fn new(alloc: Global, copy: &Replica) -> Result<StoredCopy, AllocError>
+        requires { IsCopy copy.now }
+        ensures { IfOk result (λ stored. stored ≡ copy.now) }
+    {
+        let bytes = encode(alloc, copy)?;
+        Ok(kept(bytes))
+    }
+
+    /// The copy under another prefix. The bytes of its content are taken as they stand.
+    pub fn under(&self, alloc: Global, prefix: &Prefix) -> Result<StoredCopy, AllocError>
+        requires { IsCopy (under prefix.now self.now) }
+        ensures { IfOk result (λ stored. stored ≡ under prefix.now self.now) }
+    {
+        let mut reps = [(0, 0); 255];
+        let (head, content) = self.parts(&mut reps);
+        if head.identity.kind.is_absent() {
+            let prefix = prefix.clone()?;
+            let content = Content::empty(alloc, prefix.kind.held());
+            let copy = Replica {
+                prefix,
+                dver: head.dver,
+                content,
+            };
+            return StoredCopy::new(alloc, &copy);
+        }
+        let room = room_for_prefix(prefix).saturating_add(content.len());
+        let mut left = Vec::with_capacity(alloc, room)?;
+        left.push(FORM)?;
+        put_prefix(&mut left, prefix)?;
+        left.extend_from_slice(&head.dver.to_be_bytes())?;
+        left.extend_from_slice(content)?;
+        Ok(kept(left))
+    }
+
+    /// The kind.
+    pub fn kind(&self) -> PrefixKind
+        ensures { result ≡ self.now.prefix.kind }
+    {
+        if let Some(read) = &self.read {
+            return read.prefix.kind;
+        }
+        let mut reps = [(0, 0); 255];
+        let (head, _) = self.parts(&mut reps);
+        head.identity.kind
+    }
+
+    /// The prefix, and the version of the content.
+    pub fn head(&self, alloc: Global) -> Result<(Prefix, u64), AllocError>
+        ensures prefix { IfOk result (λ head. head.0 ≡ self.now.prefix) }
+        ensures dver { IfOk result (λ head. head.1 ≡ self.now.dver) }
+    {
+        match &self.read {
+            Some(read) => {
+                let prefix = read.prefix.clone()?;
+                Ok((prefix, read.dver))
+            }
+            None => self.read_head(alloc),
+        }
+    }
+
+    /// The version of the content, and the content.
+    pub fn given(&self, alloc: Global) -> Result<(u64, Content), AllocError>
+        ensures dver { IfOk result (λ given. given.0 ≡ self.now.dver) }
+        ensures content { IfOk result (λ given. given.1 ≡ self.now.content) }
+    {
+        if let Some(read) = &self.read {
+            if let Some(content) = &read.content {
+                let content = content.clone()?;
+                return Ok((read.dver, content));
+            }
+        }
+        self.read_content(alloc)
+    }
+
+    /// Reads the prefix and the version of the content, where nobody did, and keeps them. The copy is the same.
+    pub fn keep_head(&mut self, alloc: Global) -> Result<(), AllocError>
+        ensures { self.new ≡ self.old }
+    {
+        if self.keeps_head() {
+            return Ok(());
+        }
+        let (prefix, dver) = self.read_head(alloc)?;
+        let read = Read {
+            prefix,
+            dver,
+            content: None,
+        };
+        let read = Box::new(alloc, read)?;
+        self.read = Some(read);
+        Ok(())
+    }
+
+    /// Reads all of it, where nobody did, and keeps it. The copy is the same.
+    pub fn keep_content(&mut self, alloc: Global) -> Result<(), AllocError>
+        ensures { self.new ≡ self.old }
+    {
+        if self.keeps_content() {
+            return Ok(());
+        }
+        let (prefix, dver) = self.head(alloc)?;
+        let (_, content) = self.read_content(alloc)?;
+        let read = Read {
+            prefix,
+            dver,
+            content: Some(content),
+        };
+        let read = Box::new(alloc, read)?;
+        self.read = Some(read);
+        Ok(())
+    }
+
+    /// Whether the prefix is kept beside the bytes.
+    pub fn keeps_head(&self) -> bool {
+        self.read.is_some()
+    }
+
+    /// Whether the content is kept beside the bytes.
+    pub fn keeps_content(&self) -> bool {
+        match &self.read {
+            Some(read) => read.content.is_some(),
+            None => false,
+        }
+    }
+
+    /// The bytes. It takes no memory.
+    pub fn as_bytes(&self) -> &[u8]
+        ensures bytes { result.now ≡ bytes_of self.now }
+        ensures valid { IsCopy self.now }
+    {
+        &self.bytes
+    }
+
+    /// The copy. Only memory keeps it from being read.
+    pub fn copy(&self, alloc: Global) -> Result<Replica, AllocError>
+        ensures { IfOk result (λ copy. copy ≡ self.now) }
+    {
+        match decode(alloc, self.as_bytes()) {
+            Ok(copy) => Ok(copy),
+            Err(_) => Err(AllocError),
+        }
+    }
+
+    /// What stands before the content, and the bytes of the content.
+    fn parts<'a>(&'a self, reps: &'a mut [(u8, u8); 255]) -> (HeadParts<'a>, &'a [u8])
+        ensures head { result.0 ≡ head_of self.now }
+        ensures content { result.1.now ≡ content_bytes self.now.content }
+        ensures valid { IsCopy self.now }
+    {
+        HeadParts::at(self.as_bytes(), reps).unwrap()
+    }
+
+    fn read_head(&self, alloc: Global) -> Result<(Prefix, u64), AllocError>
+        ensures prefix { IfOk result (λ head. head.0 ≡ self.now.prefix) }
+        ensures dver { IfOk result (λ head. head.1 ≡ self.now.dver) }
+    {
+        let mut reps = [(0, 0); 255];
+        let (head, _) = self.parts(&mut reps);
+        let prefix = head.prefix(alloc)?;
+        Ok((prefix, head.dver))
+    }
+
+    fn read_content(&self, alloc: Global) -> Result<(u64, Content), AllocError>
+        ensures dver { IfOk result (λ given. given.0 ≡ self.now.dver) }
+        ensures content { IfOk result (λ given. given.1 ≡ self.now.content) }
+    {
+        let mut reps = [(0, 0); 255];
+        let (head, rest) = self.parts(&mut reps);
+        let (shape, _) = content_at(head.identity.kind, rest).unwrap();
+        let content = content_from(alloc, &shape)?;
+        Ok((head.dver, content))
+    }
+}
+
+/// The copy with these bytes.
+fn kept(bytes: Vec<u8>) -> StoredCopy
+    requires { IsRecord bytes.items }
+    ensures { result ≡ copy_in bytes.items }
+{
+    StoredCopy { bytes, read: None }
+}
