@@ -1,10 +1,11 @@
 -- Outcomes at their places.
 use Rattle.std.proofs.Common.{◌≡◌, ◌≢◌, ℕ, zero, suc, ◌+◌, ◌<◌, true, false, List, [], ◌∷◌, ◌++◌, length, map, take, slice_set, subst, refl, ap, ◌∙◌, sym, arith}
-use Rattle.std.specs.Prelude.{All, Result, Ok, Err, IfOk, IfSome, is_some, Contains, slice_get, slice_index_or, Option, Some, None}
+use Rattle.std.specs.Prelude.{All, IfSome, is_some, Contains, slice_get, slice_index_or, Option, Some, None}
 use Rattle.std.proofs.lemmas.Option.{same_Some}
 use Rattle.std.proofs.lemmas.List.Elements.{All-cons, All-head, All-nil, All-tail}
 use Rattle.std.specs.List.{AllZip}
 use Rattle.server_lock.specs.Passes.{Held}
+use Rattle.txn_core.specs.Agents.{has_sense}
 use Rattle.agent_pool.specs.declared.work.Done.{Done}
 use Rattle.agent_pool.specs.declared.work.Seat.{Seat}
 use Rattle.agent_pool.specs.declared.work.Worked.{Worked}
@@ -48,6 +49,7 @@ place_filled was players agent before player jobs slots done named at by is all 
       by = by;
       told = subst (λ (n : NamedJob). IsTold player n.job done.ran.count done.ran.at) (sym same) is.told;
       since = is.since;
+      sense = subst (λ (n : NamedJob). has_sense player.agent.fixed n.job ≡ true) (sym same) is.sense;
     } in
     zip_set (IsFilled was players) jobs slots done.place named (Some outcome) all at one
 

@@ -1,6 +1,6 @@
 -- What an agent leaves in its transcript for a job.
 use Rattle.std.proofs.Common.{◌≡◌, ◌⊎◌, inl, inr, ℕ, ◌+◌, ◌-◌, ◌<◌, ◌≤◌, List, [], ◌∷◌, ◌++◌, true, false, refl, ap, ◌∙◌, sym, subst, arith, length, append_assoc, append-nil}
-use Rattle.std.specs.Prelude.{Option, Some, None, Result, Ok, Err, IfOk}
+use Rattle.std.specs.Prelude.{◌&&◌, nat_lt, Option, Some, None, Result, Ok, Err, IfOk}
 use Rattle.std.proofs.lemmas.List.{length-append}
 use Rattle.std.proofs.lemmas.Option.{same_Some}
 use Rattle.rep_core.specs.declared.reply.Reply.{Reply}
@@ -9,9 +9,10 @@ use Rattle.rep_core.specs.declared.stamped.Stamped.{Stamped}
 use Rattle.server_lock.specs.declared.miss.Miss.{Miss}
 use Rattle.server_lock.specs.declared.miss.Miss.TheVariants.{Lack, Stale}
 use Rattle.server_lock.specs.Passes.{Held, after_reply, front_at, sent_stamp}
-use Rattle.txn_core.specs.Agents.{begins as begins_job, next_of}
+use Rattle.std.proofs.lemmas.Bool.{and_parts}
+use Rattle.txn_core.specs.Doing.{Fixed}
+use Rattle.txn_core.specs.Agents.{Agent, begins as begins_job, has_sense, is_idle, max_jobs, next_of}
 use Rattle.txn_core.specs.Standing.{Standing}
-use Rattle.txn_core.specs.declared.ending.Ending.{Ending}
 use Rattle.txn_core.specs.declared.job.Job.{Job}
 use Rattle.run_certify.specs.declared.entry.Entry.{Entry}
 use Rattle.run_certify.specs.declared.entry.Entry.TheVariants.{Begun, Asked, Lacked, Forgot, Ended}
@@ -19,7 +20,7 @@ use Rattle.agent_pool.specs.declared.asking.Came.{Came}
 use Rattle.agent_pool.specs.declared.asking.Came.TheVariants as came
 use Rattle.agent_pool.specs.declared.asking.Told.{Told}
 use Rattle.agent_pool.specs.code.Steps.{AsksNobody, CannotGoOn, DidJob, DidMore, HasSeen, Hears, Leaves, RanTo, end_entry, told_by}
-use Rattle.agent_pool.specs.Transcripts.{Played, AreAsks, GoesOn, IsIdle, IsLonger, begins, is_ask, number_of}
+use Rattle.agent_pool.specs.Transcripts.{Played, AreAsks, GoesOn, IsLonger, begins, is_ask, number_of}
 use Rattle.agent_pool.proofs.Begins.{begins-append, goes-append}
 
 asks-append : (xs ys : List Entry) → AreAsks xs → AreAsks ys → AreAsks (xs ++ ys)
@@ -111,11 +112,11 @@ heard servers begun told old new p q (came.Ended ran) counted asks goes h =
     }
 
 ran_to : (job : Job) (old mid new : Played) (rest : List Entry) (what : Came) → number_of mid ≡ number_of old → mid.entries ≡ old.entries ++ Begun job ∷ [] → number_of new ≡ number_of mid → new.entries ≡ mid.entries ++ rest
-    → Leaves (length mid.entries) mid rest new what → RanTo job old new what
-ran_to job old mid new rest came.On same began number more leaves = tt
-ran_to job old mid new rest came.Stuck same began number more leaves = tt
-ran_to job old mid new rest came.Lacked same began number more leaves = tt
-ran_to job old mid new rest (came.Ended ran) same began number more leaves =
+    → Leaves (length mid.entries) mid rest new what → has_sense new.agent.fixed job ≡ true → RanTo job old new what
+ran_to job old mid new rest came.On same began number more leaves sense = tt
+ran_to job old mid new rest came.Stuck same began number more leaves sense = tt
+ran_to job old mid new rest came.Lacked same began number more leaves sense = tt
+ran_to job old mid new rest (came.Ended ran) same began number more leaves sense =
     let asked = leaves.0 in
     let ending = leaves.1 in
     let steps : length mid.entries + length asked - length mid.entries ≡ length asked = omega arith in
@@ -136,15 +137,21 @@ ran_to job old mid new rest (came.Ended ran) same began number more leaves =
       count,
       omega arith,
       leaves.6,
+      sense,
     )
+
+-- a job that begins has sense
+begins_sense : (fixed : Fixed) (agent : Agent) (job : Job) → begins_job fixed agent job ≡ true → has_sense fixed job ≡ true
+begins_sense fixed agent job is = (and_parts (is_idle agent.doing) (has_sense fixed job) (and_parts (is_idle agent.doing && has_sense fixed job) (nat_lt agent.count max_jobs) is).0).1
 
 -- a job was begun, and then more was done for it
 pub did_job : (servers : ℕ) (job : Job) (old mid new : Played) (p q : Held) (what : Came) → mid.agent.fixed ≡ old.agent.fixed → number_of mid ≡ number_of old → mid.entries ≡ old.entries ++ Begun job ∷ []
-    → DidMore servers (length mid.entries) mid new p q what → DidJob servers job old new p q what
-did_job servers job old mid new p q what fixed same began more = record {
+    → begins_job old.agent.fixed old.agent.state job ≡ true → DidMore servers (length mid.entries) mid new p q what → DidJob servers job old new p q what
+did_job servers job old mid new p q what fixed same began begins more = record {
   longer = longer_longer old mid new (record { fixed = fixed; number = same; rest = Begun job ∷ []; entries = began }) more.longer;
   went = more.went;
-  ran = ran_to job old mid new more.longer.rest what same began more.longer.number more.longer.entries more.leaves;
+  ran = ran_to job old mid new more.longer.rest what same began more.longer.number more.longer.entries more.leaves
+      (subst (λ (f : Fixed). has_sense f job ≡ true) (sym (more.longer.fixed ∙ fixed)) (begins_sense old.agent.fixed old.agent.state job begins));
   stuck = λ e. inr (more.stuck e);
 }
 

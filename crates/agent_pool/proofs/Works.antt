@@ -1,13 +1,12 @@
 -- What holds of a thread's work, as it goes on.
-use Rattle.std.proofs.Common.{◌≡◌, ℕ, zero, suc, ◌+◌, ◌≤◌, List, [], ◌∷◌, ◌++◌, false, length, map, refl, ap, ◌∙◌, sym, subst, arith, append_assoc, append-nil}
+use Rattle.std.proofs.Common.{◌≡◌, ℕ, zero, suc, ◌+◌, ◌≤◌, List, [], ◌∷◌, ◌++◌, true, false, length, refl, ap, ◌∙◌, sym, subst, arith, append_assoc, append-nil}
 use Rattle.std.specs.Prelude.{is_some, slice_get, Contains, Option, Some, None}
 use Rattle.std.proofs.lemmas.List.{length-append}
 use Rattle.std.proofs.lemmas.Option.{same_Some}
-use Rattle.server_lock.specs.Passes.{Held}
+use Rattle.txn_core.specs.Agents.{has_sense}
+use Rattle.txn_core.specs.Doing.{Fixed}
 use Rattle.txn_core.specs.declared.job.Job.{Job}
-use Rattle.run_certify.specs.declared.entry.Entry.{Entry}
 use Rattle.run_certify.specs.declared.entry.Entry.TheVariants.{Begun}
-use Rattle.agent_pool.specs.declared.asking.Came.{Came}
 use Rattle.agent_pool.specs.declared.asking.Came.TheVariants as came
 use Rattle.agent_pool.specs.declared.work.Done.{Done}
 use Rattle.agent_pool.specs.declared.work.Halt.{Halt}
@@ -18,7 +17,7 @@ use Rattle.agent_pool.specs.code.Starts.{IsWorkOf}
 use Rattle.agent_pool.specs.code.Steps.{DidJob, end_entry}
 use Rattle.agent_pool.specs.Pools.{job_numbers}
 use Rattle.agent_pool.specs.Transcripts.{Played, GoesOn, IsIdle, IsLonger, IsTold, begins, number_of}
-use Rattle.agent_pool.specs.code.Working.{AllDone, IsDone, IsHalted, IsWorked, RiseBetween}
+use Rattle.agent_pool.specs.code.Working.{AllDone, IsDone, IsHalted, RiseBetween}
 use Rattle.agent_pool.proofs.Begins.{begins-append, goes-append}
 use Rattle.agent_pool.proofs.Leaving.{longer_longer}
 
@@ -45,7 +44,8 @@ done_longer : (jobs : List NamedJob) (began : ℕ) (a b : Played) (ds : List Don
 done_longer jobs began a b [] longer all = tt
 done_longer jobs began a b (d ∷ ds) longer all =
     let one = all.0 in
-    (record { named = one.named; there = one.there; told = told_longer a b one.named.job d.ran.count d.ran.at longer one.told; since = one.since }, done_longer jobs began a b ds longer all.1)
+    let sense : has_sense b.agent.fixed one.named.job ≡ true = subst (λ (f : Fixed). has_sense f one.named.job ≡ true) (sym longer.fixed) one.sense in
+    (record { named = one.named; there = one.there; told = told_longer a b one.named.job d.ran.count d.ran.at longer one.told; since = one.since; sense = sense }, done_longer jobs began a b ds longer all.1)
 
 done_more : (jobs : List NamedJob) (began : ℕ) (a : Played) (ds : List Done) (d : Done) → AllDone jobs began a ds → IsDone jobs began a d → AllDone jobs began a (ds ++ d ∷ [])
 done_more jobs began a [] d all one = (one, tt)
@@ -113,7 +113,7 @@ works_more servers jobs seat w v d named old did same there before ran =
     let longer = did.longer in
     let began = begins seat.player.entries in
     let since : began ≤ d.ran.count = let more = ap begins old.longer.entries ∙ begins-append seat.player.entries old.longer.rest in let at = did.ran.1 in omega arith in
-    let one : IsDone jobs began v.player d = record { named = named; there = there; told = did.ran.0; since = since } in
+    let one : IsDone jobs began v.player d = record { named = named; there = there; told = did.ran.0; since = since; sense = did.ran.4 } in
     record {
       longer = longer_longer seat.player w.player v.player old.longer longer;
       went = goes-append old.longer.rest longer.rest seat.pass w.pass v.pass old.went did.went;

@@ -1,8 +1,9 @@
 -- What a pool did.
-use Rattle.std.specs.Prelude.{◌≡◌, ℕ, ◌+◌, ◌≤◌, List, [], ◌∷◌, All, length, map, Contains, slice_get, Option, Some}
+use Rattle.std.specs.Prelude.{◌≡◌, ℕ, ◌+◌, ◌≤◌, true, List, [], ◌∷◌, All, length, map, Contains, slice_get, Option, Some}
 use Rattle.std.specs.List.{AllZip}
 use Rattle.server_lock.specs.Counts.{passes_by}
 use Rattle.server_lock.specs.Passes.{Held}
+use Rattle.txn_core.specs.Agents.{has_sense}
 use Rattle.agent_pool.specs.declared.fault.PoolFault.{PoolFault}
 use Rattle.agent_pool.specs.declared.fault.PoolFault.TheVariants.{Double, Memory, Missing, Stranger}
 use Rattle.agent_pool.specs.declared.workshop.NamedJob.{NamedJob}
@@ -19,7 +20,7 @@ pub record IsOf (was players : List Played) (agent : ℕ) (before player : Playe
   pub new : number_of player ≡ agent
 
 -- The outcome is of this job, and its agent's transcript has the job as its begin of that count, and after that how it ended. The agent began it after
--- all that it had begun before.
+-- all that it had begun before, and the job has sense for it.
 pub record IsOutcome (was players : List Played) (named : NamedJob) (outcome : JobOutcome) : Type 0 where
   pub of : outcome.job ≡ named.number
   pub before : Played
@@ -27,6 +28,7 @@ pub record IsOutcome (was players : List Played) (named : NamedJob) (outcome : J
   pub by : IsOf was players outcome.agent before player
   pub told : IsTold player named.job outcome.count outcome.at
   pub since : begins before.entries ≤ outcome.count
+  pub sense : has_sense player.agent.fixed named.job ≡ true
 
 -- one outcome for each job, in their order
 abbrev pub AreOutcomes : (was players : List Played) → List NamedJob → List JobOutcome → Type 0

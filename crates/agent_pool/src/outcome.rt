@@ -24,7 +24,7 @@ pub fn ended<'a>(players: &'a [Player], outcome: &JobOutcome) -> Option<&'a Outc
     ensures { option_map (λ told. told.now) result ≡ ended_at players.now outcome.now }
 {
     match agent_of(players, outcome.agent) {
-        Some(player) => end_in(player.entries(), outcome.at),
+        Some(player) => end_at(player.entries(), outcome.at),
         None => None,
     }
 }
@@ -36,8 +36,8 @@ fn agent_of(players: &[Player], number: u8) -> Option<&Player>
     players.iter().find(|player| player.number() == number)
 }
 
-/// The end at a place of a transcript.
-fn end_in(entries: &[Entry], at: usize) -> Option<&Outcome>
+/// The end at a place of a transcript, if one is there.
+pub fn end_at(entries: &[Entry], at: usize) -> Option<&Outcome>
     ensures { option_map (λ told. told.now) result ≡ end_at entries.now at }
 {
     match entries.get(at) {

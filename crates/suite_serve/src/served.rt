@@ -4,9 +4,9 @@ ghost use Rattle.std.specs.Prelude.{◌≡◌, ◌++◌, ◌^◌, ◌<◌, OnOk,
 ghost use Rattle.suite_script.specs.Gathering.{Prints};
 ghost use Rattle.suite_serve.specs.Served.{end_in, items_in, job_lines, named_end, told_line};
 
-use agent_pool::JobOutcome;
+use agent_pool::{JobOutcome, end_at};
 use byte_streams::ByteOut;
-use run_certify::{Entry, Transcripts};
+use run_certify::Transcripts;
 use run_core::Outcome;
 use script_text::push_number;
 use server_lock::Histories;
@@ -105,10 +105,7 @@ fn ended<'a>(transcripts: &'a Transcripts, outcome: &JobOutcome) -> Option<&'a O
     ensures { option_map (λ told. told.now) result ≡ named_end transcripts.now outcome.now }
 {
     let transcript = transcripts.as_slice().get(usize::from(outcome.agent))?;
-    match transcript.as_slice().get(outcome.at) {
-        Some(Entry::Ended(told)) => Some(told),
-        _ => None,
-    }
+    end_at(transcript.as_slice(), outcome.at)
 }
 
 /// How many items histories have.

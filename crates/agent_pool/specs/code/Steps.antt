@@ -74,9 +74,11 @@ pub record DidMore (servers begun : ℕ) (old new : Played) (pass later : Held) 
   pub leaves : Leaves begun old longer.rest new what
   pub stuck : what ≡ came.Stuck → CannotGoOn servers new later
 
--- a job was begun and ended, where it was
+-- a job was begun and ended, where it was; it had sense for the agent
 abbrev pub RanTo : Job → Played → Played → Came → Type 0
-RanTo job old new (came.Ended ran) = IsTold new job ran.count ran.at × (ran.count ≡ begins old.entries) × (begins new.entries ≡ ran.count + 1) × IsIdle new
+RanTo job old new (came.Ended ran) =
+    IsTold new job ran.count ran.at × (ran.count ≡ begins old.entries) × (begins new.entries ≡ ran.count + 1) × IsIdle new
+    × (agents.has_sense new.agent.fixed job ≡ true)
 RanTo job old new _ = Unit {0}
 
 -- what an agent did with a job, and its pass, at so many servers; it gets stuck only where it cannot begin the job, or cannot go on

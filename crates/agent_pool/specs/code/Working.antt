@@ -1,6 +1,7 @@
 -- What a thread did.
-use Rattle.std.specs.Prelude.{◌≡◌, ℕ, ◌+◌, ◌≤◌, List, [], ◌∷◌, length, Contains, slice_get, Option, Some, None}
+use Rattle.std.specs.Prelude.{◌≡◌, ℕ, ◌+◌, ◌≤◌, true, List, [], ◌∷◌, length, Contains, slice_get, Option, Some, None}
 use Rattle.server_lock.specs.Passes.{Held}
+use Rattle.txn_core.specs.Agents.{has_sense}
 use Rattle.agent_pool.specs.declared.work.Done.{Done}
 use Rattle.agent_pool.specs.declared.work.Halt.{Halt}
 use Rattle.agent_pool.specs.declared.work.Halt.TheVariants.{Lacked, Strange, Stuck}
@@ -15,6 +16,7 @@ pub record IsDone (jobs : List NamedJob) (began : ℕ) (played : Played) (done :
   pub there : slice_get jobs done.place ≡ Some named
   pub told : IsTold played named.job done.ran.count done.ran.at
   pub since : began ≤ done.ran.count
+  pub sense : has_sense played.agent.fixed named.job ≡ true
 
 abbrev pub AllDone : List NamedJob → ℕ → Played → List Done → Type 0
 AllDone jobs began played [] = Unit {0}
