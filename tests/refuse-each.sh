@@ -9,13 +9,17 @@
 # Under `serve` a refusal ends a job otherwise, and later ones with it, and chance decides whose allocation is refused:
 # there the answer has to be status 0, with a line a job and what is certified, or status 4; never a mismatch.
 #
+# The first word `trace` stands for the program of `./suites trace`, which takes the words behind it.
+#
 # Without words: every command on every file of examples/, and what else the command line has, with counts at the end.
-# SUITES names another program, MOST another number of allocations to look at (default 2000), AGENTS of agents (default 4).
+# SUITES and TRACE name other programs, MOST another number of allocations to look at (default 2000), AGENTS of agents
+# (default 4).
 set -u
 here=$(cd "$(dirname "$0")/.." && pwd)
 program=${SUITES:-$here/crates/suites/out/suites}
+tracer=${TRACE:-$here/crates/trace/out/trace}
 most=${MOST:-2000}
-[ $# -ne 1 ] && [ -x "$program" ] || { sed -n '2s/^# /usage: /p' "$0" >&2; exit 2; }
+[ $# -ne 1 ] && [ -x "$program" ] && { [ "${2-trace}" != trace ] || [ -x "$tracer" ]; } || { sed -n '2s/^# /usage: /p' "$0" >&2; exit 2; }
 work=$(mktemp -d) || exit 2
 trap 'rm -rf "$work"' EXIT
 
@@ -49,10 +53,15 @@ is_served() {
 
 # Runs the words $2.. with the input $1, and with each allocation refused in turn.
 refuse_each() {
-    input=$1
+    input=$1 served=0
     shift
-    case $1 in serve) served=1 ;; *) served=0 ;; esac
-    "$program" "$@" < "$input" > "$work/full" 2> "$work/errors"
+    words=$*
+    case $1 in
+    serve) served=1 && set -- "$program" "$@" ;;
+    trace) shift && set -- "$tracer" "$@" ;;
+    *) set -- "$program" "$@" ;;
+    esac
+    "$@" < "$input" > "$work/full" 2> "$work/errors"
     full_status=$?
     commands=$((commands + 1))
     for reach in one all; do
@@ -62,12 +71,12 @@ refuse_each() {
             [ "$reach" = all ] && last=999999999
             rm -f "$work/mark"
             REFUSE_FROM=$number REFUSE_TO=$last REFUSE_MARK=$work/mark LD_PRELOAD=$work/refuse.so \
-                "$program" "$@" < "$input" > "$work/given" 2> "$work/errors"
+                "$@" < "$input" > "$work/given" 2> "$work/errors"
             status=$?
             [ -e "$work/mark" ] || break
             if ! is_allowed "$status"; then
                 differ=$((differ + 1))
-                echo "$*: allocation $number ($reach): status $status: $(head -c 200 "$work/given") $(head -c 200 "$work/errors")"
+                echo "$words: allocation $number ($reach): status $status: $(head -c 200 "$work/given") $(head -c 200 "$work/errors")"
             elif [ "$status" -eq 4 ]; then
                 memory=$((memory + 1))
             elif cmp -s "$work/given" "$work/full"; then
@@ -79,7 +88,7 @@ refuse_each() {
         done
         told="$memory times status 4, $whole times the full output"
         [ "$served" -eq 1 ] && told="$told, $other times other ends of jobs"
-        echo "$* < ${input##*/}: $reach refused: $((number - 1)) allocations, $told"
+        echo "$words < ${input##*/}: $reach refused: $((number - 1)) allocations, $told"
         refused=$((refused + number - 1)) memories=$((memories + memory)) wholes=$((wholes + whole)) others=$((others + other))
     done
 }
@@ -92,12 +101,16 @@ else
         case ${folder##*/} in
         acl) refuse_each "$input" acl user:lisa=1001 ;;
         serve) refuse_each "$input" serve --agents "${AGENTS:-4}" ;;
+        play)
+            refuse_each "$input" play
+            refuse_each "$input" trace
+            ;;
         *) refuse_each "$input" "${folder##*/}" ;;
         esac
     done
     echo 'g:toolies:rw,u:lisa:rw,u::wr,g::r,o::r,m::r' > "$work/list"
     refuse_each "$work/list" acl user:lisa=1001 group:toolies=200
-    for command in acl table play 'serve --agents 1' 'acl no' 'acl --help' --help no; do
+    for command in acl table play 'serve --agents 1' trace 'acl no' 'acl --help' --help no 'trace no' 'trace --help'; do
         refuse_each /dev/null $command
     done
     echo "$commands commands, $refused refusals: $memories times status 4, $wholes times the full output, $others times other ends of jobs, $differ differ"
