@@ -1,13 +1,13 @@
 -- Intentions that are kept as what they leave, seen as intentions.
 use Rattle.std.proofs.Common.{◌≡◌, ℕ, ◌==◌, ◌+◌, ◌≤◌, ◌<◌, Bool, true, false, cond, not, get_or, filter, List, [], ◌∷◌, length, map, Option, Some, None, refl, sym, ap, subst, ◌∙◌, ⊎_elim, ◌⊎◌, inl, inr, arith}
-use Rattle.std.specs.Prelude.{is_some, option_map, count_by, unwrap_or, IsTrue, ◌||◌, ◌&&◌}
-use Rattle.std.specs.List.{list_all, list_any, fold}
+use Rattle.std.specs.Prelude.{is_some, option_map, count_by, unwrap_or}
+use Rattle.std.specs.List.{fold}
 use Rattle.std.specs.List.Sorted.{IsStrictlySortedBy}
 use Rattle.std.specs.Ordering.{nat_cmp, match_ordering}
 use Rattle.std.specs.declared.cmp.Ordering.TheVariants as ord
 use Rattle.std.specs.BTreeMap.{is_at}
 use Rattle.std.specs.Map.{keys_of}
-use Rattle.std.proofs.lemmas.Bool.{cases_Bool, and_parts, false≢true, eqb-true, eq-eqb}
+use Rattle.std.proofs.lemmas.Bool.{cases_Bool, false≢true, eqb-true, eq-eqb}
 use Rattle.std.proofs.lemmas.Map.Entries.{lookup_head, lookup_tail}
 use Rattle.std.proofs.lemmas.Map.Keys.{sorted_tail}
 use Rattle.rep_core.proofs.Intentions.{apart_behind}

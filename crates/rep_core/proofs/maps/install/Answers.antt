@@ -1,17 +1,16 @@
-use Rattle.std.proofs.Common.{rules, ◌≡◌, ℕ, ◌<◌, ◌≤◌, List, true, false, get_or, length, not, Some, refl, ap, sym, subst, ◌∙◌, arith}
+use Rattle.std.proofs.Common.{rules, ◌≡◌, ℕ, ◌<◌, ◌≤◌, true, false, get_or, length, not, Some, refl, ap, sym, subst, ◌∙◌, arith}
 use Rattle.std.specs.List.{list_all}
 use Rattle.std.specs.Prelude.{IfSome}
 use Rattle.std.specs.Ordering.{nat_cmp}
 use Rattle.sorted_map.specs.SortedMap.{get, insert, remove}
 use Rattle.vote_core.specs.Quorums.{Configuration}
-use Rattle.suite_prefix.specs.declared.copies.Replica.{Replica}
 use Rattle.rep_core.specs.Intentions.{Intention}
 use Rattle.rep_core.specs.declared.intention.Planned.{Planned}
 use Rattle.rep_core.specs.Store.{with_taken}
 use Rattle.rep_core.specs.code.Planning.{Leaves, intention_in, intentions_in}
 use Rattle.rep_core.proofs.Intentions.{is_of}
 use Rattle.rep_core.proofs.Installing.{has_at, length-taken, passed-taken, others-taken, with_copies-taken, with_copies-other, passed-other, all_passed}
-use Rattle.rep_core.proofs.Planned.{at_in, becomes, get_in, leaves_taken, length_in, remove_in, rising_in}
+use Rattle.rep_core.proofs.Planned.{at_in, becomes, leaves_taken, length_in, remove_in, rising_in}
 use Rattle.rep_core.proofs.maps.install.Goals as goal
 
 pub loop-place-init : goal.loop-place-init

@@ -1,4 +1,4 @@
-use Rattle.std.proofs.Common.{rules, ◌≡◌, [], subst, sym, ap, ◌∙◌}
+use Rattle.std.proofs.Common.{rules, ◌≡◌, [], subst, sym}
 use Rattle.suite_content.specs.Contents.{empty_content}
 use Rattle.suite_content.specs.declared.content.Content.{Content}
 use Rattle.suite_prefix.specs.Copies.{IsCopy, held_by}

@@ -6,7 +6,7 @@ use Rattle.rep_core.specs.code.Planning.{Leaves, intentions_in, planned_of, with
 use Rattle.rep_core.specs.Store.{Store, intended, is_keep, is_sound_part, overfills, with_intentions}
 use Rattle.rep_core.specs.code.StoreFields.{store_of}
 use Rattle.rep_core.proofs.Intentions.{nothing_taken}
-use Rattle.rep_core.proofs.Planned.{few_planned, leaves_planned, length_in, planned_kept, rising_in}
+use Rattle.rep_core.proofs.Planned.{few_planned, leaves_planned, planned_kept, rising_in}
 use Rattle.rep_core.proofs.Soundness.{sound_once_intended}
 use Rattle.rep_core.proofs.store.Store.intend.Goals as goal
 

@@ -1,4 +1,4 @@
-use Rattle.std.proofs.Common.{rules, ◌≡◌, subst, sym, ap, ◌∙◌}
+use Rattle.std.proofs.Common.{rules, ◌≡◌, subst, sym}
 use Rattle.suite_prefix.specs.Copies.{IsCopy}
 use Rattle.suite_prefix.specs.Copies.{PrefixFits}
 use Rattle.suite_prefix.specs.TestsExact.{CopyFits}
