@@ -1,6 +1,6 @@
 -- Outcomes stay apart.
-use Rattle.std.proofs.Common.{◌≡◌, ◌≢◌, ◌⊎◌, ⊎_elim, inl, inr, ℕ, zero, suc, ◌+◌, ◌<◌, ◌≤◌, List, [], ◌∷◌, ◌++◌, length, map, take, slice_set, subst, refl, ap, ◌∙◌, sym, arith}
-use Rattle.std.specs.Prelude.{Contains, slice_get, slice_index_or, Option, Some, None}
+use Rattle.std.proofs.Common.{◌≡◌, ◌≢◌, ◌⊎◌, ⊎_elim, inl, inr, ℕ, zero, suc, ◌+◌, ◌<◌, ◌≤◌, List, [], ◌∷◌, ◌++◌, map, take, slice_set, subst, refl, ap, ◌∙◌, sym, arith}
+use Rattle.std.specs.Prelude.{Contains, slice_get, Option, Some, None}
 use Rattle.std.proofs.lemmas.Option.{same_Some, slice_get-get_or}
 use Rattle.std.proofs.lemmas.List.{length-take, get_or-take}
 use Rattle.std.proofs.lemmas.List.Elements.{Contains-append_left, Contains-append_right}
@@ -8,7 +8,7 @@ use Rattle.agent_pool.specs.declared.work.Done.{Done}
 use Rattle.agent_pool.specs.declared.outcome.JobOutcome.{JobOutcome}
 use Rattle.agent_pool.specs.code.Working.{RiseBetween}
 use Rattle.agent_pool.specs.Pools.{AreApart}
-use Rattle.agent_pool.specs.code.Filled.{AreApartIn, AreBelow, AreNone, AreOfThese, IsPut, StayApart}
+use Rattle.agent_pool.specs.code.Filled.{AreApartIn, AreBelow, AreNone, AreOfThese, IsPut}
 use Rattle.agent_pool.specs.Seats.{AreDistinct}
 
 same_or : (j i : ℕ) → (j ≡ i) ⊎ (j ≢ i)

@@ -1,10 +1,9 @@
 -- Begins of a transcript, and what a pass does beside it.
-use Rattle.std.proofs.Common.{◌≡◌, ℕ, ◌+◌, ◌-◌, List, [], ◌∷◌, ◌++◌, true, refl, ap, ◌∙◌, sym, subst, arith, length, append_assoc}
-use Rattle.std.specs.List.{AllByRecursion}
+use Rattle.std.proofs.Common.{◌≡◌, ◌+◌, List, [], ◌∷◌, ◌++◌, subst, arith}
 use Rattle.server_lock.specs.Passes.{Held, after_item}
 use Rattle.run_certify.specs.declared.entry.Entry.{Entry}
 use Rattle.run_certify.specs.declared.entry.Entry.TheVariants.{Begun, Asked, Lacked, Forgot, Ended}
-use Rattle.agent_pool.specs.Transcripts.{AreAsks, GoesOn, begins, is_ask}
+use Rattle.agent_pool.specs.Transcripts.{GoesOn, begins}
 
 pub begins-append : (xs ys : List Entry) → begins (xs ++ ys) ≡ begins xs + begins ys
 begins-append [] ys = omega arith

@@ -1,6 +1,6 @@
 -- Outcomes at their places.
 use Rattle.std.proofs.Common.{◌≡◌, ◌≢◌, ℕ, zero, suc, ◌+◌, ◌<◌, true, false, List, [], ◌∷◌, ◌++◌, length, map, take, slice_set, subst, refl, ap, ◌∙◌, sym, arith}
-use Rattle.std.specs.Prelude.{All, Result, Ok, Err, IfOk, IfSome, is_some, Contains, slice_get, slice_index_or, Option, Some, None}
+use Rattle.std.specs.Prelude.{All, IfSome, is_some, Contains, slice_get, slice_index_or, Option, Some, None}
 use Rattle.std.proofs.lemmas.Option.{same_Some}
 use Rattle.std.proofs.lemmas.List.Elements.{All-cons, All-head, All-nil, All-tail}
 use Rattle.std.specs.List.{AllZip}

@@ -1,5 +1,5 @@
 -- What an agent keeps: its number, and its count until it begins a job. At an ending it is idle.
-use Rattle.std.proofs.Common.{◌≡◌, ◌≢◌, ℕ, ◌+◌, Bool, true, false, refl, ap, ◌∙◌, sym}
+use Rattle.std.proofs.Common.{◌≡◌, ◌≢◌, ℕ, ◌+◌, Bool, true, false, refl, ap}
 use Rattle.std.specs.Prelude.{Option, Some, None, if◌then◌else◌}
 use Rattle.rep_core.specs.declared.request.Request.{Request}
 use Rattle.txn_core.specs.declared.ending.Ending.{Ending}

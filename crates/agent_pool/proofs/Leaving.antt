@@ -11,7 +11,6 @@ use Rattle.server_lock.specs.declared.miss.Miss.TheVariants.{Lack, Stale}
 use Rattle.server_lock.specs.Passes.{Held, after_reply, front_at, sent_stamp}
 use Rattle.txn_core.specs.Agents.{begins as begins_job, next_of}
 use Rattle.txn_core.specs.Standing.{Standing}
-use Rattle.txn_core.specs.declared.ending.Ending.{Ending}
 use Rattle.txn_core.specs.declared.job.Job.{Job}
 use Rattle.run_certify.specs.declared.entry.Entry.{Entry}
 use Rattle.run_certify.specs.declared.entry.Entry.TheVariants.{Begun, Asked, Lacked, Forgot, Ended}
@@ -19,7 +18,7 @@ use Rattle.agent_pool.specs.declared.asking.Came.{Came}
 use Rattle.agent_pool.specs.declared.asking.Came.TheVariants as came
 use Rattle.agent_pool.specs.declared.asking.Told.{Told}
 use Rattle.agent_pool.specs.code.Steps.{AsksNobody, CannotGoOn, DidJob, DidMore, HasSeen, Hears, Leaves, RanTo, end_entry, told_by}
-use Rattle.agent_pool.specs.Transcripts.{Played, AreAsks, GoesOn, IsIdle, IsLonger, begins, is_ask, number_of}
+use Rattle.agent_pool.specs.Transcripts.{Played, AreAsks, GoesOn, IsLonger, begins, is_ask, number_of}
 use Rattle.agent_pool.proofs.Begins.{begins-append, goes-append}
 
 asks-append : (xs ys : List Entry) → AreAsks xs → AreAsks ys → AreAsks (xs ++ ys)

@@ -1,5 +1,5 @@
 -- A pool of what agents did.
-use Rattle.std.proofs.Common.{◌≡◌, ℕ, ◌+◌, List, ◌++◌, subst, ◌∙◌, sym, ap}
+use Rattle.std.proofs.Common.{◌+◌, List, subst, ◌∙◌, sym, ap}
 use Rattle.std.specs.Prelude.{All, Result, Ok, Err, IfOk}
 use Rattle.std.specs.List.{AllZip}
 use Rattle.server_lock.specs.Passes.{Held}

@@ -1,6 +1,6 @@
 -- Which agents can work with which passes: those of a start, a part of them, and those that come back with others that stayed behind.
 use Rattle.std.proofs.Common.{◌≡◌, ◌≢◌, ◌⊎◌, ⊎_elim, inl, inr, ℕ, zero, suc, ◌+◌, ◌<◌, ◌≤◌, List, [], ◌∷◌, ◌++◌, refl, ap, ◌∙◌, sym, subst, arith, append_assoc, append-nil}
-use Rattle.std.specs.Prelude.{All, slice_get, Some, None}
+use Rattle.std.specs.Prelude.{All, ◌↔◌, slice_get, Some, None}
 use Rattle.std.specs.List.{AllZip}
 use Rattle.std.proofs.lemmas.Option.{same_Some}
 use Rattle.std.proofs.lemmas.List.Elements.{All-cons, All-head, All-nil, All-tail}
@@ -164,3 +164,14 @@ ready_parts passes x xs ready = record {
     have = All-tail (HasPass passes) x xs ready.have;
   };
 }
+
+-- who can work beside those after it: what is so of these is so of all
+pub ready_on : (passes : List Held) (x : Played) (later rest all : List Played) → rest ≡ x ∷ later → IsIdle x → HasPass passes x → IsOther later (Some (number_of x)) → (AreReady passes rest ↔ AreReady passes all) → (AreReady passes later ↔ AreReady passes all)
+ready_on passes x later rest all split idle has other same = (
+  λ ready. same.0 (subst (λ (ps : List Played). AreReady passes ps) (sym split) (ready_cons passes x later idle has other ready)),
+  λ ready. (ready_parts passes x later (subst (λ (ps : List Played). AreReady passes ps) split (same.1 ready))).rest,
+)
+
+-- what is so of all is so of these, and of the first of them
+pub ready_all : (passes : List Held) (x : Played) (later rest all : List Played) → rest ≡ x ∷ later → (AreReady passes rest ↔ AreReady passes all) → AreReady passes all → Parts passes x later
+ready_all passes x later rest all split same ready = ready_parts passes x later (subst (λ (ps : List Played). AreReady passes ps) split (same.1 ready))

@@ -1,9 +1,9 @@
 -- The passes that come back.
-use Rattle.std.proofs.Common.{◌≡◌, ◌≢◌, ℕ, zero, suc, ◌+◌, true, false, cond, List, [], ◌∷◌, ◌++◌, length, map, subst, refl, ap, ◌∙◌, sym, arith, append-nil}
-use Rattle.std.specs.Prelude.{All, Option, Some, None}
+use Rattle.std.proofs.Common.{◌≡◌, ℕ, List, [], ◌∷◌, ◌++◌, refl, ap, ◌∙◌, sym, append-nil}
+use Rattle.std.specs.Prelude.{Option, Some}
 use Rattle.std.specs.List.{AllZip}
 use Rattle.std.proofs.lemmas.List.Elements.{filter-append}
-use Rattle.server_lock.specs.Counts.{passes_by, seat_of}
+use Rattle.server_lock.specs.Counts.{passes_by}
 use Rattle.server_lock.specs.Passes.{Held, after_item}
 use Rattle.run_certify.specs.declared.entry.Entry.{Entry}
 use Rattle.run_certify.specs.declared.entry.Entry.TheVariants.{Begun, Asked, Lacked, Forgot, Ended}
@@ -14,8 +14,7 @@ use Rattle.agent_pool.specs.code.Filled.{passes_of, players_of}
 use Rattle.agent_pool.specs.Seats.{AreDistinct, IsOther, WentOn, numbers_of, passes_for}
 use Rattle.agent_pool.specs.code.Seated.{AreSeated, IsSeated}
 use Rattle.agent_pool.specs.code.Starts.{IsWorkOf}
-use Rattle.agent_pool.specs.Transcripts.{Played, GoesOn, IsLonger, number_of}
-use Rattle.agent_pool.specs.code.Working.{IsWorked}
+use Rattle.agent_pool.specs.Transcripts.{Played, GoesOn, number_of}
 use Rattle.agent_pool.proofs.Seating.{AreApartFrom, apart_from, other_cons, own_cons}
 
 goes_agent : (entries : List Entry) (a b : Held) → GoesOn entries a b → b.agent ≡ a.agent

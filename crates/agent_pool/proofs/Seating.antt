@@ -1,11 +1,10 @@
 -- Agents with their passes, which are taken out and come back.
-use Rattle.std.proofs.Common.{◌≡◌, ◌≢◌, ℕ, zero, suc, ◌+◌, ◌-◌, ◌<◌, ◌≤◌, Bool, true, false, true≢false, cond, List, [], ◌∷◌, ◌++◌, length, map, take, drop, subst, refl, ap, ◌∙◌, sym, arith, append_assoc, append-nil}
+use Rattle.std.proofs.Common.{◌≡◌, ◌≢◌, ℕ, zero, suc, ◌+◌, ◌-◌, ◌<◌, Bool, true, false, cond, List, [], ◌∷◌, ◌++◌, length, take, drop, subst, refl, ap, ◌∙◌, sym, arith}
 use Rattle.std.specs.Prelude.{All, slice_get, slice_index_or, Option, Some, None, ◌==◌}
-use Rattle.std.specs.List.{AllZip, filter, remove}
-use Rattle.std.proofs.lemmas.Option.{same_Some}
-use Rattle.std.proofs.lemmas.Bool.{eqb-true, eq-eqb, ne_eqb}
-use Rattle.std.proofs.lemmas.List.Elements.{All-head, All-tail, filter-append}
-use Rattle.server_lock.specs.Counts.{passes_at, passes_by, seat_of}
+use Rattle.std.specs.List.{AllZip, remove}
+use Rattle.std.proofs.lemmas.Bool.{eq-eqb, ne_eqb}
+use Rattle.std.proofs.lemmas.List.Elements.{All-head, All-tail}
+use Rattle.server_lock.specs.Counts.{passes_by, seat_of}
 use Rattle.server_lock.specs.Passes.{Held}
 use Rattle.agent_pool.specs.declared.work.Seat.{Seat}
 use Rattle.agent_pool.specs.Seats.{AreDistinct, HasPass, IsOther, numbers_of, passes_for}

@@ -1,13 +1,10 @@
 -- What holds of a thread's work, as it goes on.
-use Rattle.std.proofs.Common.{◌≡◌, ℕ, zero, suc, ◌+◌, ◌≤◌, List, [], ◌∷◌, ◌++◌, false, length, map, refl, ap, ◌∙◌, sym, subst, arith, append_assoc, append-nil}
+use Rattle.std.proofs.Common.{◌≡◌, ℕ, zero, suc, ◌+◌, ◌≤◌, List, [], ◌∷◌, ◌++◌, false, length, refl, ap, ◌∙◌, sym, subst, arith, append_assoc, append-nil}
 use Rattle.std.specs.Prelude.{is_some, slice_get, Contains, Option, Some, None}
 use Rattle.std.proofs.lemmas.List.{length-append}
 use Rattle.std.proofs.lemmas.Option.{same_Some}
-use Rattle.server_lock.specs.Passes.{Held}
 use Rattle.txn_core.specs.declared.job.Job.{Job}
-use Rattle.run_certify.specs.declared.entry.Entry.{Entry}
 use Rattle.run_certify.specs.declared.entry.Entry.TheVariants.{Begun}
-use Rattle.agent_pool.specs.declared.asking.Came.{Came}
 use Rattle.agent_pool.specs.declared.asking.Came.TheVariants as came
 use Rattle.agent_pool.specs.declared.work.Done.{Done}
 use Rattle.agent_pool.specs.declared.work.Halt.{Halt}
@@ -18,7 +15,7 @@ use Rattle.agent_pool.specs.code.Starts.{IsWorkOf}
 use Rattle.agent_pool.specs.code.Steps.{DidJob, end_entry}
 use Rattle.agent_pool.specs.Pools.{job_numbers}
 use Rattle.agent_pool.specs.Transcripts.{Played, GoesOn, IsIdle, IsLonger, IsTold, begins, number_of}
-use Rattle.agent_pool.specs.code.Working.{AllDone, IsDone, IsHalted, IsWorked, RiseBetween}
+use Rattle.agent_pool.specs.code.Working.{AllDone, IsDone, IsHalted, RiseBetween}
 use Rattle.agent_pool.proofs.Begins.{begins-append, goes-append}
 use Rattle.agent_pool.proofs.Leaving.{longer_longer}
 

@@ -1,6 +1,5 @@
 -- The passes of a pool's agents.
 use Rattle.std.specs.Prelude.{◌≡◌, ◌≢◌, ℕ, List, [], ◌∷◌, ◌++◌, All, map, slice_get, Option, Some}
-use Rattle.std.specs.List.{AllZip}
 use Rattle.server_lock.specs.Counts.{passes_by}
 use Rattle.server_lock.specs.Passes.{Held}
 use Rattle.agent_pool.specs.Transcripts.{Played, GoesOn, IsIdle, IsLonger, number_of}

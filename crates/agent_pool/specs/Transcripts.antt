@@ -1,5 +1,5 @@
 -- Agents with their transcripts.
-use Rattle.std.specs.Prelude.{◌≡◌, ℕ, zero, suc, ◌+◌, ◌-◌, ◌≤◌, ◌<◌, Bool, true, false, List, [], ◌∷◌, ◌++◌, All, length}
+use Rattle.std.specs.Prelude.{◌≡◌, ℕ, zero, suc, ◌+◌, ◌≤◌, ◌<◌, Bool, true, false, List, [], ◌∷◌, ◌++◌, length}
 use Rattle.suite_prefix.specs.SettingsRules.{Opening}
 use Rattle.server_lock.specs.Passes.{Held, after_item, front_at, sent_stamp}
 use Rattle.txn_core.specs.declared.ending.Ending.{Ending}

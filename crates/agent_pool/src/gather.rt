@@ -161,7 +161,8 @@ fn place_one(
     requires { length slots.old.items ≡ length jobs.now }
     ensures filled { OnOk result ((was players : List Played) (before player : Played) → IsOf was players agent before player
         → IsDone jobs.now (begins before.entries) player done → KeepFilled jobs.now was players slots.old.items slots.new.items) }
-    ensures put { OnOk result ((job : ℕ) × IsPut slots.old.items done.place (record { job = job; agent = agent; count = done.ran.count; at = done.ran.at }) slots.new.items) }
+    ensures put { OnOk result ((job : ℕ) × IsPut slots.old.items done.place
+        (record { job = job; agent = agent; count = done.ran.count; at = done.ran.at }) slots.new.items) }
     ensures long { length slots.new.items ≡ length slots.old.items }
     ensures fault { IfErr result (IsFaultOf jobs.now) }
     ensures double { (job : ℕ) → result ≡ Err (Double job) → slice_get slots.old.items done.place ≢ Some None }

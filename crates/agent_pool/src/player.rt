@@ -147,7 +147,8 @@ impl Player {
 /// What an agent asks next, and of which of these servers: nothing, where it is idle, or where there is no such
 /// server.
 fn asked_next(agent: &Agent, servers: &Servers) -> Result<Option<(u8, Request)>, AllocError>
-    ensures some { IfOk result (λ asked. IfSome asked (λ asked. (asked.0 < servers.now.servers) × (agents.next_of agent.now.fixed agent.now.state ≡ Some asked))) }
+    ensures some { IfOk result (λ asked. IfSome asked (λ asked. (asked.0 < servers.now.servers)
+        × (agents.next_of agent.now.fixed agent.now.state ≡ Some asked))) }
     ensures none { result ≡ Ok None → AsksNobody servers.now.servers (agents.next_of agent.now.fixed agent.now.state) }
 {
     let Some((server, request)) = agent.next()? else {

@@ -67,7 +67,7 @@ pub(crate) fn begin_thread<'s, E, R: Threads + Wait + Sync, G: Gate + Sync>(
         {
             let seat = Seat { player, pass };
             if refused.load(Ordering::SeqCst) == number {
-                return Worked::new(alloc, seat, jobs);
+                return Worked::new(alloc, seat);
             }
             let shop = Workshop {
                 alloc,

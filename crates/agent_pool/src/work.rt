@@ -1,6 +1,6 @@
 //! What a thread does: it takes jobs, and has its agent carry them out.
 
-ghost use Rattle.std.specs.Prelude.{◌≡◌, ◌≤◌, false, length, Some};
+ghost use Rattle.std.specs.Prelude.{◌≡◌, ◌≤◌, List, false, length, Some};
 ghost use Rattle.crossbeam_channel.specs.Claims.{view, IsSeatAt};
 ghost use Rattle.crossbeam_channel.specs.Ends.{receives_on};
 ghost use Rattle.agent_pool.specs.code.Starts.{IsWorkOf};
@@ -51,12 +51,11 @@ pub struct Worked {
 }
 
 impl Worked {
-    /// It did nothing yet.
-    pub(crate) fn new(alloc: Global, seat: Seat, jobs: &[NamedJob]) -> Worked
+    /// It did nothing yet, whatever jobs there are.
+    pub(crate) fn new(alloc: Global, seat: Seat) -> Worked
         requires { IsIdle seat.player }
-        ensures { IsWorkOf jobs.now seat result }
+        ensures { (jobs : List NamedJob) → IsWorkOf jobs seat result }
     {
-        let _jobs = jobs.len();
         let Seat { player, pass } = seat;
         Worked {
             player,
@@ -189,7 +188,7 @@ pub(crate) fn work<R: Wait, G: Gate>(
     ensures { IsWorkOf shop.now.jobs.now seat result }
 {
     let was = Snapshot::of(&seat);
-    let mut worked = Worked::new(shop.alloc, seat, shop.jobs);
+    let mut worked = Worked::new(shop.alloc, seat);
     for _ in rt.forever() {
         match take(rt, shop.receiver, &mut ticket) {
             Ok(Item::Job(place)) => worked = worked.carry_out(rt, shop, place, &was),

@@ -1,10 +1,9 @@
 -- What is put together of what agents did.
-use Rattle.std.specs.Prelude.{◌≡◌, ◌≢◌, ℕ, ◌≤◌, List, [], ◌++◌, All, length, Option, Some, None}
+use Rattle.std.specs.Prelude.{◌≡◌, ◌≢◌, ℕ, ◌≤◌, List, [], ◌++◌, All, length, Some, None}
 use Rattle.std.specs.List.{AllZip}
 use Rattle.std.specs.Vec.{vec_capacity}
 use Rattle.server_lock.specs.Passes.{Held}
 use Rattle.agent_pool.specs.declared.gather.Room.{Room}
-use Rattle.agent_pool.specs.declared.outcome.JobOutcome.{JobOutcome}
 use Rattle.agent_pool.specs.declared.pool.Pool.{Pool}
 use Rattle.agent_pool.specs.declared.work.Halt.TheVariants.{Lacked}
 use Rattle.agent_pool.specs.declared.work.Seat.{Seat}

@@ -1,7 +1,7 @@
-use Rattle.std.proofs.Common.{◌≡◌, ◌+◌, List, ◌∙◌, refl, sym, subst, ap, rules, arith, length, take, ◌++◌, ◌∷◌, []}
+use Rattle.std.proofs.Common.{◌≡◌, List, ◌∙◌, refl, sym, subst, ap, rules, arith, length, take, ◌++◌, ◌∷◌, []}
 use Rattle.std.proofs.lemmas.List.{take_all}
 use Rattle.std.specs.Prelude.{Contains, Some, slice_get, slice_index_or}
-use Rattle.agent_pool.specs.code.Filled.{AreApartIn, AreOfThese, done_in, players_of, sitting}
+use Rattle.agent_pool.specs.code.Filled.{AreOfThese, done_in, players_of, sitting}
 use Rattle.agent_pool.specs.declared.work.Done.{Done}
 use Rattle.agent_pool.specs.Seats.{numbers_of}
 use Rattle.agent_pool.specs.code.Working.{AllDone, RiseBetween}

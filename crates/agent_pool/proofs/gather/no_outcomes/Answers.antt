@@ -1,4 +1,4 @@
-use Rattle.std.proofs.Common.{◌≡◌, List, ◌∷◌, [], sym, subst, ap, ◌∙◌, arith, length}
+use Rattle.std.proofs.Common.{List, ◌∷◌, [], sym, subst, ap, arith, length}
 use Rattle.std.proofs.lemmas.List.{length-append}
 use Rattle.std.specs.Prelude.{Option, None}
 use Rattle.agent_pool.specs.declared.outcome.JobOutcome.{JobOutcome}

@@ -1,4 +1,4 @@
-use Rattle.std.proofs.Common.{◌≡◌, List, ◌∙◌, ap, sym, subst, map, arith, take, length}
+use Rattle.std.proofs.Common.{◌≡◌, List, ◌∙◌, ap, sym, subst, map, arith, length}
 use Rattle.std.proofs.lemmas.List.{length-map, take_all}
 use Rattle.std.specs.Prelude.{Option, Some}
 use Rattle.std.specs.List.{AllZip}

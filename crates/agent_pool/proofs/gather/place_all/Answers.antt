@@ -1,10 +1,8 @@
-use Rattle.std.proofs.Common.{rules, ◌≡◌, ◌∙◌, ap, refl, arith, ◌+◌, ℕ, List}
-use Rattle.std.proofs.lemmas.List.{drop_more, drop_all}
-use Rattle.std.specs.Prelude.{Option}
-use Rattle.agent_pool.specs.declared.outcome.JobOutcome.{JobOutcome}
+use Rattle.std.proofs.Common.{rules, ◌≡◌, ◌∙◌, refl, arith, ◌+◌}
+use Rattle.std.proofs.lemmas.List.{drop_more}
 use Rattle.agent_pool.specs.code.Filled.{filled_in}
 use Rattle.agent_pool.specs.Transcripts.{begins}
-use Rattle.agent_pool.proofs.Apart.{at_next, At}
+use Rattle.agent_pool.proofs.Apart.{at_next}
 use Rattle.agent_pool.proofs.Filling.{done_at, put_many}
 use Rattle.agent_pool.proofs.gather.place_all.Goals as goal
 

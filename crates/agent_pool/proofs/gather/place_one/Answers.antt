@@ -1,4 +1,4 @@
-use Rattle.std.proofs.Common.{rules, ◌∙◌, sym, ap, refl, true, false, ◌≡◌, ℕ, List}
+use Rattle.std.proofs.Common.{rules, ◌∙◌, sym, ap, refl, true, false, ◌≡◌}
 use Rattle.std.proofs.lemmas.Option.{slice_get-get_or}
 use Rattle.std.proofs.lemmas.Bool.{ltb-true}
 use Rattle.std.specs.Prelude.{Some, is_some, slice_index_or}

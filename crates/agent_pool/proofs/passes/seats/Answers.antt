@@ -1,9 +1,9 @@
-use Rattle.std.proofs.Common.{rules, ◌≡◌, ℕ, ◌∷◌, [], ◌++◌, List, length, refl, sym, ap, subst, ◌∙◌, append_assoc, arith}
+use Rattle.std.proofs.Common.{◌≡◌, ℕ, ◌∷◌, [], ◌++◌, List, length, refl, sym, ap, subst, ◌∙◌, append_assoc, arith}
 use Rattle.std.specs.Prelude.{All}
 use Rattle.std.specs.Vec.Iter.{into_iter_items}
 use Rattle.agent_pool.specs.Seats.{AreDistinct, HasPass, numbers_of, passes_for}
 use Rattle.agent_pool.specs.code.Seated.{IsTakenOut}
-use Rattle.agent_pool.specs.Transcripts.{Played, number_of}
+use Rattle.agent_pool.specs.Transcripts.{Played}
 use Rattle.agent_pool.proofs.Seating.{none_left, others_before, seated_more}
 use Rattle.agent_pool.proofs.passes.seats.Goals as goal
 

@@ -1,5 +1,4 @@
-use Rattle.std.proofs.Common.{rules, ◌≡◌, ◌<◌, ◌-◌, length, arith, ap}
-use Rattle.std.specs.Vec.{vec_len}
+use Rattle.std.proofs.Common.{rules}
 use Rattle.agent_pool.proofs.Seating.{taken_at}
 use Rattle.agent_pool.proofs.passes.take_pass.Goals as goal
 

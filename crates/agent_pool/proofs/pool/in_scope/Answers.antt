@@ -1,14 +1,12 @@
-use Rattle.std.proofs.Common.{◌≡◌, ◌∷◌, [], ◌++◌, ◌+◌, ◌≤◌, vec_len, List, length, refl, sym, ap, subst, ◌∙◌, append_assoc, append-nil, arith, rules}
+use Rattle.std.proofs.Common.{◌≡◌, ◌∷◌, [], ◌++◌, List, length, sym, ap, subst, ◌∙◌, append_assoc, append-nil, arith, rules}
 use Rattle.std.proofs.lemmas.List.{length-append}
-use Rattle.std.proofs.lemmas.List.Elements.{All-head, All-same, All-tail}
+use Rattle.std.proofs.lemmas.List.Elements.{All-same, All-tail}
 use Rattle.std.specs.List.{AllZip}
 use Rattle.std.specs.Vec.Iter.{into_iter_items}
 use Rattle.agent_pool.specs.declared.line.Hand.{Hand}
 use Rattle.agent_pool.specs.declared.start.Start.{Start}
 use Rattle.agent_pool.specs.declared.work.Seat.{Seat}
-use Rattle.agent_pool.specs.declared.work.Worked.{Worked}
 use Rattle.agent_pool.specs.Line.{feeder, with_taker}
-use Rattle.agent_pool.specs.code.Filled.{AreIdle}
 use Rattle.agent_pool.specs.code.Starts.{Comes, IsStart, IsWorkOf}
 use Rattle.agent_pool.specs.Transcripts.{IsIdle}
 use Rattle.agent_pool.proofs.Lines.{forks}

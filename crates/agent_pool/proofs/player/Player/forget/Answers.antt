@@ -1,4 +1,4 @@
-use Rattle.std.proofs.Common.{◌∷◌, [], ap, sym, ◌∙◌, arith}
+use Rattle.std.proofs.Common.{◌∷◌, [], ap, ◌∙◌, arith}
 use Rattle.txn_core.specs.Standing.{Standing}
 use Rattle.run_certify.specs.declared.entry.Entry.TheVariants.{Forgot}
 use Rattle.agent_pool.specs.Transcripts.{begins}

@@ -3,4 +3,4 @@ use Rattle.agent_pool.proofs.Works.{works_first}
 use Rattle.agent_pool.proofs.work.Worked.new.Goals as goal
 
 pub returns : goal.returns
-returns c = works_first c.args.jobs.now c.args.seat _ refl refl c.new.ensures.items refl c.requires
+returns c jobs = works_first jobs c.args.seat _ refl refl c.new.ensures.items refl c.requires

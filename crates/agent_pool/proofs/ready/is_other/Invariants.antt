@@ -1,0 +1,9 @@
+use Rattle.std.proofs.Common.{◌↔◌, Some, length}
+use Rattle.agent_pool.specs.Seats.{IsOther}
+use Rattle.agent_pool.proofs.ready.is_other.Given as goal
+
+abbrev pub invariant-loop-player : goal.invariant-loop-player
+invariant-loop-player l = IsOther l.rest (Some l.number) ↔ IsOther l.agents (Some l.number)
+
+abbrev pub decreases-loop-player : goal.decreases-loop-player
+decreases-loop-player l = length l.rest

@@ -1,0 +1,113 @@
+//! Files that agent 0 makes, and that all agents write and list.
+
+use crate::crew::{Crew, certified, closed, items, jobs, opened, others, settings, work};
+use crate::ends::ended_so;
+use agent_pool::{Pool, Transcripts};
+use rep_core::Reply;
+use server_lock::{Histories, History, OpenGate};
+use std::process::Abort;
+use std::sync::Wait;
+use std::thread::Threads;
+use suite_prefix::Settings;
+
+const FILES: &str = "file:/f0,file:/f1,file:/f2,file:/f3,file:/f4,file:/f5,file:/f6,file:/f7";
+
+const MADE: [&str; 8] = [
+    "0 10 made 1",
+    "1 10 made 513",
+    "2 10 made 1025",
+    "3 10 made 1537",
+    "4 10 made 2049",
+    "5 10 made 2561",
+    "6 10 made 3073",
+    "7 10 made 3585",
+];
+
+const USES: &str =
+    "write:/f0,write:/f1,write:/f2,write:/f3,write:/f4,write:/f5,write:/f6,write:/f7,list:/,list:/,list:/,list:/";
+
+const USED: [&str; 12] = [
+    "8 10 wrote",
+    "9 10 wrote",
+    "10 10 wrote",
+    "11 10 wrote",
+    "12 10 wrote",
+    "13 10 wrote",
+    "14 10 wrote",
+    "15 10 wrote",
+    "16 8 list of 8",
+    "17 8 list of 8",
+    "18 8 list of 8",
+    "19 8 list of 8",
+];
+
+/// What servers and agents have done of it.
+fn files<R: Abort + AllocGlobal + Threads + Wait + Sync>(
+    rt: &R,
+    settings: &Settings,
+) -> (Histories, Transcripts) {
+    let Crew {
+        servers,
+        mut agents,
+        passes,
+    } = opened(rt, settings);
+    let others = others(rt, &mut agents);
+    let made = work(
+        rt,
+        &OpenGate,
+        &servers,
+        &jobs(rt, 0, FILES),
+        (agents, passes),
+    );
+    let made = made.ok().expect(rt, "a pool");
+    ended_so(rt, &made, &MADE);
+    let Pool {
+        mut agents,
+        passes,
+        ..
+    } = made;
+    for player in others {
+        assert!(rt; agents.push(player).is_ok());
+    }
+    let used = work(
+        rt,
+        &OpenGate,
+        &servers,
+        &jobs(rt, 8, USES),
+        (agents, passes),
+    );
+    let used = used.ok().expect(rt, "a pool");
+    ended_so(rt, &used, &USED);
+    closed(rt, servers, used)
+}
+
+#[test]
+fn files_are_written_by_all(rt: HostRuntime) {
+    let settings = settings(&rt, 4);
+    for _ in 0..5u8 {
+        let (histories, transcripts) = files(&rt, &settings);
+        assert!(&rt; items(&histories) == 192);
+        assert!(&rt; certified(&rt, &settings, &histories, &transcripts) == Some(20));
+    }
+}
+
+/// The same histories, but for the reply of the last item of server 1.
+fn falsified(rt: &(impl Abort + AllocGlobal), told: Histories) -> Histories {
+    let mut all = Vec::new(rt.alloc());
+    for (server, history) in told.into_vec().into_iter().enumerate() {
+        let mut items = history.into_vec();
+        if server == 1 {
+            items.last_mut().expect(rt, "an item").reply = Reply::Lost;
+        }
+        assert!(rt; all.push(History::from_vec(items)).is_ok());
+    }
+    Histories::from_vec(all)
+}
+
+#[test]
+fn a_falsified_reply_is_found_out(rt: HostRuntime) {
+    let settings = settings(&rt, 4);
+    let (histories, transcripts) = files(&rt, &settings);
+    let histories = falsified(&rt, histories);
+    assert!(&rt; certified(&rt, &settings, &histories, &transcripts).is_none());
+}
