@@ -76,14 +76,19 @@ fn operation(rt: &(impl Abort + AllocGlobal), word: &str) -> Op {
     Op { path, action }
 }
 
-/// The owner's job of these operations, with the cache of site 0.
-pub(crate) fn job(rt: &(impl Abort + AllocGlobal), words: &str) -> Job {
+/// Operations by their words.
+fn operations(rt: &(impl Abort + AllocGlobal), words: &str) -> Vec<Op> {
     let mut ops = Vec::new(rt.alloc());
     again!(rt, ops.reserve(8));
     for word in words.split(' ') {
         assert!(rt; ops.push(operation(rt, word)).is_ok());
     }
-    let ops = Ops::from_vec(ops).expect(rt, "memory");
+    ops
+}
+
+/// The owner's job of these operations, with the cache of site 0.
+pub(crate) fn job(rt: &(impl Abort + AllocGlobal), words: &str) -> Job {
+    let ops = again!(rt, Ops::from_vec(operations(rt, words)));
     let caller = Caller::new(1000, 100, &[]).ok().expect(rt, "a caller");
     Job::Transaction {
         caller,

@@ -56,34 +56,33 @@ fn play_all<R: Threads + Wait + Sync>(
     let mut place = Place { line: 1, title: "" };
     for (number, part) in text.split("\n$").enumerate() {
         if number > 0 {
-            play_one(rt, alloc, place, part, &mut report)?;
+            play_one(rt, place, part, &mut report)?;
         }
         place = place.after(part);
     }
-    report.finish(alloc)?;
+    report.finish()?;
     Ok(report)
 }
 
 /// Plays a row.
 fn play_one<R: Threads + Wait + Sync>(
     rt: &R,
-    alloc: Global,
     place: Place<'_>,
     text: &str,
     report: &mut Report,
 ) -> Result<(), AllocError> {
     report.count();
-    match Row::read(alloc, text) {
+    match Row::read(report.alloc(), text) {
         Ok(row) => {
-            compare(rt, alloc, place, &row, MemoryIn::new(row.input()), report)?;
+            compare(rt, place, &row, MemoryIn::new(row.input()), report)?;
             // Bad words are told before anything is read.
             if row.status() == COMMAND_LINE {
                 let unread = MemoryIn::failing_at(row.input(), 0);
-                compare(rt, alloc, place, &row, unread, report)?;
+                compare(rt, place, &row, unread, report)?;
             }
             Ok(())
         }
-        Err(Unread::Form) => report.add_bad_row(alloc, place),
+        Err(Unread::Form) => report.add_bad_row(place),
         Err(Unread::Memory) => Err(AllocError),
     }
 }
@@ -91,17 +90,17 @@ fn play_one<R: Threads + Wait + Sync>(
 /// Runs the words of a row over an input, and compares what was printed.
 fn compare<R: Threads + Wait + Sync>(
     rt: &R,
-    alloc: Global,
     place: Place<'_>,
     row: &Row<'_>,
     mut input: MemoryIn<'_>,
     report: &mut Report,
 ) -> Result<(), AllocError> {
+    let alloc = report.alloc();
     let words = row.words(alloc)?;
     let mut printed = MemoryOut::new(alloc);
     let status = run(rt, alloc, &words, &mut input, &mut printed);
     if !row.is_met_by(status, printed.bytes()) {
-        report.add_difference(alloc, place, status, printed.bytes())?;
+        report.add_difference(place, status, printed.bytes())?;
     }
     Ok(())
 }

@@ -28,6 +28,7 @@ impl<'a> Place<'a> {
 /// What is told of the rows so far.
 #[derive(Drop)]
 pub(crate) struct Report {
+    alloc: Global,
     text: Vec<u8>,
     rows: u64,
     differences: u64,
@@ -37,10 +38,16 @@ impl Report {
     /// Nothing yet.
     pub(crate) fn new(alloc: Global) -> Report {
         Report {
+            alloc,
             text: Vec::new(alloc),
             rows: 0,
             differences: 0,
         }
+    }
+
+    /// What memory is taken from.
+    pub(crate) fn alloc(&self) -> Global {
+        self.alloc
     }
 
     /// Counts a row.
@@ -51,37 +58,32 @@ impl Report {
     /// Adds a row that answered with another status, or printed something else.
     pub(crate) fn add_difference(
         &mut self,
-        alloc: Global,
         place: Place<'_>,
         status: u8,
         printed: &[u8],
     ) -> Result<(), AllocError> {
         let Place { line, title } = place;
-        let head = format!(in alloc; "line {line}: {title}: status {status}, and printed\n")?;
+        let head = format!(in self.alloc; "line {line}: {title}: status {status}, and printed\n")?;
         self.differences = self.differences.saturating_add(1);
         self.text.extend_from_slice(head.as_bytes())?;
         self.text.extend_from_slice(printed)
     }
 
     /// Adds a row that cannot be read.
-    pub(crate) fn add_bad_row(
-        &mut self,
-        alloc: Global,
-        place: Place<'_>,
-    ) -> Result<(), AllocError> {
+    pub(crate) fn add_bad_row(&mut self, place: Place<'_>) -> Result<(), AllocError> {
         let Place { line, title } = place;
-        let head = format!(in alloc; "line {line}: {title}: no row\n")?;
+        let head = format!(in self.alloc; "line {line}: {title}: no row\n")?;
         self.differences = self.differences.saturating_add(1);
         self.text.extend_from_slice(head.as_bytes())
     }
 
     /// Adds the last line, which counts the rows.
-    pub(crate) fn finish(&mut self, alloc: Global) -> Result<(), AllocError> {
+    pub(crate) fn finish(&mut self) -> Result<(), AllocError> {
         let (rows, differences) = (self.rows, self.differences);
         let last = if differences == 0 {
-            format!(in alloc; "{rows} rows\n")?
+            format!(in self.alloc; "{rows} rows\n")?
         } else {
-            format!(in alloc; "{rows} rows, {differences} differences\n")?
+            format!(in self.alloc; "{rows} rows, {differences} differences\n")?
         };
         self.text.extend_from_slice(last.as_bytes())
     }

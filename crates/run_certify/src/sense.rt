@@ -9,16 +9,14 @@ use run_core::Event;
 use std::alloc::AllocError;
 use suite_prefix::Settings;
 use txn_core::Job;
-
-/// How many sites there are.
-const SITES: u8 = 16;
+use weak_cache::MAX_SITES;
 
 /// Whether a job has sense: there is such a site, or such a server.
 pub(crate) fn has_sense(settings: &Settings, job: &Job) -> bool
     ensures { result ≡ agents.has_sense (fixed_of settings.now) job.now }
 {
     match job {
-        Job::Transaction { site, .. } => *site < SITES,
+        Job::Transaction { site, .. } => *site < MAX_SITES,
         Job::Sweep { server } => usize::from(*server) < settings.servers(),
     }
 }

@@ -34,9 +34,7 @@ use std::alloc::{AllocError, Global};
 use std::marker::Model;
 use suite_prefix::Settings;
 use txn_core::Job;
-
-/// How many sites the cache of an agent is kept for.
-const MAX_SITES: u8 = 16;
+use weak_cache::MAX_SITES;
 
 /// So many jobs an agent begins.
 const MAX_JOBS: u64 = 4_294_967_295;

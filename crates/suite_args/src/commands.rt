@@ -106,7 +106,24 @@ These stand first and in this order. Names may follow, and then what happens:
   forget A SITE                         agent A forgets what its cache has for a site
   audit S                               the denials that server S recorded are printed
 
-VOTES, INIT, GIDS and operations are those that `suites table --help` tells.
+VOTES, INIT, GIDS and operations are those that `suites table --help` tells. Contents are hexadecimal digits,
+two a byte, so that 6869 is the text hi.
+
+An event without sense does nothing and prints nothing: a begin or a sweep of an agent that has a job, and
+a step or a run of one that has none.
+
+A job that ends prints a line: A.C K and how it ended. A is its agent, C how many jobs this agent had begun
+before it, and K how many steps it took. A begin alone asks no server and prints nothing: step or run do.
+
+The commonest mistakes, and what is printed for them:
+
+  fault line N: S1         a word is misspelled; behind the groups of a begin its site is forgotten; of three
+                           servers or agents the last is 2, not 3; a comment stands behind an event, and not
+                           in a line of its own; contents are no hexadecimal digits; a semicolon has no space
+                           on each side
+  fault line N: S2         a line of the header is missing or out of order; a name stands below an event
+  fault line N: A7         a list names a user or a group, and has no mask: m::rwx
+  fault line N: A9 item I  an item has too few colons, u:rw for u::rw; a mode has other than three digits
 
 Example:
 

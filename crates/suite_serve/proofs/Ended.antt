@@ -9,9 +9,10 @@ use Rattle.run_certify.specs.declared.entry.Entry.{Entry}
 use Rattle.run_certify.specs.declared.entry.Entry.TheVariants.{Begun, Ended}
 use Rattle.agent_pool.specs.declared.outcome.JobOutcome.{JobOutcome}
 use Rattle.agent_pool.specs.declared.workshop.NamedJob.{NamedJob}
+use Rattle.agent_pool.specs.Endings.{end_of}
 use Rattle.agent_pool.specs.Transcripts.{Played, number_of}
 use Rattle.agent_pool.specs.Pools.{AreApart as ApartOutcomes}
-use Rattle.suite_serve.specs.Served.{AreApart, AreFirst, AreJobEnds, IsJobEnd, JobEnd, done_as, end_at, end_in, end_of, named_end}
+use Rattle.suite_serve.specs.Served.{AreApart, AreFirst, AreJobEnds, IsJobEnd, JobEnd, done_as, end_in, end_there, named_end}
 use Rattle.suite_serve.specs.code.Working.{AreNumbered, AreOfFirst, HasEnded, HaveEnded, named_from, transcripts_of}
 use Rattle.suite_serve.proofs.Numbers.{number_at}
 use Rattle.suite_serve.proofs.Places.{contained_get, get_past}
@@ -26,8 +27,8 @@ transcript_at players are player has =
     ∙ slice_get-map (λ (p : Played). p.entries) players has.0
     ∙ ap (option_map (λ (p : Played). p.entries)) there
 
-end_there : (before asked after : List Entry) (begun : Entry) (end : Outcome) → end_of (slice_get (before ++ begun ∷ (asked ++ Ended end ∷ after)) (length before + (length asked + 1))) ≡ Some end
-end_there before asked after begun end =
+ends_there : (before asked after : List Entry) (begun : Entry) (end : Outcome) → end_of (slice_get (before ++ begun ∷ (asked ++ Ended end ∷ after)) (length before + (length asked + 1))) ≡ Some end
+ends_there before asked after begun end =
     let next : length asked + 1 ≡ suc (length asked + 0) = omega arith in
     ap (λ n. end_of (slice_get (before ++ begun ∷ (asked ++ Ended end ∷ after)) (length before + n))) next
     ∙ ap end_of (get_past before (begun ∷ (asked ++ Ended end ∷ after)) (suc (length asked + 0)))
@@ -40,10 +41,10 @@ one_end players are named outcome has =
     let end : Outcome = record { agent = number_of has.player; count = outcome.count; steps = length told.asked; ending = told.ending } in
     let there = transcript_at players are has.player has.there ∙ ap Some told.split in
     let name : named_end (transcripts_of players) outcome ≡ Some end =
-    ap (λ n. end_at (slice_get (transcripts_of players) n) outcome.at) (sym has.number)
-    ∙ ap (λ (o : Option (List Entry)). end_at o outcome.at) there
+    ap (λ n. end_there (slice_get (transcripts_of players) n) outcome.at) (sym has.number)
+    ∙ ap (λ (o : Option (List Entry)). end_there o outcome.at) there
     ∙ ap (λ n. end_of (slice_get (told.before ++ Begun named.job ∷ (told.asked ++ Ended end ∷ told.after)) n)) (sym told.at)
-    ∙ end_there told.before told.asked told.after (Begun named.job) end
+    ∙ ends_there told.before told.asked told.after (Begun named.job) end
     in
     record {
       told = end;

@@ -9,6 +9,7 @@ use Rattle.run_certify.specs.declared.entry.Entry.{Entry}
 use Rattle.run_certify.specs.declared.entry.Entry.TheVariants.{Begun, Ended}
 use Rattle.run_certify.specs.Certified.{IsCertified}
 use Rattle.agent_pool.specs.declared.outcome.JobOutcome.{JobOutcome}
+use Rattle.agent_pool.specs.Endings.{end_at}
 use Rattle.agent_pool.specs.Transcripts.{AreAsks, begins}
 use Rattle.suite_play.specs.Texts.{ending_text}
 use Rattle.suite_script.specs.Faults.{line_feed}
@@ -39,17 +40,13 @@ job_lines ends = flat_map job_line ends
 
 -- ---- ends in transcripts
 
-abbrev pub end_of : Option Entry → Option Outcome
-end_of (Some (Ended outcome)) = Some outcome
-end_of _ = None
-
-abbrev pub end_at : Option (List Entry) → ℕ → Option Outcome
-end_at (Some transcript) at = end_of (slice_get transcript at)
-end_at None at = None
+abbrev pub end_there : Option (List Entry) → ℕ → Option Outcome
+end_there (Some transcript) at = end_at transcript at
+end_there None at = None
 
 -- the end that a job's outcome names
 abbrev pub named_end : List (List Entry) → JobOutcome → Option Outcome
-named_end transcripts outcome = end_at (slice_get transcripts outcome.agent) outcome.at
+named_end transcripts outcome = end_there (slice_get transcripts outcome.agent) outcome.at
 
 abbrev pub end_in : List (List Entry) → JobOutcome → JobEnd
 end_in transcripts outcome = record { job = outcome.job; told = named_end transcripts outcome }

@@ -39,7 +39,16 @@ pub fn serve<R: Threads + Wait + Sync>(
         agents,
         passes,
         outcomes,
-    } = work(rt, alloc, &servers, &jobs, alone, passes)?;
+    } = work(
+        rt,
+        alloc,
+        Opened {
+            servers: &servers,
+            passes,
+        },
+        &jobs,
+        alone,
+    )?;
     let Ok(histories) = servers.close(passes) else {
         return Err(CertifyFault::Mismatch);
     };
@@ -75,6 +84,13 @@ fn named(alloc: Global, jobs: Vec<Job>) -> Result<Vec<NamedJob>, AllocError>
     Ok(all)
 }
 
+/// Servers that were opened, with all their passes.
+#[derive(Drop)]
+struct Opened<'a> {
+    servers: &'a Servers,
+    passes: Vec<Pass>,
+}
+
 /// What agents did, the passes, and where the jobs ended.
 #[derive(Drop)]
 pub(crate) struct Worked {
@@ -87,14 +103,14 @@ pub(crate) struct Worked {
 fn work<R: Threads + Wait + Sync>(
     rt: &R,
     alloc: Global,
-    servers: &Servers,
+    opened: Opened<'_>,
     jobs: &[NamedJob],
     alone: usize,
-    passes: Vec<Pass>,
 ) -> Result<Worked, CertifyFault>
-    requires { passes.items ≡ passes_of servers.now.agents }
+    requires { opened.passes.items ≡ passes_of opened.servers.now.agents }
     ensures { IfOk result (λ worked. AreDone jobs.now alone worked) }
 {
+    let Opened { servers, passes } = opened;
     let (first, others) = first_and_others(alloc, servers.settings())?;
     let (above, below) = jobs.split_at(alone.min(jobs.len()));
     let Pool {

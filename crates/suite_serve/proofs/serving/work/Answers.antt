@@ -14,13 +14,13 @@ use Rattle.suite_serve.proofs.serving.work.Goals as goal
 
 pub returns : goal.returns
 returns g c =
-    let given = c.args.servers.now in
+    let given = c.args.opened.servers.now in
     let jobs = c.args.jobs.now in
     let first = c.in_ok-agents.field-0 in
     let second = c.in_ok-agents-3.field-0 in
     let above = c.split_at.result.0.now in
     let below = c.split_at.result.1.now in
-    let one : IsPoolOf above c.in_ok-first.first.items c.args.passes.items first = subst (λ (r : Result Pool PoolFault). IfOk r (λ (pool : Pool). IsPoolOf above c.in_ok-first.first.items c.args.passes.items pool)) c.in_ok-agents.ensures c.run_pool.ensures.pool in
+    let one : IsPoolOf above c.in_ok-first.first.items c.args.opened.passes.items first = subst (λ (r : Result Pool PoolFault). IfOk r (λ (pool : Pool). IsPoolOf above c.in_ok-first.first.items c.args.opened.passes.items pool)) c.in_ok-agents.ensures c.run_pool.ensures.pool in
     let two : IsPoolOf below c.in_ok-agents-2.agents.items first.passes.items second = subst (λ (r : Result Pool PoolFault). IfOk r (λ (pool : Pool). IsPoolOf below c.in_ok-agents-2.agents.items first.passes.items pool)) c.in_ok-agents-3.ensures c.run_pool-2.ensures.pool in
     let alone : c.in_ok-first.first.items ≡ first_player given 0 ∷ [] = c.in_ok-first.ensures.first ∙ ap (λ (s : Opening). first_player s 0 ∷ []) c.settings.ensures in
     let all : first_player given 0 ∷ c.in_ok-first.others.items ≡ players_from given 0 given.agents =
@@ -28,29 +28,29 @@ returns g c =
     in
     let split : jobs ≡ above ++ below = sym (take-append-drop c.min.result jobs) ∙ ap₂ (λ (xs ys : List NamedJob). xs ++ ys) (sym c.split_at.ensures.front) (sym c.split_at.ensures.back) in
     let cut : length above ≡ min c.args.alone (length jobs) = c.split_at.ensures.front_len ∙ c.min.ensures in
-    both_done given jobs above below c.args.alone c.args.passes.items c.in_ok-first.others.items first second
+    both_done given jobs above below c.args.alone c.args.opened.passes.items c.in_ok-first.others.items first second
     (record { agents = second.agents; passes = second.passes; outcomes = c.in_ok-outcomes.outcomes })
     split cut all
-    (subst (λ (ps : List Played). IsPoolOf above ps c.args.passes.items first) alone one)
+    (subst (λ (ps : List Played). IsPoolOf above ps c.args.opened.passes.items first) alone one)
     (subst (λ (ps : List Played). IsPoolOf below ps first.passes.items second) c.in_ok-agents-2.ensures two)
     refl c.in_ok-outcomes.ensures
 
 pub run_pool-requires-clause-ready : goal.run_pool-requires-clause-ready
 run_pool-requires-clause-ready g c κs within =
-    let given = c.args.servers.now in
+    let given = c.args.opened.servers.now in
     let first = c.in_ok-first.first.items in
     let others = c.in_ok-first.others.items in
     let all : first ++ others ≡ players_from given 0 given.agents = c.in_ok-first.ensures.all ∙ ap (λ (s : Opening). players_from s 0 s.agents) c.settings.ensures in
-    ready_front c.args.passes.items first others (all_ready given c.args.passes.items (first ++ others) c.requires all)
+    ready_front c.args.opened.passes.items first others (all_ready given c.args.opened.passes.items (first ++ others) c.requires all)
 
 pub run_pool-requires-2-clause-ready : goal.run_pool-requires-2-clause-ready
 run_pool-requires-2-clause-ready g c κs within =
-    let given = c.args.servers.now in
+    let given = c.args.opened.servers.now in
     let first = c.in_ok-first.first.items in
     let others = c.in_ok-first.others.items in
     let pool = c.in_ok-agents.field-0 in
     let above = c.split_at.result.0.now in
     let all : first ++ others ≡ players_from given 0 given.agents = c.in_ok-first.ensures.all ∙ ap (λ (s : Opening). players_from s 0 s.agents) c.settings.ensures in
-    let one : IsPoolOf above first c.args.passes.items pool = subst (λ (r : Result Pool PoolFault). IfOk r (λ (made : Pool). IsPoolOf above first c.args.passes.items made)) c.in_ok-agents.ensures c.run_pool.ensures.pool in
+    let one : IsPoolOf above first c.args.opened.passes.items pool = subst (λ (r : Result Pool PoolFault). IfOk r (λ (made : Pool). IsPoolOf above first c.args.opened.passes.items made)) c.in_ok-agents.ensures c.run_pool.ensures.pool in
     subst (λ (ps : List Played). AreReady pool.passes.items ps) (sym c.in_ok-agents-2.ensures)
-    (ready_after above c.args.passes.items first others pool (all_ready given c.args.passes.items (first ++ others) c.requires all) one)
+    (ready_after above c.args.opened.passes.items first others pool (all_ready given c.args.opened.passes.items (first ++ others) c.requires all) one)
