@@ -25,6 +25,7 @@ import ctypes
 import os
 import random
 import re
+import shutil
 import subprocess
 import sys
 import tempfile
@@ -206,6 +207,9 @@ def main():
     read.add_argument("--seed", type=int, default=1)
     read.add_argument("program", nargs="?", default=os.path.join(TOP, "suites"))
     given = read.parse_args()
+    wanting = [name for name in ("setfacl", "getfacl") if not shutil.which(name)]
+    if wanting or os.geteuid() != 0:
+        sys.exit("this needs root" if not wanting else f"this needs {wanting[0]}, of Debian's package acl")
     dice = Dice(given.seed)
     tally = dict.fromkeys(["answers", "agree", "mask", "texts", "taken", "refused", "last id", "octal", "past", "nothing", "hyphens", "mended", "wrong"], 0)
     with tempfile.TemporaryDirectory(dir="/dev/shm") as place:

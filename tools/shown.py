@@ -2,14 +2,17 @@
 """Looks whether all that README.md and examples/ show is played by the gate.
 
 Each file of examples/ has to be the input of a row of crates/rows/stdin; each script, command and output that
-README.md shows has to be that of a row, and an output that of the script or the command before it. What
-differs is told, and the status is 1. The rows themselves are played by the program of crates/rows.
+README.md shows has to be that of a row, and an output that of the script or the command before it. The picture and
+what is shown of `./suites trace` have to be those of the trace which the program of crates/trace is to print of the
+same script (its stdin and stdout). What differs is told, and the status is 1. The rows themselves are played by the
+program of crates/rows.
 """
 import os, re, sys
 
-import sources
+import draw, sources, trace
 
 TOP = os.path.join(os.path.dirname(os.path.abspath(__file__)), "..")
+PICTURE, STORY = "docs/revocation.svg", "examples/play/revocation.script"
 MARKS = {b"r": b"\r", b"t": b"\t", b"\\": b"\\"}
 
 
@@ -62,8 +65,23 @@ def commands(block):
     """The commands of the program in a block, as words and the name of their input."""
     for line in block:
         match = re.match(r"(?:\$ )?\./suites (.*?) < (\S+)", line.decode())
-        if match:
+        if match and not match[1].startswith("trace"):
             yield match[1], match[2]
+
+
+def lines_of_trace():
+    """The trace of the story, as the program of crates/trace is to print it."""
+    return content("crates/trace/stdout").decode("latin1").splitlines()
+
+
+def traced(block):
+    """The last lines of a trace of the story, where a block shows them, as they are to be."""
+    match = re.fullmatch(rf"\$ \./suites trace (.*) < {re.escape(STORY)} \| tail -(\d+)", block[0].decode())
+    if match:
+        given = trace.asked(match[1].split(), trace.__doc__)
+        text = trace.shown(lines_of_trace(), given.agent, given.suite).encode("latin1")
+        return b"".join(text.splitlines(True)[-int(match[2]):])
+    return None
 
 
 def main():
@@ -77,7 +95,7 @@ def main():
     for number, block in blocks(content("README.md")):
         text = b"\n".join(block) + b"\n"
         if re.match(rb"\$ |\./|\.ci/", block[0]):
-            outputs = set()
+            outputs = {traced(block)} - {None}
             for words, name in commands(block):
                 those = {printed for word, given, printed in played if word == words and given == content(name)}
                 outputs |= those
@@ -92,6 +110,10 @@ def main():
             outputs = {printed for _, given, printed in played if said(given) == said(text)}
             if not outputs:
                 wrong.append(f"README.md:{number}: this block is a script or an output of no row")
+    if content("crates/trace/stdin") != content(STORY):
+        wrong.append(f"crates/trace/stdin is not {STORY}")
+    if content(PICTURE).decode() != draw.picture_of(lines_of_trace()):
+        wrong.append(f"{PICTURE} is not that of crates/trace/stdout: ./suites draw < {STORY} > {PICTURE} makes it anew")
     if f"`{sources.KIT_LOGIC}`".encode() not in content("README.md"):
         wrong.append("README.md names another kit than tools/sources.py")
     for line in wrong:

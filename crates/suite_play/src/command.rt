@@ -4,7 +4,7 @@ use run_core::Event;
 
 /// What a line of a script asks for.
 #[derive(Drop)]
-pub(crate) enum Command {
+pub enum Command {
     /// That something happens.
     Event(Event),
     /// So many steps of an agent.

@@ -17,10 +17,7 @@ use suite_script::{
 use vote_core::{MAX_SERVERS, Votes};
 
 /// The header of a script of events.
-pub(crate) fn read_header(
-    alloc: Global,
-    script: &mut ScriptReader<'_>,
-) -> Result<Settings, ScriptError>
+pub fn read_header(alloc: Global, script: &mut ScriptReader<'_>) -> Result<Settings, ScriptError>
     ensures { Heads result script.new (header script.old) }
 {
     let servers = read_servers::<Places>(script)?;

@@ -50,7 +50,7 @@ pub fn play_events<O: ByteOut>(alloc: Global, text: &[u8], writer: &mut O) -> Re
 }
 
 /// The servers and agents of a header.
-fn places_of(settings: &Settings) -> Places
+pub fn places_of(settings: &Settings) -> Places
     ensures { result ≡ places_of settings.now }
 {
     Places {
@@ -219,7 +219,11 @@ fn push_steps(
 }
 
 /// Adds the line of a job that has ended, if one has.
-fn push_ended(alloc: Global, text: &mut Vec<u8>, ended: &Option<Outcome>) -> Result<(), AllocError>
+pub fn push_ended(
+    alloc: Global,
+    text: &mut Vec<u8>,
+    ended: &Option<Outcome>,
+) -> Result<(), AllocError>
     ensures { OnOk result (text.new.items ≡ text.old.items ++ outcome_text ended.now) }
 {
     match ended {
@@ -229,7 +233,7 @@ fn push_ended(alloc: Global, text: &mut Vec<u8>, ended: &Option<Outcome>) -> Res
 }
 
 /// Adds the denials that a server keeps.
-fn push_audit(server: u8, items: &[AuditItem], text: &mut Vec<u8>) -> Result<(), AllocError>
+pub fn push_audit(server: u8, items: &[AuditItem], text: &mut Vec<u8>) -> Result<(), AllocError>
     ensures { OnOk result (text.new.items ≡ text.old.items ++ audit_lines server items.now) }
 {
     push_audit_head(server, items.len(), text)?;
