@@ -17,9 +17,31 @@ pub(crate) struct Copied {
     pub(crate) copy: Reply,
 }
 
-/// Serves a request once, and copies it and its reply. Where a copy is refused, nothing was served. That the
-/// server is full is told however little memory there is.
-pub(crate) fn serve_copied(server: &mut Server, request: &Stamped<Request>) -> Result<Copied, Lack>
+/// A request twice: the one that is served, and the one that a history keeps. They are made before a lock is
+/// taken, so that it is held for less.
+#[derive(Drop)]
+pub(crate) struct Twice {
+    pub(crate) asked: Stamped<Request>,
+    pub(crate) kept: Stamped<Request>,
+}
+
+/// A request twice.
+pub(crate) fn twice(request: &Stamped<Request>) -> Result<Twice, AllocError>
+    ensures { IfOk result (λ two. (two.asked ≡ request.now) × (two.kept ≡ request.now)) }
+{
+    let asked = request.clone()?;
+    let kept = request.clone()?;
+    Ok(Twice { asked, kept })
+}
+
+/// Serves a request once, by its two copies, and copies its reply. Where a copy is refused, nothing was served.
+/// That the server is full is told however little memory there is.
+pub(crate) fn serve_copied(
+    server: &mut Server,
+    request: &Stamped<Request>,
+    copies: Result<Twice, AllocError>,
+) -> Result<Copied, Lack>
+    requires { IfOk copies (λ two. (two.asked ≡ request.now) × (two.kept ≡ request.now)) }
     ensures reply { IfOk result (λ copied. copied.reply ≡ answer_of server.old request.now) }
     ensures copy { IfOk result (λ copied. copied.copy ≡ copied.reply.value) }
     ensures request { IfOk result (λ copied. copied.request ≡ request.now) }
@@ -28,7 +50,7 @@ pub(crate) fn serve_copied(server: &mut Server, request: &Stamped<Request>) -> R
     ensures full { (result ≡ Err Full) ↔ IsTrue (is_full server.old request.now) }
     ensures err { OnErr result (server.new ≡ server.old) }
 {
-    let Ok((asked, kept)) = cloned_twice(request) else {
+    let Ok(Twice { asked, kept }) = copies else {
         return Err(lack_of(server, request));
     };
     let mut nobody = ();
@@ -54,17 +76,6 @@ pub(crate) fn lack_of(server: &Server, request: &Stamped<Request>) -> Lack
         Err(Lack::Full) => Lack::Full,
         _ => Lack::Memory,
     }
-}
-
-/// A request twice.
-fn cloned_twice(
-    request: &Stamped<Request>,
-) -> Result<(Stamped<Request>, Stamped<Request>), AllocError>
-    ensures { IfOk result (λ two. (two.0 ≡ request.now) × (two.1 ≡ request.now)) }
-{
-    let asked = request.clone()?;
-    let kept = request.clone()?;
-    Ok((asked, kept))
 }
 
 /// A reply, and a copy of what it says.

@@ -8,7 +8,7 @@ ghost use Rattle.server_lock.specs.Histories.{IsLegal, given_to, item_of, max_it
 ghost use Rattle.server_lock.specs.Kept.{end_of, is_spent, with_item};
 
 use crate::answer::Answer;
-use crate::copied::{lack_of, serve_copied};
+use crate::copied::{Twice, lack_of, serve_copied, twice};
 use crate::history::History;
 use crate::item::Item;
 use crate::miss::Miss;
@@ -76,6 +76,29 @@ impl Locked {
         ensures kept { IfOk result.reply (λ reply. self.new ≡ with_item (item_of agent request reply) self.old) }
         ensures same { OnErr result.reply (self.new ≡ self.old) }
     {
+        let copies = twice(&request);
+        self.serve_twice(agent, front, request, copies)
+    }
+
+    /// The same, with the request's copies, which were made before.
+    pub(crate) fn serve_twice(
+        &mut self,
+        agent: Option<u8>,
+        front: usize,
+        request: Stamped<Request>,
+        copies: Result<Twice, AllocError>,
+    ) -> Answer
+        requires { IfOk copies (λ two. (two.asked ≡ request) × (two.kept ≡ request)) }
+        ensures server { result.server ≡ self.old.number }
+        ensures before { result.before ≡ length self.old.history }
+        ensures request { result.request ≡ request }
+        ensures stale { (result.reply ≡ Err Stale) ↔ (length self.old.history < front) }
+        ensures full { (result.reply ≡ Err (Lacked Full)) ↔ ((front ≤ length self.old.history) × IsTrue (is_spent self.old request)) }
+        ensures reply { IfOk result.reply (λ reply. given_to (end_of self.old) request ≡ Some reply) }
+        ensures fits { IfOk result.reply (λ reply. IsTrue (fits request.value reply.value)) }
+        ensures kept { IfOk result.reply (λ reply. self.new ≡ with_item (item_of agent request reply) self.old) }
+        ensures same { OnErr result.reply (self.new ≡ self.old) }
+    {
         let server = self.number;
         let before = self.items.len();
         if before < front {
@@ -87,7 +110,7 @@ impl Locked {
                 reply,
             };
         }
-        let reply = match self.keep(agent, &request) {
+        let reply = match self.keep(agent, &request, copies) {
             Ok(reply) => Ok(reply),
             Err(lack) => Err(Miss::Lack(lack)),
         };
@@ -105,7 +128,9 @@ impl Locked {
         &mut self,
         agent: Option<u8>,
         request: &Stamped<Request>,
+        copies: Result<Twice, AllocError>,
     ) -> Result<Stamped<Reply>, Lack>
+        requires { IfOk copies (λ two. (two.asked ≡ request.now) × (two.kept ≡ request.now)) }
         ensures room { OnOk result (length self.old.history < max_items) }
         ensures reply { IfOk result (λ reply. given_to (end_of self.old) request.now ≡ Some reply) }
         ensures fits { IfOk result (λ reply. IsTrue (fits request.now.value reply.value)) }
@@ -119,7 +144,7 @@ impl Locked {
         if self.items.reserve(1).is_err() {
             return Err(lack_of(&self.server, request));
         }
-        let served = serve_copied(&mut self.server, request)?;
+        let served = serve_copied(&mut self.server, request, copies)?;
         self.items.push_reserved(Item {
             stamp: served.reply.stamp,
             agent,

@@ -12,6 +12,7 @@ ghost use Rattle.server_lock.specs.Passes.{after_answer, front_at, passes_of, se
 
 use crate::answer::Answer;
 use crate::close_fault::CloseFault;
+use crate::copied::twice;
 use crate::counting::{SEATS, is_counted, tally};
 use crate::gate::Gate;
 use crate::history::{Histories, History};
@@ -93,16 +94,14 @@ impl Servers {
         let _locks = self.locks.len();
         let stamp = pass.sent_stamp();
         let front = pass.front(server);
+        let request = Stamped {
+            stamp,
+            value: request,
+        };
+        let copies = twice(&request);
         let mut guard = self.locks[usize::from(server)].lock(rt);
         gate.inside(server, pass.agent());
-        let answer = guard.serve(
-            pass.agent(),
-            front,
-            Stamped {
-                stamp,
-                value: request,
-            },
-        );
+        let answer = guard.serve_twice(pass.agent(), front, request, copies);
         drop(guard);
         gate.after(server, pass.agent());
         answer.is_told();
