@@ -284,3 +284,88 @@ fn events_at_once(rt: HostRuntime) {
     let outcomes = played(&rt, &mut world, &events);
     assert!(&rt; outcomes <= 1 && world.idle(0));
 }
+
+/// A writer stops before its deciding step, or behind it; another agent sweeps both servers that hold its locks; then the
+/// writer goes on, and the file is read. Behind an arrow stands how a job ends.
+static BEFORE: &str = "
+begin 0 file /a; write /a hi
+step 0: 10 -> 0.0 10 Answered(Answers { replies: [Made(1), Wrote] })
+begin 0 write /a no
+step 0: 7
+sweep 1 0
+step 1: 3 -> 1.0 3 Swept { broken: 0, finished: 1, left: 0 }
+sweep 1 1
+step 1: 3 -> 1.1 3 Swept { broken: 0, finished: 1, left: 0 }
+step 0: 3 -> 0.1 10 Undecided(Overruled)
+begin 1 read /a
+step 1: 11 -> 1.2 11 Answered(Answers { replies: [Read(FileBytes { shared: Some([104, 105]) })] })";
+
+static BEHIND: &str = "
+begin 0 file /a; write /a hi
+step 0: 10 -> 0.0 10 Answered(Answers { replies: [Made(1), Wrote] })
+begin 0 write /a no
+step 0: 8
+sweep 1 0
+step 1: 3 -> 1.0 3 Swept { broken: 0, finished: 1, left: 0 }
+sweep 1 1
+step 1: 3 -> 1.1 3 Swept { broken: 0, finished: 1, left: 0 }
+step 0: 2 -> 0.1 10 Answered(Answers { replies: [Wrote] })
+begin 1 read /a
+step 1: 11 -> 1.2 11 Answered(Answers { replies: [Read(FileBytes { shared: Some([110, 111]) })] })";
+
+/// Events, with the ends that they bring and the place of the event that brings each.
+#[derive(Drop)]
+struct Told {
+    events: Vec<Event>,
+    ends: Vec<(usize, &'static str)>,
+}
+
+fn told_by(rt: &(impl Abort + AllocGlobal), text: &'static str) -> Told {
+    let mut events = Vec::new(rt.alloc());
+    let mut ends = Vec::new(rt.alloc());
+    for line in text.lines().skip(1) {
+        let (all, end) = line.split_once(" -> ").unwrap_or((line, ""));
+        let (line, times) = all.split_once(": ").unwrap_or((all, "1"));
+        for _ in 0..number(rt, times) {
+            events.push(event(rt, line)).ok().expect(rt, "memory");
+        }
+        if !end.is_empty() {
+            let last = events.len().wrapping_sub(1);
+            ends.push((last, end)).ok().expect(rt, "memory");
+        }
+    }
+    Told { events, ends }
+}
+
+/// Jobs end as those events say that are played from this place on.
+fn ends(rt: &(impl Abort + AllocGlobal), told: &Told, from: usize, outcomes: &[Outcome]) {
+    let mut next = 0usize;
+    for (place, end) in &told.ends {
+        if *place >= from {
+            assert!(rt; next < outcomes.len());
+            same(rt, &words(rt, &outcomes[next]), end, "an end");
+            next = next.wrapping_add(1);
+        }
+    }
+    assert!(rt; next == outcomes.len());
+}
+
+/// Plays all events at once, and those that are left where memory was refused: these have the ends that they would have.
+fn plays_at_once(rt: &(impl Abort + AllocGlobal), text: &'static str) {
+    let told = told_by(rt, text);
+    let mut world = world(rt);
+    match world.play(&told.events) {
+        Ok(outcomes) => ends(rt, &told, 0, &outcomes),
+        Err(stopped) => {
+            let left = &told.events[stopped.done..];
+            let outcomes = world.play(left).ok().expect(rt, "memory");
+            ends(rt, &told, stopped.done, &outcomes);
+        }
+    }
+}
+
+#[test]
+fn both_sides_of_the_deciding_step(rt: HostRuntime) {
+    plays_at_once(&rt, BEFORE);
+    plays_at_once(&rt, BEHIND);
+}

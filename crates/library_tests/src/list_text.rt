@@ -166,6 +166,26 @@ fn what_the_mask_takes_away_is_remarked(rt: HostRuntime) {
     remarks(&rt, FOLDER_LONG, FOLDER_LONG);
 }
 
+/// Reads lists, and once more where memory was refused: it is never told otherwise than as want of memory.
+fn read_again(
+    rt: &(impl Abort + AllocGlobal),
+    names: &Names,
+    text: &str,
+) -> Result<Lists, TextFault> {
+    match read_acl(rt.alloc(), text.as_bytes(), names) {
+        Err(TextFault::Memory) => read_acl(rt.alloc(), text.as_bytes(), names),
+        came => came,
+    }
+}
+
+#[test]
+fn a_list_is_read_where_memory_was_refused(rt: HostRuntime) {
+    match read_again(&rt, &known(&rt), MASKED) {
+        Ok(lists) => same(&rt, &had(&rt, write_acl(rt.alloc(), &lists)), MASKED_LONG, MASKED),
+        Err(fault) => has_fault(&rt, &fault, MASKED, "none"),
+    }
+}
+
 /// What getfacl writes, and a line as an administrator might change it.
 static GETFACL: &str = "# file: a
 # owner: root

@@ -5,6 +5,7 @@
 //! What a test itself lacks stops it.
 
 mod asking;
+mod lent;
 mod uses;
 
 use self::asking::{add, file, request, server};

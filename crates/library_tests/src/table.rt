@@ -33,7 +33,7 @@ fn words(rt: &(impl Abort + AllocGlobal), outcome: &Result<Answers, ApplyError>)
     match outcome {
         Ok(answers) => answers_words(rt, answers),
         Err(ApplyError::Refused(refusal)) => refusal_words(rt, *refusal),
-        Err(ApplyError::Memory) => String::new(rt.alloc()),
+        Err(ApplyError::Memory) => had(rt, String::from_str(rt.alloc(), "memory")),
     }
 }
 
@@ -73,6 +73,26 @@ fn denials_are_kept(rt: HostRuntime) {
     let audit = table.audit();
     let told = had(&rt, format!(in rt.alloc(); "{audit:?}"));
     tells(&rt, &told, KEPT, "the audit");
+}
+
+/// Folders, and transactions of several operations, which see one another and are taken back together.
+static TOGETHER: &str = "
+1000 100 | folder '/d' 750; file '/d/f' 640; write '/d/f' hi | made 1; made 2; wrote
+2000 100 | list '/d' | list f
+2000 300 | read '/d/f' | denied op 1 suite 1 wants Perms(1) by Other
+2000 100 | drop '/d/f' | denied op 1 suite 1 wants Perms(3) by GroupObj
+1000 100 | drop '/d' | refused NotEmpty op 1
+1000 100 | setacl '/d/f' u::-,g::r,o::-; getacl '/d/f' | set; acl user::---,group::r--,other::---
+1000 100 | drop '/d/f'; drop '/d'; read '/d/f' | refused NoName op 3
+1000 100 | drop '/d/f'; drop '/d' | dropped; dropped";
+
+#[test]
+fn operations_see_one_another(rt: HostRuntime) {
+    let mut table = table(&rt, MAX_SERVERS, "755");
+    play(&rt, &mut table, TOGETHER);
+    let audit = table.audit();
+    holds(&rt, audit.len() == 2, "two denials");
+    holds(&rt, audit[0].t == 2 && audit[1].t == 3, "of these");
 }
 
 static COUNTED: &str = "
