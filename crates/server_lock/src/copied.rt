@@ -17,21 +17,21 @@ pub(crate) struct Copied {
     pub(crate) copy: Reply,
 }
 
-/// A request twice: the one that is served, and the one that a history keeps. They are made before a lock is
-/// taken, so that it is held for less.
+/// A request's copies: the one that is served, and the one that a history keeps. They are made before a lock
+/// is taken, so that it is held for less.
 #[derive(Drop)]
-pub(crate) struct Twice {
+pub(crate) struct RequestCopies {
     pub(crate) asked: Stamped<Request>,
     pub(crate) kept: Stamped<Request>,
 }
 
-/// A request twice.
-pub(crate) fn twice(request: &Stamped<Request>) -> Result<Twice, AllocError>
-    ensures { IfOk result (λ two. (two.asked ≡ request.now) × (two.kept ≡ request.now)) }
+/// Copies a request for the server and for its history.
+pub(crate) fn copies_of(request: &Stamped<Request>) -> Result<RequestCopies, AllocError>
+    ensures { IfOk result (λ copies. (copies.asked ≡ request.now) × (copies.kept ≡ request.now)) }
 {
     let asked = request.clone()?;
     let kept = request.clone()?;
-    Ok(Twice { asked, kept })
+    Ok(RequestCopies { asked, kept })
 }
 
 /// Serves a request once, by its two copies, and copies its reply. Where a copy is refused, nothing was served.
@@ -39,9 +39,9 @@ pub(crate) fn twice(request: &Stamped<Request>) -> Result<Twice, AllocError>
 pub(crate) fn serve_copied(
     server: &mut Server,
     request: &Stamped<Request>,
-    copies: Result<Twice, AllocError>,
+    copies: Result<RequestCopies, AllocError>,
 ) -> Result<Copied, Lack>
-    requires { IfOk copies (λ two. (two.asked ≡ request.now) × (two.kept ≡ request.now)) }
+    requires { IfOk copies (λ copies. (copies.asked ≡ request.now) × (copies.kept ≡ request.now)) }
     ensures reply { IfOk result (λ copied. copied.reply ≡ answer_of server.old request.now) }
     ensures copy { IfOk result (λ copied. copied.copy ≡ copied.reply.value) }
     ensures request { IfOk result (λ copied. copied.request ≡ request.now) }
@@ -50,7 +50,7 @@ pub(crate) fn serve_copied(
     ensures full { (result ≡ Err Full) ↔ IsTrue (is_full server.old request.now) }
     ensures err { OnErr result (server.new ≡ server.old) }
 {
-    let Ok(Twice { asked, kept }) = copies else {
+    let Ok(RequestCopies { asked, kept }) = copies else {
         return Err(lack_of(server, request));
     };
     let mut nobody = ();

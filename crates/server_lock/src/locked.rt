@@ -8,7 +8,7 @@ ghost use Rattle.server_lock.specs.Histories.{IsLegal, given_to, item_of, max_it
 ghost use Rattle.server_lock.specs.Kept.{end_of, is_spent, with_item};
 
 use crate::answer::Answer;
-use crate::copied::{Twice, lack_of, serve_copied, twice};
+use crate::copied::{RequestCopies, copies_of, lack_of, serve_copied};
 use crate::history::History;
 use crate::item::Item;
 use crate::miss::Miss;
@@ -76,19 +76,19 @@ impl Locked {
         ensures kept { IfOk result.reply (λ reply. self.new ≡ with_item (item_of agent request reply) self.old) }
         ensures same { OnErr result.reply (self.new ≡ self.old) }
     {
-        let copies = twice(&request);
-        self.serve_twice(agent, front, request, copies)
+        let copies = copies_of(&request);
+        self.serve_with_copies(agent, front, request, copies)
     }
 
     /// The same, with the request's copies, which were made before.
-    pub(crate) fn serve_twice(
+    pub(crate) fn serve_with_copies(
         &mut self,
         agent: Option<u8>,
         front: usize,
         request: Stamped<Request>,
-        copies: Result<Twice, AllocError>,
+        copies: Result<RequestCopies, AllocError>,
     ) -> Answer
-        requires { IfOk copies (λ two. (two.asked ≡ request) × (two.kept ≡ request)) }
+        requires { IfOk copies (λ copies. (copies.asked ≡ request) × (copies.kept ≡ request)) }
         ensures server { result.server ≡ self.old.number }
         ensures before { result.before ≡ length self.old.history }
         ensures request { result.request ≡ request }
@@ -128,9 +128,9 @@ impl Locked {
         &mut self,
         agent: Option<u8>,
         request: &Stamped<Request>,
-        copies: Result<Twice, AllocError>,
+        copies: Result<RequestCopies, AllocError>,
     ) -> Result<Stamped<Reply>, Lack>
-        requires { IfOk copies (λ two. (two.asked ≡ request.now) × (two.kept ≡ request.now)) }
+        requires { IfOk copies (λ copies. (copies.asked ≡ request.now) × (copies.kept ≡ request.now)) }
         ensures room { OnOk result (length self.old.history < max_items) }
         ensures reply { IfOk result (λ reply. given_to (end_of self.old) request.now ≡ Some reply) }
         ensures fits { IfOk result (λ reply. IsTrue (fits request.now.value reply.value)) }

@@ -12,7 +12,7 @@ ghost use Rattle.server_lock.specs.Passes.{after_answer, front_at, passes_of, se
 
 use crate::answer::Answer;
 use crate::close_fault::CloseFault;
-use crate::copied::twice;
+use crate::copied::copies_of;
 use crate::counting::{SEATS, is_counted, tally};
 use crate::gate::Gate;
 use crate::history::{Histories, History};
@@ -98,10 +98,10 @@ impl Servers {
             stamp,
             value: request,
         };
-        let copies = twice(&request);
+        let copies = copies_of(&request);
         let mut guard = self.locks[usize::from(server)].lock(rt);
         gate.inside(server, pass.agent());
-        let answer = guard.serve_twice(pass.agent(), front, request, copies);
+        let answer = guard.serve_with_copies(pass.agent(), front, request, copies);
         drop(guard);
         gate.after(server, pass.agent());
         answer.is_told();
