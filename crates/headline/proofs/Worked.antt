@@ -7,7 +7,7 @@ use Rattle.std.proofs.lemmas.Bool.Decides.{nat_tests}
 use Rattle.std.proofs.lemmas.List.Elements.{All-from_recursion}
 use Rattle.vote_core.specs.declared.fault.VotesFault.{VotesFault}
 use Rattle.vote_core.specs.Quorums.{Configuration, Representative}
-use Rattle.vote_core.specs.Validity.{IsValid, first_fault}
+use Rattle.vote_core.specs.Validity.{IsValid, first_fault, max_servers}
 use Rattle.vote_core.proofs.Faults.{accepted_without_fault}
 use Rattle.suite_prefix.specs.SettingsRules.{IsAccepted}
 use Rattle.suite_prefix.specs.declared.lock_mode.LockMode.TheVariants.{Shared}
@@ -38,13 +38,13 @@ all_by P p each (x ∷ xs) is =
     (each x parts.0, all_by P p each xs parts.1)
 
 abbrev votes_fit : Configuration → Bool
-votes_fit votes = not (is_some (first_fault 16 votes)) && list_all (λ rep. nat_lt rep.1 256) votes.reps
+votes_fit votes = not (is_some (first_fault max_servers votes)) && list_all (λ rep. nat_lt rep.1 256) votes.reps
 
 valid_votes : (votes : Configuration) → votes_fit votes ≡ true → IsValid votes
 valid_votes votes is =
-    let parts = and_parts (not (is_some (first_fault 16 votes))) (list_all (λ rep. nat_lt rep.1 256) votes.reps) is in
+    let parts = and_parts (not (is_some (first_fault max_servers votes))) (list_all (λ rep. nat_lt rep.1 256) votes.reps) is in
     let few = all_by (λ (rep : Representative). rep.1 < 256) (λ rep. nat_lt rep.1 256) (λ rep. below rep.1 256) votes.reps parts.1 in
-    (accepted_without_fault 16 votes (none (first_fault 16 votes) parts.0) (All-from_recursion (λ (rep : Representative). rep.1 < 256) votes.reps few)).valid
+    (accepted_without_fault max_servers votes (none (first_fault max_servers votes) parts.0) (All-from_recursion (λ (rep : Representative). rep.1 < 256) votes.reps few)).valid
   where
     below : (a b : ℕ) → nat_lt a b ≡ true → a < b
     below a b is = grind (arith, nat_tests)

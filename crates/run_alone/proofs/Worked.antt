@@ -4,7 +4,7 @@ use Rattle.std.specs.Prelude.{All}
 use Rattle.std.specs.List.{IsDistinct}
 use Rattle.std.proofs.lemmas.List.Elements.{All-nil, All-cons}
 use Rattle.vote_core.specs.Quorums.{Representative}
-use Rattle.vote_core.specs.Validity.{IsValid}
+use Rattle.vote_core.specs.Validity.{IsValid, max_servers}
 use Rattle.suite_prefix.specs.SettingsRules.{IsAccepted}
 use Rattle.txn_core.specs.declared.job.Job.TheVariants.{Transaction}
 use Rattle.txn_core.specs.Runs.{owner, other}
@@ -29,7 +29,7 @@ valid_votes : IsValid two_agents.c0
 unfolding IsDistinct
 valid_votes = record {
   some_listed = omega arith;
-  numbered = three 16 (omega arith);
+  numbered = three max_servers (omega arith);
   few_votes = few_votes;
   listed_once = ((refl, (refl, tt)), ((refl, tt), (tt, tt)));
   some_votes = omega arith;

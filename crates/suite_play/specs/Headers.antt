@@ -3,7 +3,8 @@
 use Rattle.std.specs.Prelude.{ℕ, ◌-◌, ◌==◌, ◌^◌, nat_lt, Bool, ◌||◌, if◌then◌else◌, List, codes, Result, Ok, Err}
 use Rattle.std.specs.Str.{bytes_eq}
 use Rattle.file_ops.specs.Steps.{◌>>=◌, ◌>>◌, found_or}
-use Rattle.suite_prefix.specs.SettingsRules.{Opening, max_cache, max_agents, max_servers, max_slots}
+use Rattle.vote_core.specs.Validity.{max_servers}
+use Rattle.suite_prefix.specs.SettingsRules.{Opening, max_cache, max_agents, max_slots}
 use Rattle.suite_prefix.specs.declared.settings.SettingsFault.{SettingsFault}
 use Rattle.suite_prefix.specs.declared.settings.SettingsFault.TheVariants.{BadCount, BadCache}
 use Rattle.vote_core.specs.Quorums.{Configuration}

@@ -25,7 +25,7 @@ pub fn read_header(alloc: Global, script: &mut ScriptReader<'_>) -> Result<Setti
     read_opening::<Places>(alloc, script, servers, agents)
 }
 
-/// The next line, which tells how many servers there are: 1 to 16.
+/// The next line, which tells how many servers there are: 1 to [`MAX_SERVERS`].
 pub fn read_servers<L: Language>(script: &mut ScriptReader<'_>) -> Result<usize, ScriptError>
     ensures count { Heads result script.new (headed L.is_known (codes "servers") (count_in MAX_SERVERS) script.old) }
     ensures range { IfOk result (λ count. (1 ≤ count) × (count ≤ MAX_SERVERS)) }

@@ -3,6 +3,7 @@ use Rattle.std.specs.Prelude.{ℕ, ◌<◌, ◌≤◌, ◌==◌, nat_lt, nat_le,
 use Rattle.std.specs.List.{list_any, find}
 use Rattle.acl_core.specs.declared.lists.Lists.{Lists}
 use Rattle.vote_core.specs.Quorums.{Configuration}
+use Rattle.vote_core.specs.Validity.{max_servers}
 use Rattle.suite_prefix.specs.declared.settings.SettingsFault.{SettingsFault}
 use Rattle.suite_prefix.specs.declared.settings.SettingsFault.TheVariants.{BadCount, UnknownServer, BadCache}
 
@@ -20,9 +21,6 @@ pub record Opening : Type 0 where
   pub slots : ℕ
 
 -- limits of this project
-abbrev pub max_servers : ℕ
-max_servers = 16
-
 abbrev pub max_agents : ℕ
 max_agents = 64
 

@@ -23,8 +23,8 @@ pub const MAX_SLOTS: usize = 4_096;
 /// Why settings are refused, in the order in which it is answered.
 #[derive(Clone, Copy, Debug, PartialEq, Eq, Error)]
 pub enum SettingsFault {
-    /// There are not 1 to 16 servers, or not 1 to 64 agents.
-    #[error("there have to be 1 to 16 servers, and 1 to 64 agents")]
+    /// There are not 1 to [`MAX_SERVERS`] servers, or not 1 to [`MAX_AGENTS`] agents.
+    #[error("there have to be 1 to {servers} servers, and 1 to {agents} agents", servers = MAX_SERVERS, agents = MAX_AGENTS)]
     BadCount,
     /// The opening votes list a server that there is not.
     #[error("a server is listed that is not there")]
