@@ -1,6 +1,7 @@
 -- The forms in which the bytes of copies are written. Form 1 is what was written before there were default lists: it is read for ever.
 -- Form 2 is what is written.
-use Rattle.std.specs.Prelude.{◌≡◌, ℕ, ◌<◌, ◌≤◌, length, All, None}
+use Rattle.std.specs.Prelude.{◌≡◌, ℕ, ◌<◌, ◌≤◌, nat_lt, nat_le, Bool, true, not, ◌&&◌, length, All, None, is_some}
+use Rattle.std.specs.List.{list_all}
 use Rattle.acl_core.specs.AccessLists.{max_entries}
 use Rattle.acl_core.specs.declared.lists.Lists.{Lists}
 use Rattle.vote_core.specs.Quorums.{Configuration}
@@ -37,3 +38,12 @@ Holds Two acl votes = Unit {0}
 
 abbrev pub CanHold : Form → Prefix → Type 0
 CanHold form prefix = Holds form prefix.acl prefix.votes
+
+-- the same as tests
+abbrev pub fits_one : Lists → Configuration → Bool
+fits_one acl votes =
+    not (is_some acl.default) && nat_le (length acl.access) (most_entries One) && list_all (λ rep. nat_lt rep.0 (most_servers One)) votes.reps
+
+abbrev pub holds : Form → Lists → Configuration → Bool
+holds One acl votes = fits_one acl votes
+holds Two acl votes = true

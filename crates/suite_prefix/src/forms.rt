@@ -1,6 +1,7 @@
 //! The forms in which the bytes of a copy are written.
 
-ghost use Rattle.std.specs.Prelude.{◌≡◌, ◌<◌, ◌↔◌, All, IsTrue};
+ghost use Rattle.std.specs.Prelude.{◌≡◌, ◌<◌, ◌↔◌, nat_lt, All, IsTrue};
+ghost use Rattle.std.specs.List.{list_all};
 ghost use Rattle.suite_prefix.specs.Forms as forms;
 
 use acl_core::{Lists, MAX_ENTRIES};
@@ -24,7 +25,8 @@ const OLD_ENTRIES: usize = 64;
 impl Form {
     /// Whether a copy with these lists and votes can be held in this form.
     pub fn holds(self, acl: &Lists, votes: &Votes) -> bool
-        ensures { IsTrue result ↔ forms.Holds self acl.now votes.now }
+        ensures held { IsTrue result ↔ forms.Holds self acl.now votes.now }
+        ensures test { result ≡ forms.holds self acl.now votes.now }
     {
         match self {
             Form::One => {
@@ -68,7 +70,8 @@ impl Form {
 
 /// Whether all servers are numbered below this.
 fn are_below(servers: usize, reps: &[(u8, u8)]) -> bool
-    ensures { IsTrue result ↔ All (λ rep. rep.0 < servers) reps.now }
+    ensures each { IsTrue result ↔ All (λ rep. rep.0 < servers) reps.now }
+    ensures test { result ≡ list_all (λ rep. nat_lt rep.0 servers) reps.now }
 {
     reps.iter()
         .all(|(server, _)| usize::from(*server) < servers)
