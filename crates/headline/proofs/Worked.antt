@@ -1,7 +1,9 @@
 -- They can be, and the rest holds by computation.
-use Rattle.std.proofs.Common.{◌≡◌, inl, inr, ℕ, ◌<◌, Bool, true, List, [], ◌∷◌, Option, Some, None, is_some, refl, sym, ap, subst, arith, lit<}
+use Rattle.std.proofs.Common.{◌≡◌, inl, inr, ℕ, ◌<◌, Bool, true, List, [], ◌∷◌, Option, Some, None, is_some, refl, sym, ap, ◌∙◌, subst, arith, lit<}
 use Rattle.std.specs.Prelude.{nat_lt, ◌&&◌, not}
 use Rattle.std.specs.List.{AllByRecursion, list_all}
+use Rattle.std.specs.Ordering.{nat_cmp}
+use Rattle.std.specs.FinSet.{contains-empty}
 use Rattle.std.proofs.lemmas.Bool.{and_parts, false≢true}
 use Rattle.std.proofs.lemmas.Bool.Decides.{nat_tests}
 use Rattle.std.proofs.lemmas.List.Elements.{All-from_recursion}
@@ -99,6 +101,8 @@ caches_accepted = record {
   budget_fits = omega arith;
   quota_fits = omega arith;
   slots_fit = omega arith;
+  old_known = λ server there. absurd (false≢true (sym (contains-empty nat_cmp server) ∙ there));
+  old_fits = λ server there. absurd (false≢true (sym (contains-empty nat_cmp server) ∙ there));
 }
 
 six_accepted : IsAccepted six_servers
@@ -109,6 +113,8 @@ six_accepted = record {
   budget_fits = omega arith;
   quota_fits = omega arith;
   slots_fit = omega arith;
+  old_known = λ server there. absurd (false≢true (sym (contains-empty nat_cmp server) ∙ there));
+  old_fits = λ server there. absurd (false≢true (sym (contains-empty nat_cmp server) ∙ there));
 }
 
 -- ---- what they came to

@@ -12,7 +12,7 @@ use suite_prefix::{
     SettingsFault, decode, encode, faults_tell_apart, fronts_are_short, no_bytes_begin_others,
     tests_are_exact,
 };
-use vote_core::Votes;
+use vote_core::{ServerSet, Votes};
 
 /// A file of version 1 of user 1000 and group 100, list of mode 644, three votes, content `hi`.
 static WORKED: &str = "02 00 00 00 00 00 00 00 01 01 00 00 03 e8 00 00 00 64
@@ -398,7 +398,7 @@ fn numbers(rt: &impl Abort, text: &str) -> [usize; 5] {
 fn settings(rt: &(impl Abort + AllocGlobal), text: &str) -> Result<Settings, SettingsFault> {
     let [servers, agents, budget, quota, slots] = numbers(rt, text);
     let (votes, acl) = (votes(rt, "1,1,1/2/2"), lists(rt, "777"));
-    Settings::new(servers, agents, votes, 1000, 100, acl, budget, quota, slots)
+    Settings::new(servers, agents, votes, 1000, 100, acl, budget, quota, slots, ServerSet::empty())
 }
 
 /// Settings of these numbers have this fault, or none.

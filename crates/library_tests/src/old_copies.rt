@@ -1,10 +1,11 @@
 //! Copies in form 1: it is read, and what is written is form 2.
 
 use crate::checks::{bytes, case, had, holds, small, tells};
-use crate::fixtures::{file, votes};
+use crate::fixtures::{file, lists, votes};
 use acl_core::{Acl, Entry, Tag};
 use std::process::Abort;
-use suite_prefix::{Form, Replica, StoredCopy, decode, encode};
+use suite_prefix::{Form, Replica, Settings, SettingsFault, StoredCopy, decode, encode};
+use vote_core::ServerSet;
 
 /// The worked copy in form 1: a file of version 1 of user 1000 and group 100, list of mode 644, three votes,
 /// content `hi`.
@@ -167,4 +168,34 @@ fn a_kept_copy_stays_in_its_form_until_it_is_put_under_another_prefix(rt: HostRu
     let under = had(&rt, old.under(rt.alloc(), &copy.prefix));
     holds(&rt, under.form() == Form::Two, "written anew");
     holds(&rt, under.as_bytes() == new.as_bytes(), "the same bytes");
+}
+
+/// The fault of settings of three servers, of which these open with their root in form 1, with a default list
+/// of the root where there is one.
+fn fault_of(
+    rt: &(impl Abort + AllocGlobal),
+    old: &[u8],
+    with_default: bool,
+) -> Option<SettingsFault> {
+    let mut acl = lists(rt, "777");
+    if with_default {
+        acl.default = Some(had(rt, acl.access.clone()));
+    }
+    let mut servers = ServerSet::empty();
+    for server in old {
+        assert!(rt; *server < 32);
+        servers.insert(*server);
+    }
+    let votes = votes(rt, "1,1,1/2/2");
+    Settings::new(3, 1, votes, 1000, 100, acl, 0, 0, 0, servers).err()
+}
+
+#[test]
+fn settings_name_the_servers_with_old_roots(rt: HostRuntime) {
+    holds(&rt, fault_of(&rt, &[], true) == None, "no old root");
+    holds(&rt, fault_of(&rt, &[0, 2], false) == None, "two old roots");
+    let unknown = Some(SettingsFault::UnknownServer);
+    holds(&rt, fault_of(&rt, &[3], true) == unknown, "no server 3");
+    let large = Some(SettingsFault::OldTooLarge);
+    holds(&rt, fault_of(&rt, &[0], true) == large, "a default list");
 }

@@ -19,7 +19,7 @@ use file_ops::AuditItem;
 use rep_core::Server;
 use std::alloc::{AllocError, Global};
 use std::marker::Model;
-use suite_prefix::Settings;
+use suite_prefix::{Form, Settings};
 
 /// Why events were not all played: memory ran out. The world is as after `done` of them.
 #[derive(Clone, Copy, Debug, PartialEq, Eq)]
@@ -156,6 +156,16 @@ impl World {
         match self.servers.get(usize::from(server)) {
             Some(found) => found.audit(),
             None => &[],
+        }
+    }
+
+    /// The form that the copy of a suite is written in at a server, where it has one.
+    pub fn form(&self, server: u8, suite: u64) -> Option<Form>
+        ensures { result ≡ worlds.form_in self.now.world server suite }
+    {
+        match self.servers.get(usize::from(server)) {
+            Some(found) => found.form(suite),
+            None => None,
         }
     }
 

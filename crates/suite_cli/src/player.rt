@@ -18,7 +18,7 @@ use suite_script::{
     PlayError, Root, ScriptError, ScriptReader, push_answered, push_refused, read_root,
     write_gathered, write_if_full,
 };
-use vote_core::{MAX_SERVERS, Votes};
+use vote_core::{MAX_SERVERS, ServerSet, Votes};
 
 /// How much is printed before the rest of a script is looked through.
 const KEPT: usize = 4_194_304;
@@ -127,6 +127,7 @@ fn settings_of(root: Root) -> Settings
         0,
         0,
         0,
+        ServerSet::empty(),
     )
     .unwrap()
 }
