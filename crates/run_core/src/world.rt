@@ -163,10 +163,10 @@ impl World {
     pub fn form(&self, server: u8, suite: u64) -> Option<Form>
         ensures { result ≡ worlds.form_in self.now.world server suite }
     {
-        match self.servers.get(usize::from(server)) {
-            Some(found) => found.form(suite),
-            None => None,
+        if let Some(found) = self.servers.get(usize::from(server)) {
+            return found.form(suite);
         }
+        None
     }
 
     /// Of which server an agent asks next: of none, where it has no job or is not there. It takes no memory.
