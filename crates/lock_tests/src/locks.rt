@@ -29,7 +29,18 @@ fn settings(rt: &(impl Abort + AllocGlobal), agents: usize) -> Settings {
     let mode = Mode::new(0o777).expect(rt, "a mode");
     let acl = again!(rt, Acl::from_mode(rt.alloc(), mode));
     let votes = Votes::new(3, &[(0, 1), (1, 1), (2, 1)], 2, 2).expect(rt, "votes");
-    let made = Settings::new(3, agents, votes, 1000, 100, Lists::from(acl), 0, 0, 0, ServerSet::empty());
+    let made = Settings::new(
+        3,
+        agents,
+        votes,
+        1000,
+        100,
+        Lists::from(acl),
+        0,
+        0,
+        0,
+        ServerSet::empty(),
+    );
     made.ok().expect(rt, "settings")
 }
 

@@ -65,9 +65,9 @@ none_above (suc m) n servers le each =
 pub small_word : (m end bits : ℕ) → end ≤ m → bits < 2 ^ m → ((q : ℕ) → contains (set_below m bits) q ≡ true → q < end) → bits < 2 ^ end
 small_word m end bits le lt each =
     let word : bits ≡ bits % 2 ^ end =
-      sym (word-set_below m bits lt)
-      ∙ none_above m end (set_below m bits) le each
-      ∙ word_part end m bits le
+    sym (word-set_below m bits lt)
+    ∙ none_above m end (set_below m bits) le each
+    ∙ word_part end m bits le
     in
     omega (arith, word, mod_below bits (2 ^ end) (pow_pos end))
 
