@@ -92,6 +92,7 @@ An empty line, and one that begins with #, says nothing.
   root UID GID INIT                     the root folder's owner, group and list
   cache BUDGET QUOTA SLOTS              the most bytes of an agent's cache, of a site's part of it,
                                         and the most entries
+  old SERVER,SERVER,..                  servers whose root is first written in form 1 (may be left out)
 
 These stand first and in this order. Names may follow, and then what happens:
 
@@ -152,6 +153,7 @@ An empty line, and one that begins with #, says nothing.
   root UID GID INIT                     the root folder's owner, group and list
   cache BUDGET QUOTA SLOTS              the most bytes of an agent's cache, of a site's part of it,
                                         and the most entries
+  old SERVER,SERVER,..                  servers whose root is first written in form 1 (may be left out)
 
 These stand first and in this order. Names may follow, and then jobs, numbered from 0:
 

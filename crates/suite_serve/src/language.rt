@@ -64,6 +64,7 @@ fn is_header(word: &[u8]) -> bool
         || word == b"votes".as_slice()
         || word == b"root".as_slice()
         || word == b"cache".as_slice()
+        || word == b"old".as_slice()
 }
 
 /// What the words after a verb say, so far as it is kept.
