@@ -5,6 +5,5 @@ pub mod Sources
 pub mod Shortness
 pub mod Fewness
 pub mod Staying
-pub mod Placed
 pub mod Dues
-pub mod Undoing
+pub mod Refusals

@@ -11,8 +11,9 @@ use Rattle.suite_collect.specs.Collecting.{Asked, Next, Current, Ask, Short, nex
 use Rattle.weak_cache.specs.Entries.{Cache}
 use Rattle.txn_core.specs.declared.word.Word.TheVariants.{Replied}
 use Rattle.txn_core.specs.Doing.{Fixed, Task, Granted, Outcome, Phase, Gathering, Widening, Preparing, Finishing, Course}
-use Rattle.txn_core.specs.code.Endings.{put_in}
-use Rattle.txn_core.specs.code.Hearing.{heard, on_hearing}
+use Rattle.txn_core.specs.code.Goings.{held}
+use Rattle.txn_core.specs.code.Goings.{widened as widens}
+use Rattle.txn_core.specs.code.Hearing.{heard, heard_at, on_hearing}
 use Rattle.txn_core.specs.Standing.{FitsAsked}
 use Rattle.txn_core.specs.code.Steps.{Steps, taken}
 use Rattle.txn_core.specs.Suites.{Suite, Suites, suite_of, with_suite}
@@ -102,24 +103,19 @@ module _ (fixed : Fixed) (course : Course) (cache : Cache) (server : ℕ) (said 
   pub widening : (number : ℕ) (left : List ℕ) (granted : Granted) → course.phase ≡ Widening (number ∷ left) granted → Asks course.task course.suites number server
   widening number left granted is = asks_of course.task course.suites number server (asked_in_phase (Widening (number ∷ left) granted) is)
 
-  pub gathering_ok : (number : ℕ) (result : Result Bool AllocError) (place : Option Ending) (after : Course) (kept : Cache) → course.phase ≡ Gathering number
-      → ((suite : Suite) → suite_of course.suites number ≡ Some suite → IfOk result (λ ends. Steps (on_hearing course.task cache course.suites course.phase number server (heard suite said) (λ suite. execute fixed course.task (record { suites = with_suite number suite course.suites; cache = cache }))) (put_in ends place) after kept))
-      → IfOk result (λ ends. Steps (taken fixed course cache (request_of fixed course) (Replied said)) (put_in ends place) after kept)
-  gathering_ok number result place after kept is went =
+  -- and what comes of a reply to them
+  pub replied_held : (number : ℕ) → course.phase ≡ Gathering number → taken fixed course cache (request_of fixed course) (Replied said) ≡ held fixed course cache number server said
+  replied_held number is =
       let a : Asks course.task course.suites number server = gathering number is in
-      let Went : Step → Type 0 = λ step. IfOk result (λ ends. Steps step (put_in ends place) after kept) in
-      subst Went (sym (gathered fixed course cache number server said a is)) (went a.suite a.there)
+      gathered fixed course cache number server said a is
+      ∙ ap (λ found. on_hearing course.task cache course.suites course.phase number server (heard_at found said) (λ suite. execute fixed course.task (record { suites = with_suite number suite course.suites; cache = cache }))) (sym a.there)
 
-  pub widening_ok : (number : ℕ) (left : List ℕ) (granted : Granted) (result : Result Bool AllocError) (place : Option Ending) (after : Course) (kept : Cache) → course.phase ≡ Widening (number ∷ left) granted
-      → ((suite : Suite) (left : List ℕ) (granted : Granted) (cache : Cache) → suite_of course.suites number ≡ Some suite → course.phase ≡ Widening (number ∷ left) granted
-      → IfOk result (λ ends. Steps (on_hearing course.task cache course.suites course.phase number server (heard suite said) (λ suite. widen_all course.task cache (with_suite number suite course.suites) granted left)) (put_in ends place) after cache))
-      → kept ≡ cache
-      → IfOk result (λ ends. Steps (taken fixed course cache (request_of fixed course) (Replied said)) (put_in ends place) after kept)
-  widening_ok number left granted result place after kept is went same =
+  pub replied_widened : (number : ℕ) (left : List ℕ) (granted : Granted) → course.phase ≡ Widening (number ∷ left) granted
+      → taken fixed course cache (request_of fixed course) (Replied said) ≡ widens course cache number server left granted said
+  replied_widened number left granted is =
       let a : Asks course.task course.suites number server = widening number left granted is in
-      let Went : Step → Type 0 = λ step. IfOk result (λ ends. Steps step (put_in ends place) after cache) in
-      let Kept : Cache → Type 0 = λ kept. IfOk result (λ ends. Steps (taken fixed course cache (request_of fixed course) (Replied said)) (put_in ends place) after kept) in
-      subst Kept (sym same) (subst Went (sym (widened fixed course cache number server said a left granted is)) (went a.suite left granted cache a.there is))
+      widened fixed course cache number server said a left granted is
+      ∙ ap (λ found. on_hearing course.task cache course.suites course.phase number server (heard_at found said) (λ suite. widen_all course.task cache (with_suite number suite course.suites) granted left)) (sym a.there)
 
   -- a reply to a Prepare, and to a Finish
   pub preparing_ok : (servers : List ℕ) (outcome : Outcome) (result : Option Ending) (after : Course) → course.phase ≡ Preparing servers outcome

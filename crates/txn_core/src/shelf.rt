@@ -1,6 +1,6 @@
 //! What a cache has, once a content that was fetched is put there.
 
-ghost use Rattle.std.specs.Prelude.{◌≡◌, ◌<◌, IfSome, OnOk, OnErr};
+ghost use Rattle.std.specs.Prelude.{◌≡◌, ◌<◌, OnOk, OnErr, Some};
 ghost use Rattle.std.specs.Option.{option_copied};
 ghost use Rattle.weak_cache.specs.Cache.{content_at, hint};
 ghost use Rattle.weak_cache.specs.Entries.{max_sites};
@@ -38,6 +38,15 @@ impl Fetched {
             content: &self.content,
         }
     }
+
+    /// It is put into a cache. An error leaves the cache as it was.
+    pub(crate) fn put(self, cache: &mut WeakCache) -> Result<(), AllocError>
+        requires { self.site < max_sites }
+        ensures ok { OnOk result (cache.new ≡ record cache.old { entries = shelved cache.old (Some self) }) }
+        ensures err { OnErr result (cache.new ≡ cache.old) }
+    {
+        cache.put(self.site, self.suite, self.prefix, self.dver, self.content)
+    }
 }
 
 /// What a cache has, once what was fetched is put there.
@@ -69,16 +78,4 @@ impl<'a> Shelf<'a> {
             None => self.cache.hint(site, suite),
         }
     }
-}
-
-/// Puts what was fetched into a cache. An error leaves the cache as it was.
-pub(crate) fn put(cache: &mut WeakCache, fetched: Option<Fetched>) -> Result<(), AllocError>
-    requires { IfSome fetched (λ one. one.site < max_sites) }
-    ensures ok { OnOk result (cache.new ≡ record cache.old { entries = shelved cache.old fetched }) }
-    ensures err { OnErr result (cache.new ≡ cache.old) }
-{
-    let Some(one) = fetched else {
-        return Ok(());
-    };
-    cache.put(one.site, one.suite, one.prefix, one.dver, one.content)
 }

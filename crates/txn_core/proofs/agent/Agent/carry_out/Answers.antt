@@ -9,6 +9,6 @@ invariant_of-self-2 c =
       index = kept.index;
       jobs = kept.jobs;
       servers = kept.servers;
-      unused = c.begin.ensures.unused;
-      reached = reaches_begun c.self.inside.service c.begin.new.progress c.in_ok-course.course c.map.result c.map.ensures.cases (λ course doing post. search rules) c.in_ok-course.ensures.reached;
+      unused = search rules;
+      reached = reaches_begun c.begin.new.means.ground c.begin.new.means.progress c.in_ok-course.course c.map.result c.map.ensures.cases (λ course doing post. search rules) c.in_ok-course.ensures.reached;
     }

@@ -6,8 +6,8 @@ use Rattle.txn_core.specs.declared.sequel.Sequel.{Sequel}
 use Rattle.txn_core.proofs.Ended.{prepares}
 use Rattle.txn_core.proofs.course.Course.follow.Goals as goal
 
-pub returns-in-Refuse-clause-steps : goal.returns-in-Refuse-clause-steps
-returns-in-Refuse-clause-steps c = λ cache.
+pub returns-in-Refuse : goal.returns-in-Refuse
+returns-in-Refuse c = λ cache.
     let now = c.args.self.now in
     let Follows : Sequel → Type 0 = λ sequel. Steps (follow now.task cache now.suites sequel) None c.prepare.new.self cache in
     subst Follows (sym c.in-Refuse.is)
