@@ -1,9 +1,10 @@
 //! What a transaction learned of a suite.
 
-ghost use Rattle.std.specs.Prelude.{◌≡◌, OnOk, OnErr, Some};
+ghost use Rattle.std.specs.Prelude.{◌≡◌, OnOk, OnErr};
 ghost use Rattle.std.specs.Option.{option_copied};
-ghost use Rattle.txn_core.specs.code.Learning.{Fits, adds, kept_by, learned};
-ghost use Rattle.txn_core.specs.code.Seeing.{changed_at, settled_with, with_content};
+ghost use Rattle.txn_core.specs.code.Learning.{Fits, adds, kept_by};
+ghost use Rattle.txn_core.specs.code.Plans.{shelved};
+ghost use Rattle.txn_core.specs.code.Seeing.{changed_at, learned_suites, settled_with, with_content};
 ghost use Rattle.txn_core.specs.Suites.{suite_of};
 
 use crate::settling::Settling;
@@ -27,7 +28,9 @@ pub(crate) enum News {
 
 impl News {
     /// What the cache is to keep.
-    pub(crate) fn fetched(&self) -> Option<&Fetched> {
+    pub(crate) fn fetched(&self) -> Option<&Fetched>
+        ensures { option_copied result ≡ kept_by self.now }
+    {
         match self {
             News::Content(_, fetched) => Some(fetched),
             _ => None,
@@ -36,7 +39,9 @@ impl News {
 
     /// Whether more is known by it, and nothing else than before: a suite had no quorum, or its content was
     /// not there, and this one is of its kind.
-    pub(crate) fn adds_to(&self, suites: &RoomyMap<u64, Suite>) -> bool {
+    pub(crate) fn adds_to(&self, suites: &RoomyMap<u64, Suite>) -> bool
+        ensures { result ≡ adds self.now suites.now.pairs }
+    {
         match self {
             News::Nothing => true,
             News::Quorum(number, _) => match suites.get(number) {
@@ -55,7 +60,13 @@ impl News {
         self,
         suites: &mut RoomyMap<u64, Suite>,
         cache: &mut WeakCache,
-    ) -> Result<(), AllocError> {
+    ) -> Result<(), AllocError>
+        requires { Fits self }
+        ensures suites { OnOk result (suites.new.pairs ≡ learned_suites self suites.old.pairs) }
+        ensures cache { OnOk result (cache.new ≡ record cache.old { entries = shelved cache.old (kept_by self) }) }
+        ensures err { OnErr result ((suites.new.pairs ≡ suites.old.pairs) × (cache.new ≡ cache.old)) }
+        ensures room { suites.new.room ≡ suites.old.room }
+    {
         match self {
             News::Nothing => {}
             News::Quorum(number, settling) => settle(suites, number, settling),
@@ -70,14 +81,20 @@ impl News {
 }
 
 /// A suite has a quorum from now on.
-pub(crate) fn settle(suites: &mut RoomyMap<u64, Suite>, number: u64, settling: Settling) {
+pub(crate) fn settle(suites: &mut RoomyMap<u64, Suite>, number: u64, settling: Settling)
+    ensures suites { suites.new.pairs ≡ changed_at (settled_with settling) number (suite_of suites.old.pairs number) suites.old.pairs }
+    ensures room { suites.new.room ≡ suites.old.room }
+{
     if let Some(suite) = suites.get_mut(&number) {
         suite.settle(settling);
     }
 }
 
 /// A suite has its content from now on.
-fn open(suites: &mut RoomyMap<u64, Suite>, number: u64, content: Content) {
+fn open(suites: &mut RoomyMap<u64, Suite>, number: u64, content: Content)
+    ensures suites { suites.new.pairs ≡ changed_at (with_content content) number (suite_of suites.old.pairs number) suites.old.pairs }
+    ensures room { suites.new.room ≡ suites.old.room }
+{
     if let Some(suite) = suites.get_mut(&number) {
         suite.open(content);
     }

@@ -1,0 +1,174 @@
+-- What a suite heard, and how its transaction goes on by it.
+use Rattle.std.proofs.Common.{◌≡◌, ℕ, true, List, ◌∷◌, Option, Some, None, refl, sym, ap, subst, ◌∙◌}
+use Rattle.std.specs.Ordering.{nat_cmp}
+use Rattle.sorted_map.specs.SortedMap.{IsOrdered}
+use Rattle.sorted_map.specs.Numbers.{get_insert_here}
+use Rattle.rep_core.specs.declared.reply.Reply.{Reply}
+use Rattle.rep_core.specs.Fits.{is_held}
+use Rattle.suite_collect.specs.Collecting.{Next, next}
+use Rattle.file_ops.specs.declared.service.Service.{Service}
+use Rattle.file_exec.specs.Reaching.{Reached}
+use Rattle.weak_cache.specs.Entries.{Cache}
+use Rattle.weak_cache.specs.Cache.{Limited}
+use Rattle.txn_core.specs.declared.ending.Cause.TheVariants as cause
+use Rattle.txn_core.specs.declared.ending.Goes.{Goes}
+use Rattle.txn_core.specs.declared.ending.Goes.TheVariants.{On, Ended}
+use Rattle.txn_core.specs.declared.means.Means.{Means}
+use Rattle.txn_core.specs.declared.news.News.TheVariants.{Quorum}
+use Rattle.txn_core.specs.declared.settling.Settling.{Settling}
+use Rattle.txn_core.specs.declared.suites.Heard.TheVariants.{Lost, Asks, Short, Settles}
+use Rattle.txn_core.specs.Doing.{Fixed, Course, Granted}
+use Rattle.txn_core.specs.Suites.{Suite, Suites, suite_of, with_suite}
+use Rattle.txn_core.specs.Transactions.{Step, execute, gather_by, give_up, widen_all}
+use Rattle.txn_core.specs.code.Goings.{GoesBy, IsStep, IsUntouched, Keeps, fixed_by, held, widened}
+use Rattle.txn_core.specs.code.Hearing as hearing
+use Rattle.txn_core.specs.code.Hearing.{Hearing, HearsAt, FallsShort, heard_at, on_hearing}
+use Rattle.txn_core.specs.code.Learning.{learned}
+use Rattle.txn_core.specs.code.Reaching.{IsReachedIn, IsReachedUnless}
+use Rattle.txn_core.specs.code.Seeing.{changed_at, settled_with}
+use Rattle.txn_core.specs.code.Sequels.{gather_again}
+use Rattle.txn_core.specs.code.Unused.{HasUnused}
+use Rattle.txn_core.proofs.InPlace.{at_lost, at_asks, at_short, at_settles}
+use Rattle.txn_core.proofs.Reaching.{reached_at, reached_asks, reached_short, gives_up, goes_unless, goes_gather}
+
+module _ (before mid : Course) (number server : ℕ) (said : Reply) where
+  abbrev found : Option Suite
+  found = suite_of before.suites number
+
+  -- ---- the step, whatever follows a quorum
+
+  module _ (cache : Cache) (go_on : Suite → Step) where
+    abbrev step_on : Hearing → Step
+    step_on what = on_hearing before.task cache before.suites before.phase number server what go_on
+
+    pub lost_goes : (goes : Goes) (after : Course) → HearsAt found number Lost before said mid → GoesBy (give_up mid.task cache mid.suites (cause.Lost server)) goes after cache → GoesBy (step_on (heard_at found said)) goes after cache
+    lost_goes goes after hears up =
+        let at = at_lost before mid number said found hears in
+        let Goes' : Step → Type 0 = λ step. GoesBy step goes after cache in
+        subst Goes' (ap (λ (course : Course). give_up course.task cache course.suites (cause.Lost server)) at.1 ∙ ap step_on (sym at.0)) up
+
+    pub asks_goes : HearsAt found number Asks before said mid → GoesBy (step_on (heard_at found said)) On mid cache
+    asks_goes hears =
+        let at = at_asks before mid number said found hears in
+        let Goes' : Step → Type 0 = λ step. GoesBy step On mid cache in
+        subst Goes' (ap step_on (sym at.1)) (refl, (refl, at.2))
+
+    pub short_goes : (goes : Goes) (after : Course) → HearsAt found number Short before said mid → GoesBy (gather_again mid.task cache mid.suites number (suite_of mid.suites number)) goes after cache → GoesBy (step_on (heard_at found said)) goes after cache
+    short_goes goes after hears gathers =
+        let at = at_short before mid number said found hears in
+        let new = at.0 in
+        let short = at.1 in
+        let more = with_suite number new before.suites in
+        let Goes' : Step → Type 0 = λ step. GoesBy step goes after cache in
+        subst Goes'
+        (ap (λ (course : Course). gather_again course.task cache course.suites number (suite_of course.suites number)) at.2
+        ∙ ap (gather_again before.task cache more number) (get_insert_here before.suites number new)
+        ∙ ap (gather_by before.task cache more number) short.3
+        ∙ ap step_on (sym short.4)) gathers
+
+  pub settled_step : (cache : Cache) (settling : Settling) (then' : Suites → Step) → HearsAt found number (Settles settling) before said mid
+      → then' (changed_at (settled_with settling) number found before.suites) ≡ step_on cache (λ suite. then' (with_suite number suite before.suites)) (heard_at found said)
+  settled_step cache settling then' hears =
+      let at = at_settles before mid number said settling found hears in
+      ap (λ it. then' (changed_at (settled_with settling) number it before.suites)) at.1 ∙ ap (step_on cache (λ suite. then' (with_suite number suite before.suites))) (sym at.2)
+
+  pub settles_same : (settling : Settling) → HearsAt found number (Settles settling) before said mid → mid ≡ before
+  settles_same settling hears = (at_settles before mid number said settling found hears).3
+
+  pub settles_held : (settling : Settling) → HearsAt found number (Settles settling) before said mid → is_held said ≡ true
+  settles_held settling hears = (at_settles before mid number said settling found hears).4
+
+  -- ---- how far the transaction came
+
+  module _ (service : Service) (reached : Reached) (ordered : IsOrdered nat_cmp before.suites) (is : IsReachedIn service before.task before.suites reached) where
+    pub asks_reached : HearsAt found number Asks before said mid → IsReachedIn service mid.task mid.suites reached
+    asks_reached hears = of found refl hears
+      where
+        of : (it : Option Suite) → suite_of before.suites number ≡ it → HearsAt it number Asks before said mid → IsReachedIn service mid.task mid.suites reached
+        of (Some suite) there hears = reached_asks service reached before mid number suite hears.0 said ordered there hears.1 hears.2 is
+        of None there hears = cc
+
+    pub short_reached : HearsAt found number Short before said mid → IsReachedIn service mid.task mid.suites reached
+    short_reached hears = of found refl hears
+      where
+        of : (it : Option Suite) → suite_of before.suites number ≡ it → HearsAt it number Short before said mid → IsReachedIn service mid.task mid.suites reached
+        of (Some suite) there hears = reached_short service reached before mid number suite hears.0 said ordered there hears.1 hears.2 is
+        of None there hears = cc
+
+-- ---- a suite that is gathered
+
+module _ (means : Means) (before mid : Course) (number server : ℕ) (said : Reply) (unused : HasUnused means.cache.entries) where
+  abbrev found' : Option Suite
+  found' = suite_of before.suites number
+
+  abbrev held' : Step
+  held' = held (fixed_by means) before means.cache.entries number server said
+
+  abbrev go_on : Suite → Step
+  go_on suite = execute (fixed_by means) before.task (record { suites = with_suite number suite before.suites; cache = means.cache.entries })
+
+  pub keeps : Keeps means means
+  keeps = record { ground = refl; limits = refl; unused = unused }
+
+  pub held_lost : (goes : Goes) (after : Course) → HearsAt found' number Lost before said mid → ((cache : Cache) → GoesBy (give_up mid.task cache mid.suites (cause.Lost server)) goes after cache) → IsStep means held' goes after means
+  held_lost goes after hears up = record {
+    steps = lost_goes before mid number server said means.cache.entries go_on goes after hears (up means.cache.entries);
+    keeps = keeps;
+    reached = gives_up means.ground means.progress mid.task mid.suites (cause.Lost server) goes after up;
+  }
+
+  module _ (ordered : IsOrdered nat_cmp before.suites) (is : IsReachedIn means.ground before.task before.suites means.progress) where
+    pub held_asks : HearsAt found' number Asks before said mid → IsStep means held' On mid means
+    held_asks hears = record {
+      steps = asks_goes before mid number server said means.cache.entries go_on hears;
+      keeps = keeps;
+      reached = reached_at mid.phase (IsReachedIn means.ground mid.task mid.suites means.progress) (asks_reached before mid number server said means.ground means.progress ordered is hears);
+    }
+
+    pub held_short : (goes : Goes) (after : Course) → HearsAt found' number Short before said mid
+        → ((cache : Cache) → GoesBy (gather_again mid.task cache mid.suites number (suite_of mid.suites number)) goes after cache) → IsStep means held' goes after means
+    held_short goes after hears gathers =
+        let cache = means.cache.entries in
+        let again = gather_again mid.task cache mid.suites number (suite_of mid.suites number) in
+        let reaches = short_reached before mid number server said means.ground means.progress ordered is hears in
+        record {
+          steps = short_goes before mid number server said cache go_on goes after hears (gathers cache);
+          keeps = keeps;
+          reached = goes_unless means.ground means.progress again goes after cache (goes_gather means.ground means.progress mid.task cache mid.suites number (suite_of mid.suites number) reaches) (gathers cache);
+        }
+
+  -- with a quorum the transaction is executed
+  pub held_settles : (settling : Settling) → HearsAt found' number (Settles settling) before said mid → execute (fixed_by means) mid.task (learned (Quorum number settling) means.cache mid.suites) ≡ held'
+  held_settles settling hears =
+      ap (λ (course : Course). execute (fixed_by means) course.task (learned (Quorum number settling) means.cache course.suites)) (settles_same before mid number server said settling hears)
+      ∙ settled_step before mid number server said means.cache.entries settling (λ suites. execute (fixed_by means) before.task (record { suites = suites; cache = means.cache.entries })) hears
+
+-- ---- a suite that is widened
+
+module _ (before mid : Course) (number server : ℕ) (said : Reply) (cache : Cache) (left : List ℕ) (granted : Granted) where
+  abbrev widened' : Step
+  widened' = widened before cache number server left granted said
+
+  abbrev widens : Suites → Step
+  widens suites = widen_all before.task cache suites granted left
+
+  pub widened_lost : (goes : Goes) (after : Course) → HearsAt (suite_of before.suites number) number Lost before said mid → GoesBy (give_up mid.task cache mid.suites (cause.Lost server)) goes after cache → GoesBy widened' goes after cache
+  widened_lost goes after hears up = lost_goes before mid number server said cache (λ suite. widens (with_suite number suite before.suites)) goes after hears up
+
+  pub widened_asks : HearsAt (suite_of before.suites number) number Asks before said mid → GoesBy widened' On mid cache
+  widened_asks hears = asks_goes before mid number server said cache (λ suite. widens (with_suite number suite before.suites)) hears
+
+  pub widened_short : (goes : Goes) (after : Course) → HearsAt (suite_of before.suites number) number Short before said mid
+      → GoesBy (gather_again mid.task cache mid.suites number (suite_of mid.suites number)) goes after cache → GoesBy widened' goes after cache
+  widened_short goes after hears gathers = short_goes before mid number server said cache (λ suite. widens (with_suite number suite before.suites)) goes after hears gathers
+
+  -- with a quorum the suites that are left are widened
+  pub widened_settles : (settling : Settling) (then' after : Course) (goes : Goes) → HearsAt (suite_of before.suites number) number (Settles settling) before said mid
+      → then' ≡ record mid { suites = changed_at (settled_with settling) number (suite_of mid.suites number) mid.suites }
+      → GoesBy (widen_all then'.task cache then'.suites granted left) goes after cache → GoesBy widened' goes after cache
+  widened_settles settling then' after goes hears is steps =
+      let Goes' : Step → Type 0 = λ step. GoesBy step goes after cache in
+      let settled : Course → Course = λ course. record course { suites = changed_at (settled_with settling) number (suite_of course.suites number) course.suites } in
+      subst Goes'
+      (ap (λ (course : Course). widen_all course.task cache course.suites granted left) (is ∙ ap settled (settles_same before mid number server said settling hears))
+      ∙ settled_step before mid number server said cache settling widens hears) steps
