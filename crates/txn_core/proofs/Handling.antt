@@ -1,35 +1,43 @@
 -- What a suite heard, and how its transaction goes on by it.
-use Rattle.std.proofs.Common.{◌≡◌, ℕ, true, List, ◌∷◌, Option, Some, None, refl, sym, ap, subst, ◌∙◌}
+use Rattle.std.proofs.Common.{◌≡◌, ℕ, true, List, ◌∷◌, Option, Some, None, Result, Ok, Err, refl, sym, ap, subst, ◌∙◌}
 use Rattle.std.specs.Ordering.{nat_cmp}
 use Rattle.sorted_map.specs.SortedMap.{IsOrdered}
 use Rattle.sorted_map.specs.Numbers.{get_insert_here}
 use Rattle.rep_core.specs.declared.reply.Reply.{Reply}
 use Rattle.rep_core.specs.Fits.{is_held}
-use Rattle.suite_collect.specs.Collecting.{Next, next}
 use Rattle.file_ops.specs.declared.service.Service.{Service}
 use Rattle.file_exec.specs.Reaching.{Reached}
 use Rattle.weak_cache.specs.Entries.{Cache}
 use Rattle.weak_cache.specs.Cache.{Limited}
+use Rattle.std.specs.Prelude.{option_map, IfErr}
+use Rattle.std.proofs.lemmas.Option.{none-some, same_Some}
+use Rattle.suite_content.specs.declared.content.Content.{Content}
+use Rattle.txn_core.specs.declared.ending.Cause.{Cause}
 use Rattle.txn_core.specs.declared.ending.Cause.TheVariants as cause
+use Rattle.txn_core.specs.declared.ending.Ending.{Ending}
 use Rattle.txn_core.specs.declared.ending.Goes.{Goes}
 use Rattle.txn_core.specs.declared.ending.Goes.TheVariants.{On, Ended}
 use Rattle.txn_core.specs.declared.means.Means.{Means}
-use Rattle.txn_core.specs.declared.news.News.TheVariants.{Quorum}
+use Rattle.txn_core.specs.declared.news.News.{News}
+use Rattle.txn_core.specs.declared.news.News.TheVariants.{Quorum, Content as Given}
 use Rattle.txn_core.specs.declared.settling.Settling.{Settling}
 use Rattle.txn_core.specs.declared.suites.Heard.TheVariants.{Lost, Asks, Short, Settles}
-use Rattle.txn_core.specs.Doing.{Fixed, Course, Granted}
-use Rattle.txn_core.specs.Suites.{Suite, Suites, suite_of, with_suite}
-use Rattle.txn_core.specs.Transactions.{Step, execute, gather_by, give_up, widen_all}
-use Rattle.txn_core.specs.code.Goings.{GoesBy, IsStep, IsUntouched, Keeps, fixed_by, held, widened}
+use Rattle.txn_core.specs.Agents.{left as begun}
+use Rattle.txn_core.specs.Doing.{Fixed, Course, Granted, Phase, Running, After, GoesOn, Ends}
+use Rattle.txn_core.specs.Suites.{First, Suite, Suites, suite_of, with_suite}
+use Rattle.txn_core.specs.Transactions.{Step, execute, fetched, gather_by, give_up, given_in, keep_content, request_of, widen_all}
+use Rattle.txn_core.specs.code.Goings.{GoesBy, IsStep, IsUntouched, Keeps, fixed_by, given, held, replied, widened}
 use Rattle.txn_core.specs.code.Hearing as hearing
 use Rattle.txn_core.specs.code.Hearing.{Hearing, HearsAt, FallsShort, heard_at, on_hearing}
-use Rattle.txn_core.specs.code.Learning.{learned}
-use Rattle.txn_core.specs.code.Reaching.{IsReachedIn, IsReachedUnless}
-use Rattle.txn_core.specs.code.Seeing.{changed_at, settled_with}
+use Rattle.txn_core.specs.code.Learning.{content_news, learned}
+use Rattle.txn_core.specs.code.Plans.{kept_of, shelved}
+use Rattle.txn_core.specs.code.Reaching.{IsReachedBy, IsReachedIn}
+use Rattle.txn_core.specs.code.Seeing.{changed_at, first_at, settled_with, with_content}
 use Rattle.txn_core.specs.code.Sequels.{gather_again}
+use Rattle.txn_core.specs.code.Steps.{Becomes}
 use Rattle.txn_core.specs.code.Unused.{HasUnused}
 use Rattle.txn_core.proofs.InPlace.{at_lost, at_asks, at_short, at_settles}
-use Rattle.txn_core.proofs.Reaching.{reached_at, reached_asks, reached_short, gives_up, goes_unless, goes_gather}
+use Rattle.txn_core.proofs.Reaching.{IsLate, gives_up, goes_gather, goes_unless, late, reached_asks, reached_at, reached_short}
 
 module _ (before mid : Course) (number server : ℕ) (said : Reply) where
   abbrev found : Option Suite
@@ -172,3 +180,117 @@ module _ (before mid : Course) (number server : ℕ) (said : Reply) (cache : Cac
       subst Goes'
       (ap (λ (course : Course). widen_all course.task cache course.suites granted left) (is ∙ ap settled (settles_same before mid number server said settling hears))
       ∙ settled_step before mid number server said cache settling widens hears) steps
+
+-- ---- whatever is replied
+
+module _ (means : Means) (unused : HasUnused means.cache.entries) where
+  -- a cause was met
+  pub up_step : (course : Course) (cause : Cause) (step : Step) (goes : Goes) (after : Course) → give_up course.task means.cache.entries course.suites cause ≡ step
+      → ((cache : Cache) → GoesBy (give_up course.task cache course.suites cause) goes after cache) → IsStep means step goes after means
+  up_step course cause step goes after is up =
+      let Goes' : Step → Type 0 = λ step. GoesBy step goes after means.cache.entries in
+      record {
+        steps = subst Goes' is (up means.cache.entries);
+        keeps = record { ground = refl; limits = refl; unused = unused };
+        reached = gives_up means.ground means.progress course.task course.suites cause goes after up;
+      }
+
+  -- a transaction that is not executed any more goes on
+  pub late_step : (before : Course) (said : Reply) (phase : Phase) (goes : Goes) (after : Course) → before.phase ≡ phase → IsLate means.ground means.progress phase
+      → GoesBy (replied means before said) goes after means.cache.entries → IsStep means (replied means before said) goes after means
+  late_step before said phase goes after is late' steps = record {
+    steps = steps;
+    keeps = record { ground = refl; limits = refl; unused = unused };
+    reached = late means.ground means.progress (fixed_by means) before (request_of (fixed_by means) before) said goes after means.cache.entries means.cache.entries phase is late' steps;
+  }
+
+-- memory was wanting
+pub err_by : {T E P : Type 0} (result : Result T E) → P → IfErr result (λ _. P)
+err_by (Ok what) is = tt
+err_by (Err why) is = is
+
+pub untouched : (means : Means) (before left : Course) → left ≡ before → IsReachedBy means.ground before means.progress → IsUntouched means before left means
+untouched means before left same reached = record {
+  same = same;
+  cache = refl;
+  ground = refl;
+  reached = subst (λ (course : Course). IsReachedBy means.ground course means.progress) (sym same) reached;
+}
+
+-- it may be executed again, or will not be
+pub reached_by : (service : Service) (course : Course) (reached : Reached) → IsReachedIn service course.task course.suites reached → IsReachedBy service course reached
+reached_by service course reached is = reached_at course.phase (IsReachedIn service course.task course.suites reached) is
+
+-- ---- a content
+
+module _ (means : Means) (course : Course) (number server : ℕ) (said : Reply) where
+  abbrev given' : Step
+  given' = given (fixed_by means) course means.cache.entries number server said
+
+  abbrev fetched_by : Option Suite → Option Content → Step
+  fetched_by found content = fetched (fixed_by means) course.task means.cache.entries course.suites number found server content
+
+  abbrev gives_up' : Step
+  gives_up' = give_up course.task means.cache.entries course.suites (cause.Lost server)
+
+  abbrev executes : News → Step
+  executes news = execute (fixed_by means) course.task (learned news means.cache course.suites)
+
+  -- none was given
+  pub not_given : given_in said ≡ None → gives_up' ≡ given'
+  not_given none = of (suite_of course.suites number) ∙ ap (fetched_by (suite_of course.suites number)) (sym none)
+    where
+      of : (found : Option Suite) → gives_up' ≡ fetched_by found None
+      of (Some suite) = refl
+      of None = refl
+
+  module _ (content : Content) (gave : given_in said ≡ Some content) where
+    abbrev content_if : Option Suite → Option News
+    content_if found = option_map (λ first. Given content (kept_of course.task number content first)) (first_at found)
+
+    first_is : (suite : Suite) (first : Option First) → suite.first ≡ first → content_if (Some suite) ≡ option_map (λ first. Given content (kept_of course.task number content first)) first
+    first_is suite first was = ap (option_map (λ first. Given content (kept_of course.task number content first))) was
+
+    -- of a suite that had no quorum
+    pub not_learned : None ≡ content_news course number content → gives_up' ≡ given'
+    not_learned none = of (suite_of course.suites number) none ∙ ap (fetched_by (suite_of course.suites number)) (sym gave)
+      where
+        had : (suite : Suite) (first : Option First) → suite.first ≡ first → None ≡ content_if (Some suite) → gives_up' ≡ fetched_by (Some suite) (Some content)
+        had suite None was none = ap (λ first. keep_content (fixed_by means) course.task means.cache.entries course.suites number suite content first server) (sym was)
+        had suite (Some first) was none = absurd (none-some (Given content (kept_of course.task number content first)) (none ∙ first_is suite (Some first) was))
+
+        of : (found : Option Suite) → None ≡ content_if found → gives_up' ≡ fetched_by found (Some content)
+        of (Some suite) none = had suite suite.first refl none
+        of None none = refl
+
+    -- of one that had one
+    pub content_learned : (news : News) → Some news ≡ content_news course number content → executes news ≡ given'
+    content_learned news is = of (suite_of course.suites number) refl is ∙ ap (fetched_by (suite_of course.suites number)) (sym gave)
+      where
+        had : (suite : Suite) (first : Option First) → suite_of course.suites number ≡ Some suite → suite.first ≡ first → Some news ≡ content_if (Some suite) → executes news ≡ fetched_by (Some suite) (Some content)
+        had suite (Some first) there was is =
+            let all : Suites → Step = λ suites. execute (fixed_by means) course.task (record { suites = suites; cache = shelved means.cache (Some (kept_of course.task number content first)) }) in
+            ap executes (same_Some news (Given content (kept_of course.task number content first)) (is ∙ first_is suite (Some first) was))
+            ∙ ap (λ found. all (changed_at (with_content content) number found course.suites)) there
+            ∙ ap (λ first. keep_content (fixed_by means) course.task means.cache.entries course.suites number suite content first server) (sym was)
+        had suite None there was is = absurd (none-some news (sym (is ∙ first_is suite None was)))
+
+        of : (found : Option Suite) → suite_of course.suites number ≡ found → Some news ≡ content_if found → executes news ≡ fetched_by found (Some content)
+        of (Some suite) there is = had suite suite.first there refl is
+        of None there is = absurd (none-some news (sym is))
+
+-- ---- a transaction begins
+
+pub begins_on : (step : Step) (course : Course) (cache : Cache) → GoesBy step On course cache → (cache ≡ step.cache) × (Some (Running course) ≡ begun Running step.after)
+begins_on step course cache steps = (steps.0, of step.after steps.1)
+  where
+    of : (after : After Course) → Becomes after None course → Some (Running course) ≡ begun Running after
+    of (GoesOn more) became = ap (λ (course : Course). Some (Running course)) became.1
+    of (Ends how) became = absurd (none-some how became)
+
+pub begins_ended : (step : Step) (ending : Ending) (course : Course) (cache : Cache) → GoesBy step (Ended ending) course cache → (cache ≡ step.cache) × (None ≡ begun Running step.after)
+begins_ended step ending course cache steps = (steps.0, of step.after steps.1)
+  where
+    of : (after : After Course) → Becomes after (Some ending) course → None ≡ begun Running after
+    of (GoesOn more) became = absurd (none-some ending (sym became.0))
+    of (Ends how) became = refl

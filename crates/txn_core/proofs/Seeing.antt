@@ -92,7 +92,7 @@ module _ (change : Suite → Suite) (place : ℕ) (suites : Suites) where
           ∙ unchanged (suite_of suites number)
 
 module _ (suites : Suites) where
-  learned_ordered : (news : News) → IsOrdered nat_cmp suites → IsOrdered nat_cmp (learned_suites news suites)
+  pub learned_ordered : (news : News) → IsOrdered nat_cmp suites → IsOrdered nat_cmp (learned_suites news suites)
   learned_ordered Nothing ordered = ordered
   learned_ordered (Quorum number settling) ordered = changed_ordered (settled_with settling) number suites (suite_of suites number) ordered
   learned_ordered (Given content fetched) ordered = changed_ordered (with_content content) fetched.suite suites (suite_of suites fetched.suite) ordered

@@ -1,6 +1,8 @@
 //! The course of a transaction.
 
-ghost use Rattle.std.specs.Prelude.{◌≡◌, ◌<◌, ◌≤◌, ℕ, List, [], ◌∷◌, IfOk, IfErr, OnErr, IsTrue, Some, is_some, option_map, true};
+ghost use Rattle.std.specs.Prelude.{◌≡◌, ◌<◌, ◌≤◌, ℕ, List, [], ◌∷◌, IfOk, IfErr, IfSome, OnErr, IsTrue, Some, is_some, option_map, true};
+ghost use Rattle.std.specs.Ordering.{nat_cmp};
+ghost use Rattle.sorted_map.specs.SortedMap.{IsOrdered};
 ghost use Rattle.rep_core.specs.Fits.{is_held};
 ghost use Rattle.weak_cache.specs.Cache.{Limits};
 ghost use Rattle.weak_cache.specs.Entries.{Cache};
@@ -168,6 +170,7 @@ impl Course {
     fn hear(&mut self, number: u64, said: &Reply) -> Result<Heard, AllocError>
         requires { shows_unused said.now ≡ true }
         ensures ok { IfOk result (λ heard. HearsAt (gathering.suite_of self.old.suites number) number heard self.old said.now self.new) }
+        ensures ordered { IsOrdered nat_cmp self.old.suites }
         ensures err { OnErr result (self.new ≡ self.old) }
         ensures memory { IfErr result (λ _. IsTrue (is_held said.now)) }
     {
@@ -202,18 +205,16 @@ impl Course {
 
     /// What is learned by the content of a suite; nothing, where the suite had no quorum.
     fn content_given(&self, number: u64, content: &Content) -> Result<Option<News>, AllocError>
-        ensures { IfOk result (λ news. news ≡ content_news self.now number content.now) }
+        ensures value { IfOk result (λ news. news ≡ content_news self.now number content.now) }
+        ensures fits { IfOk result (λ news. IfSome news (λ news. Fits news)) }
     {
-        let Some(first) = self.suites.get(&number).and_then(Suite::first) else {
+        let Some(suite) = self.suites.get(&number) else {
             return Ok(None);
         };
-        let fetched = Fetched {
-            site: self.task.site,
-            suite: number,
-            prefix: first.prefix.clone()?,
-            dver: first.dver,
-            content: content.clone()?,
+        let Some(first) = suite.first() else {
+            return Ok(None);
         };
+        let fetched = Fetched::new(&self.task, number, first, content)?;
         let content = content.clone()?;
         Ok(Some(News::Content(content, fetched)))
     }
