@@ -10,14 +10,14 @@ use Rattle.rep_core.specs.declared.reply.Verdict.{Verdict}
 use Rattle.suite_collect.specs.Collecting.{Asked, Next, Current, Ask, Short, next, request_for}
 use Rattle.weak_cache.specs.Entries.{Cache}
 use Rattle.txn_core.specs.declared.word.Word.TheVariants.{Replied}
-use Rattle.txn_core.specs.Doing.{Fixed, Task, Granted, Outcome, Phase, Gathering, Widening, Preparing, Finishing, Course}
-use Rattle.txn_core.specs.code.Goings.{held}
+use Rattle.txn_core.specs.Doing.{Fixed, Task, Granted, Outcome, Phase, Gathering, Fetching, Widening, Preparing, Deciding, Finishing, Course, home_of}
+use Rattle.txn_core.specs.code.Goings.{given, held}
 use Rattle.txn_core.specs.code.Goings.{widened as widens}
 use Rattle.txn_core.specs.code.Hearing.{heard, heard_at, on_hearing}
 use Rattle.txn_core.specs.Standing.{FitsAsked}
 use Rattle.txn_core.specs.code.Steps.{Steps, taken}
-use Rattle.txn_core.specs.Suites.{Suite, Suites, suite_of, with_suite}
-use Rattle.txn_core.specs.Transactions.{Step, execute, widen_all, asked_by, asked_for, request_in, request_of, heard_of, after_reply, changes_of, prepared, tell_end}
+use Rattle.txn_core.specs.Suites.{First, Suite, Suites, suite_of, with_suite}
+use Rattle.txn_core.specs.Transactions.{Step, decided, decision_of, fetched_at, fetched_for, execute, widen_all, asked_by, asked_for, request_in, request_of, heard_of, after_reply, changes_of, prepared, tell_end}
 use Rattle.txn_core.specs.code.Unused.{shows_unused}
 use Rattle.txn_core.specs.Writing.{parts_at}
 use Rattle.txn_core.specs.declared.ending.Ending.{Ending}
@@ -116,6 +116,26 @@ module _ (fixed : Fixed) (course : Course) (cache : Cache) (server : ℕ) (said 
       let a : Asks course.task course.suites number server = widening number left granted is in
       widened fixed course cache number server said a left granted is
       ∙ ap (λ found. on_hearing course.task cache course.suites course.phase number server (heard_at found said) (λ suite. widen_all course.task cache (with_suite number suite course.suites) granted left)) (sym a.there)
+
+  -- a content is fetched, from the server that is asked for it
+  asks_content : (number : ℕ) (found : Option Suite) → server_of (fetched_for course.task number found) ≡ Some server → fetched_for course.task number found ≡ Some (server, request.Fetch course.task.t number)
+  asks_content number None asked = cc
+  asks_content number (Some suite) asked = of suite.first asked
+    where
+      of : (first : Option First) → server_of (fetched_at course.task number first) ≡ Some server → fetched_at course.task number first ≡ Some (server, request.Fetch course.task.t number)
+      of (Some first) asked = ap (λ at. Some (at, request.Fetch course.task.t number)) (same_Some first.source server asked)
+      of None asked = cc
+
+  pub replied_given : (number : ℕ) → course.phase ≡ Fetching number → taken fixed course cache (request_of fixed course) (Replied said) ≡ given fixed course cache number server said
+  replied_given number is =
+      ap (λ asked. taken fixed course cache asked (Replied said)) (ap (request_in fixed course.task course.suites) is ∙ asks_content number (suite_of course.suites number) (asked_in_phase (Fetching number) is))
+      ∙ ap (λ phase. after_reply fixed course.task cache course.suites phase server (request.Fetch course.task.t number) said) is
+
+  -- the home decides
+  pub replied_decided : (outcome : Outcome) → course.phase ≡ Deciding outcome → taken fixed course cache (request_of fixed course) (Replied said) ≡ decided course.task cache course.suites said
+  replied_decided outcome is =
+      ap (λ asked. taken fixed course cache asked (Replied said)) (ap (request_in fixed course.task course.suites) is)
+      ∙ ap (λ phase. after_reply fixed course.task cache course.suites phase (home_of fixed.service course.task.t) (request.Decide course.task.t (decision_of course.task outcome)) said) is
 
   -- a reply to a Prepare, and to a Finish
   pub preparing_ok : (servers : List ℕ) (outcome : Outcome) (result : Option Ending) (after : Course) → course.phase ≡ Preparing servers outcome

@@ -39,6 +39,13 @@ impl Course {
         if !matches!(said, Reply::Prepared) {
             return self.give_up(Cause::Lost { server });
         }
+        self.prepare_on()
+    }
+
+    /// The next server prepares; or all have, and the home decides.
+    fn prepare_on(&mut self) -> Goes
+        ensures { (now : ℕ) (left : List ℕ) (outcome : doing.Outcome) (cache : Cache) → self.old.phase ≡ doing.Preparing (now ∷ left) outcome → GoesBy (course.prepare self.old.task cache self.old.suites outcome left) result self.new cache }
+    {
         if self.pass() {
             return self.decide();
         }

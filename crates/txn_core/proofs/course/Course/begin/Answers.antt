@@ -1,11 +1,26 @@
-use Rattle.std.proofs.Common.{subst}
-use Rattle.std.specs.Prelude.{Bool}
-use Rattle.txn_core.specs.code.Reaching.{IsReachedUnless}
-use Rattle.txn_core.proofs.Reaching.{follows_unless}
+use Rattle.std.proofs.Common.{◌≡◌, refl, subst}
+use Rattle.txn_core.specs.declared.ending.Goes.{Goes}
+use Rattle.txn_core.specs.code.Goings.{IsStep, fixed_by}
+use Rattle.txn_core.specs.Transactions.{execute}
+use Rattle.txn_core.proofs.Handling.{begins_on, begins_ended}
+use Rattle.txn_core.proofs.Reaching.{unbegun_in}
 use Rattle.txn_core.proofs.course.Course.begin.Goals as goal
 
-pub returns-clause-reached : goal.returns-clause-reached
-returns-clause-reached c =
-    let Unless : Bool → Type 0 = λ ends. IsReachedUnless ends c.args.service.now c.follow.new.self c.execute.new.progress in
-    subst Unless c.if-follow.false
-    (follows_unless c.args.service.now c.execute.new.progress c.args.task c.execute.new.suites.pairs c.in_ok-sequel.sequel c.follow.result c.follow.new.ended c.follow.new.self c.in_ok-sequel.ensures.reached c.follow.ensures.steps)
+pub execute-requires-clause-reached : goal.execute-requires-clause-reached
+execute-requires-clause-reached c = unbegun_in c.args.means.now.ground c.args.task [] _ refl
+
+pub returns-in-On-clause-ok : goal.returns-in-On-clause-ok
+returns-in-On-clause-ok c =
+    let means = c.begin_anew.new.self in
+    let step = execute (fixed_by means) c.args.task (record { suites = []; cache = means.cache.entries }) in
+    let Is : Goes → Type 0 = λ goes. IsStep means step goes c.execute.new.self c.execute.new.means in
+    let taken = subst Is c.in-On.is c.in_ok-execute.ensures.ok in
+    begins_on step c.execute.new.self c.execute.new.means.cache.entries taken.steps
+
+pub returns-in-Ended-clause-ok : goal.returns-in-Ended-clause-ok
+returns-in-Ended-clause-ok c =
+    let means = c.begin_anew.new.self in
+    let step = execute (fixed_by means) c.args.task (record { suites = []; cache = means.cache.entries }) in
+    let Is : Goes → Type 0 = λ goes. IsStep means step goes c.execute.new.self c.execute.new.means in
+    let taken = subst Is c.in-Ended.is c.in_ok-execute.ensures.ok in
+    begins_ended step c.in-Ended.field-0 c.execute.new.self c.execute.new.means.cache.entries taken.steps

@@ -60,6 +60,6 @@ returns c = λ cache.
     let given : c.as_slice.result.now ≡ granted.changes = c.as_slice.ensures.value ∙ ap (λ (g : Granted). g.changes) (c.granted.view_is ∙ loop.invariant.1) in
     let none : slice_get granted.changes loop.after ≡ None = ap (λ l. slice_get l loop.after) (sym given) ∙ slice_get_past c.as_slice.result.now loop.after c.in_default.ensures.lookup.3 in
     let ends = prepares loop.self.task cache loop.self.suites c.as_slice-2.result.now c.locked_at-servers.result c.prepare.new.self c.locked_at-servers.ensures
-    (c.as_slice-2.ensures.pairs ∙ ap (λ (course : Course). course.suites) c.self-2.view_is) (Ok loop.granted) (c.prepare.ensures cache) in
-    let Ends : Granted → Type 0 = λ g. Steps (prepare loop.self.task cache loop.self.suites (Ok g) (locked_at loop.self.suites)) None c.prepare.new.self cache in
-    left_none c.args.self.now c.args.from granted loop.self loop.after loop.invariant.0 cache c.prepare.new.self none (subst Ends loop.invariant.1 ends)
+    (c.as_slice-2.ensures.pairs ∙ ap (λ (course : Course). course.suites) c.self-2.view_is) (Ok loop.granted) (ending_of c.prepare.result) (c.prepare.ensures cache) in
+    let Ends : Granted → Type 0 = λ g. Steps (prepare loop.self.task cache loop.self.suites (Ok g) (locked_at loop.self.suites)) (ending_of c.prepare.result) c.prepare.new.self cache in
+    left_none c.args.self.now c.args.from granted loop.self loop.after loop.invariant.0 cache (ending_of c.prepare.result) c.prepare.new.self none (subst Ends loop.invariant.1 ends)

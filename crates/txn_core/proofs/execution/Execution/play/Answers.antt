@@ -8,20 +8,33 @@ use Rattle.txn_core.specs.Doing.{Task}
 use Rattle.txn_core.specs.code.Seeing.{seen_in}
 use Rattle.txn_core.specs.code.Plans.{fixed_in, seen_on, opened_all}
 use Rattle.file_exec.specs.Reaching.{IsReached}
-use Rattle.txn_core.proofs.Reaching.{IsReachedOn, reached_from, reached_as, reached_opened, unbegun_on}
+use Rattle.txn_core.proofs.Reaching.{IsReachedOn, reached_from, reached_as, reached_learned, reached_opened, unbegun_on}
+use Rattle.txn_core.proofs.Seeing.{learned_ordered}
 use Rattle.txn_core.proofs.Rounds.{answer_of, playing_starts, playing_more, playing_stops}
 use Rattle.txn_core.proofs.execution.Execution.play.Goals as goal
-use Rattle.txn_core.proofs.execution.Execution.play.Goals.{then-not-takes, else-not-takes}
+use Rattle.txn_core.proofs.execution.Execution.play.Goals.{then-not-takes, else-not-takes, then-not-adds_to, else-not-adds_to}
 
 -- a content with its suite, as it is
 abbrev named : Option (ℕ × Bor Content) → Option (ℕ × Content)
 named one = option_map (λ one. (one.0, one.1.now)) one
 
 pub loop-opened-init : goal.loop-opened-init
-loop-opened-init c = (
-  playing_starts (fixed_in c.args.self c.args.shelf.cache.now) c.args.self.task.now (seen_on c.args.shelf (seen_in c.args.seen)) c.in_ok-known.known _ c.new-opened.ensures.items c.in_ok-known.ensures,
-  reached_from c.in_ok-known.known c.args.self.ground.now (seen_in c.args.seen) c.args.self.task.now c.args.progress.now c.in_ok-known.ensures c.requires,
-)
+loop-opened-init c =
+    let known = c.in_ok-known.known in
+    let task = c.args.self.task.now in
+    let old = c.args.seen.suites.now.pairs in
+    let news = c.args.seen.news.now in
+    let ground = c.args.self.ground.now in
+    let before = c.args.progress.now in (
+      playing_starts (fixed_in c.args.self c.args.shelf.cache.now) task (seen_on c.args.shelf (seen_in c.args.seen)) known _ c.new-opened.ensures.items c.in_ok-known.ensures.known,
+      elim c.if-not-adds_to.branch [
+        | then-not-adds_to w ↦ unbegun_on known task c.if-not-adds_to.progress (w.progress-is ∙ w.new.ensures)
+        | else-not-adds_to w ↦
+            subst (IsReachedOn known task) (sym w.progress-is)
+            (reached_from known ground (seen_in c.args.seen) task before c.in_ok-known.ensures.known
+            (reached_learned ground before task old news c.in_ok-known.ensures.ordered (sym c.adds_to.ensures ∙ w.if-not-adds_to.false) c.requires))
+      ],
+    )
 
 pub exec_on-requires-clause-reached : goal.exec_on-requires-clause-reached
 exec_on-requires-clause-reached c =
@@ -48,12 +61,12 @@ loop-opened-preserved c =
     ∙ ap (λ (task : Task). answer_of task known) c.task.view_is in
     let here : c.len.result ≡ length c.loop-opened.opened.items = omega (arith, c.len.ensures, c.loop-opened.opened.ok.0) in
     let short : length c.loop-opened.opened.items ≡ length (seen_in c.args.seen) → ⊥ =
-    λ same. c.if-len.false (here ∙ same ∙ sym c.len-in-loop-opened.ensures.len) in
+    λ same. c.if-len.false (here ∙ same ∙ sym c.len-in-loop-opened.ensures) in
     let reaches : IsReachedOn known c.args.self.task.now c.exec_on.new.progress =
     subst (λ (task : Task). IsReachedOn known task c.exec_on.new.progress) c.task.view_is
     (subst (λ ops. IsReached known.service known.suites c.task.inside.t c.task.inside.caller ops c.exec_on.new.progress) c.as_slice.ensures c.in_ok-outcome.ensures.reached) in (
       playing_more (fixed_in c.args.self c.args.shelf.cache.now) c.args.self.task.now (seen_on c.args.shelf (seen_in c.args.seen)) c.loop-opened.opened.items known c.loop-opened.invariant.0
-          c.in_ok-outcome.outcome answer (c.in-Some.number, c.in-Some.content.now) (sym c.to_open.ensures ∙ ap named c.in-Some.is) c.len-in-loop-opened.ensures.ordered
+          c.in_ok-outcome.outcome answer (c.in-Some.number, c.in-Some.content.now) (sym c.to_open.ensures ∙ ap named c.in-Some.is) (learned_ordered c.args.seen.suites.now.pairs c.args.seen.news.now c.in_ok-known.ensures.ordered)
           short c.open.new.self c.open.ensures.service c.open.ensures.suites _
           (c.in_ok-push.ensures.items ∙ ap (λ content. c.loop-opened.opened.items ++ (c.in-Some.number, content) ∷ []) c.in_ok-clone.ensures.cases),
       elim c.if-not-takes.branch [
