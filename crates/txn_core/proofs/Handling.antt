@@ -40,13 +40,13 @@ use Rattle.txn_core.proofs.InPlace.{at_lost, at_asks, at_short, at_settles}
 use Rattle.txn_core.proofs.Reaching.{IsLate, gives_up, goes_gather, goes_unless, late, reached_asks, reached_at, reached_short}
 
 module _ (before mid : Course) (number server : ℕ) (said : Reply) where
-  abbrev found : Option Suite
+  abbrev pub found : Option Suite
   found = suite_of before.suites number
 
   -- ---- the step, whatever follows a quorum
 
   module _ (cache : Cache) (go_on : Suite → Step) where
-    abbrev step_on : Hearing → Step
+    abbrev pub step_on : Hearing → Step
     step_on what = on_hearing before.task cache before.suites before.phase number server what go_on
 
     pub lost_goes : (goes : Goes) (after : Course) → HearsAt found number Lost before said mid → GoesBy (give_up mid.task cache mid.suites (cause.Lost server)) goes after cache → GoesBy (step_on (heard_at found said)) goes after cache
@@ -106,13 +106,13 @@ module _ (before mid : Course) (number server : ℕ) (said : Reply) where
 -- ---- a suite that is gathered
 
 module _ (means : Means) (before mid : Course) (number server : ℕ) (said : Reply) (unused : HasUnused means.cache.entries) where
-  abbrev found' : Option Suite
+  abbrev pub found' : Option Suite
   found' = suite_of before.suites number
 
-  abbrev held' : Step
+  abbrev pub held' : Step
   held' = held (fixed_by means) before means.cache.entries number server said
 
-  abbrev go_on : Suite → Step
+  abbrev pub go_on : Suite → Step
   go_on suite = execute (fixed_by means) before.task (record { suites = with_suite number suite before.suites; cache = means.cache.entries })
 
   pub keeps : Keeps means means
@@ -154,10 +154,10 @@ module _ (means : Means) (before mid : Course) (number server : ℕ) (said : Rep
 -- ---- a suite that is widened
 
 module _ (before mid : Course) (number server : ℕ) (said : Reply) (cache : Cache) (left : List ℕ) (granted : Granted) where
-  abbrev widened' : Step
+  abbrev pub widened' : Step
   widened' = widened before cache number server left granted said
 
-  abbrev widens : Suites → Step
+  abbrev pub widens : Suites → Step
   widens suites = widen_all before.task cache suites granted left
 
   pub widened_lost : (goes : Goes) (after : Course) → HearsAt (suite_of before.suites number) number Lost before said mid → GoesBy (give_up mid.task cache mid.suites (cause.Lost server)) goes after cache → GoesBy widened' goes after cache
@@ -224,16 +224,16 @@ reached_by service course reached is = reached_at course.phase (IsReachedIn serv
 -- ---- a content
 
 module _ (means : Means) (course : Course) (number server : ℕ) (said : Reply) where
-  abbrev given' : Step
+  abbrev pub given' : Step
   given' = given (fixed_by means) course means.cache.entries number server said
 
-  abbrev fetched_by : Option Suite → Option Content → Step
+  abbrev pub fetched_by : Option Suite → Option Content → Step
   fetched_by found content = fetched (fixed_by means) course.task means.cache.entries course.suites number found server content
 
-  abbrev gives_up' : Step
+  abbrev pub gives_up' : Step
   gives_up' = give_up course.task means.cache.entries course.suites (cause.Lost server)
 
-  abbrev executes : News → Step
+  abbrev pub executes : News → Step
   executes news = execute (fixed_by means) course.task (learned news means.cache course.suites)
 
   -- none was given
@@ -245,7 +245,7 @@ module _ (means : Means) (course : Course) (number server : ℕ) (said : Reply) 
       of None = refl
 
   module _ (content : Content) (gave : given_in said ≡ Some content) where
-    abbrev content_if : Option Suite → Option News
+    abbrev pub content_if : Option Suite → Option News
     content_if found = option_map (λ first. Given content (kept_of course.task number content first)) (first_at found)
 
     first_is : (suite : Suite) (first : Option First) → suite.first ≡ first → content_if (Some suite) ≡ option_map (λ first. Given content (kept_of course.task number content first)) first
