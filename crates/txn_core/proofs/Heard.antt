@@ -1,5 +1,6 @@
 -- What comes of a reply to what a suite asks, as a transaction goes on by it.
 use Rattle.std.proofs.Common.{◌≡◌, ℕ, List, [], ◌∷◌, Option, Some, None, cond, true, false, refl, sym, ap, ◌∙◌}
+use Rattle.std.proofs.lemmas.Option.{none-some}
 use Rattle.std.specs.Prelude.{◌==◌, find, is_some, unwrap_or, option_map}
 use Rattle.std.specs.Option.{option_or}
 use Rattle.suite_prefix.specs.declared.copies.Prefix.{Prefix}
@@ -117,35 +118,31 @@ module _ (suite : Suite) (answer : Reply) where
       of (Short got needed busy) is quorum = cc
 
 -- what a quorum gives is what the first one of a suite gives
+abbrev the_first : Prefix → ℕ → ℕ → First
+the_first prefix dver source = record { prefix = prefix; dver = dver; source = source }
+
+module _ (c : Collector) (quorum : Quorum) (gives : IsQuorumOf quorum c) (prefix : Prefix) (dver : ℕ) (members : List ℕ) (is : next c ≡ Current prefix dver members) where
+  quorum_given : (source : ℕ) → source ≡ source_of c (version c) (members_of (counted c) (is_member c))
+      → the_first quorum.prefix.now quorum.dver source ≡ the_first prefix dver (source_of c dver members)
+  quorum_given source same =
+      let all = gives_of c prefix dver members is in
+      ap (λ prefix. the_first prefix quorum.dver source) (gives.prefix ∙ all.prefix_is)
+      ∙ ap (λ dver. the_first prefix dver source) (gives.dver ∙ all.version_is)
+      ∙ ap (λ source. the_first prefix dver source)
+      (same
+      ∙ ap (λ dver. source_of c dver (members_of (counted c) (is_member c))) all.version_is
+      ∙ ap (source_of c dver) all.members_are)
+
+  given_first : (first : Option First) → first ≡ None
+      → option_or first (Some (record { prefix = quorum.prefix.now; dver = quorum.dver; source = unwrap_or quorum.source 0 })) ≡ first_or first (record { prefix = prefix; dver = dver; source = source_of c dver members })
+  given_first None none =
+      ap (λ (first : First). Some first)
+      (quorum_given (unwrap_or quorum.source 0) (ap (λ source. unwrap_or source 0) gives.source ∙ source_found c (version c) (members_of (counted c) (is_member c))))
+  given_first (Some first) none = absurd (none-some first (sym none))
+
 pub first_given : (suite : Suite) (last : Told) (quorum : Quorum) → suite.first ≡ None → IsQuorumOf quorum (tell last suite.collector)
     → IsFirstAfter suite last (Some (record { prefix = quorum.prefix.now; dver = quorum.dver; source = unwrap_or quorum.source 0 }))
-first_given suite last quorum none gives prefix dver members is = of suite.first none
-  where
-    c : Collector
-    c = tell last suite.collector
-
-    given : First
-    given = record { prefix = quorum.prefix.now; dver = quorum.dver; source = unwrap_or quorum.source 0 }
-
-    source' : unwrap_or quorum.source 0 ≡ source_of c (version c) (members_of (counted c) (is_member c))
-    source' = ap (λ source. unwrap_or source 0) gives.source ∙ source_found c (version c) (members_of (counted c) (is_member c))
-
-    same : given ≡ record { prefix = newest c.start c.told; dver = version c; source = source_of c (version c) (members_of (counted c) (is_member c)) }
-    same =
-        ap (λ prefix. record { prefix = prefix; dver = quorum.dver; source = unwrap_or quorum.source 0 }) gives.prefix
-        ∙ ap (λ dver. record { prefix = newest c.start c.told; dver = dver; source = unwrap_or quorum.source 0 }) gives.dver
-        ∙ ap (λ source. record { prefix = newest c.start c.told; dver = version c; source = source }) source'
-
-    shown' : record { prefix = newest c.start c.told; dver = version c; source = source_of c (version c) (members_of (counted c) (is_member c)) } ≡ record { prefix = prefix; dver = dver; source = source_of c dver members }
-    shown' =
-        let all = gives_of c prefix dver members is in
-        ap (λ prefix. record { prefix = prefix; dver = version c; source = source_of c (version c) (members_of (counted c) (is_member c)) }) all.prefix_is
-        ∙ ap (λ dver. record { prefix = prefix; dver = dver; source = source_of c dver (members_of (counted c) (is_member c)) }) all.version_is
-        ∙ ap (λ members. record { prefix = prefix; dver = dver; source = source_of c dver members }) all.members_are
-
-    of : (first : Option First) → first ≡ None → option_or first (Some given) ≡ first_or first (record { prefix = prefix; dver = dver; source = source_of c dver members })
-    of None is = ap (λ first. Some first) (same ∙ shown')
-    of (Some first) is = cc
+first_given suite last quorum none gives prefix dver members is = given_first (tell last suite.collector) quorum gives prefix dver members is suite.first none
 
 -- a suite that had a first quorum keeps what it gave
 pub first_kept : (suite : Suite) (last : Told) → is_some suite.first ≡ true → IsFirstAfter suite last None
