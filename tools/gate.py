@@ -14,7 +14,7 @@ import gate_times
 
 TOOLS = os.path.dirname(os.path.abspath(__file__))
 FIRST = (["shown.py"], ["wrong_bodies.py", "--check"])
-# The most memory that a check was seen to take, in bytes, and how much of what is free may be taken.
+# The most memory that nearly any check was seen to take, in bytes, and how much of what is free may be taken.
 LANE, SHARE = 2_800_000_000, 0.95
 # Where a control group sets a limit of memory and what it holds of that, and a quota of processor time.
 LIMITS = (
@@ -52,7 +52,8 @@ def lanes():
     """How many checks are to run side by side, or none, where that is left to rt.
 
     By itself rt begins a check only where as much memory is free as it reckons from the lines of the crate and of those
-    below: 8.3 GB for txn_core, 7.8 for library_tests, 3 to 5 for most others. No check was seen to take more than 2.7,
+    below: 8.3 GB for txn_core, 7.8 for library_tests, 3 to 5 for most others. No check was seen to take more than 2.7
+    but the tests of library_tests, which take 5.4 towards their end (a check that is killed is begun once more),
     so processors stand idle for nothing: two with 8 GB free work as one and a quarter, and four with 20 GB as three.
     RT_JOBS fixes the lanes, whatever is reckoned. A proof then keeps to one process, where it else may take an idle
     processor for a second one; but with a lane for each processor, none is idle before the last of the chain of crates.
