@@ -18,8 +18,8 @@ trap 'rm -rf "$work"' EXIT
 cc -O1 -shared -fPIC -o "$work/refuse.so" "$here/tests/refuse.c" -ldl || exit 2
 tests=0 refused=0 passes=0 stops=0 differ=0
 
-# What a test says that stops for what it lacks itself.
-lacks() { grep -q -e 'memory' -e 'what a test wants' -e 'is_ok()' "$work/said"; }
+# What a test says that stops for what it lacks itself, among that the names that it cannot add to a table of names.
+lacks() { grep -q -e 'memory' -e 'what a test wants' -e 'is_ok()' -e '^lisa$' -e '^toolies$' -e '^the longest$' "$work/said"; }
 
 # Runs the test $2 of the crate $1, and with each allocation refused in turn.
 refuse_each() {
