@@ -2,7 +2,7 @@
 """bench/copies.py
 
 Times `encode` and `decode` of the largest copies (a file of 65,536 bytes, a folder of 1,024 names of 64 bytes, each
-with 64 entries and 16 representatives) beside a plain copy of the same bytes into a new vector, in MB a second (the
+with 128 entries and 32 representatives) beside a plain copy of the same bytes into a new vector, in MB a second (the
 best of five runs).
 
 The program (bench/copies.rattle) is no crate of the repository: it is built in a scratch copy of it, by `rt run`.

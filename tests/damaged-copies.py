@@ -28,10 +28,11 @@ def entries(users, groups, mask):
 
 
 def copy(kind, versions, lists, votes, content):
-    """The bytes of a copy: versions of prefix and content, its access list and default list, votes by server."""
+    """The bytes of a copy: versions of prefix and content, its access list and default list (form 2; with the first alone
+    form 1), votes by server."""
     pver, dver = versions
     owner, group = (0, 0) if kind == ABSENT else (1000, 100)
-    parts = [bytes([2]), number(pver, 8), bytes([kind]), number(owner, 4), number(group, 4)]
+    parts = [bytes([len(lists)]), number(pver, 8), bytes([kind]), number(owner, 4), number(group, 4)]
     for written, count in lists:
         parts.append(bytes([count]) + written)
     servers, read, write = votes
@@ -57,17 +58,21 @@ def names(count, length):
 
 def copies():
     none, three = (b"", 0), ([(0, 1), (1, 1), (2, 1)], 2, 2)
-    all_servers = [(server, 255 - server) for server in range(15, -1, -1)]
+    all_servers = [(server, 255 - server) for server in range(31, -1, -1)]
     total = sum(votes for _, votes in all_servers)
+    old_servers = all_servers[16:]
+    old_total = sum(votes for _, votes in old_servers)
     return [
         copy(FILE, (1, 1), [mode("644"), none], three, b"hi"),
         copy(ABSENT, (0, 0), [mode("000"), none], three, b""),
         copy(FILE, (9, 4), [entries(10, 7, True), none], ([(3, 2), (1, 0), (7, 1)], 2, 2), bytes(range(256))),
-        copy(FILE, (2**64 - 1, 2**63), [entries(30, 30, True), none], (all_servers, total // 2, total // 2 + 2), b""),
+        copy(FILE, (2**64 - 1, 2**63), [entries(62, 62, True), none], (all_servers, total // 2, total // 2 + 2), b""),
         copy(FOLDER, (5, 3), [mode("755"), mode("750")], three, names(12, 9)),
         copy(FOLDER, (5, 3), [entries(2, 1, True), entries(4, 4, True)], ([(5, 9)], 1, 9), names(40, 20)),
-        copy(FOLDER, (300, 200), [entries(30, 30, True), entries(30, 30, True)], (all_servers, 1, total), names(30, 60)),
+        copy(FOLDER, (300, 200), [entries(62, 62, True), entries(62, 62, True)], (all_servers, 1, total), names(30, 60)),
         copy(FOLDER, (2, 0), [mode("700"), entries(0, 0, True)], three, {}),
+        copy(FILE, (1, 1), [mode("644")], three, b"hi"),
+        copy(FOLDER, (300, 200), [entries(30, 30, True)], (old_servers, 1, old_total), names(30, 60)),
     ]
 
 

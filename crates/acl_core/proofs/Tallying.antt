@@ -12,7 +12,7 @@ use Rattle.acl_core.specs.declared.entry.Entry.{Entry}
 use Rattle.acl_core.specs.declared.fault.AclFault.{AclFault}
 use Rattle.acl_core.specs.declared.fault.AclFault.TheVariants.{NoUserObj, NoGroupObj, NoOther, TwiceSingle, UserTwice, GroupTwice, MaskMissing, TooMany}
 use Rattle.acl_core.specs.Tags.{same_tag}
-use Rattle.acl_core.specs.AccessLists.{IsAccepted, count_of, faults, first_fault, has_fault}
+use Rattle.acl_core.specs.AccessLists.{IsAccepted, count_of, faults, first_fault, has_fault, max_entries}
 use Rattle.acl_core.specs.Tallies.{IsTallyOf, IsWhole, Tallied, group_of, is_doubled, up_to_two, user_of}
 use Rattle.acl_core.proofs.Faults.{accepted_without_fault}
 use Rattle.acl_core.proofs.ListFacts.{count_by-cons}
@@ -32,7 +32,7 @@ counted_as tally Mask = record tally { masks = counted tally.masks }
 counted_as tally Other = record tally { others = counted tally.others }
 
 abbrev pub kept_with : List Entry → Entry → List Entry
-kept_with kept entry = cond (ltb 64 (length kept)) kept (kept ++ entry ∷ [])
+kept_with kept entry = cond (ltb max_entries (length kept)) kept (kept ++ entry ∷ [])
 
 abbrev pub tallied_with : Tallied → Entry → Tallied
 tallied_with tally entry = record (counted_as tally entry.tag) { kept = kept_with tally.kept entry }
@@ -120,18 +120,18 @@ others_with tally Other = refl
 
 -- ---- the first entries
 
-kept_more : (entries : List Entry) (e : Entry) → kept_with (take 65 entries) e ≡ take 65 (entries ++ e ∷ [])
+kept_more : (entries : List Entry) (e : Entry) → kept_with (take (max_entries + 1) entries) e ≡ take (max_entries + 1) (entries ++ e ∷ [])
 kept_more entries e =
-    elim (cases_Bool (ltb 64 (length entries))) [
+    elim (cases_Bool (ltb max_entries (length entries))) [
       | inl many ↦
-          let high : 65 ≤ length entries = let above = ltb-true 64 (length entries) many in omega (arith, above) in
-          let all : ltb 64 (length (take 65 entries)) ≡ true = ap (ltb 64) (length-take-le 65 entries high) in
-          ap (λ b. cond b (take 65 entries) (take 65 entries ++ e ∷ [])) all ∙ sym (take-append-le 65 entries (e ∷ []) high)
+          let high : max_entries + 1 ≤ length entries = let above = ltb-true max_entries (length entries) many in omega (arith, above) in
+          let all : ltb max_entries (length (take (max_entries + 1) entries)) ≡ true = ap (ltb max_entries) (length-take-le (max_entries + 1) entries high) in
+          ap (λ b. cond b (take (max_entries + 1) entries) (take (max_entries + 1) entries ++ e ∷ [])) all ∙ sym (take-append-le (max_entries + 1) entries (e ∷ []) high)
       | inr few ↦
-          let low = ltb-false 64 (length entries) few in
-          let all : take 65 entries ≡ entries = take_all 65 entries (omega (arith, low)) in
-          let longer : length (entries ++ e ∷ []) ≤ 65 = let more = length-append entries (e ∷ []) in omega (arith, more, low) in
-          ap (λ kept. kept_with kept e) all ∙ ap (λ b. cond b entries (entries ++ e ∷ [])) few ∙ sym (take_all 65 (entries ++ e ∷ []) longer)
+          let low = ltb-false max_entries (length entries) few in
+          let all : take (max_entries + 1) entries ≡ entries = take_all (max_entries + 1) entries (omega (arith, low)) in
+          let longer : length (entries ++ e ∷ []) ≤ max_entries + 1 = let more = length-append entries (e ∷ []) in omega (arith, more, low) in
+          ap (λ kept. kept_with kept e) all ∙ ap (λ b. cond b entries (entries ++ e ∷ [])) few ∙ sym (take_all (max_entries + 1) (entries ++ e ∷ []) longer)
     ]
 
 -- the tally of some entries, with one more
@@ -148,27 +148,27 @@ tally_more tally entries e is = record {
 
 pub whole_more : (tally : Tallied) (e : Entry) → IsWhole tally → IsWhole (tallied_with tally e)
 whole_more tally e whole few =
-    elim (cases_Bool (ltb 64 (length tally.kept))) [
+    elim (cases_Bool (ltb max_entries (length tally.kept))) [
       | inl full ↦
-          let high = ltb-true 64 (length tally.kept) full in
+          let high = ltb-true max_entries (length tally.kept) full in
           let same : kept_with tally.kept e ≡ tally.kept = ap (λ b. cond b tally.kept (tally.kept ++ e ∷ [])) full in
           let long = ap length same in
           absurd (omega (arith, few, high, long))
       | inr room ↦
-          let low = ltb-false 64 (length tally.kept) room in
+          let low = ltb-false max_entries (length tally.kept) room in
           let same : tally.kept ++ e ∷ [] ≡ kept_with tally.kept e = sym (ap (λ b. cond b tally.kept (tally.kept ++ e ∷ [])) room) in
           subst (λ kept. IsTallyOf (tallied_with tally e) kept) same (tally_more tally tally.kept e (whole (omega (arith, low))))
     ]
 
 -- entries of which all are kept
-pub all_kept : (tally : Tallied) (entries : List Entry) → IsTallyOf tally entries → length entries ≤ 64 → tally.kept ≡ entries
-all_kept tally entries is few = is.kept ∙ take_all 65 entries (omega (arith, few))
+pub all_kept : (tally : Tallied) (entries : List Entry) → IsTallyOf tally entries → length entries ≤ max_entries → tally.kept ≡ entries
+all_kept tally entries is few = is.kept ∙ take_all (max_entries + 1) entries (omega (arith, few))
 
-many_kept : (entries : List Entry) → ltb 64 (length (take 65 entries)) ≡ ltb 64 (length entries)
+many_kept : (entries : List Entry) → ltb max_entries (length (take (max_entries + 1) entries)) ≡ ltb max_entries (length entries)
 many_kept entries =
-    elim (cases_Bool (ltb 64 (length entries))) [
-      | inl many ↦ let high = ltb-true 64 (length entries) many in let all = length-take-le 65 entries (omega (arith, high)) in ap (ltb 64) all ∙ sym many
-      | inr rest ↦ let low = ltb-false 64 (length entries) rest in ap (λ es. ltb 64 (length es)) (take_all 65 entries (omega (arith, low)))
+    elim (cases_Bool (ltb max_entries (length entries))) [
+      | inl many ↦ let high = ltb-true max_entries (length entries) many in let all = length-take-le (max_entries + 1) entries (omega (arith, high)) in ap (ltb max_entries) all ∙ sym many
+      | inr rest ↦ let low = ltb-false max_entries (length entries) rest in ap (λ es. ltb max_entries (length es)) (take_all (max_entries + 1) entries (omega (arith, low)))
     ]
 
 -- ---- the faults
@@ -182,7 +182,7 @@ told_fault tally TwiceSingle = list_any (λ count. ltb 1 count) (tally.user_objs
 told_fault tally UserTwice = is_doubled tally.users
 told_fault tally GroupTwice = is_doubled tally.groups
 told_fault tally MaskMissing = (is_some tally.users || is_some tally.groups) && eqb tally.masks 0
-told_fault tally TooMany = ltb 64 (length tally.kept)
+told_fault tally TooMany = ltb max_entries (length tally.kept)
 
 -- the first of eight tests that passes
 abbrev pub first_of_eight : Bool → Bool → Bool → Bool → Bool → Bool → Bool → Bool → Option AclFault
@@ -204,14 +204,14 @@ told_same GroupTwice tally entries is = ap is_doubled is.groups ∙ sym (twice_g
 told_same MaskMissing tally entries is =
     (λ i. (is_some (is.users i) || is_some (is.groups i)) && eqb (is.masks i) 0)
     ∙ (λ i. named_some entries i && up_to_two_zero (count_of Mask entries) i)
-told_same TooMany tally entries is = ap (λ kept. ltb 64 (length kept)) is.kept ∙ many_kept entries
+told_same TooMany tally entries is = ap (λ kept. ltb max_entries (length kept)) is.kept ∙ many_kept entries
 
 -- the first fault that a tally tells is that of the entries
 pub first_told : (tally : Tallied) (entries : List Entry) → IsTallyOf tally entries → find (told_fault tally) faults ≡ first_fault entries
 first_told tally entries is = λ i. find (λ fault. told_same fault tally entries is i) faults
 
 -- where no fault is told, what is kept makes a list
-pub kept_accepted : (tally : Tallied) → IsWhole tally → length tally.kept ≤ 64 → find (told_fault tally) faults ≡ None → IsAccepted tally.kept
+pub kept_accepted : (tally : Tallied) → IsWhole tally → length tally.kept ≤ max_entries → find (told_fault tally) faults ≡ None → IsAccepted tally.kept
 kept_accepted tally whole few none = accepted_without_fault tally.kept (sym (first_told tally tally.kept (whole few)) ∙ none)
 
 -- the entries of a tally that tells no fault are those that it kept

@@ -16,9 +16,9 @@ use std::marker::Model;
 use std::sync::ArcSlice;
 
 /// The most entries of a list.
-pub const MAX_ENTRIES: usize = 64;
+pub const MAX_ENTRIES: usize = 128;
 
-/// A valid list of at most 64 entries, in canonical order. A clone shares the entries.
+/// A valid list of at most [`MAX_ENTRIES`] entries, in canonical order. A clone shares the entries.
 #[derive(Debug, Drop)]
 pub struct Acl {
     entries: ArcSlice<Entry>,

@@ -1,7 +1,7 @@
 //! Entries taken one at a time, of which no more is kept than tells the list or its first fault.
 //!
-//! A list may come with a million entries. What is kept of them is the first 65 entries, whether each entry
-//! that can stand only once came once or more often, and the users and groups that were named.
+//! A list may come with a million entries. What is kept of them is the first entries, one more than a list may
+//! have, whether each entry that can stand only once came once or more often, and the users and groups that were named.
 
 ghost use Rattle.std.specs.Prelude.{◌≡◌, ◌==◌, ◌+◌, ◌≤◌, nat_lt, not, ◌&&◌, ◌||◌, ◌⊎◌, IsTrue, List, [], ◌∷◌, ◌++◌, None, Some, IfOk, IsPermutation, MatchResult, OnErr, OnOk, drop, length};
 ghost use Rattle.std.specs.List.{list_any, zip};
@@ -64,8 +64,8 @@ impl Tally {
         }
     }
 
-    /// Takes an entry. Memory is asked for only where a user or a group comes, or as long as no more than 64
-    /// entries are kept; where it is refused, the tally stays as it was.
+    /// Takes an entry. Memory is asked for only where a user or a group comes, or as long as no more
+    /// entries are kept than a list may have; where it is refused, the tally stays as it was.
     pub fn take(&mut self, entry: Entry) -> Result<(), AllocError>
         ensures taken { OnOk result ((entries : List Entry) → IsTallyOf self.old entries → IsTallyOf self.new (entries ++ entry ∷ [])) }
         ensures unchanged { OnErr result (self.new ≡ self.old) }

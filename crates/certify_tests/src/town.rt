@@ -13,7 +13,7 @@ use std::process::Abort;
 use suite_content::{FileBytes, Kind};
 use suite_prefix::Settings;
 use txn_core::{Job, Ops};
-use vote_core::Votes;
+use vote_core::{ServerSet, Votes};
 
 /// A world, the items of each of its servers, and the entries of each of its agents.
 #[derive(Drop)]
@@ -35,7 +35,18 @@ pub(crate) fn settings(
     let mode = Mode::new(0o777).expect(rt, "a mode");
     let acl = again!(rt, Acl::from_mode(rt.alloc(), mode));
     let lists = Lists::from(acl);
-    let made = Settings::new(3, agents, votes, 1000, 100, lists, room, room, slots);
+    let made = Settings::new(
+        3,
+        agents,
+        votes,
+        1000,
+        100,
+        lists,
+        room,
+        room,
+        slots,
+        ServerSet::empty(),
+    );
     made.ok().expect(rt, "settings")
 }
 

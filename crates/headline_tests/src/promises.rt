@@ -12,7 +12,7 @@ use std::alloc::Global;
 use std::process::Abort;
 use suite_prefix::Settings;
 use txn_core::{Ending, Job};
-use vote_core::Votes;
+use vote_core::{ServerSet, Votes};
 
 /// A world on which these events were played, unless memory was wanting: it promises what holds of their run.
 fn promised(alloc: Global, settings: &Settings, events: &[Event]) -> Option<World>
@@ -39,7 +39,7 @@ fn settings(rt: &(impl Abort + AllocGlobal)) -> Settings {
     let votes = votes.ok().expect(rt, "votes");
     let mode = Mode::new(0o777).expect(rt, "a mode");
     let lists = Lists::from(Acl::from_mode(rt.alloc(), mode).expect(rt, "memory"));
-    let settings = Settings::new(3, 1, votes, 1000, 100, lists, 0, 0, 0);
+    let settings = Settings::new(3, 1, votes, 1000, 100, lists, 0, 0, 0, ServerSet::empty());
     settings.ok().expect(rt, "settings")
 }
 

@@ -12,7 +12,7 @@ use suite_prefix::{
     SettingsFault, decode, encode, faults_tell_apart, fronts_are_short, no_bytes_begin_others,
     tests_are_exact,
 };
-use vote_core::Votes;
+use vote_core::{ServerSet, Votes};
 
 /// A file of version 1 of user 1000 and group 100, list of mode 644, three votes, content `hi`.
 static WORKED: &str = "02 00 00 00 00 00 00 00 01 01 00 00 03 e8 00 00 00 64
@@ -104,7 +104,8 @@ fn are_read(rt: &(impl Abort + AllocGlobal), bytes: &[u8], want: &str) {
 /// Places of the worked copy with another byte there, and what that makes.
 static DAMAGED: &str = "
 0 7 = BadTag
-0 1 = BadTag
+0 1 = Invalid
+0 3 = BadTag
 9 3 = BadTag
 19 0 = BadTag
 31 7 = BadTag
@@ -113,7 +114,7 @@ static DAMAGED: &str = "
 36 8 = Invalid
 8 0 = Invalid
 56 0 = Invalid
-39 16 = Invalid
+39 32 = Invalid
 48 0 = Invalid
 61 105 = copy";
 
@@ -148,11 +149,9 @@ fn damaged_copies_are_refused_by_their_fault(rt: HostRuntime) {
     no_more_and_no_less(&rt, DEFAULT);
 }
 
-/// Bytes that are read or refused: the worked copy in the form without default lists, a default list of a
-/// file, and of a folder one without its last entry, one out of order, one with another permission, and one that
+/// Bytes that are read or refused: a default list of a file, and of a folder one without its last entry, one out of order, one with another permission, and one that
 /// is as it should be.
 static READ: &str = "
-01 00 00 00 00 00 00 00 01 01 00 00 03 e8 00 00 00 64 03 01 00 00 00 00 06 03 00 00 00 00 04 06 00 00 00 00 04 03 00 01 01 01 02 01 00 02 00 02 00 00 00 00 00 00 00 01 00 00 00 02 68 69 = BadTag
 02 00 00 00 00 00 00 00 01 01 00 00 03 e8 00 00 00 64 03 01 00 00 00 00 06 03 00 00 00 00 04 06 00 00 00 00 04 03 01 00 00 00 00 06 03 00 00 00 00 04 06 00 00 00 00 04 03 00 01 01 01 02 01 00 02 00 02 00 00 00 00 00 00 00 01 00 00 00 02 68 69 = Invalid
 02 00 00 00 00 00 00 00 01 02 00 00 03 e8 00 00 00 64 03 01 00 00 00 00 06 03 00 00 00 00 04 06 00 00 00 00 04 02 01 00 00 00 00 06 03 00 00 00 00 04 03 00 01 01 01 02 01 00 02 00 02 00 00 00 00 00 00 00 01 00 00 = Invalid
 02 00 00 00 00 00 00 00 01 02 00 00 03 e8 00 00 00 64 03 01 00 00 00 00 06 03 00 00 00 00 04 06 00 00 00 00 04 03 03 00 00 00 00 06 01 00 00 00 00 04 06 00 00 00 00 04 03 00 01 01 01 02 01 00 02 00 02 00 00 00 00 00 00 00 01 00 00 = NotCanonical
@@ -186,7 +185,7 @@ fn with_a_byte_changed_it_is_refused_or_another_copy(rt: HostRuntime) {
         count_at(&rt, place, &mut counts);
     }
     let told = had(&rt, format!(in rt.alloc(); "{counts:?}"));
-    tells(&rt, &told, "[6756, 1273, 1766, 3069, 3261, 3, 0]", OUTCOMES);
+    tells(&rt, &told, "[6804, 1273, 1765, 3069, 3214, 3, 0]", OUTCOMES);
 }
 
 /// Adds an entry.
@@ -194,14 +193,14 @@ fn add(rt: &impl Abort, entries: &mut Vec<Entry>, tag: Tag, digit: u8) {
     assert!(rt; entries.push(Entry::from_digit(tag, digit % 8)).is_ok());
 }
 
-/// The list of 64 entries: 30 users, 30 groups, and the four others.
+/// The list of 128 entries: 62 users, 62 groups, and the four others.
 fn longest_list(rt: &(impl Abort + AllocGlobal)) -> Acl {
     let mut entries = Vec::new(rt.alloc());
     add(rt, &mut entries, Tag::UserObj, 6);
     add(rt, &mut entries, Tag::GroupObj, 4);
     add(rt, &mut entries, Tag::Mask, 7);
     add(rt, &mut entries, Tag::Other, 0);
-    for number in 0..30 {
+    for number in 0..62 {
         add(rt, &mut entries, Tag::User(number), 7);
         add(rt, &mut entries, Tag::Group(number), 5);
     }
@@ -227,13 +226,13 @@ fn max_names(rt: &(impl Abort + AllocGlobal)) -> FolderNames {
     names
 }
 
-/// 255 votes at each of 16 servers.
+/// 255 votes at each of 32 servers.
 fn max_votes(rt: &(impl Abort + AllocGlobal)) -> Votes {
     let mut reps = Vec::new(rt.alloc());
-    for server in 0..16u8 {
+    for server in 0..32u8 {
         assert!(rt; reps.push((server, 255)).is_ok());
     }
-    had(rt, Votes::new(16, &reps, 1, 4080))
+    had(rt, Votes::new(32, &reps, 1, 8160))
 }
 
 /// A file of so many bytes.
@@ -247,12 +246,12 @@ fn the_largest_copies_are_read_again(rt: HostRuntime) {
     let mut copy = long_file(&rt, 65_536);
     copy.prefix.acl = Lists::from(longest_list(&rt));
     copy.prefix.votes = max_votes(&rt);
-    is_spelled_in(&rt, &copy, 65_989);
+    is_spelled_in(&rt, &copy, 66_405);
     copy.prefix.kind = PrefixKind::Folder;
     copy.content = Content::Names(max_names(&rt));
-    is_spelled_in(&rt, &copy, 75_203);
+    is_spelled_in(&rt, &copy, 75_619);
     copy.prefix.acl.default = Some(longest_list(&rt));
-    is_spelled_in(&rt, &copy, 75_587);
+    is_spelled_in(&rt, &copy, 76_387);
 }
 
 #[test]
@@ -371,9 +370,9 @@ fn kinds_and_modes(rt: HostRuntime) {
 /// votes list servers 0 to 2.
 static GIVEN: &str = "
 3 1 0 0 0 = None
-16 64 268435456 268435456 4096 = None
+32 64 268435456 268435456 4096 = None
 0 1 0 0 0 = Some(BadCount)
-17 1 0 0 0 = Some(BadCount)
+33 1 0 0 0 = Some(BadCount)
 3 0 0 0 0 = Some(BadCount)
 2 65 0 0 4097 = Some(BadCount)
 2 1 0 0 0 = Some(UnknownServer)
@@ -399,7 +398,18 @@ fn numbers(rt: &impl Abort, text: &str) -> [usize; 5] {
 fn settings(rt: &(impl Abort + AllocGlobal), text: &str) -> Result<Settings, SettingsFault> {
     let [servers, agents, budget, quota, slots] = numbers(rt, text);
     let (votes, acl) = (votes(rt, "1,1,1/2/2"), lists(rt, "777"));
-    Settings::new(servers, agents, votes, 1000, 100, acl, budget, quota, slots)
+    Settings::new(
+        servers,
+        agents,
+        votes,
+        1000,
+        100,
+        acl,
+        budget,
+        quota,
+        slots,
+        ServerSet::empty(),
+    )
 }
 
 /// Settings of these numbers have this fault, or none.

@@ -76,7 +76,7 @@ fn faults_of_votes_are_told(rt: HostRuntime) {
 
 #[test]
 fn faults_of_settings_are_told(rt: HostRuntime) {
-    let count = "line 3: there have to be 1 to 16 servers, and 1 to 64 agents";
+    let count = "line 3: there have to be 1 to 32 servers, and 1 to 64 agents";
     let unknown = "line 3: a server is listed that is not there";
     let cache =
         "line 3: a cache has at most 268,435,456 bytes, a site of it as many, and 4,096 entries";

@@ -25,6 +25,8 @@ mod lists;
 #[cfg(test)]
 mod maps;
 #[cfg(test)]
+mod old_copies;
+#[cfg(test)]
 mod operations;
 #[cfg(test)]
 mod outcomes;

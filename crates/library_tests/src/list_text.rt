@@ -337,12 +337,12 @@ fn push_users(rt: &(impl Abort + AllocGlobal), text: &mut String, front: &str, c
     }
 }
 
-/// A text of 64 entries of the access list and as many of the default list.
+/// A text of 128 entries of the access list and as many of the default list.
 fn many_entries(rt: &(impl Abort + AllocGlobal)) -> String {
     let mut text = String::new(rt.alloc());
     push(rt, &mut text, "m::,o::,g::,u::,d:m::,d:o::,d:g::,d:u::");
-    push_users(rt, &mut text, "", 60);
-    push_users(rt, &mut text, "d:", 60);
+    push_users(rt, &mut text, "", 124);
+    push_users(rt, &mut text, "d:", 124);
     text
 }
 
@@ -352,10 +352,10 @@ fn is_refused(rt: &(impl Abort + AllocGlobal), text: &String, want: &str) {
 }
 
 #[test]
-fn a_list_in_text_has_at_most_64_entries(rt: HostRuntime) {
+fn a_list_in_text_has_at_most_128_entries(rt: HostRuntime) {
     let mut text = many_entries(&rt);
     let lists = spelled(&rt, text.as_bytes());
-    holds(&rt, lists.access.entries().len() == 64, "64 entries");
+    holds(&rt, lists.access.entries().len() == 128, "128 entries");
     push(&rt, &mut text, ",d:g:1:");
     is_refused(&rt, &text, "DefaultInvalid(TooMany)");
     push(&rt, &mut text, ",g:1:");

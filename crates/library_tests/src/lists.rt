@@ -155,11 +155,11 @@ fn add(rt: &impl Abort, entries: &mut Vec<Entry>, tag: Tag) {
     assert!(rt; entries.push(Entry::from_digit(tag, 4)).is_ok());
 }
 
-/// The single entries, the mask and 60 groups, from 100 down to 41.
+/// The single entries, the mask and 124 groups, from 200 down to 77.
 fn many(rt: &(impl Abort + AllocGlobal)) -> Vec<Entry> {
     let mut given = entries(rt, "o:4 m:4 g:4 u:4");
-    for id in 0..60 {
-        add(rt, &mut given, Tag::Group(100 - id));
+    for id in 0..124 {
+        add(rt, &mut given, Tag::Group(200 - id));
     }
     given
 }
@@ -168,16 +168,16 @@ fn many(rt: &(impl Abort + AllocGlobal)) -> Vec<Entry> {
 fn makes_a_list(rt: &(impl Abort + AllocGlobal), given: &[Entry]) {
     let acl = had(rt, Acl::from_entries(rt.alloc(), given));
     let entries = acl.entries();
-    holds(rt, entries.len() == 64, "64 entries");
-    assert!(rt; entries.len() > 2 && entries[2].tag == Tag::Group(41));
+    holds(rt, entries.len() == 128, "128 entries");
+    assert!(rt; entries.len() > 2 && entries[2].tag == Tag::Group(77));
 }
 
 #[test]
-fn a_list_has_at_most_64_entries(rt: HostRuntime) {
+fn a_list_has_at_most_128_entries(rt: HostRuntime) {
     let mut given = many(&rt);
     makes_a_list(&rt, &given);
     add(&rt, &mut given, Tag::User(1));
-    tells(&rt, &fault(&rt, &given), "TooMany", "65 entries");
+    tells(&rt, &fault(&rt, &given), "TooMany", "129 entries");
 }
 
 /// A list has these entries.

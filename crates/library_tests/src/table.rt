@@ -12,12 +12,23 @@ use file_ops::{Answer, Answers, ApplyError, Table};
 use std::process::Abort;
 use suite_content::FileBytes;
 use suite_prefix::Settings;
-use vote_core::MAX_SERVERS;
+use vote_core::{MAX_SERVERS, ServerSet};
 
 /// A table of this many servers whose root folder has a mode.
 fn table(rt: &(impl Abort + AllocGlobal), servers: usize, digits: &str) -> Table {
     let (votes, acl) = (votes(rt, "1/1/1"), lists(rt, digits));
-    let settings = Settings::new(servers, 1, votes, 1000, 100, acl, 0, 0, 0);
+    let settings = Settings::new(
+        servers,
+        1,
+        votes,
+        1000,
+        100,
+        acl,
+        0,
+        0,
+        0,
+        ServerSet::empty(),
+    );
     had(rt, Table::opening(rt.alloc(), &had(rt, settings)))
 }
 

@@ -42,8 +42,10 @@ static JUDGED: &str = "
 4, 0:1 0:1/1/1 = Some(ListedTwice)
 4, 4:1/1/1 = Some(UnknownServer)
 4, 1:0 1:0 4:0/0/0 = Some(UnknownServer)
-99, 15:1/1/1 = None
-99, 16:1/1/1 = Some(UnknownServer)";
+32, 31:1/1/1 = None
+32, 32:1/1/1 = Some(UnknownServer)
+99, 31:1/1/1 = None
+99, 32:1/1/1 = Some(UnknownServer)";
 
 /// Votes have this fault, or none.
 fn are_judged(rt: &(impl Abort + AllocGlobal), line: &str) {
@@ -61,13 +63,13 @@ fn votes_are_judged_by_their_first_fault(rt: HostRuntime) {
     }
 }
 
-/// 255 votes at each of 16 servers.
+/// 255 votes at each of 32 servers.
 static MOST: &str =
-    "0:255 1:255 2:255 3:255 4:255 5:255 6:255 7:255 8:255 9:255 10:255 11:255 12:255 13:255 14:255 15:255";
+    "0:255 1:255 2:255 3:255 4:255 5:255 6:255 7:255 8:255 9:255 10:255 11:255 12:255 13:255 14:255 15:255 16:255 17:255 18:255 19:255 20:255 21:255 22:255 23:255 24:255 25:255 26:255 27:255 28:255 29:255 30:255 31:255";
 
 /// The most votes, of which a write collects so many.
 fn most(rt: &(impl Abort + AllocGlobal), w: u16) -> Result<Votes, VotesFault> {
-    Votes::new(16, &reps(rt, MOST), 1, w)
+    Votes::new(32, &reps(rt, MOST), 1, w)
 }
 
 /// The set of all servers below this one.
@@ -82,20 +84,20 @@ fn below(end: u8) -> ServerSet {
 }
 
 #[test]
-fn sixteen_servers_may_have_255_votes_each(rt: HostRuntime) {
-    let votes = had(&rt, most(&rt, 4080));
+fn thirty_two_servers_may_have_255_votes_each(rt: HostRuntime) {
+    let votes = had(&rt, most(&rt, 8160));
     holds(
         &rt,
         votes.reps() == reps(&rt, MOST).as_slice(),
         "who is listed",
     );
-    holds(&rt, votes.r() == 1 && votes.w() == 4080, "the quorums");
-    holds(&rt, votes.votes_of(&below(16)) == 4080, "all votes");
-    holds(&rt, votes.is_write(&below(16)), "all may write");
-    holds(&rt, !votes.is_write(&below(15)), "one is missing");
+    holds(&rt, votes.r() == 1 && votes.w() == 8160, "the quorums");
+    holds(&rt, votes.votes_of(&below(32)) == 8160, "all votes");
+    holds(&rt, votes.is_write(&below(32)), "all may write");
+    holds(&rt, !votes.is_write(&below(31)), "one is missing");
     holds(&rt, votes.clone().ok() == Some(votes), "a clone");
     let range = Some(VotesFault::ThresholdOutOfRange);
-    holds(&rt, most(&rt, 4081).err() == range, "more than all");
+    holds(&rt, most(&rt, 8161).err() == range, "more than all");
 }
 
 #[test]

@@ -12,7 +12,7 @@ use std::sync::Wait;
 use std::sync::atomic::{AtomicU64, Ordering};
 use std::thread::{Threads, map_vec};
 use suite_prefix::{LockMode, Prefix, PrefixKind, Settings};
-use vote_core::Votes;
+use vote_core::{ServerSet, Votes};
 
 /// What a call gives, where memory may be refused to it once.
 macro_rules! again {
@@ -29,7 +29,18 @@ fn settings(rt: &(impl Abort + AllocGlobal), agents: usize) -> Settings {
     let mode = Mode::new(0o777).expect(rt, "a mode");
     let acl = again!(rt, Acl::from_mode(rt.alloc(), mode));
     let votes = Votes::new(3, &[(0, 1), (1, 1), (2, 1)], 2, 2).expect(rt, "votes");
-    let made = Settings::new(3, agents, votes, 1000, 100, Lists::from(acl), 0, 0, 0);
+    let made = Settings::new(
+        3,
+        agents,
+        votes,
+        1000,
+        100,
+        Lists::from(acl),
+        0,
+        0,
+        0,
+        ServerSet::empty(),
+    );
     made.ok().expect(rt, "settings")
 }
 

@@ -16,7 +16,7 @@ use std::thread::Threads;
 use suite_content::{FileBytes, Kind};
 use suite_prefix::Settings;
 use txn_core::{Job, Ops};
-use vote_core::Votes;
+use vote_core::{ServerSet, Votes};
 
 /// Servers, and all agents with their passes.
 #[derive(Drop)]
@@ -32,7 +32,18 @@ pub(crate) fn settings(rt: &(impl Abort + AllocGlobal), agents: usize) -> Settin
     let votes = votes.ok().expect(rt, "votes");
     let mode = Mode::new(0o777).expect(rt, "a mode");
     let acl = again!(rt, Acl::from_mode(rt.alloc(), mode));
-    let made = Settings::new(3, agents, votes, 1000, 100, Lists::from(acl), 0, 0, 0);
+    let made = Settings::new(
+        3,
+        agents,
+        votes,
+        1000,
+        100,
+        Lists::from(acl),
+        0,
+        0,
+        0,
+        ServerSet::empty(),
+    );
     made.ok().expect(rt, "settings")
 }
 

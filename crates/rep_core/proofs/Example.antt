@@ -1,7 +1,10 @@
 -- A run after which a server has a copy that a transaction changed, and one after which a server that is down has an exclusive lock
 -- that is prepared.
-use Rattle.std.proofs.Common.{true, ◌<◌, List, [], ◌∷◌, ◌++◌, refl, inl, lit<, arith}
+use Rattle.std.proofs.Common.{true, ◌<◌, List, [], ◌∷◌, ◌++◌, refl, sym, ◌∙◌, inl, lit<, arith}
 use Rattle.std.specs.List.{IsDistinct}
+use Rattle.std.specs.Ordering.{nat_cmp}
+use Rattle.std.specs.FinSet.{empty, contains-empty}
+use Rattle.std.proofs.lemmas.Bool.{false≢true}
 use Rattle.std.proofs.lemmas.List.Elements.{All-nil, All-cons}
 use Rattle.vote_core.specs.Quorums.{Representative, Configuration}
 use Rattle.vote_core.specs.declared.TheConstants.{MAX_SERVERS}
@@ -40,6 +43,7 @@ settings = record {
   budget = 0;
   quota = 0;
   slots = 0;
+  old = empty;
 }
 
 polled : Stamped Request
@@ -79,6 +83,8 @@ settings_fit = record {
     budget_fits = omega arith;
     quota_fits = omega arith;
     slots_fit = omega arith;
+    old_known = λ server there. absurd (false≢true (sym (contains-empty nat_cmp server) ∙ there));
+    old_fits = λ server there. absurd (false≢true (sym (contains-empty nat_cmp server) ∙ there));
   };
   root = record { acl = closed_acls; votes = valid_votes; pver = lit< tt; owner = lit< tt; group = lit< tt; qualifiers = nobody; r = lit< tt; w = lit< tt };
 }

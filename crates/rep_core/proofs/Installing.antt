@@ -12,8 +12,9 @@ use Rattle.std.proofs.lemmas.Map.Keys.{sorted_head, sorted_tail}
 use Rattle.sorted_map.specs.SortedMap.{IsOrdered, get, remove}
 use Rattle.vote_core.specs.Quorums.{Configuration}
 use Rattle.suite_prefix.specs.declared.copies.Replica.{Replica}
+use Rattle.suite_prefix.specs.declared.forms.Form.{Form}
 use Rattle.rep_core.specs.Intentions.{Intention}
-use Rattle.rep_core.specs.Store.{with_taken, with_copies, without_intentions}
+use Rattle.rep_core.specs.Store.{with_taken, with_copies, with_form, with_forms, without_intentions}
 use Rattle.rep_core.proofs.Intentions.{is_of, at_index, at_itself, swapped}
 
 -- ---- a list without the element at a place
@@ -93,6 +94,11 @@ module _ (t : ℕ) (intentions : List (ℕ × Intention)) (i : ℕ) (pair : ℕ 
         ap (λ l. with_copies c0 t l copies) next
         ∙ ap (λ b. with_copies c0 t (drop (i + 1) intentions) (cond b (with_taken c0 pair.0 pair.1.take copies) copies)) other
 
+    pub with_forms-other : (forms : List (ℕ × Form)) → with_forms t (drop i intentions) forms ≡ with_forms t (drop (i + 1) intentions) forms
+    with_forms-other forms =
+        ap (λ l. with_forms t l forms) next
+        ∙ ap (λ b. with_forms t (drop (i + 1) intentions) (cond b (with_form pair.0 pair.1.take forms) forms)) other
+
     pub passed-other : list_all (λ p. not (is_of t p)) (take i intentions) ≡ true → list_all (λ p. not (is_of t p)) (take (i + 1) intentions) ≡ true
     passed-other all = ap (λ n. list_all (λ p. not (is_of t p)) (take n intentions)) (add-one i) ∙ all_next (λ p. not (is_of t p)) intentions i pair in_range is (ap not other) all
 
@@ -110,14 +116,22 @@ module _ (t : ℕ) (intentions : List (ℕ × Intention)) (i : ℕ) (pair : ℕ 
     pub others-taken : without_intentions t after ≡ without_intentions t intentions
     others-taken = ap (without_intentions t) left ∙ filter-without (λ p. not (is_of t p)) intentions i pair in_range is (ap not mine)
 
+    behind : drop i after ≡ drop (i + 1) intentions
+    behind = ap (drop i) left ∙ drop-without intentions i in_range ∙ ap (λ n. drop n intentions) (sym (add-one i))
+
+    pub with_forms-taken : (forms : List (ℕ × Form)) → with_forms t (drop i intentions) forms ≡ with_forms t (drop i after) (with_form pair.0 pair.1.take forms)
+    with_forms-taken forms =
+        ap (λ l. with_forms t l forms) next
+        ∙ ap (λ b. with_forms t (drop (i + 1) intentions) (cond b (with_form pair.0 pair.1.take forms) forms)) mine
+        ∙ ap (λ l. with_forms t l (with_form pair.0 pair.1.take forms)) (sym behind)
+
     pub with_copies-taken : (c0 : Configuration) (copies taken : List (ℕ × Replica)) → IfSome (get nat_cmp intentions pair.0) (λ intention. (c : Configuration) → taken ≡ with_taken c pair.0 intention.take copies) → with_copies c0 t (drop i intentions) copies ≡ with_copies c0 t (drop i after) taken
     with_copies-taken c0 copies taken said =
         let is_taken : taken ≡ with_taken c0 pair.0 pair.1.take copies = subst (λ o. IfSome o (λ intention. (c : Configuration) → taken ≡ with_taken c pair.0 intention.take copies)) (has_at intentions i pair rising in_range is) said c0 in
-        let rest : drop i after ≡ drop (i + 1) intentions = ap (drop i) left ∙ drop-without intentions i in_range ∙ ap (λ n. drop n intentions) (sym (add-one i)) in
         ap (λ l. with_copies c0 t l copies) next
         ∙ ap (λ b. with_copies c0 t (drop (i + 1) intentions) (cond b (with_taken c0 pair.0 pair.1.take copies) copies)) mine
         ∙ ap (with_copies c0 t (drop (i + 1) intentions)) (sym is_taken)
-        ∙ ap (λ l. with_copies c0 t l taken) (sym rest)
+        ∙ ap (λ l. with_copies c0 t l taken) (sym behind)
 
 -- where all are passed, no own one is left
 pub all_passed : (t : ℕ) (intentions : List (ℕ × Intention)) (i : ℕ) → length intentions ≤ i → list_all (λ p. not (is_of t p)) (take i intentions) ≡ true → without_intentions t intentions ≡ intentions

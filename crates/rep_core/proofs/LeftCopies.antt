@@ -13,7 +13,7 @@ use Rattle.rep_core.specs.declared.request.Part.{Part}
 use Rattle.rep_core.specs.declared.request.Take.{Take}
 use Rattle.rep_core.specs.Store.{Store, IsSound, copy_of, copy_in, left_by, is_keep, goes_with, holds_last, is_sound_part}
 use Rattle.rep_core.specs.ValidCopies.{TakeFits}
-use Rattle.rep_core.specs.code.Planning.{planned_of, is_whole}
+use Rattle.rep_core.specs.code.Planning.{planned_of, is_whole, in_form_2}
 use Rattle.rep_core.proofs.Soundness.{left_sound}
 use Rattle.rep_core.proofs.Validity.{left_fits, sound_valid}
 
@@ -34,7 +34,7 @@ none_at p (e ∷ es) (suc i) x in_range is none = none_at p es i x (omega arith)
 
 pub plans_next : (c0 : Configuration) (copies : List (ℕ × Replica)) (t : ℕ) (part : Part) (parts : List Part) → planned_of c0 copies t (part ∷ parts) ≡ planned_of c0 copies t (part ∷ []) ++ planned_of c0 copies t parts
 plans_next c0 copies t part parts =
-    let made : ℕ × Planned = (part.suite, record { t = t; whole = is_whole part.take; left = left_by part.take (copy_in c0 copies part.suite) }) in
+    let made : ℕ × Planned = (part.suite, record { t = t; whole = is_whole part.take; left = in_form_2 (left_by part.take (copy_in c0 copies part.suite)) }) in
     elim (is_keep part.take) as (λ b. cond b (planned_of c0 copies t parts) (made ∷ planned_of c0 copies t parts) ≡ cond b [] (made ∷ []) ++ planned_of c0 copies t parts) [
       | true ↦ refl
       | false ↦ refl

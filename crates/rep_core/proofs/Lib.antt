@@ -24,6 +24,7 @@ pub mod Validity
 mod Example
 pub mod Changes
 pub mod Planned
+pub mod Kept
 pub mod LeftCopies
 mod Searching
 mod Ranges

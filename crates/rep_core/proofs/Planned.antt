@@ -19,13 +19,14 @@ use Rattle.sorted_map.specs.Numbers.{get_insert_here, get_insert_apart, get_remo
 use Rattle.vote_core.specs.Quorums.{Configuration}
 use Rattle.suite_prefix.specs.declared.copies.Replica.{Replica}
 use Rattle.suite_prefix.specs.Absent.{absent_copy}
+use Rattle.suite_prefix.specs.Stored.{Kept}
 use Rattle.rep_core.specs.declared.intention.Planned.{Planned}
 use Rattle.rep_core.specs.declared.request.Part.{Part}
 use Rattle.rep_core.specs.declared.request.Take.{Take}
 use Rattle.rep_core.specs.declared.request.Take.TheVariants as take
 use Rattle.rep_core.specs.Intentions.{Intention}
 use Rattle.rep_core.specs.Store.{copy_in, left_by, is_keep, with_taken, with_intention, with_intentions}
-use Rattle.rep_core.specs.code.Planning.{intention_in, intentions_in, take_in, is_whole, planned_of, with_all, Leaves}
+use Rattle.rep_core.specs.code.Planning.{intention_in, intentions_in, in_form_2, take_in, is_whole, planned_of, with_all, Leaves}
 
 -- ---- look-ups and edits
 
@@ -109,16 +110,16 @@ take_back take.Keep copy changes = absurd cc
 take_back (take.Prefix prefix) copy changes = refl
 take_back (take.Whole replica) copy changes = refl
 
-keeps_nothing : (whole : Bool) (left : Replica) → is_keep (take_in whole left) ≡ false
+pub keeps_nothing : (whole : Bool) (left : Replica) → is_keep (take_in whole left) ≡ false
 keeps_nothing true left = refl
 keeps_nothing false left = refl
 
 -- an intention that becomes a copy
-pub becomes : (c0 : Configuration) (suite : ℕ) (planned : Planned) (copies : List (ℕ × Replica)) → planned.left ≡ left_by (take_in planned.whole planned.left) (copy_in c0 copies suite)
-    → insert nat_cmp copies suite planned.left ≡ with_taken c0 suite (intention_in planned).take copies
+pub becomes : (c0 : Configuration) (suite : ℕ) (planned : Planned) (copies : List (ℕ × Replica)) → planned.left ≡ in_form_2 (left_by (take_in planned.whole planned.left.copy) (copy_in c0 copies suite))
+    → insert nat_cmp copies suite planned.left.copy ≡ with_taken c0 suite (intention_in planned).take copies
 becomes c0 suite planned copies leaves =
-    ap (insert nat_cmp copies suite) leaves
-    ∙ ap (λ b. cond b copies (insert nat_cmp copies suite (left_by (take_in planned.whole planned.left) (copy_in c0 copies suite)))) (sym (keeps_nothing planned.whole planned.left))
+    ap (λ (kept : Kept). insert nat_cmp copies suite kept.copy) leaves
+    ∙ ap (λ b. cond b copies (insert nat_cmp copies suite (left_by (take_in planned.whole planned.left.copy) (copy_in c0 copies suite)))) (sym (keeps_nothing planned.whole planned.left.copy))
 
 -- what is found without a key was there, and is another's
 found_without : (pairs : List (ℕ × Planned)) (suite q : ℕ) (planned : Planned) → IsOrdered nat_cmp pairs → get nat_cmp (remove nat_cmp pairs suite) q ≡ Some planned → (q ≡ suite → ⊥) × (get nat_cmp pairs q ≡ Some planned)
@@ -129,7 +130,7 @@ found_without pairs suite q planned rising has =
 pub leaves_taken : (copies : List (ℕ × Replica)) (pairs : List (ℕ × Planned)) (suite : ℕ) (left : Replica) → IsOrdered nat_cmp pairs → Leaves copies pairs → Leaves (insert nat_cmp copies suite left) (remove nat_cmp pairs suite)
 leaves_taken copies pairs suite left rising leaves c0 q planned has =
     let found = found_without pairs suite q planned rising has in
-    leaves c0 q planned found.1 ∙ ap (λ o. left_by (take_in planned.whole planned.left) (unwrap_or o (absent_copy c0))) (sym (get_insert_apart copies suite left q found.0))
+    leaves c0 q planned found.1 ∙ ap (λ o. in_form_2 (left_by (take_in planned.whole planned.left.copy) (unwrap_or o (absent_copy c0)))) (sym (get_insert_apart copies suite left q found.0))
 
 -- what is found in a filtered list was there
 pub found_in_filter : (p : ℕ × Planned → Bool) (pairs : List (ℕ × Planned)) (suite : ℕ) (planned : Planned) → IsOrdered nat_cmp pairs → get nat_cmp (filter p pairs) suite ≡ Some planned → get nat_cmp pairs suite ≡ Some planned
@@ -165,7 +166,7 @@ planned_kept c0 copies t (part ∷ parts) pairs = ⊎_elim
     (cases_Bool (is_keep part.take))
   where
     made : Planned
-    made = record { t = t; whole = is_whole part.take; left = left_by part.take (copy_in c0 copies part.suite) }
+    made = record { t = t; whole = is_whole part.take; left = in_form_2 (left_by part.take (copy_in c0 copies part.suite)) }
 
     new : Intention
     new = record { t = t; take = part.take }
@@ -177,22 +178,22 @@ suite_or_apart a b = ⊎_elim
     (cases_Bool (a == b))
 
 leaves_more : (c0 : Configuration) (copies : List (ℕ × Replica)) (t : ℕ) (part : Part) (pairs : List (ℕ × Planned)) → is_keep part.take ≡ false → Leaves copies pairs
-    → Leaves copies (insert nat_cmp pairs part.suite (record { t = t; whole = is_whole part.take; left = left_by part.take (copy_in c0 copies part.suite) }))
+    → Leaves copies (insert nat_cmp pairs part.suite (record { t = t; whole = is_whole part.take; left = in_form_2 (left_by part.take (copy_in c0 copies part.suite)) }))
 leaves_more c0 copies t part pairs changes leaves c1 suite planned has =
-    let made : Planned = record { t = t; whole = is_whole part.take; left = left_by part.take (copy_in c0 copies part.suite) } in
+    let made : Planned = record { t = t; whole = is_whole part.take; left = in_form_2 (left_by part.take (copy_in c0 copies part.suite)) } in
     ⊎_elim
     (λ same.
     let is : made ≡ planned = same_Some made planned (sym (get_insert_here pairs part.suite made) ∙ ap (λ k. get nat_cmp (insert nat_cmp pairs part.suite made) k) (sym same) ∙ has) in
-    let own : made.left ≡ left_by (take_in made.whole made.left) (copy_in c1 copies part.suite) =
-    same_left part.take c0 c1 (get nat_cmp copies part.suite) changes ∙ ap (λ what. left_by what (copy_in c1 copies part.suite)) (sym (take_back part.take (copy_in c0 copies part.suite) changes)) in
-    subst (λ (x : Planned). x.left ≡ left_by (take_in x.whole x.left) (copy_in c1 copies suite)) is (subst (λ k. made.left ≡ left_by (take_in made.whole made.left) (copy_in c1 copies k)) (sym same) own))
+    let own : made.left ≡ in_form_2 (left_by (take_in made.whole made.left.copy) (copy_in c1 copies part.suite)) =
+    ap in_form_2 (same_left part.take c0 c1 (get nat_cmp copies part.suite) changes ∙ ap (λ what. left_by what (copy_in c1 copies part.suite)) (sym (take_back part.take (copy_in c0 copies part.suite) changes))) in
+    subst (λ (x : Planned). x.left ≡ in_form_2 (left_by (take_in x.whole x.left.copy) (copy_in c1 copies suite))) is (subst (λ k. made.left ≡ in_form_2 (left_by (take_in made.whole made.left.copy) (copy_in c1 copies k))) (sym same) own))
     (λ apart. leaves c1 suite planned (sym (get_insert_apart pairs part.suite made suite apart) ∙ has))
     (suite_or_apart suite part.suite)
 
 pub leaves_planned : (c0 : Configuration) (copies : List (ℕ × Replica)) (t : ℕ) (parts : List Part) (pairs : List (ℕ × Planned)) → Leaves copies pairs → Leaves copies (with_all (planned_of c0 copies t parts) pairs)
 leaves_planned c0 copies t [] pairs leaves = leaves
 leaves_planned c0 copies t (part ∷ parts) pairs leaves =
-    let made : Planned = record { t = t; whole = is_whole part.take; left = left_by part.take (copy_in c0 copies part.suite) } in
+    let made : Planned = record { t = t; whole = is_whole part.take; left = in_form_2 (left_by part.take (copy_in c0 copies part.suite)) } in
     ⊎_elim
     (λ keep. subst (λ b. Leaves copies (with_all (cond b (planned_of c0 copies t parts) ((part.suite, made) ∷ planned_of c0 copies t parts)) pairs)) (sym keep) (leaves_planned c0 copies t parts pairs leaves))
     (λ changes. subst (λ b. Leaves copies (with_all (cond b (planned_of c0 copies t parts) ((part.suite, made) ∷ planned_of c0 copies t parts)) pairs)) (sym changes)
@@ -203,7 +204,7 @@ pub few_planned : (c0 : Configuration) (copies : List (ℕ × Replica)) (t : ℕ
 few_planned c0 copies t [] = omega arith
 few_planned c0 copies t (part ∷ parts) =
     let rest = few_planned c0 copies t parts in
-    let made : ℕ × Planned = (part.suite, record { t = t; whole = is_whole part.take; left = left_by part.take (copy_in c0 copies part.suite) }) in
+    let made : ℕ × Planned = (part.suite, record { t = t; whole = is_whole part.take; left = in_form_2 (left_by part.take (copy_in c0 copies part.suite)) }) in
     elim (is_keep part.take) as (λ b. length (cond b (planned_of c0 copies t parts) (made ∷ planned_of c0 copies t parts)) ≤ length (part ∷ parts)) [
       | true ↦ omega (arith, rest)
       | false ↦ omega (arith, rest)

@@ -14,16 +14,20 @@ use Rattle.suite_prefix.specs.Copies.{held_by}
 use Rattle.suite_prefix.specs.Tests.{is_valid_prefix, is_valid_copy, is_absent}
 use Rattle.suite_prefix.specs.Absent.{absent_copy}
 use Rattle.suite_prefix.specs.LockModes.{is_exclusive}
-use Rattle.suite_prefix.specs.SettingsRules.{Opening}
+use Rattle.suite_prefix.specs.SettingsRules.{Opening, form_of_root}
+use Rattle.suite_prefix.specs.declared.forms.Form.{Form}
+use Rattle.suite_prefix.specs.declared.forms.Form.TheVariants.{Two}
 use Rattle.rep_core.specs.declared.request.Take.{Take}
 use Rattle.rep_core.specs.declared.request.Take.TheVariants as take
 use Rattle.rep_core.specs.declared.request.Part.{Part}
 use Rattle.rep_core.specs.Intentions.{Intention}
 
--- the stored copies and the intentions, each by its suite, the suites rising; and the votes of a suite without others
+-- the stored copies, the forms that they are written in, and the intentions, each by its suite, the suites rising; and the votes of a
+-- suite without others
 pub record Store : Type 0 where
   pub c0 : Configuration
   pub copies : List (ℕ × Replica)
+  pub forms : List (ℕ × Form)
   pub intentions : List (ℕ × Intention)
 
 -- ---- copies
@@ -36,11 +40,12 @@ root_copy given = record {
   content = empty_content holds.Folder;
 }
 
--- a representative of the opening votes has the root
+-- a representative of the opening votes has the root, in the form that the settings name
 abbrev pub opening_store : ℕ → Opening → Store
 opening_store index given = record {
   c0 = given.c0;
   copies = if list_any (λ rep. rep.0 == index) given.c0.reps then (0, root_copy given) ∷ [] else [];
+  forms = if list_any (λ rep. rep.0 == index) given.c0.reps then (0, form_of_root given index) ∷ [] else [];
   intentions = [];
 }
 
@@ -116,6 +121,10 @@ holds_last (take.Whole replica) = is_used_up replica.prefix.pver || is_used_up r
 abbrev pub max_suites : ℕ
 max_suites = 4096
 
+-- the form that the copy of a suite is written in, where there is one
+abbrev pub form_of : Store → ℕ → Option Form
+form_of store suite = get nat_cmp store.forms suite
+
 abbrev pub has_copy : Store → ℕ → Bool
 has_copy store suite = is_some (get nat_cmp store.copies suite)
 
@@ -157,10 +166,21 @@ with_copies c0 t [] copies = copies
 with_copies c0 t (pair ∷ intentions) copies =
     with_copies c0 t intentions (if pair.1.t == t then with_taken c0 pair.0 pair.1.take copies else copies)
 
+-- a copy that is changed is written in form 2, and no other is written again
+abbrev pub with_form : ℕ → Take → List (ℕ × Form) → List (ℕ × Form)
+with_form suite what forms = if is_keep what then forms else insert nat_cmp forms suite Two
+
+-- the forms once the transaction's intentions have become copies
+abbrev pub with_forms : ℕ → List (ℕ × Intention) → List (ℕ × Form) → List (ℕ × Form)
+with_forms t [] forms = forms
+with_forms t (pair ∷ intentions) forms =
+    with_forms t intentions (if pair.1.t == t then with_form pair.0 pair.1.take forms else forms)
+
 -- a store once the transaction has ended, answered or not
 abbrev pub finished : ℕ → Bool → Store → Store
 finished t answered store = record store {
   copies = if answered then with_copies store.c0 t store.intentions store.copies else store.copies;
+  forms = if answered then with_forms t store.intentions store.forms else store.forms;
   intentions = without_intentions t store.intentions;
 }
 

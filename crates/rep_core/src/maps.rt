@@ -3,7 +3,7 @@
 ghost use Rattle.std.specs.Prelude.{◌≡◌, ℕ, ◌≤◌, ◌<◌, ◌+◌, length, IfSome, Some};
 ghost use Rattle.std.specs.Ordering.{nat_cmp};
 ghost use Rattle.sorted_map.specs.SortedMap.{IsOrdered, get, insert, remove};
-ghost use Rattle.rep_core.specs.code.Planning.{Leaves, intentions_in, with_all};
+ghost use Rattle.rep_core.specs.code.Planning.{Leaves, copies_in, forms_in, intentions_in, with_all};
 ghost use Rattle.rep_core.specs.declared.intention.Planned as planning;
 ghost use Rattle.rep_core.specs.Store as store;
 ghost use Rattle.vote_core.specs.Quorums.{Configuration};
@@ -43,10 +43,11 @@ pub(crate) fn install(
     t: u64,
 )
     requires room { length intentions.old.pairs ≤ copies.old.room }
-    requires leaves { Leaves copies.old.pairs intentions.old.pairs }
-    ensures copies { (c0 : Configuration) → copies.new.pairs ≡ store.with_copies c0 t (intentions_in intentions.old.pairs) copies.old.pairs }
+    requires leaves { Leaves (copies_in copies.old.pairs) intentions.old.pairs }
+    ensures copies { (c0 : Configuration) → copies_in copies.new.pairs ≡ store.with_copies c0 t (intentions_in intentions.old.pairs) (copies_in copies.old.pairs) }
+    ensures forms { forms_in copies.new.pairs ≡ store.with_forms t (intentions_in intentions.old.pairs) (forms_in copies.old.pairs) }
     ensures others { intentions_in intentions.new.pairs ≡ store.without_intentions t (intentions_in intentions.old.pairs) }
-    ensures leaves { Leaves copies.new.pairs intentions.new.pairs }
+    ensures leaves { Leaves (copies_in copies.new.pairs) intentions.new.pairs }
     ensures room { length intentions.new.pairs ≤ copies.new.room }
     ensures rising { IsOrdered nat_cmp intentions.new.pairs }
 {

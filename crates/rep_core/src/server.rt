@@ -1,7 +1,9 @@
 //! A server.
 
 ghost use Rattle.std.specs.Prelude.{◌≡◌, ◌≢◌, ◌↔◌, IfOk, IfSome, OnOk, OnErr, IsTrue, Err, is_some};
-ghost use Rattle.suite_prefix.specs.Bytes.{bytes_of};
+ghost use Rattle.suite_prefix.specs.Bytes.{bytes_in};
+ghost use Rattle.suite_prefix.specs.Copies.{IsCopy};
+ghost use Rattle.suite_prefix.specs.Forms.{CanHold};
 ghost use Rattle.rep_core.specs.declared.stamped.Lack.TheVariants.{Full, Memory};
 ghost use Rattle.rep_core.specs.Fits.{fits};
 ghost use Rattle.rep_core.specs.Given.{Gives, MayBeGiven};
@@ -15,7 +17,7 @@ use crate::stamped::{Lack, Stamped};
 use file_ops::AuditItem;
 use std::alloc::{AllocError, Global};
 use std::marker::Model;
-use suite_prefix::Settings;
+use suite_prefix::{Form, Settings};
 
 /// A server: copies, locks, intentions, verdicts, the denials that it recorded, and its stamp.
 #[derive(Drop)]
@@ -132,12 +134,24 @@ impl Server {
         self.held.store.sound();
     }
 
-    /// Lends the bytes of the copy of a suite that has one. It takes no memory.
+    /// Lends the bytes of the copy of a suite that has one, in the form that they stand in. It takes no
+    /// memory.
     pub fn stored(&self, suite: u64) -> Option<&[u8]>
         ensures stored { is_some result ≡ store.has_copy self.now.store suite }
-        ensures bytes { IfSome result (λ bytes. bytes.now ≡ bytes_of (store.copy_of self.now.store suite)) }
+        ensures formed { is_some result ≡ is_some (store.form_of self.now.store suite) }
+        ensures bytes { IfSome result (λ bytes. IfSome (store.form_of self.now.store suite) (λ form. bytes.now ≡ bytes_in form (store.copy_of self.now.store suite))) }
+        ensures held { IfSome result (λ bytes. IfSome (store.form_of self.now.store suite) (λ form. CanHold form (store.copy_of self.now.store suite).prefix)) }
+        ensures valid { IfSome result (λ bytes. IsCopy (store.copy_of self.now.store suite)) }
     {
         self.held.store.record(suite)
+    }
+
+    /// The form that the copy of a suite is written in, where it has one. It stays until a Finish that
+    /// changes the copy.
+    pub fn form(&self, suite: u64) -> Option<Form>
+        ensures { result ≡ store.form_of self.now.store suite }
+    {
+        self.held.store.form(suite)
     }
 
     /// The denials that it recorded, in their order.

@@ -1,17 +1,19 @@
 //! Stored copies and intentions. Nothing else touches them.
 
-ghost use Rattle.std.specs.Prelude.{◌≡◌, ◌++◌, ◌∷◌, ℕ, ◌≤◌, ◌<◌, ◌+◌, ◌==◌, ◌&&◌, not, length, [], is_some, IfOk, OnOk, OnErr, IsTrue, IfSome, true, false, unwrap_or, None, Some, nat_le, nat_lt, min, count_by};
+ghost use Rattle.std.specs.Prelude.{◌≡◌, ◌++◌, ◌∷◌, ℕ, ◌≤◌, ◌<◌, ◌+◌, ◌==◌, ◌&&◌, not, length, [], is_some, option_map, IfOk, OnOk, OnErr, IsTrue, IfSome, true, false, unwrap_or, None, Some, nat_le, nat_lt, min, count_by};
 ghost use Rattle.std.specs.List.{list_any, list_all};
 ghost use Rattle.std.specs.Option.{option_copied};
 ghost use Rattle.std.specs.Ordering.{nat_cmp};
 ghost use Rattle.sorted_map.specs.SortedMap.{IsOrdered, get};
-ghost use Rattle.suite_prefix.specs.Bytes.{bytes_of};
+ghost use Rattle.suite_prefix.specs.Bytes.{bytes_in};
 ghost use Rattle.suite_prefix.specs.Copies.{IsCopy};
+ghost use Rattle.suite_prefix.specs.Forms.{CanHold};
+ghost use Rattle.suite_prefix.specs.SettingsRules.{form_of_root};
 ghost use Rattle.suite_prefix.specs.TestsExact.{CopyFits};
 ghost use Rattle.vote_core.specs.Quorums.{Configuration};
 ghost use Rattle.suite_prefix.specs.declared.copies.Replica.{Replica};
 ghost use Rattle.suite_prefix.specs.Absent.{absent_copy};
-ghost use Rattle.rep_core.specs.code.Planning.{planned_of};
+ghost use Rattle.rep_core.specs.code.Planning.{planned_of, copies_in, forms_in, in_form_2};
 ghost use Rattle.rep_core.specs.Service.{held, given};
 ghost use Rattle.rep_core.specs.Store as store;
 
@@ -26,7 +28,7 @@ use std::alloc::{AllocError, Global};
 use std::marker::Model;
 use std::mem;
 use suite_content::{Content, Kind};
-use suite_prefix::{Prefix, PrefixKind, Replica, Settings, StoredCopy};
+use suite_prefix::{Form, Prefix, PrefixKind, Replica, Settings, StoredCopy};
 use vote_core::Votes;
 
 /// The most suites that a server has a copy or an intention of.
@@ -53,13 +55,13 @@ impl Model for Store {
     ghost use Rattle.rep_core.specs.Store.{IsSound};
     ghost use Rattle.rep_core.specs.code.Holding.{Storing};
     ghost use Rattle.rep_core.specs.code.StoreFields.{store_of, storing_of};
-    ghost use Rattle.rep_core.specs.code.Planning.{Leaves};
+    ghost use Rattle.rep_core.specs.code.Planning.{Leaves, copies_in};
 
     ghost Value = { Storing };
 
     ghost view = { storing_of };
 
-    ghost invariant = { λ fields. (fields.absent ≡ absent_prefix fields.absent.votes) × (length fields.intentions.pairs ≤ fields.copies.room) × IsSound (store_of fields) × Leaves fields.copies.pairs fields.intentions.pairs };
+    ghost invariant = { λ fields. (fields.absent ≡ absent_prefix fields.absent.votes) × (length fields.intentions.pairs ≤ fields.copies.room) × IsSound (store_of fields) × Leaves (copies_in fields.copies.pairs) fields.intentions.pairs };
 }
 
 impl Store {
@@ -197,7 +199,8 @@ impl Store {
     /// there stands a suite that no lower one is missing before, as the root folder, and the first folders
     /// that were made, through which most ways lead.
     fn stored(&self, suite: u64) -> Option<&StoredCopy>
-        ensures { option_copied result ≡ get nat_cmp self.now.store.copies suite }
+        ensures copy { option_map (λ kept. kept.copy) (option_copied result) ≡ get nat_cmp self.now.store.copies suite }
+        ensures form { option_map (λ kept. kept.form) (option_copied result) ≡ store.form_of self.now.store suite }
     {
         match self.copies.as_slice().get(suite as usize) {
             Some((there, copy)) if *there == suite => Some(copy),
@@ -233,10 +236,7 @@ impl Store {
         ensures count { result ≡ min (store.suites_with self.now.store + count_by (λ part. not (store.is_keep part.take) && not (store.has_copy self.now.store part.suite) && not (is_some (get nat_cmp self.now.store.intentions part.suite))) parts.now) usize.MAX }
     {
         let planned = self.intentions.as_slice();
-        let without_copy = planned
-            .iter()
-            .filter(|pair| !self.copies.contains_key(&pair.0))
-            .count();
+        let without_copy = planned.iter().filter(|pair| !self.has_copy(pair.0)).count();
         let new = parts.iter().filter(|part| self.takes_new(part)).count();
         self.copies
             .len()
@@ -249,8 +249,15 @@ impl Store {
         ensures { result ≡ (not (store.is_keep part.now.take) && not (store.has_copy self.now.store part.now.suite) && not (is_some (get nat_cmp self.now.store.intentions part.now.suite))) }
     {
         !is_keep(&part.take)
-            && !self.copies.contains_key(&part.suite)
+            && !self.has_copy(part.suite)
             && !self.intentions.contains_key(&part.suite)
+    }
+
+    /// Whether there is a copy of a suite.
+    fn has_copy(&self, suite: u64) -> bool
+        ensures { result ≡ store.has_copy self.now.store suite }
+    {
+        self.copies.contains_key(&suite)
     }
 
     /// Makes the bytes that the intentions of a Prepare will leave, room for them, and for the copies that they will be.
@@ -307,7 +314,7 @@ impl Store {
         requires sound { store.is_sound_part self.now.store part.now ≡ true }
         requires new { store.holds_last part.now.take ≡ false }
         requires takes { store.is_keep part.now.take ≡ false }
-        ensures { IfOk result (λ left. left ≡ store.left_by part.now.take (store.copy_of self.now.store part.now.suite)) }
+        ensures { IfOk result (λ left. left ≡ in_form_2 (store.left_by part.now.take (store.copy_of self.now.store part.now.suite))) }
     {
         self.sound();
         self.fits(part.suite);
@@ -337,7 +344,7 @@ impl Store {
     /// The copy of a suite under another prefix.
     fn under(&self, suite: u64, prefix: &Prefix) -> Result<StoredCopy, AllocError>
         requires { IsCopy (store.with_prefix prefix.now (store.copy_of self.now.store suite)) }
-        ensures { IfOk result (λ left. left ≡ store.with_prefix prefix.now (store.copy_of self.now.store suite)) }
+        ensures { IfOk result (λ left. left ≡ in_form_2 (store.with_prefix prefix.now (store.copy_of self.now.store suite))) }
     {
         match self.stored(suite) {
             Some(copy) => copy.under(self.alloc, prefix),
@@ -368,10 +375,23 @@ impl Store {
         self.pending = Vec::new(self.alloc);
     }
 
-    /// Lends the bytes of the copy of a suite that has one.
+    /// The form that the copy of a suite is written in, where it has one.
+    pub(crate) fn form(&self, suite: u64) -> Option<Form>
+        ensures { result ≡ store.form_of self.now.store suite }
+    {
+        match self.stored(suite) {
+            Some(copy) => Some(copy.form()),
+            None => None,
+        }
+    }
+
+    /// Lends the bytes of the copy of a suite that has one, as they stand.
     pub(crate) fn record(&self, suite: u64) -> Option<&[u8]>
         ensures stored { is_some result ≡ store.has_copy self.now.store suite }
-        ensures bytes { IfSome result (λ bytes. bytes.now ≡ bytes_of (store.copy_of self.now.store suite)) }
+        ensures formed { is_some result ≡ is_some (store.form_of self.now.store suite) }
+        ensures bytes { IfSome result (λ bytes. IfSome (store.form_of self.now.store suite) (λ form. bytes.now ≡ bytes_in form (store.copy_of self.now.store suite))) }
+        ensures held { IfSome result (λ bytes. IfSome (store.form_of self.now.store suite) (λ form. CanHold form (store.copy_of self.now.store suite).prefix)) }
+        ensures valid { IfSome result (λ bytes. IsCopy (store.copy_of self.now.store suite)) }
     {
         match self.stored(suite) {
             Some(copy) => Some(copy.as_bytes()),
@@ -398,11 +418,12 @@ fn opening_copies(
     index: u8,
     settings: &Settings,
 ) -> Result<RoomyMap<u64, StoredCopy>, AllocError>
-    ensures { IfOk result (λ made. made.pairs ≡ (store.opening_store index settings.now).copies) }
+    ensures copies { IfOk result (λ made. copies_in made.pairs ≡ (store.opening_store index settings.now).copies) }
+    ensures forms { IfOk result (λ made. forms_in made.pairs ≡ (store.opening_store index settings.now).forms) }
 {
     let mut copies = RoomyMap::new(alloc);
     if is_representative(settings.c0(), index) {
-        let root = root_record(alloc, settings)?;
+        let root = root_record(alloc, index, settings)?;
         copies.insert(ROOT, root)?;
     }
     Ok(copies)
@@ -445,7 +466,7 @@ fn tell_held(prefix: &Prefix, dver: u64, reply: &mut Reply) -> Result<(), AllocE
 /// What a prefix makes of what was never made.
 fn first_copy(alloc: Global, prefix: &Prefix) -> Result<StoredCopy, AllocError>
     requires { (c0 : Configuration) → IsCopy (store.with_prefix prefix.now (absent_copy c0)) }
-    ensures { (c0 : Configuration) → IfOk result (λ left. left ≡ store.with_prefix prefix.now (absent_copy c0)) }
+    ensures { (c0 : Configuration) → IfOk result (λ left. left ≡ in_form_2 (store.with_prefix prefix.now (absent_copy c0))) }
 {
     let prefix = prefix.clone()?;
     let content = Content::empty(alloc, prefix.kind.held());
@@ -457,11 +478,12 @@ fn first_copy(alloc: Global, prefix: &Prefix) -> Result<StoredCopy, AllocError>
     StoredCopy::new(alloc, &copy)
 }
 
-/// The bytes of the root folder as a service opens.
-fn root_record(alloc: Global, settings: &Settings) -> Result<StoredCopy, AllocError>
-    ensures { IfOk result (λ root. root ≡ store.root_copy settings.now) }
+/// The bytes of the root folder as a service opens at a server.
+fn root_record(alloc: Global, index: u8, settings: &Settings) -> Result<StoredCopy, AllocError>
+    ensures { IfOk result (λ root. root ≡ record { form = form_of_root settings.now index; copy = store.root_copy settings.now }) }
 {
     let root = root_copy(alloc, settings)?;
     root.fits();
-    StoredCopy::new(alloc, &root)
+    settings.fits();
+    StoredCopy::in_form(alloc, settings.form_of_root(index), &root)
 }

@@ -55,6 +55,11 @@ impl<'a> Model for Walk<'a> {
 
     ghost Value = { Walked };
 
+    ghost use Rattle.std.specs.Coded.{codes};
+    ghost use Rattle.suite_prefix.specs.code.ServersCode.{servers_code};
+
+    ghost coded = { Prim.hlevel (codes, servers_code) };
+
     ghost view = { λ walk. record {
       settings = walk.settings.now;
       given = walk.world.given;

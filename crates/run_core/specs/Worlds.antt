@@ -1,12 +1,13 @@
 -- Servers and agents together, and what an event makes of them.
 use Rattle.std.specs.Prelude.{ℕ, zero, suc, ◌+◌, ◌-◌, min, Bool, true, if◌then◌else◌, List, [], ◌∷◌, slice_get, slice_set, Option, Some, None}
+use Rattle.suite_prefix.specs.declared.forms.Form.{Form}
 use Rattle.suite_prefix.specs.SettingsRules.{Opening}
 use Rattle.file_ops.specs.declared.audit.AuditItem.{AuditItem}
 use Rattle.rep_core.specs.declared.request.Request.{Request}
 use Rattle.rep_core.specs.declared.request.Request.TheVariants as request
 use Rattle.rep_core.specs.declared.stamped.Stamped.{Stamped}
 use Rattle.rep_core.specs.declared.stamped.Lack.TheVariants as lack
-use Rattle.rep_core.specs.Store.{last_number}
+use Rattle.rep_core.specs.Store.{form_of, last_number}
 use Rattle.rep_core.specs.State as state
 use Rattle.rep_core.specs.State.{State}
 use Rattle.rep_core.specs.Serving.{answer_of, served, is_full}
@@ -73,6 +74,14 @@ recorded_by None = []
 
 abbrev pub audit_of : World → ℕ → List AuditItem
 audit_of world server = recorded_by (server_at world server)
+
+-- the form that a server's copy of a suite is written in; one that is not there has none
+abbrev pub form_at : Option State → ℕ → Option Form
+form_at (Some st) suite = form_of st.store suite
+form_at None suite = None
+
+abbrev pub form_in : World → ℕ → ℕ → Option Form
+form_in world server suite = form_at (server_at world server) suite
 
 -- ---- what comes of an event
 

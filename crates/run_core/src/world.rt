@@ -19,7 +19,7 @@ use file_ops::AuditItem;
 use rep_core::Server;
 use std::alloc::{AllocError, Global};
 use std::marker::Model;
-use suite_prefix::Settings;
+use suite_prefix::{Form, Settings};
 
 /// Why events were not all played: memory ran out. The world is as after `done` of them.
 #[derive(Clone, Copy, Debug, PartialEq, Eq)]
@@ -41,6 +41,11 @@ impl Model for World {
     ghost use Rattle.run_core.specs.code.WorldFields.{IsOfOneService, opened_of};
 
     ghost Value = { Opened };
+
+    ghost use Rattle.std.specs.Coded.{codes};
+    ghost use Rattle.suite_prefix.specs.code.ServersCode.{servers_code};
+
+    ghost coded = { Prim.hlevel (codes, servers_code) };
 
     ghost view = { opened_of };
 
@@ -157,6 +162,16 @@ impl World {
             Some(found) => found.audit(),
             None => &[],
         }
+    }
+
+    /// The form that the copy of a suite is written in at a server, where it has one.
+    pub fn form(&self, server: u8, suite: u64) -> Option<Form>
+        ensures { result ≡ worlds.form_in self.now.world server suite }
+    {
+        if let Some(found) = self.servers.get(usize::from(server)) {
+            return found.form(suite);
+        }
+        None
     }
 
     /// Of which server an agent asks next: of none, where it has no job or is not there. It takes no memory.

@@ -3,6 +3,7 @@ use Rattle.std.proofs.Common.{◌≡◌, inl, ℕ, zero, suc, ◌+◌, ◌<◌, 
 use Rattle.std.specs.Prelude.{◌*◌, slice_get}
 use Rattle.std.proofs.lemmas.Bool.{false≢true}
 use Rattle.std.proofs.lemmas.Option.{same_Some, none-some}
+use Rattle.vote_core.specs.Validity.{max_servers}
 use Rattle.suite_prefix.specs.SettingsRules.{Opening}
 use Rattle.rep_core.specs.declared.request.Request.{Request}
 use Rattle.rep_core.specs.declared.request.Request.TheVariants as request
@@ -252,11 +253,11 @@ servers_count : (given : Opening) (start count : ℕ) → length (worlds.servers
 servers_count given start zero = refl
 servers_count given start (suc count) = ap suc (servers_count given (start + 1) count)
 
-pub opens_readied : (z : ℕ) (given : Opening) → given.servers ≤ 16 → Readied z (begun (beginning z given)) (worlds.opening given)
+pub opens_readied : (z : ℕ) (given : Opening) → given.servers ≤ max_servers → Readied z (begun (beginning z given)) (worlds.opening given)
 opens_readied z given few = record {
   agents = λ n actor there. let is = actor_opens 0 given.agents n actor there in subst (λ (agent : Agent). IsReadying z (begun (beginning z given)) agent.doing) (sym is.1) tt;
   below = λ j u told. absurd (false≢true told);
-  few = subst (λ n. n ≤ 16) (sym (servers_count given 0 given.servers)) few;
+  few = subst (λ n. n ≤ max_servers) (sym (servers_count given 0 given.servers)) few;
 }
 
 pub sides_are_kept : SidesAreKept

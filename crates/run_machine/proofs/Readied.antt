@@ -3,6 +3,7 @@ use Rattle.std.proofs.Common.{◌≡◌, ℕ, ◌+◌, ◌<◌, ◌≤◌, Bool,
 use Rattle.std.specs.Prelude.{◌==◌, ◌&&◌, ◌*◌, nat_lt, slice_get, slice_set}
 use Rattle.std.proofs.lemmas.Option.{same_Some, slice_get_within}
 use Rattle.std.proofs.lemmas.List.{length-set}
+use Rattle.vote_core.specs.Validity.{max_servers}
 use Rattle.suite_prefix.specs.SettingsRules.{Opening}
 use Rattle.suite_prefix.specs.LockModes.{is_exclusive}
 use Rattle.rep_core.specs.declared.request.Part.{Part}
@@ -42,16 +43,16 @@ use Rattle.run_machine.proofs.Readying.{IsReadying, PreparesNow, ready_stays, pr
 
 -- ---- copies are told of at servers that are there
 
--- servers that told of a copy are numbered below 16
+-- servers that told of a copy are numbered below the most servers that there are
 abbrev pub ToldBelow : World → Type 0
-ToldBelow w = (j u : ℕ) → is_some (w.told j u) ≡ true → j < 16
+ToldBelow w = (j u : ℕ) → is_some (w.told j u) ≡ true → j < max_servers
 
-module _ (start : Beginning) (z : ℕ) (home : ℕ → ℕ) (decision : Event) (i : ℕ) (w : World) (small : i < 16) (below : ToldBelow w) (keeps : (happens start w decision).told ≡ w.told) where
+module _ (start : Beginning) (z : ℕ) (home : ℕ → ℕ) (decision : Event) (i : ℕ) (w : World) (small : i < max_servers) (below : ToldBelow w) (keeps : (happens start w decision).told ≡ w.told) where
   below_same : (later : World) → later.told ≡ w.told → ToldBelow later
   below_same later same j u is = below j u (ap (λ told. is_some (told j u)) (sym same) ∙ is)
 
-  below_set : (t : ℕ) (x : Option Told) (j u : ℕ) → is_some (set2 w.told i t x j u) ≡ true → j < 16
-  below_set t x j u = at2 (λ o. is_some o ≡ true → j < 16) w.told i t x j u (λ at _. subst (λ j. j < 16) (sym at.0) small) (λ _ is. below j u is)
+  below_set : (t : ℕ) (x : Option Told) (j u : ℕ) → is_some (set2 w.told i t x j u) ≡ true → j < max_servers
+  below_set t x j u = at2 (λ o. is_some o ≡ true → j < max_servers) w.told i t x j u (λ at _. subst (λ j. j < max_servers) (sym at.0) small) (λ _ is. below j u is)
 
   below_if : (b : Bool) (event : Event) → ToldBelow (happens start w event) → ToldBelow (run start w (cond b (event ∷ []) []))
   below_if true event is = is
@@ -91,7 +92,7 @@ AllReadying z w world = (n : ℕ) (actor : Actor) → actor_at world n ≡ Some 
 pub record Readied (z : ℕ) (w : World) (world : worlds.World) : Type 0 where
   pub agents : AllReadying z w world
   pub below : ToldBelow w
-  pub few : length world.servers ≤ 16
+  pub few : length world.servers ≤ max_servers
 
 more_ready : (start : Beginning) (w : World) (events : List Event) (i u : ℕ) → is_some (w.ready i u) ≡ true → is_some ((run start w events).ready i u) ≡ true
 more_ready start w events i u is = ready_stays start w events i u is
@@ -149,7 +150,7 @@ module _ (given : Opening) (z : ℕ) (w : World) (world : worlds.World) (is : Re
       let events = moves z (home_in given) (decision_by z w actor.agent.doing) asked.0 w asked.1 said in
       let own = own_events z actor.agent.doing taken in
       let later = run first w events in
-      let small : asked.0 < 16 = by (slice_get_within world.servers asked.0 st at) is.few in
+      let small : asked.0 < max_servers = by (slice_get_within world.servers asked.0 st at) is.few in
       let below = below_served first z (home_in given) (decision_by z w actor.agent.doing) asked.0 w small is.below (decision_keeps first z w actor.agent.doing) asked.1 said in
       subst (λ w. Readied z w (answered (fixed_of given) world number actor st (Some (record { server = asked.0; request = record { stamp = actor.stamp; value = asked.1 }; reply = answer_of st (record { stamp = actor.stamp; value = asked.1 }) }))).world) (sym (run-append first w events own)) (record {
         agents = set_readying z w (run first later own) world number actor (worlds.moved actor (answer_of st (record { stamp = actor.stamp; value = asked.1 })).stamp taken) there is.agents
@@ -158,10 +159,10 @@ module _ (given : Opening) (z : ℕ) (w : World) (world : worlds.World) (is : Re
             (subst (λ o. IsReadying z later (take_in (fixed_of given) actor.agent (Replied said) actor.agent.doing o).agent.doing) (sym next)
             (take_readying z w later (fixed_of given) actor.agent (Replied said) actor.agent.doing asked (more_ready first w events) next (is.agents number actor there) (now_prepared given z w actor.agent.doing asked st next))));
         below = λ j u told. below j u (ap (λ told. is_some (told j u)) (sym (own_told first z actor.agent.doing taken later)) ∙ told);
-        few = subst (λ n. n ≤ 16) (sym (length-set world.servers asked.0 (served st (record { stamp = actor.stamp; value = asked.1 })))) is.few;
+        few = subst (λ n. n ≤ max_servers) (sym (length-set world.servers asked.0 (served st (record { stamp = actor.stamp; value = asked.1 })))) is.few;
       })
     where
-      by : {a b : ℕ} → a < b → b ≤ 16 → a < 16
+      by : {a b : ℕ} → a < b → b ≤ max_servers → a < max_servers
       by x y = omega arith
 
   at_ready : (number : ℕ) (actor : Actor) (asked : ℕ × Request) → actor_at world number ≡ Some actor → next_of (fixed_of given) actor.agent ≡ Some asked → (o : Option State) → server_at world asked.0 ≡ o
@@ -205,10 +206,10 @@ module _ (given : Opening) (z : ℕ) (w : World) (world : worlds.World) (is : Re
       record {
         agents = λ m x at. readying_later z w (run first w events) x.agent.doing (more_ready first w events) (is.agents m x at);
         below = below_served first z (home_in given) (decision_by z w None) i w (by (slice_get_within world.servers i st there) is.few) is.below refl asked (reply_of st asked);
-        few = subst (λ n. n ≤ 16) (sym (length-set world.servers i (served st (record { stamp = 0; value = asked })))) is.few;
+        few = subst (λ n. n ≤ max_servers) (sym (length-set world.servers i (served st (record { stamp = 0; value = asked })))) is.few;
       }
     where
-      by : {a b : ℕ} → a < b → b ≤ 16 → a < 16
+      by : {a b : ℕ} → a < b → b ≤ max_servers → a < max_servers
       by x y = omega arith
 
   operator_ready : (i : ℕ) (asked : Request) (o : Option State) → server_at world i ≡ o → Readied z (run first w (operator_events given z w i asked o)) (operates world i asked o).world

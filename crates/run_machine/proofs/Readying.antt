@@ -5,6 +5,7 @@ use Rattle.std.specs.Ordering.{nat_cmp}
 use Rattle.std.specs.BTreeMap.{is_at}
 use Rattle.std.proofs.lemmas.Bool.{false≢true}
 use Rattle.std.proofs.lemmas.Bool.Decides.{nat_tests}
+use Rattle.vote_core.specs.Validity.{max_servers}
 use Rattle.sorted_map.specs.SortedMap.{get}
 use Rattle.suite_prefix.specs.declared.lock_mode.LockMode.TheVariants.{Shared}
 use Rattle.rep_core.specs.declared.request.Part.{Part}
@@ -103,10 +104,10 @@ among start (suc count) i low high =
         strict : (a b : ℕ) → a ≤ b → (a == b) ≡ false → a + 1 ≤ b
         strict a b low e = grind (arith, nat_tests)
 
-locked_has : (suites : Suites) (z i : ℕ) → i < 16 → holds Shared (told_at suites z) i ≡ true → Has (locked_at suites) i
+locked_has : (suites : Suites) (z i : ℕ) → i < max_servers → holds Shared (told_at suites z) i ≡ true → Has (locked_at suites) i
 locked_has suites z i small is =
     let one = holds_at suites z i is in
-    filter_has (has_locks suites) (numbers_from 0 16) i (among 0 16 i (omega arith) (omega arith)) (has_any (λ one. holds_lock one.1 i) suites one.0 one.1 one.3)
+    filter_has (has_locks suites) (numbers_from 0 max_servers) i (among 0 max_servers i (omega arith) (omega arith)) (has_any (λ one. holds_lock one.1 i) suites one.0 one.1 one.3)
 
 -- a Prepare at a server that holds a lock on the suite has a part of it
 part_there : (suites : Suites) (changes : Changes) (z i : ℕ) → holds Shared (told_at suites z) i ≡ true → is_some (preparing.part_of z (parts_at suites changes i)) ≡ true
@@ -128,8 +129,8 @@ prepared_now start w suites changes z i t is = by (preparing.part_of z (parts_at
 
 -- each server that holds a lock on the suite is still to prepare, or has prepared
 abbrev pub ReadyIn : ℕ → World → ℕ → Suites → Phase → Type 0
-ReadyIn z w t suites (Preparing left outcome) = (i : ℕ) → i < 16 → holds Shared (told_at suites z) i ≡ true → Has left i ⊎ (is_some (w.ready i t) ≡ true)
-ReadyIn z w t suites (Deciding outcome) = (i : ℕ) → i < 16 → holds Shared (told_at suites z) i ≡ true → is_some (w.ready i t) ≡ true
+ReadyIn z w t suites (Preparing left outcome) = (i : ℕ) → i < max_servers → holds Shared (told_at suites z) i ≡ true → Has left i ⊎ (is_some (w.ready i t) ≡ true)
+ReadyIn z w t suites (Deciding outcome) = (i : ℕ) → i < max_servers → holds Shared (told_at suites z) i ≡ true → is_some (w.ready i t) ≡ true
 ReadyIn z w t suites (Gathering number) = Unit {0}
 ReadyIn z w t suites (Fetching number) = Unit {0}
 ReadyIn z w t suites (Widening left granted) = Unit {0}
@@ -155,7 +156,7 @@ module _ (z : ℕ) (w : World) (task : Task) where
   ready_give_up : (cache : Cache) (suites : Suites) (cause : Cause) → ReadyLeft z w task.t (give_up task cache suites cause).after
   ready_give_up cache suites cause = ready_end cache suites verdict.Aborted (Undecided cause) (locked_at suites)
 
-  ready_prepare : (cache : Cache) (suites : Suites) (outcome : Outcome) (left : List ℕ) → ((i : ℕ) → i < 16 → holds Shared (told_at suites z) i ≡ true → Has left i ⊎ (is_some (w.ready i task.t) ≡ true)) → ReadyLeft z w task.t (prepare task cache suites outcome left).after
+  ready_prepare : (cache : Cache) (suites : Suites) (outcome : Outcome) (left : List ℕ) → ((i : ℕ) → i < max_servers → holds Shared (told_at suites z) i ≡ true → Has left i ⊎ (is_some (w.ready i task.t) ≡ true)) → ReadyLeft z w task.t (prepare task cache suites outcome left).after
   ready_prepare cache suites outcome [] is = (refl, λ i small held. elim (is i small held) [ inl none ↦ absurd none | inr ready ↦ ready ])
   ready_prepare cache suites outcome (server ∷ left) is = (refl, is)
 

@@ -3,6 +3,7 @@ use Rattle.std.proofs.Common.{◌≡◌, ◌⊎◌, inl, inr, ℕ, zero, suc, �
 use Rattle.std.specs.Prelude.{◌*◌, ◌==◌, ◌&&◌, filter, nat_lt}
 use Rattle.std.proofs.lemmas.Bool.{false≢true, and_parts}
 use Rattle.std.proofs.lemmas.Bool.Decides.{nat_tests}
+use Rattle.vote_core.specs.Validity.{max_servers}
 use Rattle.suite_prefix.specs.SettingsRules.{Opening}
 use Rattle.rep_core.specs.declared.lock.Lock.{Lock}
 use Rattle.rep_core.specs.declared.request.Request.{Request}
@@ -112,7 +113,7 @@ filter_apart p (x ∷ xs) apart =
     ]
 
 locked_apart : (suites : Suites) → AreApart (locked_at suites)
-locked_apart suites = filter_apart (has_locks suites) (numbers_from 0 16) (numbers_apart 0 16)
+locked_apart suites = filter_apart (has_locks suites) (numbers_from 0 max_servers) (numbers_apart 0 max_servers)
 
 -- ---- a transaction
 

@@ -7,6 +7,7 @@ ghost use Rattle.server_lock.specs.Counts.{seat_of, made_at, made_at_all, passes
 use crate::history::History;
 use crate::item::Item;
 use crate::pass::Pass;
+use vote_core::MAX_SERVERS;
 
 /// How many may have made an item: an agent of each number, and the operator.
 pub(crate) const SEATS: usize = 257;
@@ -36,7 +37,7 @@ fn count(items: &[Item], tally: &mut [u64])
 
 /// How many items of these histories each has made.
 pub(crate) fn tally(histories: &[History]) -> [u64; SEATS]
-    requires servers { length histories.now ≤ 16 }
+    requires servers { length histories.now ≤ MAX_SERVERS }
     requires few { All (λ history. length history ≤ max_items) histories.now }
     ensures seats { length result ≡ 257 }
     ensures counted { (seat : ℕ) → seat < 257 → slice_index result seat ≡ made_at_all seat histories.now }

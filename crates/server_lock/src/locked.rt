@@ -35,6 +35,11 @@ impl Model for Locked {
 
     ghost Value = { Kept };
 
+    ghost use Rattle.std.specs.Coded.{codes};
+    ghost use Rattle.suite_prefix.specs.code.ServersCode.{servers_code};
+
+    ghost coded = { Prim.hlevel (codes, servers_code) };
+
     ghost view = { λ locked. record { number = locked.number; given = locked.settings; history = locked.items.items } };
 
     ghost invariant = { λ locked. IsKept locked.number locked.settings locked.items.items locked.server };

@@ -23,6 +23,7 @@ use std::alloc::{AllocError, Global};
 use std::marker::Model;
 use std::sync::{Mutex, Wait};
 use suite_prefix::Settings;
+use vote_core::MAX_SERVERS;
 
 /// Servers, each under a lock of its own, and the settings that they were opened with. It has the room that
 /// closing them takes.
@@ -39,6 +40,11 @@ impl Model for Servers {
     ghost use Rattle.server_lock.specs.code.Room.{HasRoom};
 
     ghost Value = { Opening };
+
+    ghost use Rattle.std.specs.Coded.{codes};
+    ghost use Rattle.suite_prefix.specs.code.ServersCode.{servers_code};
+
+    ghost coded = { Prim.hlevel (codes, servers_code) };
 
     ghost view = { λ servers. servers.settings };
 
@@ -134,7 +140,7 @@ impl Servers {
 /// The locks as a service opens.
 fn locks_of(alloc: Global, settings: &Settings) -> Result<Vec<Mutex<Locked>>, AllocError>
     ensures each { IfOk result (λ locks. vec_len locks ≡ settings.now.servers) }
-    ensures few { IfOk result (λ locks. vec_len locks ≤ 16) }
+    ensures few { IfOk result (λ locks. vec_len locks ≤ MAX_SERVERS) }
 {
     let count = settings.servers() as u8;
     let mut locks = Vec::new(alloc);
@@ -164,7 +170,7 @@ fn histories_of(
     locks: Vec<Mutex<Locked>>,
     room: Vec<History>,
 ) -> Result<Vec<History>, CloseFault>
-    requires few { vec_len locks ≤ 16 }
+    requires few { vec_len locks ≤ MAX_SERVERS }
     requires empty { vec_len room ≡ 0 }
     requires room { vec_len locks ≤ vec_capacity room }
     ensures each { IfOk result (λ histories. length histories.items ≡ vec_len locks) }

@@ -1,5 +1,6 @@
 -- A step that moves the machine: at a server of one, a transaction with an exclusive lock prepares a new prefix of the root.
 use Rattle.std.proofs.Common.{◌≡◌, ℕ, ◌<◌, true, [], ◌∷◌, None, refl, subst, lit<, arith}
+use Rattle.std.specs.FinSet.{empty}
 use Rattle.std.specs.List.{IsDistinct}
 use Rattle.std.proofs.lemmas.Option.{same_Some}
 use Rattle.std.proofs.lemmas.List.Elements.{All-nil, All-cons}
@@ -44,6 +45,7 @@ settings = record {
   budget = 0;
   quota = 0;
   slots = 0;
+  old = empty;
 }
 
 valid_votes : IsValid votes

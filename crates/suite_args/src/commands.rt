@@ -86,12 +86,13 @@ The exit statuses are those that `suites --help` tells.";
 const PLAY_SCRIPT: &str = "A script is lines of words, with spaces or tabs between them.
 An empty line, and one that begins with #, says nothing.
 
-  servers N                             1 to 16 servers, numbered from 0
+  servers N                             1 to 32 servers, numbered from 0
   agents N                              1 to 64 agents, numbered from 0
   votes VOTES                           the votes at first
   root UID GID INIT                     the root folder's owner, group and list
   cache BUDGET QUOTA SLOTS              the most bytes of an agent's cache, of a site's part of it,
                                         and the most entries
+  old SERVER,SERVER,..                  servers whose root is first written in form 1 (may be left out)
 
 These stand first and in this order. Names may follow, and then what happens:
 
@@ -147,11 +148,12 @@ The exit statuses are those that `suites --help` tells.";
 const SERVE_SCRIPT: &str = "A script is lines of words, with spaces or tabs between them.
 An empty line, and one that begins with #, says nothing.
 
-  servers N                             1 to 16 servers, numbered from 0
+  servers N                             1 to 32 servers, numbered from 0
   votes VOTES                           the votes at first
   root UID GID INIT                     the root folder's owner, group and list
   cache BUDGET QUOTA SLOTS              the most bytes of an agent's cache, of a site's part of it,
                                         and the most entries
+  old SERVER,SERVER,..                  servers whose root is first written in form 1 (may be left out)
 
 These stand first and in this order. Names may follow, and then jobs, numbered from 0:
 

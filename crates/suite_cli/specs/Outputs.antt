@@ -1,4 +1,5 @@
 -- What the commands write, as functions of what they read.
+use Rattle.std.specs.FinSet.{empty}
 use Rattle.std.specs.Prelude.{ℕ, ◌+◌, List, [], ◌∷◌, ◌++◌, codes, decimal, Option, Some, None, Result}
 use Rattle.acl_text.specs.Sides.{lists_of}
 use Rattle.acl_text.specs.Tables.{Tables}
@@ -38,6 +39,7 @@ settings_of root = record {
   budget = 0;
   quota = 0;
   slots = 0;
+  old = empty;
 }
 
 -- the line of a transaction

@@ -15,13 +15,10 @@ use script_text::push_number;
 use std::alloc::{AllocError, Global};
 use suite_prefix::Settings;
 use suite_script::{
-    PlayError, Root, ScriptError, ScriptReader, push_answered, push_refused, read_root,
+    KEPT, PlayError, Root, ScriptError, ScriptReader, push_answered, push_refused, read_root,
     write_gathered, write_if_full,
 };
-use vote_core::{MAX_SERVERS, Votes};
-
-/// How much is printed before the rest of a script is looked through.
-const KEPT: usize = 4_194_304;
+use vote_core::{MAX_SERVERS, ServerSet, Votes};
 
 /// A script that is being played: what is left of it, the table with the number of its next transaction, and what was
 /// printed and is not written.
@@ -127,6 +124,7 @@ fn settings_of(root: Root) -> Settings
         0,
         0,
         0,
+        ServerSet::empty(),
     )
     .unwrap()
 }

@@ -1,16 +1,23 @@
--- The header of a script of events: how many servers and agents there are, the opening votes, the root folder, and the
--- limits of each agent's cache. Each number is judged where it stands.
-use Rattle.std.specs.Prelude.{ℕ, ◌-◌, ◌==◌, ◌^◌, nat_lt, Bool, ◌||◌, if◌then◌else◌, List, codes, Result, Ok, Err}
+-- The header of a script of events: how many servers and agents there are, the opening votes, the root folder, the limits
+-- of each agent's cache, and, where a line names some, the servers that open with their root in form 1. Each number is judged where it
+-- stands.
+use Rattle.std.specs.Prelude.{ℕ, ◌-◌, ◌==◌, ◌^◌, nat_lt, Bool, ◌||◌, if◌then◌else◌, List, [], ◌∷◌, codes, Result, Ok, Err}
+use Rattle.std.specs.FinSet.{FinSet, empty, insert}
+use Rattle.std.specs.List.{slice_split}
+use Rattle.std.specs.Ordering.{nat_cmp}
 use Rattle.std.specs.Str.{bytes_eq}
+use Rattle.acl_core.specs.declared.lists.Lists.{Lists}
+use Rattle.suite_prefix.specs.Forms.{fits_one}
 use Rattle.file_ops.specs.Steps.{◌>>=◌, ◌>>◌, found_or}
-use Rattle.suite_prefix.specs.SettingsRules.{Opening, max_cache, max_agents, max_servers, max_slots}
+use Rattle.vote_core.specs.Validity.{max_servers}
+use Rattle.suite_prefix.specs.SettingsRules.{Opening, max_cache, max_agents, max_slots}
 use Rattle.suite_prefix.specs.declared.settings.SettingsFault.{SettingsFault}
-use Rattle.suite_prefix.specs.declared.settings.SettingsFault.TheVariants.{BadCount, BadCache}
+use Rattle.suite_prefix.specs.declared.settings.SettingsFault.TheVariants.{BadCount, BadCache, OldTooLarge}
 use Rattle.vote_core.specs.Quorums.{Configuration}
 use Rattle.suite_script.specs.declared.fault.LineFault.{LineFault}
 use Rattle.suite_script.specs.declared.fault.LineFault.TheVariants.{Form, Settings}
 use Rattle.suite_script.specs.declared.fault.ScriptFault.{ScriptFault}
-use Rattle.suite_script.specs.Scripts.{Headed, Pending, headed, root_in}
+use Rattle.suite_script.specs.Scripts.{Headed, Pending, headed, headed_if, root_in}
 use Rattle.script_text.specs.Numbers.{number_up_to}
 use Rattle.suite_script.specs.Votes.{votes_in}
 use Rattle.suite_script.specs.Words.{Word, at_end, word}
@@ -62,12 +69,27 @@ caches_in words = do
   at_end third.rest
   Ok (record { budget = budget; quota = quota; slots = slots })
 
+-- servers, with commas between
+abbrev pub among : ℕ → FinSet nat_cmp → List Word → Result (FinSet nat_cmp) LineFault
+among servers found [] = Ok found
+among servers found (text ∷ more) = do
+  server ← found_or (number_up_to (servers - 1) text) Form
+  among servers (insert found server) more
+
+-- the servers that open with their root in form 1, which has to hold it
+abbrev pub old_in : ℕ → Lists → Configuration → List Word → Result (FinSet nat_cmp) LineFault
+old_in servers acl votes words = do
+  next ← word words
+  old ← among servers empty (slice_split (λ byte. byte == 44) next.value)
+  at_end next.rest
+  if fits_one acl votes then Ok old else Err (Settings OldTooLarge)
+
 -- ---- the header
 
 -- the words that begin the lines of a script of events
 abbrev pub is_header : Word → Bool
 is_header text =
-    bytes_eq text (codes "servers") || bytes_eq text (codes "agents") || bytes_eq text (codes "votes") || bytes_eq text (codes "root") || bytes_eq text (codes "cache")
+    bytes_eq text (codes "servers") || bytes_eq text (codes "agents") || bytes_eq text (codes "votes") || bytes_eq text (codes "root") || bytes_eq text (codes "cache") || bytes_eq text (codes "old")
 
 abbrev pub is_known : Word → Bool
 is_known text = is_header text || is_command text
@@ -78,6 +100,7 @@ opening_lines is_known servers agents script = do
   votes ← headed is_known (codes "votes") (opening_votes servers) script
   root ← headed is_known (codes "root") root_in votes.rest
   caches ← headed is_known (codes "cache") caches_in root.rest
+  old ← headed_if is_known (codes "old") (old_in servers root.value.acl votes.value) empty caches.rest
   Ok (record {
     value = record {
       servers = servers;
@@ -89,8 +112,9 @@ opening_lines is_known servers agents script = do
       budget = caches.value.budget;
       quota = caches.value.quota;
       slots = caches.value.slots;
+      old = old.value;
     };
-    rest = caches.rest;
+    rest = old.rest;
   })
 
 abbrev pub header : Pending → Result (Headed Opening) ScriptFault

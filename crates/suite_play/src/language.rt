@@ -55,10 +55,8 @@ impl Language for Places {
         first: &[u8],
         words: Words<'_>,
     ) -> Result<Command, LineError> {
-        match Verb::of(first) {
-            Some(verb) => read_command(alloc, *self, names, verb, words),
-            None => Err(LineError::Faulty(LineFault::Form)),
-        }
+        let verb = Verb::of(first).ok_or(LineFault::Form)?;
+        read_command(alloc, *self, names, verb, words)
     }
 }
 
@@ -71,6 +69,7 @@ fn is_header(word: &[u8]) -> bool
         || word == b"votes".as_slice()
         || word == b"root".as_slice()
         || word == b"cache".as_slice()
+        || word == b"old".as_slice()
 }
 
 /// What the words after a verb say, so far as it is kept.
@@ -108,10 +107,8 @@ fn read_command(
 pub fn read_place(word: &[u8], last: u8) -> Result<u8, LineFault>
     ensures { result ≡ found_or (number_up_to last word.now) LineFault.Form }
 {
-    match read_number(word, u64::from(last)) {
-        Some(number) => Ok(number as u8),
-        None => Err(LineFault::Form),
-    }
+    let number = read_number(word, u64::from(last)).ok_or(LineFault::Form)?;
+    Ok(number as u8)
 }
 
 /// A transaction, for a caller, at a site, so far as it is kept: of its operations one more than there may be, which make
@@ -171,10 +168,7 @@ fn read_step(places: Places, words: &mut Words<'_>) -> Result<Command, LineError
 fn read_steps(word: &[u8]) -> Result<u64, LineFault>
     ensures { result ≡ found_or (number_up_to max_steps word.now) LineFault.Form }
 {
-    match read_number(word, MAX_STEPS) {
-        Some(number) => Ok(number),
-        None => Err(LineFault::Form),
-    }
+    read_number(word, MAX_STEPS).ok_or(LineFault::Form)
 }
 
 /// Steps of an agent until it has no job.

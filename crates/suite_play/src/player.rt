@@ -21,10 +21,7 @@ use run_core::{Event, Outcome, World};
 use script_text::push_number;
 use std::alloc::{AllocError, Global};
 use suite_prefix::Settings;
-use suite_script::{PlayError, ScriptError, ScriptReader, write_gathered, write_if_full};
-
-/// How much is printed before the rest of a script is looked through.
-const KEPT: usize = 4_194_304;
+use suite_script::{KEPT, PlayError, ScriptError, ScriptReader, write_gathered, write_if_full};
 
 /// How many denials an audit may tell before the rest of a script is looked through.
 const FEW: usize = 1_024;

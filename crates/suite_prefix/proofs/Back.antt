@@ -1,23 +1,25 @@
--- No copy's bytes begin those of another.
-use Rattle.std.proofs.Common.{◌≡◌, ℕ, List, [], ◌++◌, Result, Ok, Err, sym, ap, ◌∙◌}
+-- What may be read begins nothing else that may be read.
+use Rattle.std.proofs.Common.{◌≡◌, ℕ, List, [], ◌++◌, Ok, sym, ap, ◌∙◌}
 use Rattle.std.proofs.lemmas.List.{append-nil}
 use Rattle.suite_prefix.specs.declared.copies.Replica.{Replica}
-use Rattle.suite_prefix.specs.declared.faults.CopyFault.{CopyFault}
-use Rattle.suite_prefix.specs.Bytes.{bytes_of}
+use Rattle.suite_prefix.specs.declared.forms.Form.{Form}
+use Rattle.suite_prefix.specs.Bytes.{NoneBeginsAnother, bytes_in}
 use Rattle.suite_prefix.specs.Copies.{IsCopy}
+use Rattle.suite_prefix.specs.Forms.{CanHold}
 use Rattle.suite_prefix.specs.Reading.{Shape, shape_at, copy_of}
+use Rattle.suite_prefix.proofs.Loop.{ok_is}
 use Rattle.suite_prefix.proofs.ReadAgain.{shape_again}
 use Rattle.suite_prefix.proofs.ShapeOf.{shape_of, copy_back}
 
-abbrev shape_in : Shape → Result (Shape × List ℕ) CopyFault → Shape
-shape_in other (Ok x) = x.0
-shape_in other (Err fault) = other
-
 -- the bytes of a valid copy are read as its shape
-pub whole_again : (copy : Replica) → IsCopy copy → shape_at (bytes_of copy) ≡ Ok (shape_of copy, [])
-whole_again copy valid = ap shape_at (sym (append-nil (bytes_of copy))) ∙ shape_again copy [] valid
+pub whole_again : (form : Form) (copy : Replica) → IsCopy copy → CanHold form copy.prefix → shape_at (bytes_in form copy) ≡ Ok (shape_of form copy, [])
+whole_again form copy valid held = ap shape_at (sym (append-nil (bytes_in form copy))) ∙ shape_again form copy [] valid held
 
-pub none_begins_another : (a b : Replica) (rest : List ℕ) → IsCopy a → IsCopy b → bytes_of b ≡ bytes_of a ++ rest → a ≡ b
-none_begins_another a b rest a_valid b_valid begins =
-    let first : shape_at (bytes_of b) ≡ Ok (shape_of a, rest) = ap shape_at begins ∙ shape_again a rest a_valid in
-    sym (copy_back a a_valid.prefix.fits.acl.default) ∙ ap (λ read. copy_of (shape_in (shape_of a) read)) (sym first ∙ whole_again b b_valid) ∙ copy_back b b_valid.prefix.fits.acl.default
+pub none_begins_another : NoneBeginsAnother
+none_begins_another copy other bytes rest valid other_valid first whole =
+    let begins : shape_at (bytes ++ rest) ≡ Ok (shape_of first.form copy, rest) = ap (λ t. shape_at (t ++ rest)) first.are ∙ shape_again first.form copy rest valid first.held in
+    let read : shape_at (bytes ++ rest) ≡ Ok (shape_of whole.form other, []) = ap shape_at whole.are ∙ whole_again whole.form other other_valid whole.held in
+    let same : (shape_of first.form copy, rest) ≡ (shape_of whole.form other, []) = ok_is (shape_of first.form copy, rest) (shape_of whole.form other, []) (sym begins ∙ read) in (
+      sym (copy_back first.form copy valid.prefix.fits.acl.default) ∙ ap (λ (x : Shape × List ℕ). copy_of x.0) same ∙ copy_back whole.form other other_valid.prefix.fits.acl.default,
+      ap (λ (x : Shape × List ℕ). x.1) same,
+    )

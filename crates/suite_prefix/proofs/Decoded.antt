@@ -10,13 +10,15 @@ use Rattle.suite_prefix.specs.TwoLists.{default_entries}
 use Rattle.suite_content.specs.declared.content.Content.{Content}
 use Rattle.suite_content.specs.declared.content.Content.TheVariants.{Bytes, Names}
 use Rattle.suite_prefix.specs.declared.copies.Replica.{Replica}
+use Rattle.suite_prefix.specs.declared.forms.Form.{Form}
 use Rattle.suite_prefix.specs.declared.faults.CopyFault.{CopyFault}
 use Rattle.suite_prefix.specs.declared.faults.CopyFault.TheVariants.{Short, BadTag, NotCanonical, Invalid, TrailingBytes}
 use Rattle.suite_prefix.specs.declared.faults.DecodeError.{DecodeError}
 use Rattle.suite_prefix.specs.declared.faults.DecodeError.TheVariants as errors
 use Rattle.suite_prefix.specs.declared.shapes.EntryShape.{EntryShape}
-use Rattle.suite_prefix.specs.Bytes.{bytes_of}
+use Rattle.suite_prefix.specs.Bytes.{AreBytesOf, bytes_in}
 use Rattle.suite_prefix.specs.Copies.{IsCopy, IsContent}
+use Rattle.suite_prefix.specs.Forms.{CanHold}
 use Rattle.suite_prefix.specs.Faults.{SpellsCopy, IsFaultOf, IsFaultIn, IsOfValidCopy, Explains, FaultsTellApart, is_canonical, is_written, numbers_belong, entries_rise, content_rises}
 use Rattle.suite_prefix.specs.code.Judging.{IsWhole, Refuses}
 use Rattle.suite_prefix.specs.Reading.{Shape, copy_of, shape_at}
@@ -25,7 +27,8 @@ use Rattle.suite_prefix.proofs.Judged.{canonical_parts}
 use Rattle.suite_prefix.proofs.Loop.{ok_is}
 use Rattle.suite_prefix.proofs.Orders.{numbers_of_entries, rise_if_canonical, rise_if_folder}
 use Rattle.suite_prefix.proofs.ShapeOf.{entry_shape, shape_of, copy_back}
-use Rattle.suite_prefix.proofs.Takes.{IsBytes, shape_takes, same_text}
+use Rattle.suite_prefix.proofs.Takes.{IsBytes, shape_takes}
+use Rattle.suite_prefix.proofs.Written.{same_text}
 
 -- ---- the shape of a valid copy
 
@@ -37,9 +40,9 @@ default_canonical : (default : Option (List Entry)) → IfSome default IsAcl →
 default_canonical None acl = λ i j d lt in_list. absurd (omega arith)
 default_canonical (Some list) acl = acl.canonical
 
-canonical_shape : (copy : Replica) → IsCopy copy → is_canonical (shape_of copy) ≡ true
-canonical_shape copy valid =
-    let shape = shape_of copy in
+canonical_shape : (form : Form) (copy : Replica) → IsCopy copy → is_canonical (shape_of form copy) ≡ true
+canonical_shape form copy valid =
+    let shape = shape_of form copy in
     let default = default_entries copy.prefix.acl.default in
     and_from (is_written shape.entries && is_written shape.default) (content_rises shape.content)
     (and_from (is_written shape.entries) (is_written shape.default)
@@ -47,38 +50,43 @@ canonical_shape copy valid =
     (and_from (numbers_belong shape.default) (entries_rise shape.default) (numbers_of_entries default) (rise_if_canonical default (default_canonical copy.prefix.acl.default valid.prefix.fits.acl.default))))
     (content_is_canonical copy.content valid.content)
 
-spells_shape : (copy : Replica) → IsCopy copy → SpellsCopy (shape_of copy)
-spells_shape copy valid = record {
+spells_shape : (form : Form) (copy : Replica) → IsCopy copy → CanHold form copy.prefix → SpellsCopy (shape_of form copy)
+spells_shape form copy valid held = record {
   permissions_known = All-map (λ (entry : EntryShape). entry.permissions < 8) entry_shape copy.prefix.acl.access (λ k d in_list. (get_or copy.prefix.acl.access k d).known);
   default_known = All-map (λ (entry : EntryShape). entry.permissions < 8) entry_shape (default_entries copy.prefix.acl.default) (λ k d in_list. (get_or (default_entries copy.prefix.acl.default) k d).known);
-  valid = subst IsCopy (sym (copy_back copy valid.prefix.fits.acl.default)) valid;
+  valid = subst IsCopy (sym (copy_back form copy valid.prefix.fits.acl.default)) valid;
+  held = subst (λ (made : Replica). CanHold form made.prefix) (sym (copy_back form copy valid.prefix.fits.acl.default)) held;
 }
 
 -- the shape of a valid copy with nothing behind it has no fault
-no_fault : (copy : Replica) (fault : CopyFault) → IsCopy copy → IsFaultOf (shape_of copy) [] fault → ⊥
-no_fault copy Short valid h = h
-no_fault copy BadTag valid h = h
-no_fault copy NotCanonical valid h = let yes = canonical_shape copy valid in absurd cc
-no_fault copy Invalid valid h = h.1 (spells_shape copy valid)
-no_fault copy TrailingBytes valid h = h.1.1 refl
+no_fault : (form : Form) (copy : Replica) (fault : CopyFault) → IsCopy copy → CanHold form copy.prefix → IsFaultOf (shape_of form copy) [] fault → ⊥
+no_fault form copy Short valid held h = h
+no_fault form copy BadTag valid held h = h
+no_fault form copy NotCanonical valid held h = let yes = canonical_shape form copy valid in absurd cc
+no_fault form copy Invalid valid held h = h.1 (spells_shape form copy valid held)
+no_fault form copy TrailingBytes valid held h = h.1.1 refl
 
 -- the bytes of a valid copy are read as its shape, whatever was read of them
-pub read_whole : (bytes : List ℕ) (copy : Replica) → IsCopy copy → bytes ≡ bytes_of copy → shape_at bytes ≡ Ok (shape_of copy, [])
-read_whole bytes copy valid has = ap shape_at has ∙ whole_again copy valid
+pub read_whole : (bytes : List ℕ) (copy : Replica) → IsCopy copy → (has : AreBytesOf copy bytes) → shape_at bytes ≡ Ok (shape_of has.form copy, [])
+read_whole bytes copy valid has = ap shape_at has.are ∙ whole_again has.form copy valid has.held
 
-pub never_fails : (bytes : List ℕ) (copy : Replica) (fault : CopyFault) → IsCopy copy → bytes ≡ bytes_of copy → shape_at bytes ≡ Err fault → ⊥
+pub never_fails : (bytes : List ℕ) (copy : Replica) (fault : CopyFault) → IsCopy copy → AreBytesOf copy bytes → shape_at bytes ≡ Err fault → ⊥
 never_fails bytes copy fault valid has e = let whole = read_whole bytes copy valid has in absurd cc
 
 -- ---- the answers of decode
 
-pub spelled : (bytes : List ℕ) (shape : Shape) (rest : List ℕ) → IsBytes bytes → shape_at bytes ≡ Ok (shape, rest) → IsWhole shape rest → bytes ≡ bytes_of (copy_of shape)
-spelled bytes shape rest fits e whole =
-    (shape_takes bytes (shape, rest) fits e).whole ∙ ap (λ (t : List ℕ). t ++ rest) (same_text shape (canonical_parts shape whole.canonical).belongs (canonical_parts shape whole.canonical).default_belongs whole.copy.permissions_known whole.copy.default_known)
-    ∙ ap (λ (t : List ℕ). bytes_of (copy_of shape) ++ t) whole.ended ∙ append-nil (bytes_of (copy_of shape))
+pub spelled : (bytes : List ℕ) (shape : Shape) (rest : List ℕ) → IsBytes bytes → shape_at bytes ≡ Ok (shape, rest) → IsWhole shape rest → AreBytesOf (copy_of shape) bytes
+spelled bytes shape rest fits e whole = record {
+  form = shape.form;
+  held = whole.copy.held;
+  are =
+      (shape_takes bytes (shape, rest) fits e).whole ∙ ap (λ (t : List ℕ). t ++ rest) (same_text shape (canonical_parts shape whole.canonical).belongs (canonical_parts shape whole.canonical).default_belongs whole.copy.permissions_known whole.copy.default_known)
+      ∙ ap (λ (t : List ℕ). bytes_in shape.form (copy_of shape) ++ t) whole.ended ∙ append-nil (bytes_in shape.form (copy_of shape));
+}
 
 pub is_read : (bytes : List ℕ) (shape : Shape) (rest : List ℕ) (r : Result Replica DecodeError) → IsBytes bytes → shape_at bytes ≡ Ok (shape, rest)
-    → IfOk r (λ copy. copy ≡ copy_of shape) → IfOk r (λ copy. IsWhole shape rest) → IfOk r (λ copy. bytes ≡ bytes_of copy)
-is_read bytes shape rest (Ok copy) fits e value whole = spelled bytes shape rest fits e whole ∙ ap bytes_of (sym value)
+    → IfOk r (λ copy. copy ≡ copy_of shape) → IfOk r (λ copy. IsWhole shape rest) → IfOk r (λ copy. AreBytesOf copy bytes)
+is_read bytes shape rest (Ok copy) fits e value whole = subst (λ (made : Replica). AreBytesOf made bytes) (sym value) (spelled bytes shape rest fits e whole)
 is_read bytes shape rest (Err error) fits e value whole = tt
 
 pub is_valid : (shape : Shape) (rest : List ℕ) (r : Result Replica DecodeError) → IfOk r (λ copy. copy ≡ copy_of shape) → IfOk r (λ copy. IsWhole shape rest) → IfOk r IsCopy
@@ -94,24 +102,24 @@ pub is_explained : (bytes : List ℕ) (shape : Shape) (rest : List ℕ) (r : Res
 is_explained bytes shape rest (Ok copy) fits e refused = tt
 is_explained bytes shape rest (Err error) fits e refused = explains bytes shape rest error fits e refused
 
-only_memory : (copy : Replica) (error : DecodeError) → IsCopy copy → Refuses (shape_of copy) [] error → error ≡ errors.Memory
-only_memory copy (errors.Fault fault) valid refused = absurd (no_fault copy fault valid refused)
-only_memory copy errors.Memory valid refused = refl
+only_memory : (form : Form) (copy : Replica) (error : DecodeError) → IsCopy copy → CanHold form copy.prefix → Refuses (shape_of form copy) [] error → error ≡ errors.Memory
+only_memory form copy (errors.Fault fault) valid held refused = absurd (no_fault form copy fault valid held refused)
+only_memory form copy errors.Memory valid held refused = refl
 
-only_this : (copy : Replica) (r : Result Replica DecodeError) → IsCopy copy → IfOk r (λ read. read ≡ copy_of (shape_of copy)) → IfErr r (Refuses (shape_of copy) [])
+only_this : (form : Form) (copy : Replica) (r : Result Replica DecodeError) → IsCopy copy → CanHold form copy.prefix → IfOk r (λ read. read ≡ copy_of (shape_of form copy)) → IfErr r (Refuses (shape_of form copy) [])
     → MatchResult r (λ read. read ≡ copy) (λ error. error ≡ errors.Memory)
-only_this copy (Ok read) valid value refused = value ∙ copy_back copy valid.prefix.fits.acl.default
-only_this copy (Err error) valid value refused = only_memory copy error valid refused
+only_this form copy (Ok read) valid held value refused = value ∙ copy_back form copy valid.prefix.fits.acl.default
+only_this form copy (Err error) valid held value refused = only_memory form copy error valid held refused
 
 abbrev Answered : Replica → Result Replica DecodeError → Shape × List ℕ → Type 0
 Answered copy r read = IfOk r (λ made. made ≡ copy_of read.0) → IfErr r (Refuses read.0 read.1) → MatchResult r (λ made. made ≡ copy) (λ error. error ≡ errors.Memory)
 
 pub is_only : (bytes : List ℕ) (shape : Shape) (rest : List ℕ) (r : Result Replica DecodeError) → shape_at bytes ≡ Ok (shape, rest)
     → IfOk r (λ copy. copy ≡ copy_of shape) → IfErr r (Refuses shape rest)
-    → (copy : Replica) → IsCopy copy → bytes ≡ bytes_of copy → MatchResult r (λ read. read ≡ copy) (λ error. error ≡ errors.Memory)
+    → (copy : Replica) → IsCopy copy → AreBytesOf copy bytes → MatchResult r (λ read. read ≡ copy) (λ error. error ≡ errors.Memory)
 is_only bytes shape rest r e value refused copy valid has =
-    let same : (shape_of copy, []) ≡ (shape, rest) = ok_is (shape_of copy, []) (shape, rest) (sym (read_whole bytes copy valid has) ∙ e) in
-    subst (Answered copy r) same (only_this copy r valid) value refused
+    let same : (shape_of has.form copy, []) ≡ (shape, rest) = ok_is (shape_of has.form copy, []) (shape, rest) (sym (read_whole bytes copy valid has) ∙ e) in
+    subst (Answered copy r) same (only_this has.form copy r valid has.held) value refused
 
 -- ---- faults tell apart
 
@@ -169,6 +177,6 @@ one_or_copy bytes (Err first) fits e no_fault no_copy = no_fault first refl
 pub told_apart : FaultsTellApart
 told_apart = record {
   never_neither = λ bytes each no_fault no_copy. one_or_copy bytes (shape_at bytes) (bytes_if_all bytes each) refl no_fault no_copy;
-  never_both = λ bytes fault of_copy h. no_fault of_copy.copy fault of_copy.valid (subst (λ (read : Result (Shape × List ℕ) CopyFault). IsFaultIn read fault) (read_whole bytes of_copy.copy of_copy.valid of_copy.has_them) h);
+  never_both = λ bytes fault of_copy h. no_fault of_copy.has_them.form of_copy.copy fault of_copy.valid of_copy.has_them.held (subst (λ (read : Result (Shape × List ℕ) CopyFault). IsFaultIn read fault) (read_whole bytes of_copy.copy of_copy.valid of_copy.has_them) h);
   one_fault = λ bytes fault other h k. one_in (shape_at bytes) fault other h k;
 }

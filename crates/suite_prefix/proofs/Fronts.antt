@@ -6,13 +6,15 @@ use Rattle.std.proofs.lemmas.List.{length-append, take-append-le, drop-append-le
 use Rattle.suite_content.specs.declared.content.Content.TheVariants.{Bytes, Names}
 use Rattle.suite_prefix.specs.declared.copies.PrefixKind.{PrefixKind}
 use Rattle.suite_prefix.specs.declared.copies.PrefixKind.TheVariants.{Absent, File, Folder}
+use Rattle.suite_prefix.specs.declared.forms.Form.{Form}
+use Rattle.suite_prefix.specs.declared.forms.Form.TheVariants.{One, Two}
 use Rattle.suite_prefix.specs.declared.faults.CopyFault.{CopyFault}
 use Rattle.suite_prefix.specs.declared.faults.CopyFault.TheVariants.{Short, BadTag, NotCanonical, Invalid, TrailingBytes}
 use Rattle.suite_prefix.specs.Faults.{IsFaultIn, FrontsAreShort}
-use Rattle.suite_prefix.specs.Reading.{◌>>=◌, Shape, byte_at, number_at, bytes_at, form_at, kind_of_code, identity_at, code_at, entry_at, representative_at, name_at, many_at, list_at, lists_at, listed_at, votes_at, file_at, folder_at, content_at, shape_at}
+use Rattle.suite_prefix.specs.Reading.{◌>>=◌, Shape, byte_at, number_at, bytes_at, default_at, form_at, kind_of_code, identity_at, code_at, entry_at, representative_at, name_at, many_at, list_at, lists_at, listed_at, votes_at, file_at, folder_at, content_at, shape_at}
 use Rattle.suite_prefix.proofs.Back.{whole_again}
 use Rattle.suite_prefix.proofs.ShapeOf.{shape_of}
-use Rattle.suite_prefix.proofs.Takes.{identity_1, identity_2, identity_3, identity_4, entry_1, entry_2, votes_1, votes_2, shape_1, shape_2, shape_3, shape_4, shape_5}
+use Rattle.suite_prefix.proofs.Takes.{identity_1, identity_2, identity_3, identity_4, entry_1, entry_2, votes_1, votes_2, shape_0, shape_1, shape_2, shape_3, shape_4, shape_5}
 
 -- what ended too early may go on
 abbrev Fails : {X : Type 0} → CopyFault → Result (X × List ℕ) CopyFault → Type 0
@@ -125,11 +127,15 @@ unfolding list_at
 list_extends bytes more =
     then_extends more (byte_at bytes) (byte_at (bytes ++ more)) (λ count. many_at entry_at count.0 count.1) (byte_extends bytes more) (λ count. many_extend entry_at entry_extends count.0 count.1 more)
 
-lists_extend : (bytes more : List ℕ) → Extends more (lists_at bytes) (lists_at (bytes ++ more))
+default_extends : (form : Form) (bytes more : List ℕ) → Extends more (default_at form bytes) (default_at form (bytes ++ more))
+default_extends One bytes more = refl
+default_extends Two bytes more = list_extends bytes more
+
+lists_extend : (form : Form) (bytes more : List ℕ) → Extends more (lists_at form bytes) (lists_at form (bytes ++ more))
 unfolding lists_at
-lists_extend bytes more =
-    then_extends more (list_at bytes) (list_at (bytes ++ more)) (λ access. list_at access.1 >>= λ default. Ok ((access.0, default.0), default.1)) (list_extends bytes more) (λ access.
-    then_extends more (list_at access.1) (list_at (access.1 ++ more)) (λ default. Ok ((access.0, default.0), default.1)) (list_extends access.1 more) (λ default. refl))
+lists_extend form bytes more =
+    then_extends more (list_at bytes) (list_at (bytes ++ more)) (λ access. default_at form access.1 >>= λ default. Ok ((access.0, default.0), default.1)) (list_extends bytes more) (λ access.
+    then_extends more (default_at form access.1) (default_at form (access.1 ++ more)) (λ default. Ok ((access.0, default.0), default.1)) (default_extends form access.1 more) (λ default. refl))
 
 listed_extends : (bytes more : List ℕ) → Extends more (listed_at bytes) (listed_at (bytes ++ more))
 unfolding listed_at
@@ -161,26 +167,22 @@ content_extends Absent bytes more = file_extends bytes more
 content_extends File bytes more = file_extends bytes more
 content_extends Folder bytes more = folder_extends bytes more
 
--- the form has no value: reading goes on after it
-form_then : {X : Type 0} (f : List ℕ → Result (X × List ℕ) CopyFault) → ((rest more : List ℕ) → Extends more (f rest) (f (rest ++ more)))
-    → (bytes more : List ℕ) → Extends more (form_at bytes >>= f) (form_at (bytes ++ more) >>= f)
-form_then f each [] more = tt
-form_then f each (zero ∷ bytes) more = refl
-form_then f each (suc zero ∷ bytes) more = refl
-form_then f each (suc (suc zero) ∷ bytes) more = each bytes more
-form_then f each (suc (suc (suc n)) ∷ bytes) more = refl
-
-after_form : (bytes more : List ℕ) → Extends more (identity_at bytes >>= shape_1) (identity_at (bytes ++ more) >>= shape_1)
-after_form bytes more =
-    then_extends more (identity_at bytes) (identity_at (bytes ++ more)) shape_1 (identity_extends bytes more) (λ i.
-    then_extends more (lists_at i.1) (lists_at (i.1 ++ more)) (shape_2 i.0) (lists_extend i.1 more) (λ l.
-    then_extends more (votes_at l.1) (votes_at (l.1 ++ more)) (shape_3 i.0 l.0) (votes_extend l.1 more) (λ v.
-    then_extends more (number_at w64 v.1) (number_at w64 (v.1 ++ more)) (shape_4 i.0 l.0 v.0) (number_extends w64 v.1 more) (λ d.
-    then_extends more (content_at i.0.kind d.1) (content_at i.0.kind (d.1 ++ more)) (shape_5 i.0 l.0 v.0 d.0) (content_extends i.0.kind d.1 more) (λ c. refl)))))
+form_extends : (bytes more : List ℕ) → Extends more (form_at bytes) (form_at (bytes ++ more))
+form_extends [] more = tt
+form_extends (zero ∷ bytes) more = refl
+form_extends (suc zero ∷ bytes) more = refl
+form_extends (suc (suc zero) ∷ bytes) more = refl
+form_extends (suc (suc (suc n)) ∷ bytes) more = refl
 
 shape_extends : (bytes more : List ℕ) → Extends more (shape_at bytes) (shape_at (bytes ++ more))
 unfolding shape_at
-shape_extends bytes more = form_then (λ rest. identity_at rest >>= shape_1) after_form bytes more
+shape_extends bytes more =
+    then_extends more (form_at bytes) (form_at (bytes ++ more)) shape_0 (form_extends bytes more) (λ f.
+    then_extends more (identity_at f.1) (identity_at (f.1 ++ more)) (shape_1 f.0) (identity_extends f.1 more) (λ i.
+    then_extends more (lists_at f.0 i.1) (lists_at f.0 (i.1 ++ more)) (shape_2 f.0 i.0) (lists_extend f.0 i.1 more) (λ l.
+    then_extends more (votes_at l.1) (votes_at (l.1 ++ more)) (shape_3 f.0 i.0 l.0) (votes_extend l.1 more) (λ v.
+    then_extends more (number_at w64 v.1) (number_at w64 (v.1 ++ more)) (shape_4 f.0 i.0 l.0 v.0) (number_extends w64 v.1 more) (λ d.
+    then_extends more (content_at i.0.kind d.1) (content_at i.0.kind (d.1 ++ more)) (shape_5 f.0 i.0 l.0 v.0 d.0) (content_extends i.0.kind d.1 more) (λ c. refl))))))
 
 -- ---- fronts
 
@@ -203,5 +205,5 @@ short_front shape more (Err TrailingBytes) h some = absurd cc
 
 pub fronts_are_short : FrontsAreShort
 fronts_are_short copy front rest valid whole some =
-    let read = ap shape_at (sym whole) ∙ whole_again copy valid in
-    short_front (shape_of copy) rest (shape_at front) (subst (Extends rest (shape_at front)) read (shape_extends front rest)) some
+    let read = ap shape_at whole.are ∙ whole_again whole.form copy valid whole.held in
+    short_front (shape_of whole.form copy) rest (shape_at front) (subst (Extends rest (shape_at front)) read (shape_extends front rest)) some

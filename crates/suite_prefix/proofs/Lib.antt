@@ -9,6 +9,7 @@ pub mod Loop
 pub mod Orders
 pub mod Judged
 pub mod Takes
+pub mod Written
 pub mod Decoded
 pub mod Names
 pub mod Fronts

@@ -1,5 +1,5 @@
 -- What was written is read again, whatever follows.
-use Rattle.std.proofs.Common.{◌≡◌, ℕ, suc, ◌^◌, ◌<◌, false, ltb, List, [], ◌∷◌, ◌++◌, length, map, Result, Ok, refl, ap, ◌∙◌, append_assoc, arith}
+use Rattle.std.proofs.Common.{◌≡◌, ℕ, suc, ◌^◌, ◌<◌, false, ltb, List, [], ◌∷◌, ◌++◌, length, map, Option, None, Result, Ok, refl, sym, ap, ◌∙◌, append_assoc, arith}
 use Rattle.std.specs.Prelude.{All}
 use Rattle.std.specs.List.{flat_map, AllByRecursion}
 use Rattle.std.specs.Int.{Width, w16, w32, w64, byte_len, from_be_bytes, to_be_bytes}
@@ -22,14 +22,17 @@ use Rattle.suite_prefix.specs.declared.copies.PrefixKind.{PrefixKind}
 use Rattle.suite_prefix.specs.declared.copies.PrefixKind.TheVariants.{Absent, File, Folder}
 use Rattle.suite_prefix.specs.declared.copies.Prefix.{Prefix}
 use Rattle.suite_prefix.specs.declared.copies.Replica.{Replica}
-use Rattle.suite_prefix.specs.Bytes.{kind_code, tag_code, entry_bytes, list_bytes, lists_bytes, representative_bytes, votes_bytes, identity_bytes, name_bytes, content_bytes, bytes_of}
+use Rattle.suite_prefix.specs.declared.forms.Form.{Form}
+use Rattle.suite_prefix.specs.declared.forms.Form.TheVariants.{One, Two}
+use Rattle.suite_prefix.specs.Bytes.{kind_code, tag_code, entry_bytes, list_bytes, lists_bytes, representative_bytes, votes_bytes, identity_bytes, name_bytes, content_bytes, bytes_in}
 use Rattle.suite_prefix.specs.TwoLists.{NumbersFit, default_entries}
 use Rattle.suite_prefix.specs.Copies.{IsCopy, PrefixFits, IsContent, held_by}
+use Rattle.suite_prefix.specs.Forms.{CanHold, form_code}
 use Rattle.suite_prefix.proofs.Joins.{five_pieces}
 use Rattle.suite_prefix.proofs.ShapeOf.{entry_shape, shape_of, tag_back}
 use Rattle.suite_prefix.specs.declared.faults.CopyFault.{CopyFault}
 use Rattle.suite_prefix.specs.declared.shapes.Identity.{Identity}
-use Rattle.suite_prefix.specs.Reading.{number_at, bytes_at, kind_of_code, identity_at, code_at, entry_at, representative_at, name_at, many_at, list_at, lists_at, listed_at, votes_at, file_at, folder_at, content_at, shape_at}
+use Rattle.suite_prefix.specs.Reading.{number_at, bytes_at, form_at, kind_of_code, identity_at, code_at, entry_at, representative_at, name_at, many_at, list_at, lists_at, listed_at, votes_at, file_at, folder_at, content_at, shape_at}
 
 -- ---- numbers and bytes
 
@@ -104,11 +107,24 @@ unfolding list_at
 list_again entries rest fits =
     many_again entry_at entry_bytes entry_shape (λ entry. qualifier entry.tag < 2 ^ 32) entry_again entries rest (recursion_from_All (λ entry. qualifier entry.tag < 2 ^ 32) entries fits)
 
-pub lists_again : (lists : Lists) (rest : List ℕ) → NumbersFit lists → lists_at (lists_bytes lists ++ rest) ≡ Ok ((map entry_shape lists.access, map entry_shape (default_entries lists.default)), rest)
+-- where a form knows no default list, there is none
+abbrev pub IsKnown : Form → Lists → Type 0
+IsKnown One lists = lists.default ≡ None
+IsKnown Two lists = Unit {0}
+
+pub is_known : (form : Form) (prefix : Prefix) → CanHold form prefix → IsKnown form prefix.acl
+is_known One prefix held = held.no_default
+is_known Two prefix held = tt
+
+pub lists_again : (form : Form) (lists : Lists) (rest : List ℕ) → NumbersFit lists → IsKnown form lists
+    → lists_at form (lists_bytes form lists ++ rest) ≡ Ok ((map entry_shape lists.access, map entry_shape (default_entries lists.default)), rest)
 unfolding lists_at
-lists_again lists rest fits =
+lists_again One lists rest fits known =
+    rw (list_again lists.access rest fits.access)
+    (ap (λ (default : Option (List Entry)). Ok ((map entry_shape lists.access, map entry_shape (default_entries default)), rest)) (sym known))
+lists_again Two lists rest fits known =
     let default = list_bytes (default_entries lists.default) in
-    ap lists_at (append_assoc (list_bytes lists.access) default rest)
+    ap (lists_at Two) (append_assoc (list_bytes lists.access) default rest)
     ∙ rw (list_again lists.access (default ++ rest) fits.access, list_again (default_entries lists.default) rest fits.default) refl
 
 all_units : {X : Type 0} (xs : List X) → AllByRecursion (λ x. Unit {0}) xs
@@ -184,24 +200,29 @@ content_again Folder (Bytes bytes) rest agree fits = absurd cc
 
 -- ---- a copy
 
-pub shape_again : (copy : Replica) (rest : List ℕ) → IsCopy copy → shape_at (bytes_of copy ++ rest) ≡ Ok (shape_of copy, rest)
+pub form_again : (form : Form) (rest : List ℕ) → form_at (form_code form ∷ rest) ≡ Ok (form, rest)
+form_again One rest = refl
+form_again Two rest = refl
+
+pub shape_again : (form : Form) (copy : Replica) (rest : List ℕ) → IsCopy copy → CanHold form copy.prefix → shape_at (bytes_in form copy ++ rest) ≡ Ok (shape_of form copy, rest)
 unfolding shape_at
-shape_again copy rest valid =
+shape_again form copy rest valid held =
     let p = copy.prefix in
     let identity = identity_bytes p in
-    let list = lists_bytes p.acl in
+    let list = lists_bytes form p.acl in
     let votes = votes_bytes p.votes in
     let dver = to_be_bytes w64 copy.dver in
     let content = content_bytes copy.content in
     let after_dver = content ++ rest in
     let after_votes = dver ++ after_dver in
     let after_list = votes ++ after_votes in
-    let regrouped : bytes_of copy ++ rest ≡ 2 ∷ (identity ++ (list ++ after_list)) =
-    ap (λ t. 2 ∷ t) (five_pieces identity list votes dver content rest) in
+    let regrouped : bytes_in form copy ++ rest ≡ form_code form ∷ (identity ++ (list ++ after_list)) =
+    ap (λ t. form_code form ∷ t) (five_pieces identity list votes dver content rest) in
     ap shape_at regrouped
     ∙ rw (
+      form_again form (identity ++ (list ++ after_list)),
       identity_again p (list ++ after_list) valid.prefix.fits,
-      lists_again p.acl after_list valid.prefix.fits.qualifiers,
+      lists_again form p.acl after_list valid.prefix.fits.qualifiers (is_known form p held),
       votes_again p.votes after_votes valid.prefix.fits.r valid.prefix.fits.w,
       number_again w64 (2 ^ 64) wide64 copy.dver after_dver valid.dver_fits,
       content_again p.kind copy.content rest valid.kinds_agree valid.content,

@@ -12,52 +12,64 @@ use Rattle.suite_content.specs.declared.content.Content.TheVariants.{Bytes, Name
 use Rattle.suite_prefix.specs.code.Judging.{IsWithin}
 use Rattle.suite_prefix.specs.declared.copies.Prefix.{Prefix}
 use Rattle.suite_prefix.specs.declared.copies.Replica.{Replica}
+use Rattle.suite_prefix.specs.declared.forms.Form.{Form}
 use Rattle.suite_prefix.specs.declared.faults.CopyFault.{CopyFault}
 use Rattle.suite_prefix.specs.declared.shapes.EntryShape.{EntryShape}
-use Rattle.suite_prefix.specs.Bytes.{bytes_of, identity_bytes, lists_bytes, votes_bytes, content_bytes}
+use Rattle.suite_prefix.specs.Bytes.{bytes_in, identity_bytes, lists_bytes, votes_bytes, content_bytes}
 use Rattle.suite_prefix.specs.Copies.{IsCopy, IsContent}
 use Rattle.suite_prefix.specs.Faults.{content_rises}
-use Rattle.suite_prefix.specs.Reading.{Shape, Reads, content_at, entry_from}
+use Rattle.suite_prefix.specs.Forms.{CanHold, form_code}
+use Rattle.suite_prefix.specs.Reading.{Reads, content_at, entry_from}
 use Rattle.suite_prefix.specs.TwoLists.{default_entries, default_of}
-use Rattle.suite_prefix.specs.code.Heads.{Head, IsOfValid, MakesDefaultAcl, head_at, head_of, prefix_of}
-use Rattle.suite_prefix.specs.code.Records.{IsRecord, copy_in, copy_read}
+use Rattle.suite_prefix.specs.code.Heads.{IsOfValid, MakesDefaultAcl, head_at, head_of, prefix_of}
+use Rattle.suite_prefix.specs.Stored.{Kept}
+use Rattle.suite_prefix.specs.code.Records.{IsRecord, kept_in, kept_read}
 use Rattle.suite_prefix.proofs.Back.{whole_again}
 use Rattle.suite_prefix.proofs.Joins.{four_pieces}
 use Rattle.suite_prefix.proofs.Loop.{ok_is}
 use Rattle.suite_prefix.proofs.Orders.{rise_if_folder}
-use Rattle.suite_prefix.proofs.ReadAgain.{identity_again, lists_again, votes_again, number_again, wide64, content_again}
-use Rattle.suite_prefix.proofs.ShapeOf.{entry_shape, shape_of, copy_back, default_back, entries_back}
+use Rattle.suite_prefix.proofs.ReadAgain.{form_again, identity_again, is_known, lists_again, votes_again, number_again, wide64, content_again}
+use Rattle.suite_prefix.proofs.ShapeOf.{entry_shape, copy_back, default_back, entries_back}
 
--- the copy of a valid copy's bytes is that copy
-pub copy_again : (copy : Replica) → IsCopy copy → copy_in (bytes_of copy) ≡ copy
-copy_again copy valid = ap copy_read (whole_again copy valid) ∙ copy_back copy valid.prefix.fits.acl.default
+-- a copy kept in a form
+abbrev pub kept_as : Form → Replica → Kept
+kept_as form copy = record { form = form; copy = copy }
 
-pub copy_of_bytes : (bytes : List ℕ) (copy : Replica) → IsCopy copy → bytes ≡ bytes_of copy → copy_in bytes ≡ copy
-copy_of_bytes bytes copy valid are = ap copy_in are ∙ copy_again copy valid
+-- what the bytes of a valid copy keep is that copy, in their form
+pub kept_again : (form : Form) (copy : Replica) → IsCopy copy → CanHold form copy.prefix → kept_in (bytes_in form copy) ≡ kept_as form copy
+kept_again form copy valid held = ap kept_read (whole_again form copy valid held) ∙ ap (kept_as form) (copy_back form copy valid.prefix.fits.acl.default)
 
-pub is_record : (bytes : List ℕ) (copy : Replica) → IsCopy copy → bytes ≡ bytes_of copy → IsRecord bytes
-is_record bytes copy valid are =
-    let same = copy_of_bytes bytes copy valid are in
-    record { valid = subst IsCopy (sym same) valid; spelled = are ∙ ap bytes_of (sym same) }
+pub kept_of_bytes : (bytes : List ℕ) (form : Form) (copy : Replica) → IsCopy copy → CanHold form copy.prefix → bytes ≡ bytes_in form copy → kept_in bytes ≡ kept_as form copy
+kept_of_bytes bytes form copy valid held are = ap kept_in are ∙ kept_again form copy valid held
+
+pub is_record : (bytes : List ℕ) (form : Form) (copy : Replica) → IsCopy copy → CanHold form copy.prefix → bytes ≡ bytes_in form copy → IsRecord bytes
+is_record bytes form copy valid held are =
+    let same = kept_of_bytes bytes form copy valid held are in
+    record {
+      valid = subst (λ (kept : Kept). IsCopy kept.copy) (sym same) valid;
+      held = subst (λ (kept : Kept). CanHold kept.form kept.copy.prefix) (sym same) held;
+      spelled = are ∙ ap (λ (kept : Kept). bytes_in kept.form kept.copy) (sym same);
+    }
 
 -- what stands before the content is read again
-pub head_again : (copy : Replica) → IsCopy copy → head_at (bytes_of copy) ≡ Ok (head_of copy, content_bytes copy.content)
+pub head_again : (form : Form) (copy : Replica) → IsCopy copy → CanHold form copy.prefix → head_at (bytes_in form copy) ≡ Ok (head_of copy, content_bytes copy.content)
 unfolding head_at
-head_again copy valid =
+head_again form copy valid held =
     let p = copy.prefix in
     let identity = identity_bytes p in
-    let lists = lists_bytes p.acl in
+    let lists = lists_bytes form p.acl in
     let votes = votes_bytes p.votes in
     let dver = to_be_bytes w64 copy.dver in
     let content = content_bytes copy.content in
     let after_votes = dver ++ content in
     let after_lists = votes ++ after_votes in
-    let regrouped : bytes_of copy ≡ 2 ∷ (identity ++ (lists ++ after_lists)) =
-    ap (λ t. 2 ∷ t) (four_pieces identity lists votes dver content) in
+    let regrouped : bytes_in form copy ≡ form_code form ∷ (identity ++ (lists ++ after_lists)) =
+    ap (λ t. form_code form ∷ t) (four_pieces identity lists votes dver content) in
     ap head_at regrouped
     ∙ rw (
+      form_again form (identity ++ (lists ++ after_lists)),
       identity_again p (lists ++ after_lists) valid.prefix.fits,
-      lists_again p.acl after_lists valid.prefix.fits.qualifiers,
+      lists_again form p.acl after_lists valid.prefix.fits.qualifiers (is_known form p held),
       votes_again p.votes after_votes valid.prefix.fits.r valid.prefix.fits.w,
       number_again w64 (2 ^ 64) wide64 copy.dver content valid.dver_fits,
     ) refl

@@ -12,6 +12,7 @@ use Rattle.acl_core.specs.Permissions.{number_of}
 use Rattle.acl_core.specs.Tags.{qualifier}
 use Rattle.acl_core.proofs.EntryEquality.{same_by_fields}
 use Rattle.suite_prefix.specs.declared.copies.Replica.{Replica}
+use Rattle.suite_prefix.specs.declared.forms.Form.{Form}
 use Rattle.suite_prefix.specs.declared.shapes.EntryShape.{EntryShape}
 use Rattle.suite_prefix.specs.TwoLists.{default_entries, default_of}
 use Rattle.suite_prefix.specs.Bytes.{tag_code}
@@ -20,8 +21,9 @@ use Rattle.suite_prefix.specs.Reading.{Shape, tag_of, entry_from, copy_of}
 abbrev pub entry_shape : Entry → EntryShape
 entry_shape entry = record { tag = entry.tag; number = qualifier entry.tag; permissions = number_of entry.perms }
 
-abbrev pub shape_of : Replica → Shape
-shape_of copy = record {
+abbrev pub shape_of : Form → Replica → Shape
+shape_of form copy = record {
+  form = form;
   identity = record { pver = copy.prefix.pver; kind = copy.prefix.kind; owner = copy.prefix.owner; group = copy.prefix.group };
   entries = map entry_shape copy.prefix.acl.access;
   default = map entry_shape (default_entries copy.prefix.acl.default);
@@ -61,6 +63,6 @@ default_back (Some list) acl = ap default_of (entries_back list) ∙ some_of lis
 with_acl : Replica → Lists → Replica
 with_acl copy acl = record { prefix = record { pver = copy.prefix.pver; kind = copy.prefix.kind; owner = copy.prefix.owner; group = copy.prefix.group; acl = acl; votes = copy.prefix.votes }; dver = copy.dver; content = copy.content }
 
-pub copy_back : (copy : Replica) → IfSome copy.prefix.acl.default IsAcl → copy_of (shape_of copy) ≡ copy
+pub copy_back : (form : Form) (copy : Replica) → IfSome copy.prefix.acl.default IsAcl → copy_of (shape_of form copy) ≡ copy
 unfolding with_acl
-copy_back copy acl = ap (with_acl copy) (λ i. record { access = entries_back copy.prefix.acl.access i; default = default_back copy.prefix.acl.default acl i })
+copy_back form copy acl = ap (with_acl copy) (λ i. record { access = entries_back copy.prefix.acl.access i; default = default_back copy.prefix.acl.default acl i })

@@ -1,13 +1,12 @@
 -- What is read is what was written: each part that a reader takes from the front of bytes is spelled so.
-use Rattle.std.proofs.Common.{◌≡◌, ℕ, zero, suc, ◌+◌, ◌^◌, ◌<◌, ◌≤◌, Bool, true, false, cond, ltb, eqb, List, [], ◌∷◌, ◌++◌, length, get_or, take, drop, map, All, Result, Ok, Err, refl, sym, ap, subst, ◌∙◌, append_assoc, arith, inl, inr}
+use Rattle.std.proofs.Common.{◌≡◌, ℕ, zero, suc, ◌+◌, ◌^◌, ◌<◌, ◌≤◌, Bool, true, false, cond, ltb, List, [], ◌∷◌, ◌++◌, length, get_or, take, drop, All, Result, Ok, Err, refl, sym, ap, subst, ◌∙◌, append_assoc, arith, inl, inr}
 use Rattle.std.specs.List.{flat_map, AllByRecursion}
 use Rattle.std.specs.Int.{Width, w16, w32, w64, byte_len, from_be_bytes, to_be_bytes}
-use Rattle.std.proofs.lemmas.Bool.{cases_lt, ltb-false, le-ltb, eqb-true, and_parts}
-use Rattle.std.proofs.lemmas.List.{take-append-drop, length-take, length-map, get_or-drop, get_or-take, get_or_past}
+use Rattle.std.proofs.lemmas.Bool.{cases_lt, ltb-false, le-ltb}
+use Rattle.std.proofs.lemmas.List.{take-append-drop, length-take, get_or-drop, get_or-take, get_or_past}
 use Rattle.std.proofs.lemmas.List.Concat.{flat_map-cons}
-use Rattle.std.proofs.lemmas.List.Elements.{All-from_recursion, All-head, All-tail}
+use Rattle.std.proofs.lemmas.List.Elements.{All-from_recursion}
 use Rattle.std.proofs.lemmas.Nat.{be_bytes_2, be_bytes_4, be_bytes_8}
-use Rattle.std.proofs.Math.Nat.{mod-eq_of_lt}
 use Rattle.acl_core.specs.Tags.{qualifier}
 use Rattle.vote_core.specs.Quorums.{Configuration, Representative}
 use Rattle.suite_content.specs.Contents.{kind_of}
@@ -15,17 +14,17 @@ use Rattle.suite_content.specs.declared.content.Content.{Content}
 use Rattle.suite_content.specs.declared.content.Content.TheVariants.{Bytes, Names}
 use Rattle.suite_prefix.specs.declared.copies.PrefixKind.{PrefixKind}
 use Rattle.suite_prefix.specs.declared.copies.PrefixKind.TheVariants.{Absent, File, Folder}
+use Rattle.suite_prefix.specs.declared.forms.Form.{Form}
+use Rattle.suite_prefix.specs.declared.forms.Form.TheVariants.{One, Two}
 use Rattle.suite_prefix.specs.declared.faults.CopyFault.{CopyFault}
 use Rattle.suite_prefix.specs.declared.faults.CopyFault.TheVariants.{Short, BadTag}
 use Rattle.suite_prefix.specs.declared.shapes.EntryShape.{EntryShape}
 use Rattle.suite_prefix.specs.declared.shapes.Identity.{Identity}
-use Rattle.suite_prefix.specs.Bytes.{kind_code, tag_code, entry_bytes, list_bytes, representative_bytes, name_bytes, content_bytes, bytes_of}
-use Rattle.suite_prefix.specs.TwoLists.{default_entries, default_of}
-use Rattle.acl_core.specs.declared.entry.Entry.{Entry}
+use Rattle.suite_prefix.specs.Bytes.{kind_code, tag_code, representative_bytes, name_bytes, content_bytes}
 use Rattle.suite_prefix.specs.Copies.{held_by}
-use Rattle.suite_prefix.specs.Faults.{numbers_belong}
+use Rattle.suite_prefix.specs.Forms.{form_code}
 use Rattle.suite_prefix.specs.code.Judging.{FitsForm, ContentFits}
-use Rattle.suite_prefix.specs.Reading.{◌>>=◌, Shape, byte_at, number_at, bytes_at, form_at, kind_of_code, identity_at, code_at, tag_of, entry_at, representative_at, name_at, many_at, list_at, lists_at, listed_at, votes_at, file_at, folder_at, content_at, shape_at, entry_from, copy_of}
+use Rattle.suite_prefix.specs.Reading.{◌>>=◌, Shape, byte_at, number_at, bytes_at, default_at, form_at, kind_of_code, identity_at, code_at, tag_of, entry_at, representative_at, name_at, many_at, list_at, lists_at, listed_at, votes_at, file_at, folder_at, content_at, shape_at}
 use Rattle.suite_prefix.proofs.Loop.{ok_is}
 
 -- ---- bytes
@@ -127,12 +126,14 @@ bytes_take n bytes x fits e =
 
 -- ---- form, kind, identity
 
-form_takes : (bytes rest : List ℕ) → IsBytes bytes → form_at bytes ≡ Ok rest → Takes bytes (2 ∷ []) rest
-form_takes [] rest fits e = absurd cc
-form_takes (zero ∷ bytes) rest fits e = absurd cc
-form_takes (suc zero ∷ bytes) rest fits e = absurd cc
-form_takes (suc (suc zero) ∷ bytes) rest fits e = subst (Takes (2 ∷ bytes) (2 ∷ [])) (ok_is bytes rest e) (record { parts = refl; rest_fits = IsBytes-rest 2 bytes fits })
-form_takes (suc (suc (suc b)) ∷ bytes) rest fits e = absurd cc
+form_takes : (bytes : List ℕ) (x : Form × List ℕ) → IsBytes bytes → form_at bytes ≡ Ok x → Takes bytes (form_code x.0 ∷ []) x.1
+form_takes [] x fits e = absurd cc
+form_takes (zero ∷ bytes) x fits e = absurd cc
+form_takes (suc zero ∷ bytes) x fits e =
+    subst (λ (y : Form × List ℕ). Takes (1 ∷ bytes) (form_code y.0 ∷ []) y.1) (ok_is (One, bytes) x e) (record { parts = refl; rest_fits = IsBytes-rest 1 bytes fits })
+form_takes (suc (suc zero) ∷ bytes) x fits e =
+    subst (λ (y : Form × List ℕ). Takes (2 ∷ bytes) (form_code y.0 ∷ []) y.1) (ok_is (Two, bytes) x e) (record { parts = refl; rest_fits = IsBytes-rest 2 bytes fits })
+form_takes (suc (suc (suc b)) ∷ bytes) x fits e = absurd cc
 
 kind_takes : (code : ℕ) (kind : PrefixKind) → kind_of_code code ≡ Ok kind → kind_code kind ≡ code
 kind_takes zero kind e = ap kind_code (sym (ok_is Absent kind e))
@@ -140,7 +141,7 @@ kind_takes (suc zero) kind e = ap kind_code (sym (ok_is File kind e))
 kind_takes (suc (suc zero)) kind e = ap kind_code (sym (ok_is Folder kind e))
 kind_takes (suc (suc (suc n))) kind e = absurd cc
 
-abbrev identity_text : Identity → List ℕ
+abbrev pub identity_text : Identity → List ℕ
 identity_text i = to_be_bytes w64 i.pver ++ kind_code i.kind ∷ to_be_bytes w32 i.owner ++ to_be_bytes w32 i.group
 
 record IdentityFits (i : Identity) : Type 0 where
@@ -199,7 +200,7 @@ many_take one text Fits takes (suc n) bytes x fits e =
 
 -- ---- entries
 
-abbrev entry_text : EntryShape → List ℕ
+abbrev pub entry_text : EntryShape → List ℕ
 entry_text e = tag_code e.tag ∷ to_be_bytes w32 e.number ++ e.permissions ∷ []
 
 code_of_tag : (n number : ℕ) → n < 6 → tag_code (tag_of (suc n) number) ≡ suc n
@@ -268,7 +269,7 @@ entry_takes bytes x fits e =
     let made : EntryShape × List ℕ = (record { tag = tag_of a.0.0 b.0.0; number = b.0.0; permissions = c.0.0 }, c.0.1) in
     subst (λ (y : EntryShape × List ℕ). Takes bytes (entry_text y.0) y.1 × (qualifier y.0.tag < 2 ^ 32)) (ok_is made x c.2) (all, below)
 
-abbrev list_text : List EntryShape → List ℕ
+abbrev pub list_text : List EntryShape → List ℕ
 list_text entries = length entries ∷ flat_map entry_text entries
 
 list_takes : (bytes : List ℕ) (x : List EntryShape × List ℕ) → IsBytes bytes → list_at bytes ≡ Ok x → Takes bytes (list_text x.0) x.1 × All (λ entry. qualifier entry.tag < 2 ^ 32) x.0
@@ -280,25 +281,49 @@ list_takes bytes x fits e =
     let all = Takes-then bytes (a.0.0 ∷ []) a.0.1 (flat_map entry_text x.0) x.1 t0.0 t1.0 in
     (subst (λ n. Takes bytes (n ∷ flat_map entry_text x.0) x.1) (sym t1.1) all, All-from_recursion (λ (entry : EntryShape). qualifier entry.tag < 2 ^ 32) x.0 t1.2)
 
-abbrev Entries : Type 0
+abbrev pub Entries : Type 0
 Entries = List EntryShape × List EntryShape
 
-abbrev lists_text : Entries → List ℕ
-lists_text lists = list_text lists.0 ++ list_text lists.1
+abbrev pub default_text : Form → List EntryShape → List ℕ
+default_text One entries = []
+default_text Two entries = list_text entries
+
+abbrev pub lists_text : Form → Entries → List ℕ
+lists_text form lists = list_text lists.0 ++ default_text form lists.1
 
 abbrev NumbersOf : Entries → Type 0
 NumbersOf lists = All (λ (entry : EntryShape). qualifier entry.tag < 2 ^ 32) lists.0 × All (λ (entry : EntryShape). qualifier entry.tag < 2 ^ 32) lists.1
 
-lists_take : (bytes : List ℕ) (x : Entries × List ℕ) → IsBytes bytes → lists_at bytes ≡ Ok x → Takes bytes (lists_text x.0) x.1 × NumbersOf x.0
+-- the entries of a default list were read, of which form 1 has none
+record TakesDefault (form : Form) (bytes : List ℕ) (x : List EntryShape × List ℕ) : Type 0 where
+  takes : Takes bytes (default_text form x.0) x.1
+  numbers : All (λ entry. qualifier entry.tag < 2 ^ 32) x.0
+  none : form ≡ One → x.0 ≡ []
+
+default_takes : (form : Form) (bytes : List ℕ) (x : List EntryShape × List ℕ) → IsBytes bytes → default_at form bytes ≡ Ok x → TakesDefault form bytes x
+default_takes One bytes x fits e =
+    subst (TakesDefault One bytes) (ok_is ([], bytes) x e)
+    (record { takes = record { parts = refl; rest_fits = fits }; numbers = All-from_recursion (λ (entry : EntryShape). qualifier entry.tag < 2 ^ 32) [] tt; none = λ one. refl })
+default_takes Two bytes x fits e =
+    let t = list_takes bytes x fits e in
+    record { takes = t.0; numbers = t.1; none = λ one. absurd cc }
+
+-- the entries of both lists were read
+record TakesLists (form : Form) (bytes : List ℕ) (x : Entries × List ℕ) : Type 0 where
+  takes : Takes bytes (lists_text form x.0) x.1
+  numbers : NumbersOf x.0
+  none : form ≡ One → x.0.1 ≡ []
+
+lists_take : (form : Form) (bytes : List ℕ) (x : Entries × List ℕ) → IsBytes bytes → lists_at form bytes ≡ Ok x → TakesLists form bytes x
 unfolding lists_at
-lists_take bytes x fits e =
-    let a = bind_ok (list_at bytes) (λ access. list_at access.1 >>= λ default. Ok ((access.0, default.0), default.1)) x e in
-    let b = bind_ok (list_at a.0.1) (λ default. Ok ((a.0.0, default.0), default.1)) x a.2 in
+lists_take form bytes x fits e =
+    let a = bind_ok (list_at bytes) (λ access. default_at form access.1 >>= λ default. Ok ((access.0, default.0), default.1)) x e in
+    let b = bind_ok (default_at form a.0.1) (λ default. Ok ((a.0.0, default.0), default.1)) x a.2 in
     let t0 = list_takes bytes a.0 fits a.1 in
-    let t1 = list_takes a.0.1 b.0 t0.0.rest_fits b.1 in
-    let all = Takes-then bytes (list_text a.0.0) a.0.1 (list_text b.0.0) b.0.1 t0.0 t1.0 in
+    let t1 = default_takes form a.0.1 b.0 t0.0.rest_fits b.1 in
+    let all = Takes-then bytes (list_text a.0.0) a.0.1 (default_text form b.0.0) b.0.1 t0.0 t1.takes in
     let made : Entries × List ℕ = ((a.0.0, b.0.0), b.0.1) in
-    subst (λ (y : Entries × List ℕ). Takes bytes (lists_text y.0) y.1 × NumbersOf y.0) (ok_is made x b.2) (all, (t0.1, t1.1))
+    subst (TakesLists form bytes) (ok_is made x b.2) (record { takes = all; numbers = (t0.1, t1.numbers); none = t1.none })
 
 -- ---- votes
 
@@ -322,7 +347,7 @@ listed_takes bytes x fits e =
     let all = Takes-then bytes (a.0.0 ∷ []) a.0.1 (flat_map representative_bytes x.0) x.1 t0.0 t1.0 in
     subst (λ n. Takes bytes (n ∷ flat_map representative_bytes x.0) x.1) (sym t1.1) all
 
-abbrev votes_text : Configuration → List ℕ
+abbrev pub votes_text : Configuration → List ℕ
 votes_text votes = (length votes.reps ∷ flat_map representative_bytes votes.reps) ++ (to_be_bytes w16 votes.r ++ to_be_bytes w16 votes.w)
 
 abbrev pub votes_2 : List Representative → ℕ → ℕ × List ℕ → Result (Configuration × List ℕ) CopyFault
@@ -405,23 +430,28 @@ content_takes Folder bytes x fits e = folder_takes bytes x fits e
 
 -- ---- the whole shape
 
-abbrev pub shape_5 : Identity → List EntryShape × List EntryShape → Configuration → ℕ → Content × List ℕ → Result (Shape × List ℕ) CopyFault
-shape_5 identity lists votes dver content = Ok (record { identity = identity; entries = lists.0; default = lists.1; votes = votes; dver = dver; content = content.0 }, content.1)
+abbrev pub shape_5 : Form → Identity → List EntryShape × List EntryShape → Configuration → ℕ → Content × List ℕ → Result (Shape × List ℕ) CopyFault
+shape_5 form identity lists votes dver content =
+    Ok (record { form = form; identity = identity; entries = lists.0; default = lists.1; votes = votes; dver = dver; content = content.0 }, content.1)
 
-abbrev pub shape_4 : Identity → List EntryShape × List EntryShape → Configuration → ℕ × List ℕ → Result (Shape × List ℕ) CopyFault
-shape_4 identity entries votes dver = content_at identity.kind dver.1 >>= shape_5 identity entries votes dver.0
+abbrev pub shape_4 : Form → Identity → List EntryShape × List EntryShape → Configuration → ℕ × List ℕ → Result (Shape × List ℕ) CopyFault
+shape_4 form identity entries votes dver = content_at identity.kind dver.1 >>= shape_5 form identity entries votes dver.0
 
-abbrev pub shape_3 : Identity → List EntryShape × List EntryShape → Configuration × List ℕ → Result (Shape × List ℕ) CopyFault
-shape_3 identity entries votes = number_at w64 votes.1 >>= shape_4 identity entries votes.0
+abbrev pub shape_3 : Form → Identity → List EntryShape × List EntryShape → Configuration × List ℕ → Result (Shape × List ℕ) CopyFault
+shape_3 form identity entries votes = number_at w64 votes.1 >>= shape_4 form identity entries votes.0
 
-abbrev pub shape_2 : Identity → (List EntryShape × List EntryShape) × List ℕ → Result (Shape × List ℕ) CopyFault
-shape_2 identity entries = votes_at entries.1 >>= shape_3 identity entries.0
+abbrev pub shape_2 : Form → Identity → (List EntryShape × List EntryShape) × List ℕ → Result (Shape × List ℕ) CopyFault
+shape_2 form identity entries = votes_at entries.1 >>= shape_3 form identity entries.0
 
-abbrev pub shape_1 : Identity × List ℕ → Result (Shape × List ℕ) CopyFault
-shape_1 identity = lists_at identity.1 >>= shape_2 identity.0
+abbrev pub shape_1 : Form → Identity × List ℕ → Result (Shape × List ℕ) CopyFault
+shape_1 form identity = lists_at form identity.1 >>= shape_2 form identity.0
 
-abbrev shape_text : Shape → List ℕ
-shape_text s = 2 ∷ ((((identity_text s.identity ++ lists_text (s.entries, s.default)) ++ votes_text s.votes) ++ to_be_bytes w64 s.dver) ++ content_bytes s.content)
+abbrev pub shape_0 : Form × List ℕ → Result (Shape × List ℕ) CopyFault
+shape_0 form = identity_at form.1 >>= shape_1 form.0
+
+abbrev pub shape_text : Shape → List ℕ
+shape_text s =
+    form_code s.form ∷ ((((identity_text s.identity ++ lists_text s.form (s.entries, s.default)) ++ votes_text s.votes) ++ to_be_bytes w64 s.dver) ++ content_bytes s.content)
 
 -- what is true of a shape that was read, and the bytes that it was read from
 pub record TakesShape (bytes : List ℕ) (x : Shape × List ℕ) : Type 0 where
@@ -431,71 +461,37 @@ pub record TakesShape (bytes : List ℕ) (x : Shape × List ℕ) : Type 0 where
 pub shape_takes : (bytes : List ℕ) (x : Shape × List ℕ) → IsBytes bytes → shape_at bytes ≡ Ok x → TakesShape bytes x
 unfolding shape_at
 shape_takes bytes x fits e =
-    let f = bind_ok (form_at bytes) (λ rest. identity_at rest >>= shape_1) x e in
-    let i = bind_ok (identity_at f.0) shape_1 x f.2 in
-    let l = bind_ok (lists_at i.0.1) (shape_2 i.0.0) x i.2 in
-    let v = bind_ok (votes_at l.0.1) (shape_3 i.0.0 l.0.0) x l.2 in
-    let d = bind_ok (number_at w64 v.0.1) (shape_4 i.0.0 l.0.0 v.0.0) x v.2 in
-    let c = bind_ok (content_at i.0.0.kind d.0.1) (shape_5 i.0.0 l.0.0 v.0.0 d.0.0) x d.2 in
+    let f = bind_ok (form_at bytes) shape_0 x e in
+    let i = bind_ok (identity_at f.0.1) (shape_1 f.0.0) x f.2 in
+    let l = bind_ok (lists_at f.0.0 i.0.1) (shape_2 f.0.0 i.0.0) x i.2 in
+    let v = bind_ok (votes_at l.0.1) (shape_3 f.0.0 i.0.0 l.0.0) x l.2 in
+    let d = bind_ok (number_at w64 v.0.1) (shape_4 f.0.0 i.0.0 l.0.0 v.0.0) x v.2 in
+    let c = bind_ok (content_at i.0.0.kind d.0.1) (shape_5 f.0.0 i.0.0 l.0.0 v.0.0 d.0.0) x d.2 in
     let tf = form_takes bytes f.0 fits f.1 in
-    let ti = identity_takes f.0 i.0 tf.rest_fits i.1 in
-    let tl = lists_take i.0.1 l.0 ti.0.rest_fits l.1 in
-    let tv = votes_take l.0.1 v.0 tl.0.rest_fits v.1 in
+    let ti = identity_takes f.0.1 i.0 tf.rest_fits i.1 in
+    let tl = lists_take f.0.0 i.0.1 l.0 ti.0.rest_fits l.1 in
+    let tv = votes_take l.0.1 v.0 tl.takes.rest_fits v.1 in
     let td = u64_takes v.0.1 d.0 tv.0.rest_fits d.1 in
     let tc = content_takes i.0.0.kind d.0.1 c.0 td.0.rest_fits c.1 in
-    let s1 = Takes-then f.0 (identity_text i.0.0) i.0.1 (lists_text l.0.0) l.0.1 ti.0 tl.0 in
-    let s2 = Takes-then f.0 (identity_text i.0.0 ++ lists_text l.0.0) l.0.1 (votes_text v.0.0) v.0.1 s1 tv.0 in
-    let s3 = Takes-then f.0 ((identity_text i.0.0 ++ lists_text l.0.0) ++ votes_text v.0.0) v.0.1 (to_be_bytes w64 d.0.0) d.0.1 s2 td.0 in
-    let s4 = Takes-then f.0 (((identity_text i.0.0 ++ lists_text l.0.0) ++ votes_text v.0.0) ++ to_be_bytes w64 d.0.0) d.0.1 (content_bytes c.0.0) c.0.1 s3 tc.takes in
-    let made : Shape × List ℕ = (record { identity = i.0.0; entries = l.0.0.0; default = l.0.0.1; votes = v.0.0; dver = d.0.0; content = c.0.0 }, c.0.1) in
+    let lists = lists_text f.0.0 l.0.0 in
+    let s1 = Takes-then f.0.1 (identity_text i.0.0) i.0.1 lists l.0.1 ti.0 tl.takes in
+    let s2 = Takes-then f.0.1 (identity_text i.0.0 ++ lists) l.0.1 (votes_text v.0.0) v.0.1 s1 tv.0 in
+    let s3 = Takes-then f.0.1 ((identity_text i.0.0 ++ lists) ++ votes_text v.0.0) v.0.1 (to_be_bytes w64 d.0.0) d.0.1 s2 td.0 in
+    let s4 = Takes-then f.0.1 (((identity_text i.0.0 ++ lists) ++ votes_text v.0.0) ++ to_be_bytes w64 d.0.0) d.0.1 (content_bytes c.0.0) c.0.1 s3 tc.takes in
+    let made : Shape × List ℕ = (record { form = f.0.0; identity = i.0.0; entries = l.0.0.0; default = l.0.0.1; votes = v.0.0; dver = d.0.0; content = c.0.0 }, c.0.1) in
     subst (TakesShape bytes) (ok_is made x c.2) (record {
-      whole = tf.parts ∙ ap (λ (t : List ℕ). 2 ∷ t) s4.parts;
+      whole = tf.parts ∙ ap (λ (t : List ℕ). form_code f.0.0 ∷ t) s4.parts;
       fits = record {
         pver = ti.1.pver;
         owner = ti.1.owner;
         group = ti.1.group;
-        numbers = tl.1.0;
-        default_numbers = tl.1.1;
+        numbers = tl.numbers.0;
+        default_numbers = tl.numbers.1;
         r = tv.1;
         w = tv.2;
         dver = td.1;
         content = tc.fits;
         kinds_agree = tc.agrees;
+        no_default = tl.none;
       };
     })
-
--- ---- a canonical shape is how its copy is written
-
-same_entry_text : (e : EntryShape) → e.number ≡ qualifier e.tag → e.permissions < 8 → entry_text e ≡ entry_bytes (entry_from e)
-same_entry_text e belongs known =
-    ap (λ (n : ℕ). tag_code e.tag ∷ to_be_bytes w32 n ++ e.permissions ∷ []) belongs
-    ∙ ap (λ (p : ℕ). tag_code e.tag ∷ to_be_bytes w32 (qualifier e.tag) ++ p ∷ []) (sym (mod-eq_of_lt known))
-
-same_entries_text : (es : List EntryShape) → numbers_belong es ≡ true → All (λ entry. entry.permissions < 8) es → flat_map entry_text es ≡ flat_map entry_bytes (map entry_from es)
-same_entries_text [] belong known = refl
-same_entries_text (e ∷ es) belong known =
-    let parts = and_parts (eqb e.number (qualifier e.tag)) (numbers_belong es) belong in
-    let one = same_entry_text e (eqb-true e.number (qualifier e.tag) parts.0) (All-head (λ (entry : EntryShape). entry.permissions < 8) e es known) in
-    let others = same_entries_text es parts.1 (All-tail (λ (entry : EntryShape). entry.permissions < 8) e es known) in
-    flat_map-cons entry_text e es ∙ ap (λ (t : List ℕ). t ++ flat_map entry_text es) one ∙ ap (λ (t : List ℕ). entry_bytes (entry_from e) ++ t) others
-    ∙ sym (flat_map-cons entry_bytes (entry_from e) (map entry_from es))
-
-count_from : (es : List EntryShape) → length (map entry_from es) ≡ length es
-count_from es = simp length-map
-
-same_list_text : (es : List EntryShape) → numbers_belong es ≡ true → All (λ entry. entry.permissions < 8) es → list_text es ≡ list_bytes (map entry_from es)
-same_list_text es belong known =
-    ap (λ (n : ℕ). n ∷ flat_map entry_text es) (sym (count_from es)) ∙ ap (λ (t : List ℕ). length (map entry_from es) ∷ t) (same_entries_text es belong known)
-
-pub entries_again : (es : List Entry) → default_entries (default_of es) ≡ es
-entries_again [] = refl
-entries_again (e ∷ es) = refl
-
-pub same_text : (s : Shape) → numbers_belong s.entries ≡ true → numbers_belong s.default ≡ true → All (λ entry. entry.permissions < 8) s.entries → All (λ entry. entry.permissions < 8) s.default → shape_text s ≡ bytes_of (copy_of s)
-same_text s belong default_belongs known default_known =
-    let access : list_text s.entries ≡ list_bytes (map entry_from s.entries) = same_list_text s.entries belong known in
-    let default : list_text s.default ≡ list_bytes (default_entries (default_of (map entry_from s.default))) =
-    same_list_text s.default default_belongs default_known ∙ ap list_bytes (sym (entries_again (map entry_from s.default))) in
-    let votes : votes_text s.votes ≡ (length s.votes.reps ∷ flat_map representative_bytes s.votes.reps ++ to_be_bytes w16 s.votes.r) ++ to_be_bytes w16 s.votes.w =
-    sym (append_assoc (length s.votes.reps ∷ flat_map representative_bytes s.votes.reps) (to_be_bytes w16 s.votes.r) (to_be_bytes w16 s.votes.w)) in
-    (λ i. 2 ∷ ((((identity_text s.identity ++ (access i ++ default i)) ++ votes i) ++ to_be_bytes w64 s.dver) ++ content_bytes s.content))

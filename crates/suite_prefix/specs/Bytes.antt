@@ -1,4 +1,4 @@
--- The bytes of a copy, form 2. Numbers have their highest byte first.
+-- The bytes of a copy, in each form. Numbers have their highest byte first.
 use Rattle.std.specs.Prelude.{◌≡◌, ℕ, List, [], ◌∷◌, ◌++◌, length}
 use Rattle.std.specs.List.{flat_map}
 use Rattle.std.specs.Int.{w16, w32, w64, to_be_bytes}
@@ -15,7 +15,10 @@ use Rattle.suite_prefix.specs.declared.copies.PrefixKind.{PrefixKind}
 use Rattle.suite_prefix.specs.declared.copies.PrefixKind.TheVariants.{Absent, File, Folder}
 use Rattle.suite_prefix.specs.declared.copies.Prefix.{Prefix}
 use Rattle.suite_prefix.specs.declared.copies.Replica.{Replica}
+use Rattle.suite_prefix.specs.declared.forms.Form.{Form}
+use Rattle.suite_prefix.specs.declared.forms.Form.TheVariants.{One, Two}
 use Rattle.suite_prefix.specs.Copies.{IsCopy}
+use Rattle.suite_prefix.specs.Forms.{CanHold, form_code}
 use Rattle.suite_prefix.specs.TwoLists.{default_entries}
 
 -- one byte: the kind
@@ -41,9 +44,10 @@ entry_bytes entry = tag_code entry.tag ∷ to_be_bytes w32 (qualifier entry.tag)
 abbrev pub list_bytes : List Entry → List ℕ
 list_bytes entries = length entries ∷ flat_map entry_bytes entries
 
--- those of the access list and those of the default list, of which there are none where there is no such list
-abbrev pub lists_bytes : Lists → List ℕ
-lists_bytes lists = list_bytes lists.access ++ list_bytes (default_entries lists.default)
+-- those of the access list, and in form 2 those of the default list, of which there are none where there is no such list
+abbrev pub lists_bytes : Form → Lists → List ℕ
+lists_bytes One lists = list_bytes lists.access
+lists_bytes Two lists = list_bytes lists.access ++ list_bytes (default_entries lists.default)
 
 -- a byte for the server, and one for its votes
 abbrev pub representative_bytes : Representative → List ℕ
@@ -60,8 +64,8 @@ identity_bytes prefix =
     to_be_bytes w64 prefix.pver ++ kind_code prefix.kind ∷ to_be_bytes w32 prefix.owner ++ to_be_bytes w32 prefix.group
 
 -- these, the lists, and the votes
-abbrev pub prefix_bytes : Prefix → List ℕ
-prefix_bytes prefix = identity_bytes prefix ++ lists_bytes prefix.acl ++ votes_bytes prefix.votes
+abbrev pub prefix_bytes : Form → Prefix → List ℕ
+prefix_bytes form prefix = identity_bytes prefix ++ lists_bytes form prefix.acl ++ votes_bytes prefix.votes
 
 -- a byte for the length of the name, the name, and eight bytes for the number of its suite
 abbrev pub name_bytes : List ℕ × ℕ → List ℕ
@@ -73,9 +77,20 @@ content_bytes (Bytes bytes) = to_be_bytes w32 (length bytes) ++ bytes
 content_bytes (Names names) = to_be_bytes w16 (length names) ++ flat_map name_bytes names
 
 -- the form, the prefix, the version of the content, and the content
-abbrev pub bytes_of : Replica → List ℕ
-bytes_of copy = 2 ∷ prefix_bytes copy.prefix ++ to_be_bytes w64 copy.dver ++ content_bytes copy.content
+abbrev pub bytes_in : Form → Replica → List ℕ
+bytes_in form copy = form_code form ∷ prefix_bytes form copy.prefix ++ to_be_bytes w64 copy.dver ++ content_bytes copy.content
 
--- no valid copy's bytes begin those of another
+-- what is written
+abbrev pub bytes_of : Replica → List ℕ
+bytes_of copy = bytes_in Two copy
+
+-- what may be read: these are the bytes of a copy in a form that can hold it
+pub record AreBytesOf (copy : Replica) (bytes : List ℕ) : Type 0 where
+  pub form : Form
+  pub held : CanHold form copy.prefix
+  pub are : bytes ≡ bytes_in form copy
+
+-- what may be read begins nothing else that may be read
 abbrev pub NoneBeginsAnother : Type 0
-NoneBeginsAnother = (copy other : Replica) (rest : List ℕ) → IsCopy copy → IsCopy other → bytes_of other ≡ bytes_of copy ++ rest → copy ≡ other
+NoneBeginsAnother =
+    (copy other : Replica) (bytes rest : List ℕ) → IsCopy copy → IsCopy other → AreBytesOf copy bytes → AreBytesOf other (bytes ++ rest) → (copy ≡ other) × (rest ≡ [])

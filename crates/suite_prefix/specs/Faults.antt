@@ -13,8 +13,9 @@ use Rattle.suite_prefix.specs.declared.faults.CopyFault.TheVariants.{Short, BadT
 use Rattle.suite_prefix.specs.declared.faults.DecodeError.{DecodeError}
 use Rattle.suite_prefix.specs.declared.faults.DecodeError.TheVariants as errors
 use Rattle.suite_prefix.specs.declared.shapes.EntryShape.{EntryShape}
-use Rattle.suite_prefix.specs.Bytes.{bytes_of}
+use Rattle.suite_prefix.specs.Bytes.{AreBytesOf}
 use Rattle.suite_prefix.specs.Copies.{IsCopy}
+use Rattle.suite_prefix.specs.Forms.{CanHold}
 use Rattle.suite_prefix.specs.Reading.{Shape, copy_of, shape_at}
 
 -- the number behind a tag is its user or group, and 0 where there is none
@@ -46,11 +47,12 @@ is_written entries = numbers_belong entries && entries_rise entries
 abbrev pub is_canonical : Shape → Bool
 is_canonical shape = (is_written shape.entries && is_written shape.default) && content_rises shape.content
 
--- the parts are those of a valid copy
+-- the parts are those of a valid copy that the form can hold
 pub record SpellsCopy (shape : Shape) : Type 0 where
   pub permissions_known : All (λ entry. entry.permissions < 8) shape.entries
   pub default_known : All (λ entry. entry.permissions < 8) shape.default
   pub valid : IsCopy (copy_of shape)
+  pub held : CanHold shape.form (copy_of shape).prefix
 
 -- the fault of a whole shape with these bytes behind it
 abbrev pub IsFaultOf : Shape → List ℕ → CopyFault → Type 0
@@ -72,7 +74,7 @@ IsShapeFault bytes fault = IsFaultIn (shape_at bytes) fault
 pub record IsOfValidCopy (bytes : List ℕ) : Type 0 where
   pub copy : Replica
   pub valid : IsCopy copy
-  pub has_them : bytes ≡ bytes_of copy
+  pub has_them : AreBytesOf copy bytes
 
 -- why nothing is read: a fault, or want of memory alone
 abbrev pub Explains : List ℕ → DecodeError → Type 0
@@ -87,4 +89,4 @@ pub record FaultsTellApart : Type 0 where
 
 -- each proper front of a valid copy's bytes ends too early
 abbrev pub FrontsAreShort : Type 0
-FrontsAreShort = (copy : Replica) (front rest : List ℕ) → IsCopy copy → bytes_of copy ≡ front ++ rest → rest ≢ [] → IsShapeFault front Short
+FrontsAreShort = (copy : Replica) (front rest : List ℕ) → IsCopy copy → AreBytesOf copy (front ++ rest) → rest ≢ [] → IsShapeFault front Short

@@ -4,6 +4,7 @@ pub mod Tests
 pub mod TestsExact
 pub mod Absent
 pub mod LockModes
+pub mod Forms
 pub mod Bytes
 pub mod Reading
 pub mod Faults

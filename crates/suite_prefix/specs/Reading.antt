@@ -13,6 +13,8 @@ use Rattle.suite_prefix.specs.TwoLists.{default_of}
 use Rattle.suite_prefix.specs.declared.copies.PrefixKind.{PrefixKind}
 use Rattle.suite_prefix.specs.declared.copies.PrefixKind.TheVariants.{Absent, File, Folder}
 use Rattle.suite_prefix.specs.declared.copies.Replica.{Replica}
+use Rattle.suite_prefix.specs.declared.forms.Form.{Form}
+use Rattle.suite_prefix.specs.declared.forms.Form.TheVariants.{One, Two}
 use Rattle.suite_prefix.specs.declared.faults.CopyFault.{CopyFault}
 use Rattle.suite_prefix.specs.declared.faults.CopyFault.TheVariants.{Short, BadTag}
 use Rattle.suite_prefix.specs.declared.shapes.EntryShape.{EntryShape}
@@ -30,6 +32,7 @@ Reads view (Err fault) read = read ≡ Err fault
 
 -- the parts of a copy as they stand
 pub record Shape : Type 0 where
+  pub form : Form
   pub identity : Identity
   pub entries : List EntryShape
   pub default : List EntryShape
@@ -49,9 +52,10 @@ number_at w bytes = if nat_lt (length bytes) (byte_len w) then Err Short else Ok
 abbrev pub bytes_at : ℕ → List ℕ → Result (List ℕ × List ℕ) CopyFault
 bytes_at n bytes = if nat_lt (length bytes) n then Err Short else Ok (take n bytes, drop n bytes)
 
-abbrev pub form_at : List ℕ → Result (List ℕ) CopyFault
+abbrev pub form_at : List ℕ → Result (Form × List ℕ) CopyFault
 form_at [] = Err Short
-form_at (suc (suc zero) ∷ rest) = Ok rest
+form_at (suc zero ∷ rest) = Ok (One, rest)
+form_at (suc (suc zero) ∷ rest) = Ok (Two, rest)
 form_at (other ∷ rest) = Err BadTag
 
 abbrev pub kind_of_code : ℕ → Result PrefixKind CopyFault
@@ -116,11 +120,16 @@ list_at bytes = do
   count ← byte_at bytes
   many_at entry_at count.0 count.1
 
+-- form 1 has no default list
+abbrev pub default_at : Form → List ℕ → Result (List EntryShape × List ℕ) CopyFault
+default_at One bytes = Ok ([], bytes)
+default_at Two bytes = list_at bytes
+
 -- the entries of the access list, and those of the default list
-unfoldable pub lists_at : List ℕ → Result ((List EntryShape × List EntryShape) × List ℕ) CopyFault
-lists_at bytes = do
+unfoldable pub lists_at : Form → List ℕ → Result ((List EntryShape × List EntryShape) × List ℕ) CopyFault
+lists_at form bytes = do
   access ← list_at bytes
-  default ← list_at access.1
+  default ← default_at form access.1
   Ok ((access.0, default.0), default.1)
 
 unfoldable pub listed_at : List ℕ → Result (List Representative × List ℕ) CopyFault
@@ -154,13 +163,13 @@ content_at Folder bytes = folder_at bytes
 
 unfoldable pub shape_at : List ℕ → Result (Shape × List ℕ) CopyFault
 shape_at bytes = do
-  rest ← form_at bytes
-  identity ← identity_at rest
-  lists ← lists_at identity.1
+  form ← form_at bytes
+  identity ← identity_at form.1
+  lists ← lists_at form.0 identity.1
   votes ← votes_at lists.1
   dver ← number_at w64 votes.1
   content ← content_at identity.0.kind dver.1
-  Ok (record { identity = identity.0; entries = lists.0.0; default = lists.0.1; votes = votes.0; dver = dver.0; content = content.0 }, content.1)
+  Ok (record { form = form.0; identity = identity.0; entries = lists.0.0; default = lists.0.1; votes = votes.0; dver = dver.0; content = content.0 }, content.1)
 
 -- ---- the copy that a shape spells
 

@@ -1,5 +1,6 @@
 pub mod Judging
 pub mod SettingsView
+pub mod ServersCode
 pub mod Equality
 pub mod SettingsEquality
 pub mod Heads

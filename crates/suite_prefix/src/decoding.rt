@@ -6,7 +6,7 @@ ghost use Rattle.acl_core.specs.AccessLists.{IsAccepted};
 ghost use Rattle.acl_core.specs.Entries.{entry_of};
 ghost use Rattle.acl_core.specs.Modes.{minimal_list};
 ghost use Rattle.suite_content.specs.Contents.{empty_content, kind_of};
-ghost use Rattle.suite_prefix.specs.Bytes.{bytes_of};
+ghost use Rattle.suite_prefix.specs.Bytes.{AreBytesOf};
 ghost use Rattle.suite_prefix.specs.Copies.{IsCopy, IsNothing};
 ghost use Rattle.suite_prefix.specs.Faults.{Explains, FaultsTellApart, FrontsAreShort, content_rises, entries_rise, is_canonical, is_written, numbers_belong};
 ghost use Rattle.suite_prefix.specs.code.Judging.{FitsForm, IsSound, IsWhole, MakeLists, MakesDefault, IsWithin, KeepsRules, Refuses, content_in};
@@ -24,7 +24,7 @@ use crate::writing::parts_of_tag;
 use acl_core::{Acl, AclError, Entry, Lists, MAX_ENTRIES, Tag};
 use std::alloc::{AllocError, Global};
 use suite_content::{Content, FileBytes, MAX_CONTENT, MAX_NAMES};
-use vote_core::{MAX_SERVERS, Votes};
+use vote_core::Votes;
 
 /// What an entry's place has before an entry is put there.
 const NO_ENTRY: EntryShape = EntryShape {
@@ -33,14 +33,14 @@ const NO_ENTRY: EntryShape = EntryShape {
     permissions: 0,
 };
 
-/// The valid copy with these bytes.
+/// The valid copy with these bytes, in whichever form.
 pub fn decode(alloc: Global, bytes: &[u8]) -> Result<Replica, DecodeError>
-    // What is read is a valid copy, and these are its bytes.
+    // What is read is a valid copy, and these are its bytes, in a form that can hold it.
     ensures valid { IfOk result IsCopy }
-    ensures bytes { IfOk result (λ copy. bytes.now ≡ bytes_of copy) }
+    ensures bytes { IfOk result (λ copy. AreBytesOf copy bytes.now) }
 
-    // The bytes of a valid copy are read, unless memory runs out.
-    ensures only { (copy : Replica) → IsCopy copy → bytes.now ≡ bytes_of copy → MatchResult result (λ read. read ≡ copy) (λ error. error ≡ Memory) }
+    // The bytes of a valid copy in such a form are read, unless memory runs out.
+    ensures only { (copy : Replica) → IsCopy copy → AreBytesOf copy bytes.now → MatchResult result (λ read. read ≡ copy) (λ error. error ≡ Memory) }
 
     // Else it is the fault of the bytes. Want of memory is answered to the bytes of a valid copy alone.
     ensures error { IfErr result (Explains bytes.now) }
@@ -115,10 +115,11 @@ fn sound_votes(parts: &Parts) -> Option<Votes>
     ensures value { IfSome result (λ votes. votes ≡ parts.now.votes) }
 {
     let known = permissions_known(parts.entries) && permissions_known(parts.default);
-    if !(known && keeps_rules(parts)) {
+    let few = parts.entries.len() <= parts.form.most_entries();
+    if !(known && few && keeps_rules(parts)) {
         return None;
     }
-    Votes::new(MAX_SERVERS, parts.reps, parts.r, parts.w).ok()
+    Votes::new(parts.form.most_servers(), parts.reps, parts.r, parts.w).ok()
 }
 
 /// Whether a shape is the one in which its copy is written.

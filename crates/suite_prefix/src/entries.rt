@@ -2,9 +2,10 @@
 
 ghost use Rattle.std.specs.Prelude.{◌≡◌, ◌<◌, ◌↔◌, [], All, IfOk, IsOk, IsTrue, map};
 ghost use Rattle.acl_core.specs.AccessLists.{IsAcl};
-ghost use Rattle.suite_prefix.specs.Reading.{Reads, entries_in, entry_at, entry_from, list_at, many_at};
+ghost use Rattle.suite_prefix.specs.Reading.{Reads, default_at, entries_in, entry_at, entry_from, list_at, many_at};
 
 use crate::faults::CopyFault;
+use crate::forms::Form;
 use crate::reading::{byte_at, entry_at};
 use acl_core::{Acl, Entry};
 use std::alloc::{AllocError, Global};
@@ -38,6 +39,20 @@ impl<'a> Entries<'a> {
         let (count, bytes) = byte_at(bytes)?;
         let rest = after_entries(count, bytes)?;
         Ok((Entries { count, bytes }, rest))
+    }
+
+    /// The entries of the default list, and the bytes after them. Form 1 has none.
+    #[tactic(auto, unfolding(crate::specs::Reading::many_at))]
+    pub(crate) fn default_at(
+        form: Form,
+        bytes: &'a [u8],
+    ) -> Result<(Entries<'a>, &'a [u8]), CopyFault>
+        ensures { Reads (λ x. (x.0, x.1.now)) result (default_at form bytes.now) }
+    {
+        match form {
+            Form::One => Ok((Entries { count: 0, bytes }, bytes)),
+            Form::Two => Entries::at(bytes),
+        }
     }
 
     /// Whether there are none.

@@ -45,10 +45,10 @@ impl<'a> HeadParts<'a> {
     ) -> Result<(HeadParts<'a>, &'a [u8]), CopyFault>
         ensures { Reads (λ x. (x.0, x.1.now)) result (head_at bytes.now) }
     {
-        let rest = form_at(bytes)?;
+        let (form, rest) = form_at(bytes)?;
         let (identity, rest) = identity_at(rest)?;
         let (entries, rest) = Entries::at(rest)?;
-        let (default, rest) = Entries::at(rest)?;
+        let (default, rest) = Entries::default_at(form, rest)?;
         let (reps, rest) = listed_at(rest, places)?;
         let (r, rest) = u16_at(rest)?;
         let (w, rest) = u16_at(rest)?;

@@ -2,12 +2,13 @@
 
 ghost use Rattle.std.specs.Prelude.{◌≡◌, ◌≤◌, length};
 ghost use Rattle.std.specs.Int.{w16, w32, w64};
-ghost use Rattle.suite_prefix.specs.Reading.{Reads, byte_at, number_at, bytes_at, form_at, kind_of_code, identity_at, code_at, tag_of, entry_at, representative_at, name_at, many_at, list_at, lists_at, listed_at, file_at, content_at, shape_at};
+ghost use Rattle.suite_prefix.specs.Reading.{Reads, byte_at, number_at, bytes_at, default_at, form_at, kind_of_code, identity_at, code_at, tag_of, entry_at, representative_at, name_at, many_at, list_at, lists_at, listed_at, file_at, content_at, shape_at};
 ghost use Rattle.suite_prefix.specs.code.Judging.{content_in};
 ghost use Rattle.suite_content.specs.declared.content.Content.TheVariants as content;
 
 use crate::copies::PrefixKind;
 use crate::faults::CopyFault;
+use crate::forms::Form;
 use crate::shapes::{ContentShape, EntryShape, Identity, Names, Parts};
 use acl_core::Tag;
 
@@ -64,13 +65,14 @@ pub(crate) fn bytes_at(count: usize, bytes: &[u8]) -> Result<(&[u8], &[u8]), Cop
     Ok(bytes.split_at(count))
 }
 
-/// The bytes after the form.
-pub(crate) fn form_at(bytes: &[u8]) -> Result<&[u8], CopyFault>
-    ensures { Reads (λ rest. rest.now) result (form_at bytes.now) }
+/// The form, and the bytes after it.
+pub(crate) fn form_at(bytes: &[u8]) -> Result<(Form, &[u8]), CopyFault>
+    ensures { Reads (λ x. (x.0, x.1.now)) result (form_at bytes.now) }
 {
     match bytes {
         [] => Err(CopyFault::Short),
-        [2, rest @ ..] => Ok(rest),
+        [1, rest @ ..] => Ok((Form::One, rest)),
+        [2, rest @ ..] => Ok((Form::Two, rest)),
         [_, ..] => Err(CopyFault::BadTag),
     }
 }
@@ -208,17 +210,32 @@ fn list_at<'a>(
     Ok((entries, rest))
 }
 
+/// The entries of the default list, put into the first places. Form 1 has none.
+fn default_at<'a>(
+    form: Form,
+    bytes: &'a [u8],
+    places: &'a mut [EntryShape; 255],
+) -> Result<(&'a [EntryShape], &'a [u8]), CopyFault>
+    ensures { Reads (λ x. (x.0.now, x.1.now)) result (default_at form bytes.now) }
+{
+    match form {
+        Form::One => Ok((&[], bytes)),
+        Form::Two => list_at(bytes, places),
+    }
+}
+
 /// The entries of the access list and those of the default list, each put into the first places of its own.
 #[tactic(auto, unfolding(crate::specs::Reading::lists_at))]
 fn lists_at<'a>(
+    form: Form,
     bytes: &'a [u8],
     places: &'a mut [EntryShape; 255],
     default_places: &'a mut [EntryShape; 255],
 ) -> Result<((&'a [EntryShape], &'a [EntryShape]), &'a [u8]), CopyFault>
-    ensures { Reads (λ x. ((x.0.0.now, x.0.1.now), x.1.now)) result (lists_at bytes.now) }
+    ensures { Reads (λ x. ((x.0.0.now, x.0.1.now), x.1.now)) result (lists_at form bytes.now) }
 {
     let (access, rest) = list_at(bytes, places)?;
-    let (default, rest) = list_at(rest, default_places)?;
+    let (default, rest) = default_at(form, rest, default_places)?;
     Ok(((access, default), rest))
 }
 
@@ -269,15 +286,16 @@ pub(crate) fn shape_at<'a>(
 ) -> Result<(Parts<'a>, &'a [u8]), CopyFault>
     ensures { Reads (λ x. (x.0, x.1.now)) result (shape_at bytes.now) }
 {
-    let rest = form_at(bytes)?;
+    let (form, rest) = form_at(bytes)?;
     let (identity, rest) = identity_at(rest)?;
-    let ((entries, default), rest) = lists_at(rest, entry_places, default_places)?;
+    let ((entries, default), rest) = lists_at(form, rest, entry_places, default_places)?;
     let (reps, rest) = listed_at(rest, places)?;
     let (r, rest) = u16_at(rest)?;
     let (w, rest) = u16_at(rest)?;
     let (dver, rest) = u64_at(rest)?;
     let (content, rest) = content_at(identity.kind, rest)?;
     let parts = Parts {
+        form,
         identity,
         entries,
         default,

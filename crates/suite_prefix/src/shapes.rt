@@ -8,6 +8,7 @@ ghost use Rattle.suite_prefix.specs.Reading.{Reads, folder_at, many_at, name_at,
 
 use crate::copies::PrefixKind;
 use crate::faults::CopyFault;
+use crate::forms::Form;
 use crate::reading::{name_at, u16_at};
 use acl_core::Tag;
 use sorted_map::RoomyMap;
@@ -42,6 +43,7 @@ pub(crate) enum ContentShape<'a> {
 /// A whole shape.
 #[derive(Drop)]
 pub(crate) struct Parts<'a> {
+    pub(crate) form: Form,
     pub(crate) identity: Identity,
     pub(crate) entries: &'a [EntryShape],
     pub(crate) default: &'a [EntryShape],
@@ -58,7 +60,7 @@ impl<'a> Model for Parts<'a> {
 
     ghost Value = { Shape };
 
-    ghost view = { λ parts. record { identity = parts.identity; entries = parts.entries.now; default = parts.default.now; votes = record { reps = parts.reps.now; r = parts.r; w = parts.w }; dver = parts.dver; content = content_in parts.content } };
+    ghost view = { λ parts. record { form = parts.form; identity = parts.identity; entries = parts.entries.now; default = parts.default.now; votes = record { reps = parts.reps.now; r = parts.r; w = parts.w }; dver = parts.dver; content = content_in parts.content } };
 }
 
 /// Names with their numbers: how many there are, and the bytes that begin with them.

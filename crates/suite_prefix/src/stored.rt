@@ -1,22 +1,25 @@
 //! Copies kept as their bytes.
 
 ghost use Rattle.std.specs.Prelude.{◌≡◌, IfOk};
-ghost use Rattle.suite_prefix.specs.Bytes.{bytes_of, content_bytes};
+ghost use Rattle.suite_prefix.specs.Bytes.{bytes_in, content_bytes};
 ghost use Rattle.suite_prefix.specs.Copies.{IsCopy};
+ghost use Rattle.suite_prefix.specs.Forms.{CanHold};
 ghost use Rattle.suite_prefix.specs.Stored.{under};
 ghost use Rattle.suite_prefix.specs.code.Heads.{head_of};
-ghost use Rattle.suite_prefix.specs.code.Records.{IsRecord, copy_in};
+ghost use Rattle.suite_prefix.specs.code.Records.{IsRecord, kept_in};
+ghost use Rattle.suite_prefix.specs.declared.forms.Form.TheVariants.{Two};
 
 use crate::copies::{Prefix, PrefixKind, Replica};
 use crate::decoding::{content_from, decode};
+use crate::forms::Form;
 use crate::heads::HeadParts;
-use crate::reading::content_at;
-use crate::writing::{FORM, encode, put_prefix, room_for_prefix};
+use crate::reading::{content_at, form_at};
+use crate::writing::{encode_in, put_prefix, room_for_prefix};
 use std::alloc::{AllocError, Global};
 use std::marker::Model;
 use suite_content::Content;
 
-/// A valid copy, kept as its bytes. What was read of them is kept beside them, to be shared when it is asked
+/// A valid copy, kept as its bytes, in a form that can hold it. What was read of them is kept beside them, to be shared when it is asked
 /// for again, and does not show. It stands on the heap, so that the copy is cheap to move.
 #[derive(Drop)]
 pub struct StoredCopy {
@@ -35,14 +38,14 @@ struct Read {
 
 impl Model for StoredCopy {
     ghost use Rattle.std.specs.Prelude.{IfSome};
-    ghost use Rattle.suite_prefix.specs.declared.copies.Replica.{Replica};
-    ghost use Rattle.suite_prefix.specs.code.Records.{IsReadOf, IsRecord, copy_in};
+    ghost use Rattle.suite_prefix.specs.Stored.{Kept};
+    ghost use Rattle.suite_prefix.specs.code.Records.{IsReadOf, IsRecord, kept_in};
 
-    ghost Value = { Replica };
+    ghost Value = { Kept };
 
-    ghost view = { λ stored. copy_in stored.bytes.items };
+    ghost view = { λ stored. kept_in stored.bytes.items };
 
-    ghost invariant = { λ stored. IsRecord stored.bytes.items × IfSome stored.read (λ read. IsReadOf (copy_in stored.bytes.items) read.value) };
+    ghost invariant = { λ stored. IsRecord stored.bytes.items × IfSome stored.read (λ read. IsReadOf (kept_in stored.bytes.items).copy read.value) };
 }
 
 impl Clone for StoredCopy {
@@ -57,19 +60,29 @@ impl Clone for StoredCopy {
 }
 
 impl StoredCopy {
-    /// A valid copy.
+    /// A valid copy, in the form that is written.
     pub fn new(alloc: Global, copy: &Replica) -> Result<StoredCopy, AllocError>
         requires { IsCopy copy.now }
-        ensures { IfOk result (λ stored. stored ≡ copy.now) }
+        ensures { IfOk result (λ stored. stored ≡ record { form = Two; copy = copy.now }) }
     {
-        let bytes = encode(alloc, copy)?;
+        StoredCopy::in_form(alloc, Form::Two, copy)
+    }
+
+    /// A valid copy in a form that can hold it: what was there before form 2 is in form 1.
+    pub fn in_form(alloc: Global, form: Form, copy: &Replica) -> Result<StoredCopy, AllocError>
+        requires valid { IsCopy copy.now }
+        requires held { CanHold form copy.now.prefix }
+        ensures { IfOk result (λ stored. stored ≡ record { form = form; copy = copy.now }) }
+    {
+        let bytes = encode_in(alloc, form, copy)?;
         Ok(kept(bytes))
     }
 
-    /// The copy under another prefix. The bytes of its content are taken as they stand.
+    /// The copy under another prefix, in the form that is written. The bytes of its content are taken as they
+    /// stand.
     pub fn under(&self, alloc: Global, prefix: &Prefix) -> Result<StoredCopy, AllocError>
-        requires { IsCopy (under prefix.now self.now) }
-        ensures { IfOk result (λ stored. stored ≡ under prefix.now self.now) }
+        requires { IsCopy (under prefix.now self.now.copy) }
+        ensures { IfOk result (λ stored. stored ≡ record { form = Two; copy = under prefix.now self.now.copy }) }
     {
         let mut reps = [(0, 0); 255];
         let (head, content) = self.parts(&mut reps);
@@ -85,16 +98,24 @@ impl StoredCopy {
         }
         let room = room_for_prefix(prefix).saturating_add(content.len());
         let mut left = Vec::with_capacity(alloc, room)?;
-        left.push(FORM)?;
-        put_prefix(&mut left, prefix)?;
+        left.push(Form::Two.code())?;
+        put_prefix(&mut left, Form::Two, prefix)?;
         left.extend_from_slice(&head.dver.to_be_bytes())?;
         left.extend_from_slice(content)?;
         Ok(kept(left))
     }
 
+    /// The form of the bytes.
+    pub fn form(&self) -> Form
+        ensures { result ≡ self.now.form }
+    {
+        let (form, _) = form_at(self.as_bytes()).unwrap();
+        form
+    }
+
     /// The kind.
     pub fn kind(&self) -> PrefixKind
-        ensures { result ≡ self.now.prefix.kind }
+        ensures { result ≡ self.now.copy.prefix.kind }
     {
         if let Some(read) = &self.read {
             return read.prefix.kind;
@@ -106,8 +127,8 @@ impl StoredCopy {
 
     /// The prefix, and the version of the content.
     pub fn head(&self, alloc: Global) -> Result<(Prefix, u64), AllocError>
-        ensures prefix { IfOk result (λ head. head.0 ≡ self.now.prefix) }
-        ensures dver { IfOk result (λ head. head.1 ≡ self.now.dver) }
+        ensures prefix { IfOk result (λ head. head.0 ≡ self.now.copy.prefix) }
+        ensures dver { IfOk result (λ head. head.1 ≡ self.now.copy.dver) }
     {
         match &self.read {
             Some(read) => {
@@ -120,8 +141,8 @@ impl StoredCopy {
 
     /// The version of the content, and the content.
     pub fn given(&self, alloc: Global) -> Result<(u64, Content), AllocError>
-        ensures dver { IfOk result (λ given. given.0 ≡ self.now.dver) }
-        ensures content { IfOk result (λ given. given.1 ≡ self.now.content) }
+        ensures dver { IfOk result (λ given. given.0 ≡ self.now.copy.dver) }
+        ensures content { IfOk result (λ given. given.1 ≡ self.now.copy.content) }
     {
         if let Some(read) = &self.read {
             if let Some(content) = &read.content {
@@ -184,15 +205,16 @@ impl StoredCopy {
 
     /// The bytes. It takes no memory.
     pub fn as_bytes(&self) -> &[u8]
-        ensures bytes { result.now ≡ bytes_of self.now }
-        ensures valid { IsCopy self.now }
+        ensures bytes { result.now ≡ bytes_in self.now.form self.now.copy }
+        ensures valid { IsCopy self.now.copy }
+        ensures held { CanHold self.now.form self.now.copy.prefix }
     {
         &self.bytes
     }
 
     /// The copy. Only memory keeps it from being read.
     pub fn copy(&self, alloc: Global) -> Result<Replica, AllocError>
-        ensures { IfOk result (λ copy. copy ≡ self.now) }
+        ensures { IfOk result (λ copy. copy ≡ self.now.copy) }
     {
         match decode(alloc, self.as_bytes()) {
             Ok(copy) => Ok(copy),
@@ -202,16 +224,16 @@ impl StoredCopy {
 
     /// What stands before the content, and the bytes of the content.
     fn parts<'a>(&'a self, reps: &'a mut [(u8, u8); 255]) -> (HeadParts<'a>, &'a [u8])
-        ensures head { result.0 ≡ head_of self.now }
-        ensures content { result.1.now ≡ content_bytes self.now.content }
-        ensures valid { IsCopy self.now }
+        ensures head { result.0 ≡ head_of self.now.copy }
+        ensures content { result.1.now ≡ content_bytes self.now.copy.content }
+        ensures valid { IsCopy self.now.copy }
     {
         HeadParts::at(self.as_bytes(), reps).unwrap()
     }
 
     fn read_head(&self, alloc: Global) -> Result<(Prefix, u64), AllocError>
-        ensures prefix { IfOk result (λ head. head.0 ≡ self.now.prefix) }
-        ensures dver { IfOk result (λ head. head.1 ≡ self.now.dver) }
+        ensures prefix { IfOk result (λ head. head.0 ≡ self.now.copy.prefix) }
+        ensures dver { IfOk result (λ head. head.1 ≡ self.now.copy.dver) }
     {
         let mut reps = [(0, 0); 255];
         let (head, _) = self.parts(&mut reps);
@@ -220,8 +242,8 @@ impl StoredCopy {
     }
 
     fn read_content(&self, alloc: Global) -> Result<(u64, Content), AllocError>
-        ensures dver { IfOk result (λ given. given.0 ≡ self.now.dver) }
-        ensures content { IfOk result (λ given. given.1 ≡ self.now.content) }
+        ensures dver { IfOk result (λ given. given.0 ≡ self.now.copy.dver) }
+        ensures content { IfOk result (λ given. given.1 ≡ self.now.copy.content) }
     {
         let mut reps = [(0, 0); 255];
         let (head, rest) = self.parts(&mut reps);
@@ -234,7 +256,7 @@ impl StoredCopy {
 /// The copy with these bytes.
 fn kept(bytes: Vec<u8>) -> StoredCopy
     requires { IsRecord bytes.items }
-    ensures { result ≡ copy_in bytes.items }
+    ensures { result ≡ kept_in bytes.items }
 {
     StoredCopy { bytes, read: None }
 }

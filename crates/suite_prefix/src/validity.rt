@@ -1,6 +1,6 @@
 //! Which prefixes and copies are valid. Neither test takes memory.
 
-ghost use Rattle.std.specs.Prelude.{◌≡◌, ◌<◌, ◌^◌, ◌↔◌, All, IsTrue, nat_le, length};
+ghost use Rattle.std.specs.Prelude.{◌≡◌, ℕ, ◌<◌, ◌^◌, ◌↔◌, All, IsTrue, nat_le, length};
 ghost use Rattle.suite_prefix.specs.TwoLists.{AreAcls, NumbersFit, closed_lists};
 ghost use Rattle.acl_core.specs.Tags.{qualifier};
 ghost use Rattle.suite_content.specs.Limits.{max_names, max_content};
@@ -9,7 +9,8 @@ ghost use Rattle.suite_content.specs.Contents.{kind_of, empty_content};
 ghost use Rattle.suite_content.specs.Folders.{IsFolder};
 ghost use Rattle.suite_prefix.specs.declared.copies.PrefixKind.TheVariants.{Folder};
 ghost use Rattle.suite_prefix.specs.Copies.{IsPrefix, PrefixFits, IsNothing, IsCopy, IsOfSomeCopy, IsContent, IsFile, IsFolderContent, held_by};
-ghost use Rattle.suite_prefix.specs.SettingsRules.{IsAccepted};
+ghost use Rattle.suite_prefix.specs.Forms.{Holds};
+ghost use Rattle.suite_prefix.specs.SettingsRules.{IsAccepted, form_of_root};
 ghost use Rattle.suite_prefix.specs.Tests as test;
 ghost use Rattle.suite_prefix.specs.TestsExact.{ContentFits, CopyFits, TestsAreExact};
 
@@ -61,10 +62,11 @@ pub fn tests_are_exact()
 {}
 
 impl Settings {
-    /// A law: settings are accepted ones, and the root's prefix, which is made of them, fits its types.
-    /// It does nothing.
+    /// A law: settings are accepted ones, the root's prefix, which is made of them, fits its types, and
+    /// each server's form can hold it. It does nothing.
     pub fn fits(&self)
         ensures accepted { IsAccepted self.now }
+        ensures held { (server : ℕ) → Holds (form_of_root self.now server) self.now.root_acl self.now.c0 }
         ensures root { PrefixFits (record { pver = 1; kind = Folder; owner = self.now.root_owner; group = self.now.root_group; acl = self.now.root_acl; votes = self.now.c0 }) }
     {
         let _servers = self.servers();

@@ -4,28 +4,35 @@ ghost use Rattle.std.specs.Prelude.{◌≡◌, ◌++◌, ◌*◌, ◌<◌, ◌�
 ghost use Rattle.suite_content.specs.Limits.{max_names};
 ghost use Rattle.std.specs.List.{flat_map};
 ghost use Rattle.suite_prefix.specs.Copies.{IsCopy, IsContent};
-ghost use Rattle.suite_prefix.specs.Bytes.{NoneBeginsAnother, bytes_of, prefix_bytes, identity_bytes, list_bytes, lists_bytes, entry_bytes, votes_bytes, representative_bytes, content_bytes, name_bytes, kind_code, tag_code};
+ghost use Rattle.suite_prefix.specs.Bytes.{NoneBeginsAnother, bytes_in, bytes_of, prefix_bytes, identity_bytes, list_bytes, lists_bytes, entry_bytes, votes_bytes, representative_bytes, content_bytes, name_bytes, kind_code, tag_code};
 ghost use Rattle.acl_core.specs.Tags.{qualifier};
+ghost use Rattle.suite_prefix.specs.TwoLists.{default_entries};
 
 use crate::copies::{Prefix, PrefixKind, Replica};
+use crate::forms::Form;
 use acl_core::{Acl, Entry, Lists, Tag};
 use bitflags::Flags;
 use std::alloc::{AllocError, Global};
 use suite_content::{Content, MAX_NAME, Name};
 use vote_core::Votes;
 
-/// The form of the bytes.
-pub(crate) const FORM: u8 = 2;
-
-/// The bytes of a valid copy.
+/// The bytes of a valid copy, in the form that is written.
 pub fn encode(alloc: Global, copy: &Replica) -> Result<Vec<u8>, AllocError>
     requires { IsCopy copy.now }
     ensures { IfOk result (λ bytes. bytes.items ≡ bytes_of copy.now) }
 {
+    encode_in(alloc, Form::Two, copy)
+}
+
+/// The bytes of a valid copy in a form.
+pub(crate) fn encode_in(alloc: Global, form: Form, copy: &Replica) -> Result<Vec<u8>, AllocError>
+    requires { IsCopy copy.now }
+    ensures { IfOk result (λ bytes. bytes.items ≡ bytes_in form copy.now) }
+{
     let room = room_for_prefix(&copy.prefix).saturating_add(room_for(&copy.content));
     let mut out = Vec::with_capacity(alloc, room)?;
-    out.push(FORM)?;
-    put_prefix(&mut out, &copy.prefix)?;
+    out.push(form.code())?;
+    put_prefix(&mut out, form, &copy.prefix)?;
     out.extend_from_slice(&copy.dver.to_be_bytes())?;
     put_content(&mut out, &copy.content)?;
     Ok(out)
@@ -67,16 +74,16 @@ fn room_for_names(names: &[(Name, u64)]) -> usize
     room
 }
 
-/// A law: no valid copy's bytes begin those of another, so no two copies share bytes. It does nothing.
+/// A law: what may be read begins nothing else that may be read, so no two copies share bytes. It does nothing.
 pub fn no_bytes_begin_others()
     ensures { NoneBeginsAnother }
 {}
 
-pub(crate) fn put_prefix(out: &mut Vec<u8>, prefix: &Prefix) -> Result<(), AllocError>
-    ensures { OnOk result (out.new.items ≡ out.old.items ++ prefix_bytes prefix.now) }
+pub(crate) fn put_prefix(out: &mut Vec<u8>, form: Form, prefix: &Prefix) -> Result<(), AllocError>
+    ensures { OnOk result (out.new.items ≡ out.old.items ++ prefix_bytes form prefix.now) }
 {
     put_identity(out, prefix)?;
-    put_lists(out, &prefix.acl)?;
+    put_lists(out, form, &prefix.acl)?;
     put_votes(out, &prefix.votes)
 }
 
@@ -100,11 +107,20 @@ fn code_of_kind(kind: PrefixKind) -> u8
     }
 }
 
-fn put_lists(out: &mut Vec<u8>, lists: &Lists) -> Result<(), AllocError>
-    ensures { OnOk result (out.new.items ≡ out.old.items ++ lists_bytes lists.now) }
+fn put_lists(out: &mut Vec<u8>, form: Form, lists: &Lists) -> Result<(), AllocError>
+    ensures { OnOk result (out.new.items ≡ out.old.items ++ lists_bytes form lists.now) }
 {
     put_list(out, &lists.access)?;
-    match &lists.default {
+    match form {
+        Form::One => Ok(()),
+        Form::Two => put_default(out, &lists.default),
+    }
+}
+
+fn put_default(out: &mut Vec<u8>, default: &Option<Acl>) -> Result<(), AllocError>
+    ensures { OnOk result (out.new.items ≡ out.old.items ++ list_bytes (default_entries default.now)) }
+{
+    match default {
         Some(default) => put_list(out, default),
         None => out.push(0).map_err(AllocError::from),
     }

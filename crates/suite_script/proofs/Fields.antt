@@ -6,6 +6,7 @@ use Rattle.std.proofs.lemmas.Bool.Decides.{nat_tests}
 use Rattle.std.proofs.lemmas.List.{take_more_set}
 use Rattle.script_text.specs.Numbers.{number_up_to}
 use Rattle.vote_core.specs.Quorums.{Representative}
+use Rattle.vote_core.specs.Validity.{max_servers}
 use Rattle.suite_script.specs.Votes.{field_text, fields_text, last_server, reps_from, with_field, with_votes}
 
 -- what is listed, where some servers were read already
@@ -17,13 +18,13 @@ one_more front server votes (Some more) = ap Some (append_assoc front ((server, 
 one_more front server votes None = refl
 
 -- the field of a server that there may be
-here : (server : ℕ) (field : List ℕ) (fields : List (List ℕ)) → server < 16 → reps_from server (field ∷ fields) ≡ with_field server field (reps_from (server + 1) fields)
+here : (server : ℕ) (field : List ℕ) (fields : List (List ℕ)) → server < max_servers → reps_from server (field ∷ fields) ≡ with_field server field (reps_from (server + 1) fields)
 here server field fields inside =
-    let within : nat_lt server 16 ≡ true = grind (arith, nat_tests) in
+    let within : nat_lt server max_servers ≡ true = grind (arith, nat_tests) in
     rw within refl
 
 -- a server more is listed
-pub listed_more : (reps : List Representative) (count server votes : ℕ) (field : List ℕ) (fields : List (List ℕ)) → count < length reps → server < 16
+pub listed_more : (reps : List Representative) (count server votes : ℕ) (field : List ℕ) (fields : List (List ℕ)) → count < length reps → server < max_servers
     → bytes_eq field (codes "-") ≡ false → number_up_to 255 field ≡ Some votes
     → reps_after (take (count + 1) (set reps count (server, votes))) (reps_from (server + 1) fields) ≡ reps_after (take count reps) (reps_from server (field ∷ fields))
 listed_more reps count server votes field fields room inside differs spelled =
@@ -33,7 +34,7 @@ listed_more reps count server votes field fields room inside differs spelled =
     ∙ ap (reps_after (take count reps)) (sym (here server field fields inside ∙ (rw differs refl)))
 
 -- a server more is not listed
-pub unlisted_more : (front : List Representative) (server : ℕ) (field : List ℕ) (fields : List (List ℕ)) → server < 16 → bytes_eq field (codes "-") ≡ true
+pub unlisted_more : (front : List Representative) (server : ℕ) (field : List ℕ) (fields : List (List ℕ)) → server < max_servers → bytes_eq field (codes "-") ≡ true
     → reps_after front (reps_from (server + 1) fields) ≡ reps_after front (reps_from server (field ∷ fields))
 unlisted_more front server field fields inside same =
     ap (reps_after front) (sym (here server field fields inside ∙ (rw same refl)))

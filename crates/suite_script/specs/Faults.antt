@@ -5,7 +5,7 @@ use Rattle.acl_core.specs.declared.fault.AclFault.TheVariants.{NoUserObj, NoGrou
 use Rattle.acl_text.specs.declared.read.TextFault.{TextFault}
 use Rattle.acl_text.specs.declared.read.TextFault.TheVariants.{Syntax, UnknownName, NumberTooBig, Invalid, DefaultInvalid, Memory}
 use Rattle.suite_prefix.specs.declared.settings.SettingsFault.{SettingsFault}
-use Rattle.suite_prefix.specs.declared.settings.SettingsFault.TheVariants.{BadCount, BadCache}
+use Rattle.suite_prefix.specs.declared.settings.SettingsFault.TheVariants.{BadCount, BadCache, OldTooLarge}
 use Rattle.suite_prefix.specs.declared.settings.SettingsFault.TheVariants as settings
 use Rattle.vote_core.specs.declared.fault.VotesFault.{VotesFault}
 use Rattle.vote_core.specs.declared.fault.VotesFault.TheVariants.{Empty, UnknownServer, ListedTwice, NoVotes, ThresholdOutOfRange, ReadMissesWrite, WritesDisjoint}
@@ -52,6 +52,7 @@ abbrev pub settings_code : SettingsFault → List ℕ
 settings_code BadCount = codes "G1"
 settings_code settings.UnknownServer = codes "G2"
 settings_code BadCache = codes "G3"
+settings_code OldTooLarge = codes "G4"
 
 -- the codes of what can be wrong with a line
 abbrev pub code_of : LineFault → List ℕ

@@ -111,6 +111,20 @@ headed is_known begins reading script = do
   value ← said_at line.value.number (reading line.value.words)
   Ok (record { value = value; rest = line.rest })
 
+-- whether a line begins with this word, and whether the next one does
+abbrev pub line_begins : Word → List Word → Bool
+line_begins begins [] = false
+line_begins begins (first ∷ words) = bytes_eq first begins
+
+abbrev pub next_begins : Word → List Line → Bool
+next_begins begins [] = false
+next_begins begins (line ∷ more) = line_begins begins line.words
+
+-- the next line, where it begins with this word; a line that may be left out, and then this stands for it
+abbrev pub headed_if : {A : Type 0} → (Word → Bool) → Word → (List Word → Result A LineFault) → A → Pending → Result (Headed A) ScriptFault
+headed_if is_known begins reading otherwise script =
+    if next_begins begins script.lines then headed is_known begins reading script else Ok (record { value = otherwise; rest = script })
+
 -- what follows the word `root`: the root folder's owner, group and lists; a mode gives no default list
 abbrev pub root_in : List Word → Result Root LineFault
 root_in words = do

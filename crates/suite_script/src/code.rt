@@ -84,6 +84,7 @@ fn push_settings_code(text: &mut Vec<u8>, fault: SettingsFault) -> Result<(), Al
         SettingsFault::BadCount => b"G1",
         SettingsFault::UnknownServer => b"G2",
         SettingsFault::BadCache => b"G3",
+        SettingsFault::OldTooLarge => b"G4",
     };
     text.extend_from_slice(code)
 }

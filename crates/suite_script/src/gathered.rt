@@ -9,6 +9,9 @@ use byte_streams::{ByteOut, WriteFailed, write_all};
 /// How much text is gathered before it is written.
 const GATHERED: usize = 65_536;
 
+/// How much is printed before the rest of a script is looked through.
+pub const KEPT: usize = 4_194_304;
+
 /// Writes the text that is gathered where it is long enough.
 pub fn write_if_full<O: ByteOut>(writer: &mut O, text: &mut Vec<u8>) -> Result<(), WriteFailed>
     ensures { Moves result text.old.items text.new.items (O.written writer.old) (O.written writer.new)

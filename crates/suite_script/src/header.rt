@@ -25,10 +25,7 @@ pub fn read_root<L: Language>(
 {
     let mut line = script.header_line::<L>(b"root")?;
     let names = Names::new(alloc);
-    match root_of(alloc, &names, &mut line.words) {
-        Ok(root) => Ok(root),
-        Err(error) => Err(error.at(line.number)),
-    }
+    root_of(alloc, &names, &mut line.words).map_err(|error| error.at(line.number))
 }
 
 /// What follows the word `root`: the root folder's owner, group and lists, for which no names are known.

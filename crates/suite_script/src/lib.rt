@@ -23,7 +23,7 @@ mod word;
 
 pub use code::{push_fault, push_text_code};
 pub use fault::{LineError, LineFault, ScriptError, ScriptFault};
-pub use gathered::{write_gathered, write_if_full};
+pub use gathered::{KEPT, write_gathered, write_if_full};
 pub use header::read_root;
 pub use language::Language;
 pub use line::Line;

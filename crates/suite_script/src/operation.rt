@@ -1,10 +1,9 @@
 //! Operations as words.
 
-ghost use Rattle.std.specs.Prelude.{◌≡◌, ◌+◌, ◌≤◌, ◌∷◌, ◌++◌, [], take, vec_len, MatchResult, OnOk};
+ghost use Rattle.std.specs.Prelude.{◌≡◌, ◌+◌, ◌≤◌, ◌∷◌, ◌++◌, [], take, vec_len, OnOk};
 ghost use Rattle.file_ops.specs.Steps.{ok_map};
 ghost use Rattle.file_ops.specs.Transactions.{max_operations};
 ghost use Rattle.std.specs.Result.{result_map_both};
-ghost use Rattle.suite_script.specs.Words.{at_end};
 ghost use Rattle.suite_script.specs.Operations.{FirstAreEnough, act, make, operation, operations, verb_in};
 ghost use Rattle.suite_script.specs.Readings.{Gives, Reads};
 ghost use Rattle.suite_script.specs.code.Kept.{kept};
@@ -98,12 +97,13 @@ fn read_operation(alloc: Global, names: &Names, phrases: &mut Phrases<'_>) -> Re
     ensures whole { OnOk result (phrases.new.here ≡ []) }
     ensures later { phrases.new.later ≡ phrases.old.later }
 {
-    let Some(verb) = Verb::of(phrase_word(phrases)?) else {
-        return Err(LineError::Faulty(LineFault::Form));
-    };
-    let path = phrase_word(phrases)?;
+    let verb = phrases.next_word().ok_or(LineFault::Form)?;
+    let verb = Verb::of(verb).ok_or(LineFault::Form)?;
+    let path = phrases.next_word().ok_or(LineFault::Form)?;
     let action = read_action(alloc, names, verb, phrases)?;
-    phrase_end(phrases)?;
+    if phrases.next_word().is_some() {
+        return Err(LineError::Faulty(LineFault::Form));
+    }
     let path = PathText::new(alloc, path)?;
     Ok(Op { path, action })
 }
@@ -120,18 +120,24 @@ fn read_action(
 {
     match verb {
         Verb::Read => Ok(Action::Read),
-        Verb::Write => Ok(Action::Write(read_bytes(alloc, phrase_word(phrases)?)?)),
+        Verb::Write => {
+            let word = phrases.next_word().ok_or(LineFault::Form)?;
+            Ok(Action::Write(read_bytes(alloc, word)?))
+        }
         Verb::List => Ok(Action::List),
         Verb::File => read_make(alloc, names, Kind::File, phrases),
         Verb::Folder => read_make(alloc, names, Kind::Folder, phrases),
         Verb::Drop => Ok(Action::Drop),
         Verb::GetAcl => Ok(Action::GetAcl),
         Verb::SetAcl => {
-            let lists = read_lists(alloc, names, phrase_word(phrases)?)?;
-            Ok(Action::SetAcl(lists))
+            let word = phrases.next_word().ok_or(LineFault::Form)?;
+            Ok(Action::SetAcl(read_lists(alloc, names, word)?))
         }
         Verb::GetVotes => Ok(Action::GetVotes),
-        Verb::SetVotes => Ok(Action::SetVotes(read_votes(MAX_SERVERS, phrase_word(phrases)?)?)),
+        Verb::SetVotes => {
+            let word = phrases.next_word().ok_or(LineFault::Form)?;
+            Ok(Action::SetVotes(read_votes(MAX_SERVERS, word)?))
+        }
     }
 }
 
@@ -145,34 +151,11 @@ fn read_make(
     ensures action { Reads result phrases.new.here (make names.now kind phrases.old.here) }
     ensures later { phrases.new.later ≡ phrases.old.later }
 {
-    let init = read_init(alloc, names, phrase_word(phrases)?)?;
+    let init = phrases.next_word().ok_or(LineFault::Form)?;
+    let init = read_init(alloc, names, init)?;
     let votes = match phrases.next_word() {
         Some(word) => Some(read_votes(MAX_SERVERS, word)?),
         None => None,
     };
     Ok(Action::Make(kind, init, votes))
-}
-
-/// The next word of a phrase.
-fn phrase_word<'a>(phrases: &mut Phrases<'a>) -> Result<&'a [u8], LineFault>
-    ensures word { MatchResult result (λ word. phrases.old.here ≡ word.now ∷ phrases.new.here)
-        (λ fault. (fault ≡ LineFault.Form) × (phrases.old.here ≡ [])) }
-    ensures later { phrases.new.later ≡ phrases.old.later }
-{
-    match phrases.next_word() {
-        Some(word) => Ok(word),
-        None => Err(LineFault::Form),
-    }
-}
-
-/// Nothing more in a phrase.
-fn phrase_end(phrases: &mut Phrases<'_>) -> Result<(), LineFault>
-    ensures end { result ≡ at_end phrases.old.here }
-    ensures whole { OnOk result (phrases.new.here ≡ []) }
-    ensures later { phrases.new.later ≡ phrases.old.later }
-{
-    match phrases.next_word() {
-        Some(_) => Err(LineFault::Form),
-        None => Ok(()),
-    }
 }

@@ -3,7 +3,7 @@
 ghost use Rattle.std.specs.Prelude.{◌≡◌, ◌∷◌, [], ◌<◌, ◌≤◌, ◌+◌, ◌^◌, true, Ok, Err, MatchOption, MatchResult, IfOk, OnSome, length};
 ghost use Rattle.script_text.specs.Words.{words};
 ghost use Rattle.suite_script.specs.Progress.{Checks, GivesOwn, Heads, SaysLine, SaysOwn, fault_of};
-ghost use Rattle.suite_script.specs.Scripts.{header_line, is_skipped, language_of, later_line, lines_from, owns, whole, words_after};
+ghost use Rattle.suite_script.specs.Scripts.{header_line, is_skipped, language_of, later_line, line_begins, lines_from, next_begins, owns, whole, words_after};
 
 use crate::fault::{LineError, LineFault, ScriptError};
 use crate::language::Language;
@@ -64,6 +64,16 @@ fn next_said<'a>(lines: &mut Lines<'a>, number: &mut u64) -> Option<(u64, &'a [u
     None
 }
 
+/// Whether a line begins with this word.
+fn begins(mut words: Words<'_>, word: &[u8]) -> bool
+    ensures { result ≡ line_begins word.now words.entry }
+{
+    match words.next() {
+        Some(first) => first == word,
+        None => false,
+    }
+}
+
 impl<'a> ScriptReader<'a> {
     /// A script of which nothing is read yet.
     pub fn new(alloc: Global, text: &'a [u8]) -> ScriptReader<'a>
@@ -99,13 +109,24 @@ impl<'a> ScriptReader<'a> {
         ensures line { Heads result self.new (header_line L.is_known word.now self.old) }
         ensures fewer { length self.new.lines ≤ length self.old.lines }
     {
-        let mut line = match self.next_line() {
-            Ok(line) => line,
-            Err(end) => return Err(LineError::Faulty(LineFault::Order).at(end)),
-        };
-        match words_after::<L>(word, &mut line.words) {
-            Ok(()) => Ok(line),
-            Err(fault) => Err(LineError::Faulty(fault).at(line.number)),
+        let mut line = self
+            .next_line()
+            .map_err(|end| LineError::Faulty(LineFault::Order).at(end))?;
+        words_after::<L>(word, &mut line.words).map_err(|fault| LineError::Faulty(fault).at(
+            line.number,
+        ))?;
+        Ok(line)
+    }
+
+    /// Whether the next line begins with this word. Nothing is read.
+    pub fn next_begins(&self, word: &[u8]) -> bool
+        ensures { result ≡ next_begins word.now self.now.lines }
+    {
+        let mut left = Lines::new(self.left.rest());
+        let mut number = self.number;
+        match next_said(&mut left, &mut number) {
+            Some((_, line)) => begins(Words::new(line), word),
+            None => false,
         }
     }
 
@@ -164,10 +185,9 @@ impl<'a> ScriptReader<'a> {
             return Err(LineError::Faulty(LineFault::Form).at(number));
         };
         if L::begins(first) {
-            match language.read(alloc, &self.known, first, words) {
-                Ok(own) => Ok(own),
-                Err(error) => Err(error.at(number)),
-            }
+            language
+                .read(alloc, &self.known, first, words)
+                .map_err(|error| error.at(number))
         } else {
             Err(LineError::Faulty(misplaced::<L>(first)).at(number))
         }
@@ -189,18 +209,16 @@ impl<'a> ScriptReader<'a> {
             return Err(LineError::Faulty(LineFault::Form).at(number));
         };
         if L::begins(first) {
-            match language.read(alloc, &self.known, first, words) {
-                Ok(own) => {
-                    self.has_begun = true;
-                    Ok(Some(own))
-                }
-                Err(error) => Err(error.at(number)),
-            }
+            let own = language
+                .read(alloc, &self.known, first, words)
+                .map_err(|error| error.at(number))?;
+            self.has_begun = true;
+            Ok(Some(own))
         } else {
-            match read_name::<L>(self.has_begun, &mut self.known, first, &mut words) {
-                Ok(()) => Ok(None),
-                Err(error) => Err(error.at(number)),
-            }
+            read_name::<L>(self.has_begun, &mut self.known, first, &mut words).map_err(
+                |error| error.at(number),
+            )?;
+            Ok(None)
         }
     }
 }

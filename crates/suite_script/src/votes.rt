@@ -49,15 +49,9 @@ pub fn read_votes(servers: usize, word: &[u8]) -> Result<Votes, LineFault>
     ensures known { IfOk result (λ votes. All (λ rep. rep.0 < servers) votes.reps) }
 {
     let (fields, r, w) = split_word(word)?;
-    let Some(listed) = read_fields(fields) else {
-        return Err(LineFault::Form);
-    };
-    let Some(r) = read_number(r, MAX_COLLECTED) else {
-        return Err(LineFault::Form);
-    };
-    let Some(w) = read_number(w, MAX_COLLECTED) else {
-        return Err(LineFault::Form);
-    };
+    let listed = read_fields(fields).ok_or(LineFault::Form)?;
+    let r = read_number(r, MAX_COLLECTED).ok_or(LineFault::Form)?;
+    let w = read_number(w, MAX_COLLECTED).ok_or(LineFault::Form)?;
     judge(servers, listed.as_slice(), r as u16, w as u16)
 }
 
@@ -102,10 +96,7 @@ fn judge(servers: usize, reps: &[(u8, u8)], r: u16, w: u16) -> Result<Votes, Lin
     ensures votes { result ≡ judged servers (record { reps = reps.now; r = r; w = w }) }
     ensures known { IfOk result (λ votes. All (λ rep. rep.0 < servers) votes.reps) }
 {
-    match Votes::new(servers, reps, r, w) {
-        Ok(votes) => Ok(votes),
-        Err(fault) => Err(LineFault::Votes(fault)),
-    }
+    Votes::new(servers, reps, r, w).map_err(LineFault::Votes)
 }
 
 /// Votes as they are printed.

@@ -24,10 +24,7 @@ pub fn next_word<'a>(words: &mut Words<'a>) -> Result<&'a [u8], LineFault>
     ensures { MatchResult result (λ first. words.old ≡ first.now ∷ words.new)
         (λ fault. (fault ≡ LineFault.Form) × (words.old ≡ [])) }
 {
-    match words.next() {
-        Some(word) => Ok(word),
-        None => Err(LineFault::Form),
-    }
+    words.next().ok_or(LineFault::Form)
 }
 
 /// Nothing more on the line.
@@ -44,10 +41,8 @@ pub fn at_end(words: &mut Words<'_>) -> Result<(), LineFault>
 pub fn read_id(word: &[u8]) -> Result<u32, LineFault>
     ensures { result ≡ found_or (number_up_to max_id word.now) LineFault.Form }
 {
-    match read_number(word, u64::from(u32::MAX)) {
-        Some(number) => Ok(number as u32),
-        None => Err(LineFault::Form),
-    }
+    let number = read_number(word, u64::from(u32::MAX)).ok_or(LineFault::Form)?;
+    Ok(number as u32)
 }
 
 /// The most numbers of a caller's groups: its own and the others.
@@ -73,10 +68,7 @@ fn caller_with(uid: u32, numbers: &[u32]) -> Result<Caller, LineFault>
     ensures { result ≡ caller_with uid numbers.now }
 {
     match numbers {
-        [gid, groups @ ..] => match Caller::new(uid, *gid, groups) {
-            Ok(caller) => Ok(caller),
-            Err(_) => Err(LineFault::Form),
-        },
+        [gid, groups @ ..] => Caller::new(uid, *gid, groups).map_err(|_| LineFault::Form),
         [] => Err(LineFault::Form),
     }
 }

@@ -31,7 +31,7 @@ is_command text = is_some (verb_in text)
 
 -- the words that begin the lines of a header, of which none tells how many agents there are
 abbrev pub is_header : Word → Bool
-is_header text = bytes_eq text (codes "servers") || bytes_eq text (codes "votes") || bytes_eq text (codes "root") || bytes_eq text (codes "cache")
+is_header text = bytes_eq text (codes "servers") || bytes_eq text (codes "votes") || bytes_eq text (codes "root") || bytes_eq text (codes "cache") || bytes_eq text (codes "old")
 
 abbrev pub is_known : Word → Bool
 is_known text = is_header text || is_command text

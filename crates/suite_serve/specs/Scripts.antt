@@ -5,7 +5,8 @@ use Rattle.std.specs.Str.{bytes_eq}
 use Rattle.std.specs.Str.Lines.{lines}
 use Rattle.file_ops.specs.Steps.{◌>>=◌, ok_map}
 use Rattle.script_text.specs.Words.{words}
-use Rattle.suite_prefix.specs.SettingsRules.{Opening, max_servers}
+use Rattle.vote_core.specs.Validity.{max_servers}
+use Rattle.suite_prefix.specs.SettingsRules.{Opening}
 use Rattle.txn_core.specs.declared.job.Job as jobs
 use Rattle.suite_script.specs.declared.fault.LineFault.TheVariants.{Form}
 use Rattle.suite_script.specs.declared.fault.ScriptFault.{ScriptFault}

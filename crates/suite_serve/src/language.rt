@@ -49,10 +49,8 @@ impl Language for JobLines {
         first: &[u8],
         words: Words<'_>,
     ) -> Result<Command, LineError> {
-        match Verb::of(first) {
-            Some(verb) => read_command(alloc, self.last_server, names, verb, words),
-            None => Err(LineError::Faulty(LineFault::Form)),
-        }
+        let verb = Verb::of(first).ok_or(LineFault::Form)?;
+        read_command(alloc, self.last_server, names, verb, words)
     }
 }
 
@@ -64,6 +62,7 @@ fn is_header(word: &[u8]) -> bool
         || word == b"votes".as_slice()
         || word == b"root".as_slice()
         || word == b"cache".as_slice()
+        || word == b"old".as_slice()
 }
 
 /// What the words after a verb say, so far as it is kept.

@@ -31,6 +31,11 @@ impl Model for JobScript {
 
     ghost Value = { Plan };
 
+    ghost use Rattle.std.specs.Coded.{codes};
+    ghost use Rattle.suite_prefix.specs.code.ServersCode.{servers_code};
+
+    ghost coded = { Prim.hlevel (codes, servers_code) };
+
     ghost view = { λ script. record { settings = script.settings; jobs = script.jobs.items; alone = script.alone } };
 }
 

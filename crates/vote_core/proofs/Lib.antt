@@ -1,4 +1,5 @@
 pub mod ServerSets
+pub mod Within
 pub mod Doubles
 pub mod Faults
 pub mod Kept

@@ -1,3 +1,4 @@
 pub mod Quorums
 pub mod Validity
+pub mod Servers
 pub mod code

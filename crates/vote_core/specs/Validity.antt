@@ -7,7 +7,7 @@ use Rattle.vote_core.specs.Quorums.{Representative, Configuration, total_votes}
 
 -- the servers that votes may name are those below this number; a limit of this project
 abbrev pub max_servers : ℕ
-max_servers = 16
+max_servers = 32
 
 -- Valid votes. Gifford asks that "r+w is greater than the total number of votes assigned to the file". That 2w is
 -- greater too is a rule of this project, as are the limits on servers and on the votes of one of them.

@@ -1,4 +1,5 @@
 pub mod SameVotes
+pub mod SameServers
 pub mod Padding
 pub mod VotesFields
 pub mod ServerBits

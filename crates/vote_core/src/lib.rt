@@ -20,4 +20,4 @@ pub use server_set::ServerSet;
 pub use votes::Votes;
 
 /// The most servers that there are: they are numbered from 0.
-pub const MAX_SERVERS: usize = 16;
+pub const MAX_SERVERS: usize = 32;

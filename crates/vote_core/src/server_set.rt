@@ -2,6 +2,7 @@
 
 ghost use Rattle.std.specs.Prelude.{◌≡◌, ℕ, ◌<◌, ◌==◌, ◌||◌, false};
 ghost use Rattle.std.specs.FinSet.{empty, insert, contains};
+ghost use Rattle.vote_core.specs.Servers.{are_below};
 
 use crate::MAX_SERVERS;
 use std::marker::Model;
@@ -35,6 +36,24 @@ impl Model for ServerSet {
     ghost inverse_ok = { λ set within. fields_back set within };
 }
 
+impl PartialEq for ServerSet {
+    ghost use Rattle.vote_core.specs.code.SameServers.{same_servers, same_servers_partial_laws};
+
+    ghost eq = { same_servers };
+
+    ghost laws = { same_servers_partial_laws };
+
+    fn eq(&self, other: &ServerSet) -> bool {
+        self.bits == other.bits
+    }
+}
+
+impl Eq for ServerSet {
+    ghost use Rattle.vote_core.specs.code.SameServers.{same_servers_laws};
+
+    ghost laws = { same_servers_laws };
+}
+
 impl ServerSet {
     /// The set of no server.
     pub fn empty() -> ServerSet
@@ -49,6 +68,13 @@ impl ServerSet {
         ensures { result ≡ contains self.now server }
     {
         usize::from(server) < MAX_SERVERS && (self.bits >> server) & 1 == 1
+    }
+
+    /// Whether all of its servers are numbered below this.
+    pub fn are_below(&self, end: usize) -> bool
+        ensures { result ≡ are_below end self.now }
+    {
+        end >= MAX_SERVERS || self.bits >> end == 0
     }
 
     /// Adds a server.

@@ -7,11 +7,15 @@ use file_ops::{Answers, Denial, Refusal, Why};
 use rep_core::{Decision, Part, Parts, Request, Server, Take, Verdict};
 use std::process::Abort;
 use suite_prefix::{LockMode, PrefixKind, Replica, Settings};
+use vote_core::ServerSet;
 
 /// Server 0 of three.
 pub(super) fn server(rt: &(impl Abort + AllocGlobal)) -> Server {
     let (votes, acl) = (votes(rt, "1,1,1/2/2"), lists(rt, "777"));
-    let settings = had(rt, Settings::new(3, 2, votes, 1000, 100, acl, 0, 0, 0));
+    let settings = had(
+        rt,
+        Settings::new(3, 2, votes, 1000, 100, acl, 0, 0, 0, ServerSet::empty()),
+    );
     had(rt, Server::opening(rt.alloc(), 0, &settings))
 }
 

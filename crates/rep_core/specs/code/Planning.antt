@@ -4,6 +4,9 @@ use Rattle.std.specs.Ordering.{nat_cmp}
 use Rattle.sorted_map.specs.SortedMap.{get, insert}
 use Rattle.vote_core.specs.Quorums.{Configuration}
 use Rattle.suite_prefix.specs.declared.copies.Replica.{Replica}
+use Rattle.suite_prefix.specs.declared.forms.Form.{Form}
+use Rattle.suite_prefix.specs.declared.forms.Form.TheVariants.{Two}
+use Rattle.suite_prefix.specs.Stored.{Kept}
 use Rattle.rep_core.specs.declared.intention.Planned.{Planned}
 use Rattle.rep_core.specs.declared.request.Take.{Take}
 use Rattle.rep_core.specs.declared.request.Take.TheVariants as take
@@ -11,20 +14,31 @@ use Rattle.rep_core.specs.declared.request.Part.{Part}
 use Rattle.rep_core.specs.Intentions.{Intention}
 use Rattle.rep_core.specs.Store.{copy_in, left_by, is_keep}
 
+-- stored copies, and their forms
+abbrev pub copies_in : List (ℕ × Kept) → List (ℕ × Replica)
+copies_in pairs = map (λ e. (e.0, e.1.copy)) pairs
+
+abbrev pub forms_in : List (ℕ × Kept) → List (ℕ × Form)
+forms_in pairs = map (λ e. (e.0, e.1.form)) pairs
+
+-- a copy as it is written
+abbrev pub in_form_2 : Replica → Kept
+in_form_2 copy = record { form = Two; copy = copy }
+
 -- what was taken, seen from what is left
 abbrev pub take_in : Bool → Replica → Take
 take_in true left = take.Whole left
 take_in false left = take.Prefix left.prefix
 
 abbrev pub intention_in : Planned → Intention
-intention_in planned = record { t = planned.t; take = take_in planned.whole planned.left }
+intention_in planned = record { t = planned.t; take = take_in planned.whole planned.left.copy }
 
 abbrev pub intentions_in : List (ℕ × Planned) → List (ℕ × Intention)
 intentions_in pairs = map (λ e. (e.0, intention_in e.1)) pairs
 
--- each is what its take leaves of the copy that is there
+-- each is what its take leaves of the copy that is there, in form 2
 abbrev pub Leaves : List (ℕ × Replica) → List (ℕ × Planned) → Type 0
-Leaves copies pairs = (c0 : Configuration) (suite : ℕ) (planned : Planned) → get nat_cmp pairs suite ≡ Some planned → planned.left ≡ left_by (take_in planned.whole planned.left) (copy_in c0 copies suite)
+Leaves copies pairs = (c0 : Configuration) (suite : ℕ) (planned : Planned) → get nat_cmp pairs suite ≡ Some planned → planned.left ≡ in_form_2 (left_by (take_in planned.whole planned.left.copy) (copy_in c0 copies suite))
 
 abbrev pub is_whole : Take → Bool
 is_whole take.Keep = false
@@ -36,7 +50,7 @@ abbrev pub planned_of : Configuration → List (ℕ × Replica) → ℕ → List
 planned_of c0 copies t [] = []
 planned_of c0 copies t (part ∷ parts) =
     let rest = planned_of c0 copies t parts in
-    if is_keep part.take then rest else (part.suite, record { t = t; whole = is_whole part.take; left = left_by part.take (copy_in c0 copies part.suite) }) ∷ rest
+    if is_keep part.take then rest else (part.suite, record { t = t; whole = is_whole part.take; left = in_form_2 (left_by part.take (copy_in c0 copies part.suite)) }) ∷ rest
 
 -- intentions with these in their places
 abbrev pub with_all : List (ℕ × Planned) → List (ℕ × Planned) → List (ℕ × Planned)

@@ -1,5 +1,5 @@
 -- What stands before the content in the bytes of a copy.
-use Rattle.std.specs.Prelude.{◌≡◌, ℕ, ◌<◌, List, [], ◌∷◌, map, All, Result, Ok, Err}
+use Rattle.std.specs.Prelude.{ℕ, ◌<◌, List, [], ◌∷◌, map, All, Result, Ok}
 use Rattle.std.specs.Int.{w64}
 use Rattle.acl_core.specs.declared.entry.Entry.{Entry}
 use Rattle.acl_core.specs.AccessLists.{IsAcl}
@@ -38,9 +38,9 @@ head_of copy = record {
 
 unfoldable pub head_at : List ℕ → Result (Head × List ℕ) CopyFault
 head_at bytes = do
-  rest ← form_at bytes
-  identity ← identity_at rest
-  lists ← lists_at identity.1
+  form ← form_at bytes
+  identity ← identity_at form.1
+  lists ← lists_at form.0 identity.1
   votes ← votes_at lists.1
   dver ← number_at w64 votes.1
   Ok (record { identity = identity.0; entries = lists.0.0; default = lists.0.1; votes = votes.0; dver = dver.0 }, dver.1)

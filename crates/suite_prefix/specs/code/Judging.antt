@@ -10,12 +10,14 @@ use Rattle.suite_content.specs.Contents.{kind_of, empty_content}
 use Rattle.suite_content.specs.Limits.{max_names, max_content}
 use Rattle.suite_content.specs.Names.{IsName}
 use Rattle.suite_prefix.specs.declared.copies.PrefixKind.TheVariants.{Absent, Folder}
+use Rattle.suite_prefix.specs.declared.forms.Form.TheVariants.{One}
 use Rattle.suite_prefix.specs.declared.shapes.EntryShape.{EntryShape}
 use Rattle.suite_prefix.specs.declared.faults.DecodeError.{DecodeError}
 use Rattle.suite_prefix.specs.declared.faults.DecodeError.TheVariants as errors
 use Rattle.suite_prefix.specs.declared.shapes.ContentShape.{ContentShape}
 use Rattle.suite_prefix.specs.declared.shapes.ContentShape.TheVariants as shapes
 use Rattle.suite_prefix.specs.Copies.{IsNothing, held_by}
+use Rattle.suite_prefix.specs.Forms.{most_entries, most_servers}
 use Rattle.suite_prefix.specs.Reading.{Shape, copy_of, entry_from}
 use Rattle.suite_prefix.specs.Faults.{SpellsCopy, IsFaultOf, is_canonical}
 
@@ -41,6 +43,7 @@ pub record FitsForm (shape : Shape) : Type 0 where
   pub dver : shape.dver < 2 ^ 64
   pub content : ContentFits shape.content
   pub kinds_agree : kind_of shape.content ≡ held_by shape.identity.kind
+  pub no_default : shape.form ≡ One → shape.default ≡ []
 
 -- a content is within its limits
 pub record NamesWithin (names : List (List ℕ × ℕ)) : Type 0 where
@@ -73,8 +76,9 @@ pub record MakeLists (of_access of_default : List EntryShape) : Type 0 where
 pub record IsSound (shape : Shape) : Type 0 where
   pub permissions_known : All (λ entry. entry.permissions < 8) shape.entries
   pub default_known : All (λ entry. entry.permissions < 8) shape.default
+  pub few : length shape.entries ≤ most_entries shape.form
   pub rules : KeepsRules shape
-  pub votes : votes.IsAccepted votes.max_servers shape.votes
+  pub votes : votes.IsAccepted (most_servers shape.form) shape.votes
 
 -- a whole shape with nothing behind it, of a valid copy
 pub record IsWhole (shape : Shape) (rest : List ℕ) : Type 0 where

@@ -1,11 +1,12 @@
 -- When two settings are the same: where all their fields are. `==` tells it.
 use Rattle.std.specs.Prelude.{◌≡◌, ◌==◌, Bool, ◌&&◌}
 use Rattle.std.specs.Bool.{Decides}
-use Rattle.std.specs.Cmp.{IsEquivalence, IsPartialEquivalence, partial_equiv_from_equiv, decided, unsigned_Decides}
+use Rattle.std.specs.Cmp.{IsEquivalence, IsPartialEquivalence, partial_equiv_from_equiv, decided}
 use Rattle.std.proofs.Common.{ap}
-use Rattle.std.proofs.lemmas.Bool.{and_parts, and_from}
+use Rattle.std.proofs.lemmas.Bool.Decides.{Decides-eqb, Decides-and, Decides-like}
 use Rattle.acl_core.specs.Pairs.{same_lists}
 use Rattle.acl_core.proofs.ListsEquality.{same_lists_decides}
+use Rattle.vote_core.specs.code.SameServers.{same_servers, same_servers_decides}
 use Rattle.vote_core.specs.code.SameVotes.{same_votes, same_votes_decides}
 use Rattle.suite_prefix.specs.SettingsRules.{Opening}
 
@@ -13,10 +14,10 @@ use Rattle.suite_prefix.specs.SettingsRules.{Opening}
 abbrev pub same_counts : Opening → Opening → Bool
 same_counts a b = (a.servers == b.servers) && (a.agents == b.agents)
 
--- whose the root is, and who may do what there
+-- whose the root is, who may do what there, and who has it in form 1
 abbrev pub same_root : Opening → Opening → Bool
 same_root a b =
-    (a.root_owner == b.root_owner) && ((a.root_group == b.root_group) && same_lists a.root_acl b.root_acl)
+    (a.root_owner == b.root_owner) && ((a.root_group == b.root_group) && (same_lists a.root_acl b.root_acl && same_servers a.old b.old))
 
 -- the limits of a cache
 abbrev pub same_cache : Opening → Opening → Bool
@@ -27,41 +28,26 @@ same_settings a b = same_counts a b && (same_votes a.c0 b.c0 && (same_root a b &
 
 pub same_settings_decides : (a b : Opening) → Decides (same_settings a b) (a ≡ b)
 same_settings_decides a b =
-    let votes = same_votes_decides a.c0 b.c0 in
-    let list = same_lists_decides a.root_acl b.root_acl in
-    let ends = same_root a b && same_cache a b in
-    let behind = (a.root_group == b.root_group) && same_lists a.root_acl b.root_acl in
-    let sizes = (a.quota == b.quota) && (a.slots == b.slots) in (
-      λ same.
-          let s = and_parts (same_counts a b) (same_votes a.c0 b.c0 && ends) same in
-          let counts = and_parts (a.servers == b.servers) (a.agents == b.agents) s.0 in
-          let v = and_parts (same_votes a.c0 b.c0) ends s.1 in
-          let e = and_parts (same_root a b) (same_cache a b) v.1 in
-          let owner = and_parts (a.root_owner == b.root_owner) behind e.0 in
-          let group = and_parts (a.root_group == b.root_group) (same_lists a.root_acl b.root_acl) owner.1 in
-          let budget = and_parts (a.budget == b.budget) sizes e.1 in
-          let quota = and_parts (a.quota == b.quota) (a.slots == b.slots) budget.1 in
-          λ i. record {
-            servers = (unsigned_Decides a.servers b.servers).0 counts.0 i;
-            agents = (unsigned_Decides a.agents b.agents).0 counts.1 i;
-            c0 = votes.0 v.0 i;
-            root_owner = (unsigned_Decides a.root_owner b.root_owner).0 owner.0 i;
-            root_group = (unsigned_Decides a.root_group b.root_group).0 group.0 i;
-            root_acl = list.0 group.1 i;
-            budget = (unsigned_Decides a.budget b.budget).0 budget.0 i;
-            quota = (unsigned_Decides a.quota b.quota).0 quota.0 i;
-            slots = (unsigned_Decides a.slots b.slots).0 quota.1 i;
-          },
-      λ equal.
-          and_from (same_counts a b) (same_votes a.c0 b.c0 && ends)
-          (and_from (a.servers == b.servers) (a.agents == b.agents) ((unsigned_Decides a.servers b.servers).1 (ap (λ s. s.servers) equal)) ((unsigned_Decides a.agents b.agents).1 (ap (λ s. s.agents) equal)))
-          (and_from (same_votes a.c0 b.c0) ends (votes.1 (ap (λ s. s.c0) equal))
-          (and_from (same_root a b) (same_cache a b)
-          (and_from (a.root_owner == b.root_owner) behind ((unsigned_Decides a.root_owner b.root_owner).1 (ap (λ s. s.root_owner) equal))
-          (and_from (a.root_group == b.root_group) (same_lists a.root_acl b.root_acl) ((unsigned_Decides a.root_group b.root_group).1 (ap (λ s. s.root_group) equal)) (list.1 (ap (λ s. s.root_acl) equal))))
-          (and_from (a.budget == b.budget) sizes ((unsigned_Decides a.budget b.budget).1 (ap (λ s. s.budget) equal))
-          (and_from (a.quota == b.quota) (a.slots == b.slots) ((unsigned_Decides a.quota b.quota).1 (ap (λ s. s.quota) equal)) ((unsigned_Decides a.slots b.slots).1 (ap (λ s. s.slots) equal)))))),
-    )
+    Decides-like _ (λ same i. record {
+      servers = same.0.0 i;
+      agents = same.0.1 i;
+      c0 = same.1.0 i;
+      root_owner = same.1.1.0.0 i;
+      root_group = same.1.1.0.1.0 i;
+      root_acl = same.1.1.0.1.1.0 i;
+      old = same.1.1.0.1.1.1 i;
+      budget = same.1.1.1.0 i;
+      quota = same.1.1.1.1.0 i;
+      slots = same.1.1.1.1.1 i;
+    })
+    (λ same. (
+      (ap (λ s. s.servers) same, ap (λ s. s.agents) same),
+      (ap (λ s. s.c0) same, ((ap (λ s. s.root_owner) same, (ap (λ s. s.root_group) same, (ap (λ s. s.root_acl) same, ap (λ s. s.old) same))), (ap (λ s. s.budget) same, (ap (λ s. s.quota) same, ap (λ s. s.slots) same)))),
+    ))
+    (Decides-and _ _ (Decides-and _ _ (Decides-eqb a.servers b.servers) (Decides-eqb a.agents b.agents))
+    (Decides-and _ _ (same_votes_decides a.c0 b.c0)
+    (Decides-and _ _ (Decides-and _ _ (Decides-eqb a.root_owner b.root_owner) (Decides-and _ _ (Decides-eqb a.root_group b.root_group) (Decides-and _ _ (same_lists_decides a.root_acl b.root_acl) (same_servers_decides a.old b.old))))
+    (Decides-and _ _ (Decides-eqb a.budget b.budget) (Decides-and _ _ (Decides-eqb a.quota b.quota) (Decides-eqb a.slots b.slots))))))
 
 pub same_settings_laws : IsEquivalence same_settings
 same_settings_laws = decided same_settings same_settings_decides

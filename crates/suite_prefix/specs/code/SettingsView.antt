@@ -13,4 +13,5 @@ opening_of fields = record {
   budget = fields.budget;
   quota = fields.quota;
   slots = fields.slots;
+  old = fields.old;
 }

@@ -48,7 +48,7 @@ bit_term bits n =
     ]
 
 -- the word of the numbers below n is what the lowest n bits make
-word_part : (n m bits : ℕ) → n ≤ m → word_below n (set_below m bits) ≡ bits % 2 ^ n
+pub word_part : (n m bits : ℕ) → n ≤ m → word_below n (set_below m bits) ≡ bits % 2 ^ n
 unfolding word_below
 word_part zero m bits le = omega arith
 word_part (suc n) m bits le =

@@ -1,17 +1,18 @@
 use Rattle.std.proofs.Common.{◌≡◌, ◌-◌, ◌≤◌, true, length, take, drop, not}
 use Rattle.std.specs.List.{list_all}
 use Rattle.vote_core.specs.Quorums.{Configuration}
-use Rattle.rep_core.specs.Store.{without_intentions, with_copies}
-use Rattle.rep_core.specs.code.Planning.{Leaves, intentions_in}
+use Rattle.rep_core.specs.Store.{without_intentions, with_copies, with_forms}
+use Rattle.rep_core.specs.code.Planning.{Leaves, copies_in, forms_in, intentions_in}
 use Rattle.rep_core.proofs.Intentions.{is_of}
 use Rattle.rep_core.proofs.maps.install.Given as goal
 
 abbrev pub invariant-loop-place : goal.invariant-loop-place
 invariant-loop-place l = record {
-  copies : (c0 : Configuration) → with_copies c0 l.t (drop l.place (intentions_in l.intentions.pairs)) l.copies.pairs ≡ with_copies c0 l.t (intentions_in l.initial.intentions.pairs) l.initial.copies.pairs;
+  copies : (c0 : Configuration) → with_copies c0 l.t (drop l.place (intentions_in l.intentions.pairs)) (copies_in l.copies.pairs) ≡ with_copies c0 l.t (intentions_in l.initial.intentions.pairs) (copies_in l.initial.copies.pairs);
+  forms : with_forms l.t (drop l.place (intentions_in l.intentions.pairs)) (forms_in l.copies.pairs) ≡ with_forms l.t (intentions_in l.initial.intentions.pairs) (forms_in l.initial.copies.pairs);
   others : without_intentions l.t (intentions_in l.intentions.pairs) ≡ without_intentions l.t (intentions_in l.initial.intentions.pairs);
   passed : list_all (λ pair. not (is_of l.t pair)) (take l.place (intentions_in l.intentions.pairs)) ≡ true;
-  leaves : Leaves l.copies.pairs l.intentions.pairs;
+  leaves : Leaves (copies_in l.copies.pairs) l.intentions.pairs;
   within : l.place ≤ length l.intentions.pairs;
   room : length l.intentions.pairs ≤ l.copies.room;
 }

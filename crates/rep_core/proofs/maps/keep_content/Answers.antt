@@ -2,7 +2,7 @@ use Rattle.std.proofs.Common.{rules, ◌≡◌, ℕ, List, Some, ap, ◌∙◌}
 use Rattle.std.specs.Ordering.{nat_cmp}
 use Rattle.sorted_map.specs.Roomy.{Roomy}
 use Rattle.sorted_map.specs.SortedMap.{get, replace}
-use Rattle.suite_prefix.specs.declared.copies.Replica.{Replica}
+use Rattle.suite_prefix.specs.Stored.{Kept}
 use Rattle.rep_core.proofs.Planned.{replaced_same}
 use Rattle.rep_core.proofs.maps.keep_content.Goals as goal
 
@@ -11,5 +11,5 @@ returns-in-Some c =
     let pairs = c.args.copies.now.pairs in
     let suite = c.args.suite in
     let has : get nat_cmp pairs suite ≡ Some c.in-Some.copy.now = search rules in
-    let with_pairs : List (ℕ × Replica) → Roomy ℕ Replica = λ pairs. record { pairs = pairs; room = c.args.copies.now.room } in
+    let with_pairs : List (ℕ × Kept) → Roomy ℕ Kept = λ pairs. record { pairs = pairs; room = c.args.copies.now.room } in
     ap (λ copy. with_pairs (replace nat_cmp pairs suite copy)) c.keep_content.ensures ∙ ap with_pairs (replaced_same pairs suite c.in-Some.copy.now has)

@@ -1,4 +1,4 @@
-use Rattle.std.proofs.Common.{◌≡◌, [], length, map, rules, refl, subst, ap, ◌∙◌}
+use Rattle.std.proofs.Common.{◌≡◌, [], length, rules, refl, subst, ap, ◌∙◌}
 use Rattle.std.specs.Prelude.{IsTrue}
 use Rattle.std.proofs.lemmas.List.{nil_from_length}
 use Rattle.suite_prefix.specs.Faults.{entries_rise, is_canonical}

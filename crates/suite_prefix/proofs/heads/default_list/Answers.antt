@@ -1,10 +1,4 @@
-use Rattle.std.proofs.Common.{rules, ◌≡◌, List, [], ◌∷◌, map, Some, refl, sym, ap, subst, ◌∙◌}
-use Rattle.acl_core.specs.AccessLists.{IsAcl}
-use Rattle.suite_prefix.specs.declared.shapes.EntryShape.{EntryShape}
-use Rattle.suite_prefix.specs.Reading.{entry_from}
-use Rattle.suite_prefix.specs.TwoLists.{default_of}
-use Rattle.suite_prefix.specs.code.Heads.{MakesDefaultAcl}
-use Rattle.suite_prefix.proofs.Records.{acl_if_some, default_if_some}
+use Rattle.suite_prefix.proofs.Records.{acl_if_some}
 use Rattle.suite_prefix.proofs.heads.default_list.Goals as goal
 
 pub list-requires-clause-acl : goal.list-requires-clause-acl

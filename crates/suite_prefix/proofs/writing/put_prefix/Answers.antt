@@ -6,4 +6,4 @@ pub returns : goal.returns
 returns c =
     let prefix = c.args.prefix.now in
     joined c.put_votes.result c.args.out.now.items c.put_identity.new.out.items c.put_lists.new.out.items c.put_votes.new.out.items
-    (identity_bytes prefix) (lists_bytes prefix.acl) (votes_bytes prefix.votes) c.in_ok-put_identity.ensures c.in_ok-put_lists.ensures c.put_votes.ensures
+    (identity_bytes prefix) (lists_bytes c.args.form prefix.acl) (votes_bytes prefix.votes) c.in_ok-put_identity.ensures c.in_ok-put_lists.ensures c.put_votes.ensures

@@ -1,5 +1,6 @@
 use Rattle.std.proofs.Common.{◌≡◌, ◌∙◌, ◌<◌, true, false, take, codes, ap, sym, arith, rules}
 use Rattle.std.specs.Str.{bytes_eq}
+use Rattle.vote_core.specs.Validity.{max_servers}
 use Rattle.suite_script.specs.Votes.{reps_from}
 use Rattle.suite_script.proofs.Fields.{listed_more, reps_after, unlisted_more}
 use Rattle.suite_script.proofs.votes.read_fields.Goals as goal
@@ -10,7 +11,7 @@ loop-field-preserved c =
     let server = c.loop-field.server in
     let field = c.in-Some.field.now in
     let fields = c.next.new.self in
-    let inside : server < 16 = omega arith in
+    let inside : server < max_servers = omega arith in
     elim c.if-ne.branch [
       | then-ne+in_ok-read_number w ↦
           let differs : bytes_eq field (codes "-") ≡ false = search rules in

@@ -1,13 +1,14 @@
 use Rattle.std.proofs.Common.{◌≡◌, ◌≤◌, ℕ, length, take, eqb}
 use Rattle.std.specs.List.{slice_split}
+use Rattle.vote_core.specs.Validity.{max_servers}
 use Rattle.suite_script.specs.Votes.{reps_from}
 use Rattle.suite_script.proofs.Fields.{reps_after}
 use Rattle.suite_script.proofs.votes.read_fields.Given as goal
 
 abbrev pub invariant-loop-field : goal.invariant-loop-field
 invariant-loop-field l = record {
-  places : length l.reps ≡ 16;
+  places : length l.reps ≡ max_servers;
   few : l.count ≤ l.server;
-  servers : l.server ≤ 16;
+  servers : l.server ≤ max_servers;
   read : reps_after (take l.count l.reps) (reps_from l.server l.field-iterator) ≡ reps_from 0 (slice_split (λ (byte : ℕ). eqb byte 44) l.fields);
 }

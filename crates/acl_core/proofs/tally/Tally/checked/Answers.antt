@@ -2,7 +2,7 @@ use Rattle.std.proofs.Common.{◌≡◌, ◌≤◌, true, false, None, Some, len
 use Rattle.std.specs.List.{find}
 use Rattle.std.proofs.lemmas.Bool.{ne_eqb, lt-ltb, le-ltb}
 use Rattle.acl_core.specs.declared.fault.AclFault.TheVariants.{NoUserObj, NoGroupObj, NoOther, TwiceSingle, UserTwice, GroupTwice, MaskMissing, TooMany}
-use Rattle.acl_core.specs.AccessLists.{faults}
+use Rattle.acl_core.specs.AccessLists.{faults, max_entries}
 use Rattle.acl_core.specs.Tallies.{is_doubled}
 use Rattle.acl_core.specs.code.TallyFields.{tallied}
 use Rattle.acl_core.proofs.Tallying.{first_of_eight, first_told, kept_accepted, told_fault}
@@ -69,7 +69,7 @@ returns-then-len-gt-MAX_ENTRIES-clause-fault c =
     let users : told_fault tally UserTwice ≡ false = sym (c.has_doubled.ensures ∙ ap is_doubled (c.deref_mut.ensures.value ∙ ap (λ t. t.users) seen)) ∙ c.if-has_doubled.false in
     let groups : told_fault tally GroupTwice ≡ false = sym (c.has_doubled-else-has_doubled.ensures ∙ ap is_doubled (c.deref_mut-else-has_doubled.ensures.value ∙ ap (λ t. t.groups) seen)) ∙ c.if-has_doubled-2.false in
     let mask : told_fault tally MaskMissing ≡ false = sym c.lacks_mask-lacks_mask.ensures ∙ c.if-lacks_mask.false in
-    let many : told_fault tally TooMany ≡ true = lt-ltb 64 (length tally.kept) (omega (arith, ap (λ t. length t.kept) seen, c.self.inside.kept.ok.0)) in
+    let many : told_fault tally TooMany ≡ true = lt-ltb max_entries (length tally.kept) (omega (arith, ap (λ t. length t.kept) seen, c.self.inside.kept.ok.0)) in
     let told : find (told_fault tally) faults ≡ Some TooMany = λ i. first_of_eight (user_obj i) (group_obj i) (other i) (single i) (users i) (groups i) (mask i) (many i) in
     λ entries is. sym (first_told tally entries is) ∙ told
 
@@ -84,8 +84,8 @@ returns-else-len-gt-MAX_ENTRIES-clause-fault c =
     let users : told_fault tally UserTwice ≡ false = sym (c.has_doubled.ensures ∙ ap is_doubled (c.deref_mut.ensures.value ∙ ap (λ t. t.users) seen)) ∙ c.if-has_doubled.false in
     let groups : told_fault tally GroupTwice ≡ false = sym (c.has_doubled-else-has_doubled.ensures ∙ ap is_doubled (c.deref_mut-else-has_doubled.ensures.value ∙ ap (λ t. t.groups) seen)) ∙ c.if-has_doubled-2.false in
     let mask : told_fault tally MaskMissing ≡ false = sym c.lacks_mask-lacks_mask.ensures ∙ c.if-lacks_mask.false in
-    let few : length tally.kept ≤ 64 = omega (arith, ap (λ t. length t.kept) seen, c.self.inside.kept.ok.0) in
-    let many : told_fault tally TooMany ≡ false = le-ltb 64 (length tally.kept) few in
+    let few : length tally.kept ≤ max_entries = omega (arith, ap (λ t. length t.kept) seen, c.self.inside.kept.ok.0) in
+    let many : told_fault tally TooMany ≡ false = le-ltb max_entries (length tally.kept) few in
     let told : find (told_fault tally) faults ≡ None = λ i. first_of_eight (user_obj i) (group_obj i) (other i) (single i) (users i) (groups i) (mask i) (many i) in
     λ entries is. sym (first_told tally entries is) ∙ told
 
@@ -100,7 +100,7 @@ returns-else-len-gt-MAX_ENTRIES-clause-accepted c =
     let users : told_fault tally UserTwice ≡ false = sym (c.has_doubled.ensures ∙ ap is_doubled (c.deref_mut.ensures.value ∙ ap (λ t. t.users) seen)) ∙ c.if-has_doubled.false in
     let groups : told_fault tally GroupTwice ≡ false = sym (c.has_doubled-else-has_doubled.ensures ∙ ap is_doubled (c.deref_mut-else-has_doubled.ensures.value ∙ ap (λ t. t.groups) seen)) ∙ c.if-has_doubled-2.false in
     let mask : told_fault tally MaskMissing ≡ false = sym c.lacks_mask-lacks_mask.ensures ∙ c.if-lacks_mask.false in
-    let few : length tally.kept ≤ 64 = omega (arith, ap (λ t. length t.kept) seen, c.self.inside.kept.ok.0) in
-    let many : told_fault tally TooMany ≡ false = le-ltb 64 (length tally.kept) few in
+    let few : length tally.kept ≤ max_entries = omega (arith, ap (λ t. length t.kept) seen, c.self.inside.kept.ok.0) in
+    let many : told_fault tally TooMany ≡ false = le-ltb max_entries (length tally.kept) few in
     let told : find (told_fault tally) faults ≡ None = λ i. first_of_eight (user_obj i) (group_obj i) (other i) (single i) (users i) (groups i) (mask i) (many i) in
     kept_accepted (tallied c.self.inside) c.self.invariant (omega (arith, ap (λ t. length t.kept) seen, few)) (ap (λ t. find (told_fault t) faults) seen ∙ told)

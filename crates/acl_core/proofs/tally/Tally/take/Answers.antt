@@ -3,6 +3,7 @@ use Rattle.std.specs.Vec.{vec_capacity}
 use Rattle.std.proofs.lemmas.Bool.{lt-ltb, le-ltb}
 use Rattle.std.proofs.lemmas.Bool.Decides.{nat_tests}
 use Rattle.acl_core.specs.declared.entry.Entry.{Entry}
+use Rattle.acl_core.specs.AccessLists.{max_entries}
 use Rattle.acl_core.specs.Tallies.{IsTallyOf, IsWhole, Tallied}
 use Rattle.acl_core.specs.code.TallyFields.{tallied}
 use Rattle.acl_core.proofs.Tallying.{counted_as, counted_kept, kept_with, tallied_with, tally_more, whole_more}
@@ -27,7 +28,7 @@ invariant_of-self-in-Continue-branch-4 c =
       | in-Other w ↦ ap tallied w.self-inside-is ∙ ap (λ n. record reserved { others = n }) w.counted-self-inside-in-Other.ensures ∙ ap (counted_as reserved) (sym w.in-Other.is)
     ] in
     let same : c.match-entry.self-inside.kept.items ≡ old.kept = ap (λ (t : Tallied). t.kept) counted ∙ counted_kept reserved e.tag ∙ ap (λ (t : Tallied). t.kept) room_kept in
-    let few : ltb 64 (length old.kept) ≡ false = le-ltb 64 (length old.kept) (first_of (omega (arith, c.self.inside.kept.ok.0), grind (arith, nat_tests))) in
+    let few : ltb max_entries (length old.kept) ≡ false = le-ltb max_entries (length old.kept) (first_of (omega (arith, c.self.inside.kept.ok.0), grind (arith, nat_tests))) in
     let kept : c.push-then-is_kept-2.new.self.items ≡ kept_with old.kept e =
     c.in_ok-push.ensures.items ∙ ap (λ kept. kept ++ e ∷ []) same ∙ sym (ap (λ b. cond b old.kept (old.kept ++ e ∷ [])) few) in
     let now : record (tallied c.match-entry.self-inside) { kept = c.push-then-is_kept-2.new.self.items } ≡ tallied_with old e =
@@ -71,7 +72,7 @@ returns-in_ok-push-clause-taken c =
       | in-Other w ↦ ap tallied w.self-inside-is ∙ ap (λ n. record reserved { others = n }) w.counted-self-inside-in-Other.ensures ∙ ap (counted_as reserved) (sym w.in-Other.is)
     ] in
     let same : c.match-entry.self-inside.kept.items ≡ old.kept = ap (λ (t : Tallied). t.kept) counted ∙ counted_kept reserved e.tag ∙ ap (λ (t : Tallied). t.kept) room_kept in
-    let few : ltb 64 (length old.kept) ≡ false = le-ltb 64 (length old.kept) (first_of (omega (arith, c.self.inside.kept.ok.0), grind (arith, nat_tests))) in
+    let few : ltb max_entries (length old.kept) ≡ false = le-ltb max_entries (length old.kept) (first_of (omega (arith, c.self.inside.kept.ok.0), grind (arith, nat_tests))) in
     let kept : c.push-then-is_kept-2.new.self.items ≡ kept_with old.kept e =
     c.in_ok-push.ensures.items ∙ ap (λ kept. kept ++ e ∷ []) same ∙ sym (ap (λ b. cond b old.kept (old.kept ++ e ∷ [])) few) in
     let now : record (tallied c.match-entry.self-inside) { kept = c.push-then-is_kept-2.new.self.items } ≡ tallied_with old e =
@@ -96,7 +97,7 @@ returns-else-is_kept-2-clause-taken c =
       | in-Other w ↦ ap tallied w.self-inside-is ∙ ap (λ n. record reserved { others = n }) w.counted-self-inside-in-Other.ensures ∙ ap (counted_as reserved) (sym w.in-Other.is)
     ] in
     let same : c.match-entry.self-inside.kept.items ≡ old.kept = ap (λ (t : Tallied). t.kept) counted ∙ counted_kept reserved e.tag ∙ ap (λ (t : Tallied). t.kept) room_kept in
-    let full : ltb 64 (length old.kept) ≡ true = lt-ltb 64 (length old.kept) (first_of (omega (arith, c.self.inside.kept.ok.0), grind (arith, nat_tests))) in
+    let full : ltb max_entries (length old.kept) ≡ true = lt-ltb max_entries (length old.kept) (first_of (omega (arith, c.self.inside.kept.ok.0), grind (arith, nat_tests))) in
     let kept : c.match-entry.self-inside.kept.items ≡ kept_with old.kept e = same ∙ sym (ap (λ b. cond b old.kept (old.kept ++ e ∷ [])) full) in
     let now : tallied c.match-entry.self-inside ≡ tallied_with old e =
     ap (λ (t : Tallied). record t { kept = c.match-entry.self-inside.kept.items }) (counted ∙ ap (λ (t : Tallied). counted_as t e.tag) room_kept) ∙ ap (λ (kept : List Entry). record (counted_as old e.tag) { kept = kept }) kept in

@@ -26,13 +26,13 @@ invariant_of-self c =
     let parts = c.args.parts.items in
     let old : Store = store_of c.self.inside in
     let kept = c.self.inside.intentions.pairs in
-    let new : Store = record { c0 = old.c0; copies = old.copies; intentions = intentions_in c.keep_all.new.intentions.pairs } in
+    let new : Store = record { c0 = old.c0; copies = old.copies; forms = old.forms; intentions = intentions_in c.keep_all.new.intentions.pairs } in
     let shows = ap (λ (shown : Storing). shown.pending) c.self.view_is in
     let store_is = ap (λ (shown : Storing). shown.store) c.self.view_is in
     let made : c.replace-pending.result.items ≡ planned_of old.c0 old.copies c.args.t parts = search (rules, shows) ∙ c.requires.made ∙ ap (λ (store : Store). planned_of store.c0 store.copies c.args.t parts) (sym store_is) in
     let put : c.keep_all.new.intentions.pairs ≡ with_all (planned_of old.c0 old.copies c.args.t parts) kept = c.keep_all.ensures.pairs ∙ ap (λ l. with_all l kept) made in
     let seen : intentions_in c.keep_all.new.intentions.pairs ≡ with_intentions c.args.t parts old.intentions = ap intentions_in put ∙ planned_kept old.c0 old.copies c.args.t parts kept in
-    let is : new ≡ intended c.args.t parts old = λ i. record { c0 = old.c0; copies = old.copies; intentions = seen i } in
+    let is : new ≡ intended c.args.t parts old = λ i. record { c0 = old.c0; copies = old.copies; forms = old.forms; intentions = seen i } in
     let are : list_all (is_sound_part old) parts ≡ true = subst (λ (store : Store). list_all (is_sound_part store) parts ≡ true) (sym store_is) c.requires.sound in
     let few : overfills c.args.t old parts ≡ false = subst (λ (store : Store). overfills c.args.t store parts ≡ false) (sym store_is) c.requires.few in
     let room = ap (λ (shown : Storing). shown.room) c.self.view_is in
@@ -60,5 +60,5 @@ returns c =
     let made : c.replace-pending.result.items ≡ planned_of old.c0 old.copies c.args.t parts = search (rules, shows) ∙ c.requires.made ∙ ap (λ (store : Store). planned_of store.c0 store.copies c.args.t parts) (sym store_is) in
     let put : c.keep_all.new.intentions.pairs ≡ with_all (planned_of old.c0 old.copies c.args.t parts) kept = c.keep_all.ensures.pairs ∙ ap (λ l. with_all l kept) made in
     let seen : intentions_in c.keep_all.new.intentions.pairs ≡ with_intentions c.args.t parts old.intentions = ap intentions_in put ∙ planned_kept old.c0 old.copies c.args.t parts kept in
-    let with_these : List (ℕ × Intention) → Store = λ intentions. record { c0 = old.c0; copies = old.copies; intentions = intentions } in
+    let with_these : List (ℕ × Intention) → Store = λ intentions. record { c0 = old.c0; copies = old.copies; forms = old.forms; intentions = intentions } in
     ap with_these seen ∙ ap (intended c.args.t parts) store_is

@@ -8,8 +8,8 @@ use Rattle.suite_script.specs.Scripts.{owns}
 use Rattle.txn_core.specs.Agents.{fixed_of}
 use Rattle.suite_play.proofs.player.EventPlayer.play_first.Goals as goal
 
-pub loop-command-preserved : goal.loop-command-preserved
-loop-command-preserved c =
+pub loop-command-preserved-in_ok-play_command-3 : goal.loop-command-preserved-in_ok-play_command-3
+loop-command-preserved-in_ok-play_command-3 c =
     let player = c.loop-command.self in
     let command = c.in-Some.command in
     let fixed = fixed_of player.world.given in

@@ -1,5 +1,16 @@
-use Rattle.std.proofs.Common.{arith, ◌<◌, ◌^◌}
+use Rattle.std.proofs.Common.{arith, ◌≡◌, ◌<◌, ◌^◌, true, false, cond, refl}
+use Rattle.std.specs.FinSet.{contains}
+use Rattle.suite_prefix.specs.Forms.{Holds}
+use Rattle.suite_prefix.specs.declared.forms.Form.TheVariants.{One, Two}
 use Rattle.suite_prefix.proofs.settings.Settings.fits.Goals as goal
+
+pub returns-clause-held : goal.returns-clause-held
+returns-clause-held c = λ server.
+    let given = c.args.self.now in
+    elim (contains given.old server) as (λ b. contains given.old server ≡ b → Holds (cond b One Two) given.root_acl given.c0) [
+      | true ↦ λ there. c.servers-servers.ensures.accepted.old_fits server there
+      | false ↦ λ _. tt
+    ] refl
 
 pub returns-clause-root : goal.returns-clause-root
 returns-clause-root c =

@@ -1,0 +1,10 @@
+use Rattle.std.proofs.Common.{◌∙◌}
+use Rattle.vote_core.specs.declared.TheConstants.{MAX_SERVERS}
+use Rattle.vote_core.specs.code.SameServers.{same_servers}
+use Rattle.vote_core.proofs.Within.{same_words}
+use Rattle.vote_core.proofs.server_set.ServerSetPartialEq.eq.Goals as goal
+
+pub returns : goal.returns
+returns c =
+    same_words MAX_SERVERS c.self.inside.bits c.other.inside.bits c.self.invariant c.other.invariant
+    ∙ (λ i. same_servers (c.self.view_is i) (c.other.view_is i))
