@@ -13,7 +13,7 @@ use Rattle.suite_collect.specs.declared.told.Said.TheVariants.{Held, Busy, Down}
 use Rattle.suite_collect.specs.declared.told.Told.{Told}
 use Rattle.suite_collect.specs.Telling.{is_held, holds, newer, newest, shown}
 use Rattle.suite_collect.specs.Collecting.{Collector, all_told, counted, wanted, mode_or, needed, got, is_member, is_left, members_of, version, ask_or_short, asked_of, mode_asked, Ask, Current, Asked, Poll, Upgrade, next}
-use Rattle.suite_collect.proofs.Finding.{find_passes}
+use Rattle.rep_core.proofs.Finding.{find_some}
 use Rattle.txn_core.specs.Suites.{source_of}
 
 -- ---- its answers
@@ -109,7 +109,7 @@ left_parts false b c is = cc
 pub asks_shared : (c : Collector) (server : ℕ) (asked : Asked) → c.widening ≡ None → c.mode ≡ Shared → next c ≡ Ask server asked → mode_asked asked ≡ Shared
 asks_shared c server asked narrow mode is =
     let one = asked_one c server asked is in
-    let passes = find_passes (is_left c) (counted c).reps one.rep one.found in
+    let passes = (find_some (is_left c) (counted c).reps one.rep one.found).1 in
     let free = left_parts (nat_lt 0 one.rep.1) (is_member c one.rep.0) _ passes in
     let wants : wanted c ≡ Shared = ap (λ w. mode_or w c.mode) narrow ∙ mode in
     let unheld : holds Shared (all_told c) one.rep.0 ≡ false = ap (λ (m : LockMode). holds m (all_told c) one.rep.0) (sym wants) ∙ free in

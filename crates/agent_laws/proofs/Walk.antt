@@ -8,6 +8,7 @@ use Rattle.std.proofs.lemmas.Option.{none-some, same_Some}
 use Rattle.sorted_map.specs.Laws.{insert_step}
 use Rattle.sorted_map.specs.SortedMap.{insert}
 use Rattle.vote_core.specs.Quorums.{Configuration}
+use Rattle.vote_core.specs.Validity.{max_servers}
 use Rattle.suite_content.specs.declared.content.Content.{Content}
 use Rattle.suite_prefix.specs.Absent.{absent_prefix}
 use Rattle.suite_prefix.specs.declared.copies.Prefix.{Prefix}
@@ -187,7 +188,7 @@ module _ (fixed : Fixed) (V : Configuration → Type 0) (S : ℕ → Type 0) (go
       of false is rest = rest
 
   pub all_locking : (suites : Suites) → AllFine suites → AllIn V S (locked_at suites)
-  all_locking suites all = all_passing (has_locks suites) (numbers_from 0 16) (λ server is. locking suites server all is)
+  all_locking suites all = all_passing (has_locks suites) (numbers_from 0 max_servers) (λ server is. locking suites server all is)
 
   -- ---- the end
 

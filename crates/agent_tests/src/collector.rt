@@ -8,7 +8,7 @@ use crate::fixtures::{lists, number};
 use rep_core::{Reply, Request};
 use std::process::Abort;
 use suite_collect::{
-    Collect, Next, asks_are_few, current_is_a_quorum, nobody_is_asked_twice,
+    Collect, Hearing, Next, asks_are_few, current_is_a_quorum, nobody_is_asked_twice,
     prefix_and_version_stay, short_has_none_left, widened_is_a_write_quorum,
 };
 use suite_prefix::{LockMode, Prefix, PrefixKind};
@@ -47,7 +47,7 @@ fn collector(rt: &(impl Abort + AllocGlobal), mode: LockMode, place: &str) -> Co
 }
 
 /// A reply as text: `held`, the version of the prefix, its votes, and the content's version; `busy` and a transaction;
-/// or `down`.
+/// `down`; or `lost`.
 fn reply(rt: &(impl Abort + AllocGlobal), text: &str) -> Reply {
     let mut parts = text.split(' ');
     let word = parts.next().unwrap_or_default();
@@ -59,6 +59,7 @@ fn reply(rt: &(impl Abort + AllocGlobal), text: &str) -> Reply {
             prefix: prefix(rt, number(rt, first), place),
             dver: number(rt, dver),
         },
+        "lost" => Reply::Lost,
         "busy" => Reply::Busy {
             holder: number(rt, first),
             prepared: false,
@@ -67,13 +68,17 @@ fn reply(rt: &(impl Abort + AllocGlobal), text: &str) -> Reply {
     }
 }
 
-/// A reply to what is asked next. Where it gives a quorum it is taken in place first, and taken back.
-fn tell(rt: &impl Abort, collect: &mut Collect, reply: Reply) {
-    if let Some(before) = collect.take_last(&reply) {
-        collect.undo(before);
+/// What a reply to what is asked next comes to. A lock that gives a quorum is told, too.
+fn heard(rt: &(impl Abort + AllocGlobal), collect: &mut Collect, text: &str) -> &'static str {
+    match collect.hear(&reply(rt, text)).ok().expect(rt, "memory") {
+        Hearing::Lost => "lost",
+        Hearing::Asks => "asks",
+        Hearing::Short => "short",
+        Hearing::Quorum(last) => {
+            collect.tell(last);
+            "quorum"
+        }
     }
-    assert!(rt; collect.accepts(&reply));
-    collect.take(reply);
 }
 
 /// What is done with a collector: it is raised, widened to votes, or told a reply.
@@ -81,7 +86,7 @@ fn act(rt: &(impl Abort + AllocGlobal), collect: &mut Collect, text: &str) {
     match text.split_once(' ') {
         None if text == "raise" => collect.raise(),
         Some(("widen", place)) => collect.widen(&votes(rt, place)),
-        _ => tell(rt, collect, reply(rt, text)),
+        _ => assert!(rt; heard(rt, collect, text) != "lost", "{text}"),
     }
 }
 
@@ -118,7 +123,6 @@ fn talk(rt: &(impl Abort + AllocGlobal), mode: LockMode, text: &str) {
     for line in text.lines().skip(1) {
         let (what, want) = line.split_once(" -> ").expect(rt, "a line");
         act(rt, &mut collect, what);
-        collect = collect.clone().expect(rt, "memory");
         comes(rt, &collect, want, line);
     }
 }
@@ -222,36 +226,38 @@ fn all_short_talks_go_as_another_program_says(rt: HostRuntime) {
 #[test]
 fn only_some_replies_are_gone_on_with(rt: HostRuntime) {
     let mut collect = collector(&rt, LockMode::Shared, "uneven");
-    assert!(rt; collect.accepts(&Reply::Down));
-    assert!(rt; !collect.accepts(&Reply::Lost));
-    act(&rt, &mut collect, "held 1 uneven 1");
+    assert!(rt; heard(&rt, &mut collect, "lost") == "lost");
+    assert!(rt; heard(&rt, &mut collect, "held 1 uneven 1") == "quorum");
     assert!(rt; collect.holds(LockMode::Shared, 1));
     assert!(rt; !collect.holds(LockMode::Exclusive, 1));
-    assert!(rt; !collect.accepts(&Reply::Down));
+    assert!(rt; heard(&rt, &mut collect, "down") == "lost");
     collect.raise();
-    assert!(rt; !collect.accepts(&Reply::Down));
+    assert!(rt; heard(&rt, &mut collect, "down") == "lost");
 }
 
-/// What is taken in place only where it gives a quorum.
-fn is_last(rt: &(impl Abort + AllocGlobal), collect: &mut Collect, text: &str) -> bool {
-    collect.take_last(&reply(rt, text)).is_some()
-}
-
+/// What a quorum gives is the same before it is told and after it.
 #[test]
-fn a_lock_that_gives_a_quorum_is_taken_back(rt: HostRuntime) {
+fn a_quorum_is_known_before_it_is_told(rt: HostRuntime) {
     let mut collect = collector(&rt, LockMode::Shared, "here");
-    act(&rt, &mut collect, "held 1 here 1");
-    assert!(rt; !is_last(&rt, &mut collect, "held 2 here 2"));
-    assert!(rt; !is_last(&rt, &mut collect, "down"));
-    let before = collect.take_last(&reply(&rt, "held 1 here 2"));
-    let before = before.expect(&rt, "a quorum");
-    let about = "a lock that is taken back";
+    assert!(rt; heard(&rt, &mut collect, "held 1 here 1") == "asks");
+    let last = match collect
+        .hear(&reply(&rt, "held 2 here 2"))
+        .ok()
+        .expect(&rt, "memory")
+    {
+        Hearing::Quorum(last) => Some(last),
+        _ => None,
+    };
+    let last = last.expect(&rt, "a quorum");
+    let about = "a quorum that is not told";
+    comes(&rt, &collect, "Shared at 1", about);
+    let quorum = collect.quorum_after(&last);
+    assert!(rt; quorum.prefix.pver == 2 && quorum.dver == 2 && quorum.source == Some(1));
+    collect.tell(last);
     comes(
         &rt,
         &collect,
-        "prefix 1 content 2 of [0, 1] from Some(1)",
+        "prefix 2 content 2 of [0, 1] from Some(1)",
         about,
     );
-    collect.undo(before);
-    comes(&rt, &collect, "Shared at 1", about);
 }

@@ -3,7 +3,7 @@
 use acl_core::{Acl, Lists, Mode};
 use std::process::Abort;
 use suite_prefix::Settings;
-use vote_core::Votes;
+use vote_core::{ServerSet, Votes};
 
 /// A number of a test's text.
 pub(crate) fn number(rt: &impl Abort, digits: &str) -> u64 {
@@ -22,7 +22,17 @@ pub(crate) fn settings(
     reps: &[(u8, u8)],
     quorum: u16,
 ) -> Settings {
+    settings_with_old(rt, reps, quorum, ServerSet::empty())
+}
+
+/// Those settings, where these servers open with their root in form 1.
+pub(crate) fn settings_with_old(
+    rt: &(impl Abort + AllocGlobal),
+    reps: &[(u8, u8)],
+    quorum: u16,
+    old: ServerSet,
+) -> Settings {
     let votes = Votes::new(3, reps, quorum, quorum).ok().expect(rt, "votes");
-    let settings = Settings::new(3, 2, votes, 1000, 100, lists(rt, 0o777), 0, 0, 0);
+    let settings = Settings::new(3, 2, votes, 1000, 100, lists(rt, 0o777), 0, 0, 0, old);
     settings.ok().expect(rt, "settings")
 }

@@ -7,9 +7,11 @@
 mod read;
 
 use self::read::{event, number};
-use crate::fixtures::settings;
+use crate::fixtures::{settings, settings_with_old};
 use run_core::{Event, Outcome, World, runs_go_on, worked_runs};
 use std::process::Abort;
+use suite_prefix::{Form, Settings};
+use vote_core::ServerSet;
 
 /// What a call gives, where memory may be refused to it once.
 macro_rules! again {
@@ -28,10 +30,16 @@ struct Pair {
     advanced: World,
 }
 
+/// The votes of three servers.
+static VOTES: [(u8, u8); 3] = [(0, 1), (1, 1), (2, 1)];
+
+fn opening(rt: &(impl Abort + AllocGlobal), settings: &Settings) -> World {
+    again!(rt, World::opening(rt.alloc(), settings))
+}
+
 /// Three servers, two of which are a quorum; two agents.
 fn world(rt: &(impl Abort + AllocGlobal)) -> World {
-    let settings = settings(rt, &[(0, 1), (1, 1), (2, 1)], 2);
-    again!(rt, World::opening(rt.alloc(), &settings))
+    opening(rt, &settings(rt, &VOTES, 2))
 }
 
 fn both(rt: &(impl Abort + AllocGlobal)) -> Pair {
@@ -89,11 +97,29 @@ fn told(rt: &(impl Abort + AllocGlobal), world: &World, word: &str, at: u8) -> S
     text.ok().expect(rt, "memory")
 }
 
-/// What comes of a line: `idle A`, `audit S`, or an event.
+/// The form of a server's copy of a suite; a dash, if it has none.
+fn form(world: &World, server: u8, suite: u64) -> &'static str {
+    match world.form(server, suite) {
+        Some(Form::One) => "1",
+        Some(Form::Two) => "2",
+        None => "-",
+    }
+}
+
+/// The forms of the three servers' copies of a suite.
+fn forms(rt: &(impl Abort + AllocGlobal), world: &World, suite: u64) -> String {
+    let (first, second) = (form(world, 0, suite), form(world, 1, suite));
+    let third = form(world, 2, suite);
+    let text = format!(in rt.alloc(); "{first} {second} {third}");
+    text.ok().expect(rt, "memory")
+}
+
+/// What comes of a line: `idle A`, `audit S`, `forms SUITE`, or an event.
 fn play(rt: &(impl Abort + AllocGlobal), worlds: &mut Pair, line: &str) -> String {
     match line.split_once(' ') {
         Some(("idle", at)) => told(rt, &worlds.stepped, "idle", number(rt, at)),
         Some(("audit", at)) => told(rt, &worlds.advanced, "audit", number(rt, at)),
+        Some(("forms", suite)) => forms(rt, &worlds.advanced, u64::from(number(rt, suite))),
         _ => happens(rt, worlds, line),
     }
 }
@@ -250,6 +276,38 @@ fn a_server_is_full(rt: HostRuntime) {
         eight_files(&rt, &mut worlds, t);
     }
     plays(&rt, &mut worlds, LAST_PLACES);
+}
+
+/// Servers 0 and 2 open with their root in form 1. A copy stays in its form until a Finish changes it: neither a read
+/// nor a crash does.
+static OLD_AND_NEW: &str = "
+forms 0 -> 1 2 1
+forms 1 -> - - -
+begin 0 file /a; write /a hi
+step 0: 10 -> 0.0 10 Answered(Answers { replies: [Made(1), Wrote] })
+forms 0 -> 2 2 1
+forms 1 -> 2 2 -
+begin 1 read /a
+step 1: 11 -> 1.0 11 Answered(Answers { replies: [Read(FileBytes { shared: Some([104, 105]) })] })
+crash 2
+return 2
+forms 0 -> 2 2 1";
+
+/// Those servers' world, twice.
+fn old_worlds(rt: &(impl Abort + AllocGlobal)) -> Pair {
+    let mut old = ServerSet::empty();
+    old.insert(0);
+    old.insert(2);
+    let settings = settings_with_old(rt, &VOTES, 2, old);
+    Pair {
+        stepped: opening(rt, &settings),
+        advanced: opening(rt, &settings),
+    }
+}
+
+#[test]
+fn old_and_new_copies(rt: HostRuntime) {
+    plays(&rt, &mut old_worlds(&rt), OLD_AND_NEW);
 }
 
 /// Plays events, and the others where memory is refused to it once; how many outcomes were handed out.

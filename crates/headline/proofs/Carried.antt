@@ -11,7 +11,7 @@ use Rattle.txn_core.specs.declared.word.Word.{Word}
 use Rattle.txn_core.specs.declared.word.Word.TheVariants.{Replied, Lacked}
 use Rattle.txn_core.specs.declared.job.Job.{Job}
 use Rattle.txn_core.specs.declared.job.Job.TheVariants.{Transaction, Sweep}
-use Rattle.txn_core.specs.Doing.{Fixed, Task, Outcome, Deciding, Course, Round, Doing, Running, Rounding, After, GoesOn, Ends}
+use Rattle.txn_core.specs.Doing.{Fixed, Task, Outcome, Phase, Preparing, Deciding, Course, Round, Doing, Running, Rounding, After, GoesOn, Ends}
 use Rattle.txn_core.specs.Sweeps as sweep
 use Rattle.txn_core.specs.Agents as agents
 use Rattle.txn_core.specs.Agents.{Agent, Take, Forget, next_in, next_of, left, take, take_in, begin, started, forget, is_idle, has_sense, max_jobs, after_event, after_all}
@@ -174,17 +174,31 @@ begin_knows fixed agent job idle =
         knows_left fixed _ (left_execute fixed (record { t = 64 * agent.count + agent.index; caller = caller; site = site; ops = ops }) (record { suites = []; cache = agent.cache }) none_fit)
     of (Sweep server) = tt
 
--- where a transaction is to be decided, what it is to be decided with came of operations that set no votes but valid ones
+-- where it is known what a transaction is to be decided with, that came of operations that set no votes but valid ones
 pub record CameWell (fixed : Fixed) (course : Course) (outcome : Outcome) : Type 0 where
   pub came : Came fixed course.task course.suites outcome
   pub valid : AllGiveValidVotes course.task.ops
 
-pub came_well : (fixed : Fixed) (agent : Agent) → ValidOr fixed agent → (course : Course) (outcome : Outcome) → agent.doing ≡ Some (Running course) → course.phase ≡ Deciding outcome → CameWell fixed course outcome
-came_well fixed agent (inl idle) course outcome running phase = absurd (false≢true (ap is_idle (sym running) ∙ idle))
-came_well fixed agent (inr is) course outcome running phase =
+-- what it knows by now, and that its operations set no votes but valid ones
+knows_now : (fixed : Fixed) (agent : Agent) → IsOfValidJob fixed agent → (course : Course) → agent.doing ≡ Some (Running course)
+    → Keeps fixed course.task course.suites course.phase × AllGiveValidVotes course.task.ops
+knows_now fixed agent is course running =
     let now : (after_all fixed (begin fixed is.before is.job) is.told).doing ≡ Some (Running course) = ap (λ (agent : Agent). agent.doing) (sym is.is) ∙ running in
-    let runs = subst (DoingStands fixed is.before is.job is.told) now (stands_after fixed is.before is.job is.told is.idle) in
-    record {
-      came = subst (Keeps fixed course.task course.suites) phase (subst (Knows fixed) now (all_know fixed (begin fixed is.before is.job) is.told (begin_knows fixed is.before is.job is.idle)));
-      valid = subst AllGiveValidVotes (sym (ap (λ (task : Task). task.ops) runs.task)) (subst JobGivesValidVotes runs.transaction is.valid);
-    }
+    let runs = subst (DoingStands fixed is.before is.job is.told) now (stands_after fixed is.before is.job is.told is.idle) in (
+      subst (Knows fixed) now (all_know fixed (begin fixed is.before is.job) is.told (begin_knows fixed is.before is.job is.idle)),
+      subst AllGiveValidVotes (sym (ap (λ (task : Task). task.ops) runs.task)) (subst JobGivesValidVotes runs.transaction is.valid),
+    )
+
+-- so where it decides, and already where it prepares
+came_at : (fixed : Fixed) (agent : Agent) → ValidOr fixed agent → (course : Course) (outcome : Outcome) (phase : Phase) → agent.doing ≡ Some (Running course) → course.phase ≡ phase
+    → (Keeps fixed course.task course.suites phase → Came fixed course.task course.suites outcome) → CameWell fixed course outcome
+came_at fixed agent (inl idle) course outcome phase running at came = absurd (false≢true (ap is_idle (sym running) ∙ idle))
+came_at fixed agent (inr is) course outcome phase running at came =
+    let knows = knows_now fixed agent is course running in
+    record { came = came (subst (Keeps fixed course.task course.suites) at knows.0); valid = knows.1 }
+
+pub came_well : (fixed : Fixed) (agent : Agent) → ValidOr fixed agent → (course : Course) (outcome : Outcome) → agent.doing ≡ Some (Running course) → course.phase ≡ Deciding outcome → CameWell fixed course outcome
+came_well fixed agent valid course outcome running phase = came_at fixed agent valid course outcome (Deciding outcome) running phase (λ came. came)
+
+pub came_preparing : (fixed : Fixed) (agent : Agent) → ValidOr fixed agent → (course : Course) (servers : List ℕ) (outcome : Outcome) → agent.doing ≡ Some (Running course) → course.phase ≡ Preparing servers outcome → CameWell fixed course outcome
+came_preparing fixed agent valid course servers outcome running phase = came_at fixed agent valid course outcome (Preparing servers outcome) running phase (λ came. came)

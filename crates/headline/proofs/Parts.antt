@@ -6,6 +6,7 @@ use Rattle.std.specs.BTreeMap.{is_at}
 use Rattle.std.proofs.lemmas.Bool.{false≢true}
 use Rattle.std.proofs.lemmas.Bool.Decides.{nat_tests}
 use Rattle.std.proofs.lemmas.Option.{same_Some}
+use Rattle.vote_core.specs.Validity.{max_servers}
 use Rattle.sorted_map.specs.SortedMap.{get}
 use Rattle.suite_prefix.specs.declared.lock_mode.LockMode.TheVariants.{Shared}
 use Rattle.rep_core.specs.declared.request.Part.{Part}
@@ -43,8 +44,8 @@ IsPrepared z w t suites outcome i = (suite : Suite) → suite_of suites z ≡ So
 
 -- each server that holds a lock on the suite is still to prepare, or has prepared its part
 abbrev pub PartsIn : ℕ → World → ℕ → Suites → Phase → Type 0
-PartsIn z w t suites (Preparing left outcome) = (i : ℕ) → i < 16 → holds Shared (told_at suites z) i ≡ true → Has left i ⊎ IsPrepared z w t suites outcome i
-PartsIn z w t suites (Deciding outcome) = (i : ℕ) → i < 16 → holds Shared (told_at suites z) i ≡ true → IsPrepared z w t suites outcome i
+PartsIn z w t suites (Preparing left outcome) = (i : ℕ) → i < max_servers → holds Shared (told_at suites z) i ≡ true → Has left i ⊎ IsPrepared z w t suites outcome i
+PartsIn z w t suites (Deciding outcome) = (i : ℕ) → i < max_servers → holds Shared (told_at suites z) i ≡ true → IsPrepared z w t suites outcome i
 PartsIn z w t suites (Gathering number) = Unit {0}
 PartsIn z w t suites (Fetching number) = Unit {0}
 PartsIn z w t suites (Widening left granted) = Unit {0}
@@ -172,7 +173,7 @@ module _ (z : ℕ) (later : World) (task : Task) where
   prepared_give_up : (cache : Cache) (suites : Suites) (cause : Cause) → DoingPrepared z later (left Running (give_up task cache suites cause).after)
   prepared_give_up cache suites cause = prepared_end cache suites verdict.Aborted (Undecided cause) (locked_at suites)
 
-  prepared_rest : (cache : Cache) (suites : Suites) (outcome : Outcome) (servers : List ℕ) → ((i : ℕ) → i < 16 → holds Shared (told_at suites z) i ≡ true → Has servers i ⊎ IsPrepared z later task.t suites outcome i)
+  prepared_rest : (cache : Cache) (suites : Suites) (outcome : Outcome) (servers : List ℕ) → ((i : ℕ) → i < max_servers → holds Shared (told_at suites z) i ≡ true → Has servers i ⊎ IsPrepared z later task.t suites outcome i)
       → DoingPrepared z later (left Running (prepare task cache suites outcome servers).after)
   prepared_rest cache suites outcome [] is = λ i small held. elim (is i small held) [ inl none ↦ absurd none | inr there ↦ there ]
   prepared_rest cache suites outcome (server ∷ servers) is = is

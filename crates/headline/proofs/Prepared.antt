@@ -3,6 +3,7 @@ use Rattle.std.proofs.Common.{◌≡◌, ℕ, ◌+◌, ◌<◌, Bool, IsTrue, tr
 use Rattle.std.specs.Prelude.{◌*◌, ◌==◌, ◌&&◌, nat_lt, slice_get, slice_set}
 use Rattle.std.proofs.lemmas.Bool.{false≢true}
 use Rattle.std.proofs.lemmas.Option.{same_Some}
+use Rattle.vote_core.specs.Validity.{max_servers}
 use Rattle.suite_prefix.specs.SettingsRules.{Opening}
 use Rattle.suite_prefix.specs.LockModes.{is_exclusive}
 use Rattle.rep_core.specs.declared.request.Part.{Part}
@@ -357,7 +358,7 @@ prepared_at z w world agree below all number actor course outcome suite there ru
     some_told (Some told) is = refl
     some_told None is = absurd (false≢true is)
 
-    of : (p : Phase) → p ≡ Deciding outcome → PartsIn z w course.task.t course.suites p → i < 16 → holds Shared (told_at course.suites z) i ≡ true → PreparedPart w course.task.t i (part_of (changes_of outcome) i (z, suite))
+    of : (p : Phase) → p ≡ Deciding outcome → PartsIn z w course.task.t course.suites p → i < max_servers → holds Shared (told_at course.suites z) i ≡ true → PreparedPart w course.task.t i (part_of (changes_of outcome) i (z, suite))
     of p is parts small shared = subst (PartsIn z w course.task.t course.suites) is parts i small shared suite found
 
 -- with all that holds together

@@ -1,7 +1,7 @@
 -- What holds together of a world and of the machine of a suite, as long as agents give what they owe: at the opening, and event by event.
 use Rattle.std.proofs.Common.{ℕ, ◌≤◌, sym, subst}
 use Rattle.suite_prefix.specs.SettingsRules.{Opening}
-use Rattle.vote_core.specs.Validity.{IsValid}
+use Rattle.vote_core.specs.Validity.{IsValid, max_servers}
 use Rattle.txn_core.specs.Agents.{Agent, fixed_of}
 use Rattle.run_core.specs.declared.event.Event as happening
 use Rattle.run_core.specs.Worlds as worlds
@@ -45,7 +45,7 @@ opens_agree given z n actor there =
     subst (λ (agent : Agent). DoingAgrees z (begun (beginning z given)) agent.doing) (sym is.1) tt
 
 -- at the opening
-pub opens : (given : Opening) (z : ℕ) → IsValid given.c0 → given.agents ≤ 64 → given.servers ≤ 16 → Together given z (begun (beginning z given)) (worlds.opening given)
+pub opens : (given : Opening) (z : ℕ) → IsValid given.c0 → given.agents ≤ 64 → given.servers ≤ max_servers → Together given z (begun (beginning z given)) (worlds.opening given)
 opens given z valid few few_servers =
     let first = opening_shows z (home_in given) given valid in
     record {

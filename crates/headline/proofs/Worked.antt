@@ -1,13 +1,15 @@
 -- They can be, and the rest holds by computation.
-use Rattle.std.proofs.Common.{◌≡◌, inl, inr, ℕ, ◌<◌, Bool, true, List, [], ◌∷◌, Option, Some, None, is_some, refl, sym, ap, subst, arith, lit<}
+use Rattle.std.proofs.Common.{◌≡◌, inl, inr, ℕ, ◌<◌, Bool, true, List, [], ◌∷◌, Option, Some, None, is_some, refl, sym, ap, ◌∙◌, subst, arith, lit<}
 use Rattle.std.specs.Prelude.{nat_lt, ◌&&◌, not}
 use Rattle.std.specs.List.{AllByRecursion, list_all}
+use Rattle.std.specs.Ordering.{nat_cmp}
+use Rattle.std.specs.FinSet.{contains-empty}
 use Rattle.std.proofs.lemmas.Bool.{and_parts, false≢true}
 use Rattle.std.proofs.lemmas.Bool.Decides.{nat_tests}
 use Rattle.std.proofs.lemmas.List.Elements.{All-from_recursion}
 use Rattle.vote_core.specs.declared.fault.VotesFault.{VotesFault}
 use Rattle.vote_core.specs.Quorums.{Configuration, Representative}
-use Rattle.vote_core.specs.Validity.{IsValid, first_fault}
+use Rattle.vote_core.specs.Validity.{IsValid, first_fault, max_servers}
 use Rattle.vote_core.proofs.Faults.{accepted_without_fault}
 use Rattle.suite_prefix.specs.SettingsRules.{IsAccepted}
 use Rattle.suite_prefix.specs.declared.lock_mode.LockMode.TheVariants.{Shared}
@@ -38,13 +40,13 @@ all_by P p each (x ∷ xs) is =
     (each x parts.0, all_by P p each xs parts.1)
 
 abbrev votes_fit : Configuration → Bool
-votes_fit votes = not (is_some (first_fault 16 votes)) && list_all (λ rep. nat_lt rep.1 256) votes.reps
+votes_fit votes = not (is_some (first_fault max_servers votes)) && list_all (λ rep. nat_lt rep.1 256) votes.reps
 
 valid_votes : (votes : Configuration) → votes_fit votes ≡ true → IsValid votes
 valid_votes votes is =
-    let parts = and_parts (not (is_some (first_fault 16 votes))) (list_all (λ rep. nat_lt rep.1 256) votes.reps) is in
+    let parts = and_parts (not (is_some (first_fault max_servers votes))) (list_all (λ rep. nat_lt rep.1 256) votes.reps) is in
     let few = all_by (λ (rep : Representative). rep.1 < 256) (λ rep. nat_lt rep.1 256) (λ rep. below rep.1 256) votes.reps parts.1 in
-    (accepted_without_fault 16 votes (none (first_fault 16 votes) parts.0) (All-from_recursion (λ (rep : Representative). rep.1 < 256) votes.reps few)).valid
+    (accepted_without_fault max_servers votes (none (first_fault max_servers votes) parts.0) (All-from_recursion (λ (rep : Representative). rep.1 < 256) votes.reps few)).valid
   where
     below : (a b : ℕ) → nat_lt a b ≡ true → a < b
     below a b is = grind (arith, nat_tests)
@@ -99,6 +101,8 @@ caches_accepted = record {
   budget_fits = omega arith;
   quota_fits = omega arith;
   slots_fit = omega arith;
+  old_known = λ server there. absurd (false≢true (sym (contains-empty nat_cmp server) ∙ there));
+  old_fits = λ server there. absurd (false≢true (sym (contains-empty nat_cmp server) ∙ there));
 }
 
 six_accepted : IsAccepted six_servers
@@ -109,6 +113,8 @@ six_accepted = record {
   budget_fits = omega arith;
   quota_fits = omega arith;
   slots_fit = omega arith;
+  old_known = λ server there. absurd (false≢true (sym (contains-empty nat_cmp server) ∙ there));
+  old_fits = λ server there. absurd (false≢true (sym (contains-empty nat_cmp server) ∙ there));
 }
 
 -- ---- what they came to

@@ -11,7 +11,7 @@ use Rattle.file_exec.specs.Known as known
 use Rattle.file_exec.specs.Known.{IsSo, IsSoAt, AgreesWith}
 use Rattle.txn_core.specs.Suites.{First, Suite, Suites, suite_of, row_with, known_row, known_of}
 use Rattle.txn_core.specs.Doing.{Task, Outcome}
-use Rattle.run_laws.proofs.Knowing.{known_from}
+use Rattle.txn_core.proofs.Growing.{known_from}
 use Rattle.suite_machine.specs.Registers.{Beginning, Known, Change, IsKnown, IsPlain, row}
 use Rattle.suite_machine.specs.Machine.{World}
 use Rattle.suite_machine.specs.Events.{happens}

@@ -20,7 +20,7 @@ use Rattle.file_exec.proofs.Unset.{changes_are_held}
 use Rattle.txn_core.specs.Suites.{First, Suite, Suites, suite_of, known_of}
 use Rattle.txn_core.specs.Writing.{change_of}
 use Rattle.txn_core.specs.Doing.{Granted, Fixed, Task, Outcome}
-use Rattle.run_laws.proofs.Knowing.{known_from, IsOfSuite}
+use Rattle.txn_core.proofs.Growing.{known_from, IsOfSuite}
 use Rattle.run_laws.proofs.Executed.{given_by, set_by, answer_as, Came}
 use Rattle.suite_machine.specs.Registers.{Beginning, Change, changed, row}
 use Rattle.suite_machine.specs.Machine.{World}

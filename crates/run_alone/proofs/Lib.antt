@@ -24,7 +24,6 @@ pub mod Courses
 pub mod Sets
 pub mod Grown
 pub mod Whole
-pub mod Came
 pub mod Fits
 pub mod Replied
 pub mod Requests

@@ -53,7 +53,7 @@ use Rattle.run_knowledge.proofs.Lasting.{DoingFits}
 use Rattle.run_knowledge.proofs.Decided.{suite_was}
 use Rattle.run_machine.specs.Telling.{told_to}
 use Rattle.run_quorums.specs.Telling.{Agrees, DoingAgrees}
-use Rattle.headline.proofs.Carried.{CameWell}
+use Rattle.headline.proofs.Carried.{CameWell, came_preparing}
 use Rattle.headline.proofs.Beside.{leaves}
 use Rattle.run_alone.proofs.Standing.{Stands}
 use Rattle.run_alone.proofs.Holding.{PhaseStands}
@@ -62,7 +62,6 @@ use Rattle.run_alone.proofs.Sets.{known_small}
 use Rattle.run_alone.proofs.Courses.{AreSmall}
 use Rattle.run_alone.proofs.Grown.{own_of}
 use Rattle.run_alone.proofs.Whole.{Carried}
-use Rattle.run_alone.proofs.Came.{came_preparing}
 use Rattle.run_alone.proofs.Fits.{changed_goes, part_fits}
 use Rattle.run_alone.proofs.Replied.{upgrade_not, fetch_not, prepare_not, polled_not, decide_not, finish_not, HasLock, held_lock, has_found, serves_as, all_of, rising_once, unlogged, unanswered}
 

@@ -33,7 +33,7 @@ use Rattle.txn_core.specs.Writing.{change_of, prefix_kind}
 use Rattle.txn_core.specs.Doing.{Fixed, Task, Outcome}
 use Rattle.txn_core.specs.Transactions.{changes_of}
 use Rattle.txn_core.proofs.Setting.{known_at}
-use Rattle.run_laws.proofs.Knowing.{known_from}
+use Rattle.txn_core.proofs.Growing.{known_from}
 use Rattle.run_laws.proofs.Executed.{set_by, Came}
 use Rattle.one_table.proofs.Shown.{FitsAs, told_as}
 use Rattle.headline.specs.Premises.{AllGiveValidVotes}

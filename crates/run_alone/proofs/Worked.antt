@@ -1,10 +1,13 @@
 -- They hold by computation.
-use Rattle.std.proofs.Common.{ℕ, zero, suc, ◌<◌, List, [], ◌∷◌, ◌++◌, refl, arith}
+use Rattle.std.proofs.Common.{ℕ, zero, suc, ◌<◌, List, [], ◌∷◌, ◌++◌, refl, sym, ◌∙◌, arith}
 use Rattle.std.specs.Prelude.{All}
 use Rattle.std.specs.List.{IsDistinct}
+use Rattle.std.specs.Ordering.{nat_cmp}
+use Rattle.std.specs.FinSet.{contains-empty}
+use Rattle.std.proofs.lemmas.Bool.{false≢true}
 use Rattle.std.proofs.lemmas.List.Elements.{All-nil, All-cons}
 use Rattle.vote_core.specs.Quorums.{Representative}
-use Rattle.vote_core.specs.Validity.{IsValid}
+use Rattle.vote_core.specs.Validity.{IsValid, max_servers}
 use Rattle.suite_prefix.specs.SettingsRules.{IsAccepted}
 use Rattle.txn_core.specs.declared.job.Job.TheVariants.{Transaction}
 use Rattle.txn_core.specs.Runs.{owner, other}
@@ -29,7 +32,7 @@ valid_votes : IsValid two_agents.c0
 unfolding IsDistinct
 valid_votes = record {
   some_listed = omega arith;
-  numbered = three 16 (omega arith);
+  numbered = three max_servers (omega arith);
   few_votes = few_votes;
   listed_once = ((refl, (refl, tt)), ((refl, tt), (tt, tt)));
   some_votes = omega arith;
@@ -83,6 +86,8 @@ without_accepted = record {
   budget_fits = omega arith;
   quota_fits = omega arith;
   slots_fit = omega arith;
+  old_known = λ server there. absurd (false≢true (sym (contains-empty nat_cmp server) ∙ there));
+  old_fits = λ server there. absurd (false≢true (sym (contains-empty nat_cmp server) ∙ there));
 }
 
 with_accepted : IsAccepted with_caches
@@ -93,6 +98,8 @@ with_accepted = record {
   budget_fits = omega arith;
   quota_fits = omega arith;
   slots_fit = omega arith;
+  old_known = λ server there. absurd (false≢true (sym (contains-empty nat_cmp server) ∙ there));
+  old_fits = λ server there. absurd (false≢true (sym (contains-empty nat_cmp server) ∙ there));
 }
 
 mended_valid : VotesAreValid (mended ++ reads ∷ so_many 11 1)

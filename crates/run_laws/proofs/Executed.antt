@@ -38,8 +38,9 @@ use Rattle.txn_core.specs.declared.ending.Ending.{Ending}
 use Rattle.txn_core.specs.declared.ending.Ending.TheVariants.{Undecided}
 use Rattle.txn_core.specs.Doing.{Changes, Granted, Fixed, Task, Outcome, Phase, Gathering, Fetching, Widening, Preparing, Deciding, Finishing, Course, After, GoesOn, Ends}
 use Rattle.txn_core.specs.Transactions.{Step, changes_of, Gathered, tell_end, give_up, prepare, locked_at, short_cause, gather_by, widen_by, widen_one, widened, widen_all, to_widen, opened, or_all, open_needed, open_suite, open_first, opened_with, free_content, heard_on, raised_or_new, keep_content, heard_of, said_to, proceed, execute, collected, hear, fetched, prepared, after_word, given_in, lack_cause, verdict_in, ending_by, cause_of_abort}
+use Rattle.txn_core.proofs.Growing.{serves_itself}
 use Rattle.run_laws.proofs.Standing.{Answer'}
-use Rattle.run_laws.proofs.Knowing.{AreFit, with_fit, more_known, serves_itself}
+use Rattle.run_laws.proofs.Knowing.{AreFit, with_fit, more_after}
 
 -- ---- what the executor came to
 
@@ -193,7 +194,7 @@ left_widen_one fixed task cache suites left granted number (Some suite) there go
     let wider = widened granted.changes number suite in
     left_widen_by fixed task cache (with_suite number wider suites) left granted number (next wider.collector) go_on
     (with_fit suites number wider fit (fit.modes number suite there))
-    (came_more fixed task suites (with_suite number wider suites) (Ok granted) (more_known suites number suite wider fit.ordered there (record { first = λ first was. was; content = refl; mode = serves_itself suite.mode })) (with_fit suites number wider fit (fit.modes number suite there)) came)
+    (came_more fixed task suites (with_suite number wider suites) (Ok granted) (more_after suites number suite wider fit.ordered there (λ first was. record { first = was; content = refl; mode = serves_itself suite.mode })) (with_fit suites number wider fit (fit.modes number suite there)) came)
     more
 left_widen_one fixed task cache suites left granted number None there go_on fit came more = more suites fit came
 
@@ -312,13 +313,13 @@ left_widening fixed task cache suites number left granted (Some suite) server as
     left_hear fixed task cache suites (Widening (number ∷ left) granted) number suite server asked (said_to asked said) _
     (λ told. (
       with_fit suites number (told_of told suite) fit (told_mode suites number suite told fit there),
-      came_more fixed task suites (with_suite number (told_of told suite) suites) (Ok granted) (more_known suites number suite (told_of told suite) fit.ordered there (record { first = λ first was. was; content = refl; mode = serves_itself suite.mode }))
+      came_more fixed task suites (with_suite number (told_of told suite) suites) (Ok granted) (more_after suites number suite (told_of told suite) fit.ordered there (λ first was. record { first = was; content = refl; mode = serves_itself suite.mode }))
           (with_fit suites number (told_of told suite) fit (told_mode suites number suite told fit there)) came,
     ))
     (λ told prefix dver members.
     let now = settled prefix dver members (told_of told suite) in
     left_widen fixed task cache granted left (with_suite number now suites) (with_fit suites number now fit (serves_itself (tell told suite.collector).mode))
-    (came_more fixed task suites (with_suite number now suites) (Ok granted) (more_known suites number suite now fit.ordered there (record { first = λ first was. first_stays suite.first first _ was; content = refl; mode = told_mode suites number suite told fit there }))
+    (came_more fixed task suites (with_suite number now suites) (Ok granted) (more_after suites number suite now fit.ordered there (λ first was. record { first = first_stays suite.first first _ was; content = refl; mode = told_mode suites number suite told fit there }))
     (with_fit suites number now fit (serves_itself (tell told suite.collector).mode)) came))
 left_widening fixed task cache suites number left granted None server asked said there fit came = left_give_up fixed task cache suites (Lost server)
 

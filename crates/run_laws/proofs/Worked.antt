@@ -1,5 +1,8 @@
 -- It holds by computation.
-use Rattle.std.proofs.Common.{◌≡◌, ℕ, ◌<◌, [], ◌∷◌, refl, sym, ap, subst, arith}
+use Rattle.std.proofs.Common.{◌≡◌, ℕ, ◌<◌, [], ◌∷◌, refl, sym, ap, ◌∙◌, subst, arith}
+use Rattle.std.specs.Ordering.{nat_cmp}
+use Rattle.std.specs.FinSet.{contains-empty}
+use Rattle.std.proofs.lemmas.Bool.{false≢true}
 use Rattle.std.proofs.lemmas.List.Elements.{All-nil, All-cons}
 use Rattle.file_ops.specs.Rows as rows
 use Rattle.run_core.specs.Decisions.{decisions}
@@ -27,6 +30,8 @@ some_runs_decide = record {
     budget_fits = omega arith;
     quota_fits = omega arith;
     slots_fit = omega arith;
+    old_known = λ server there. absurd (false≢true (sym (contains-empty nat_cmp server) ∙ there));
+    old_fits = λ server there. absurd (false≢true (sym (contains-empty nat_cmp server) ∙ there));
   };
   ends = refl;
   in_order = in_order;

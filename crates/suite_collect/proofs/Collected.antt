@@ -11,7 +11,8 @@ use Rattle.suite_prefix.specs.LockModes.{is_exclusive, serves}
 use Rattle.suite_collect.specs.declared.told.Said.{Said}
 use Rattle.suite_collect.specs.declared.told.Said.TheVariants.{Held, Busy, Down}
 use Rattle.suite_collect.specs.declared.told.Told.{Told}
-use Rattle.suite_collect.proofs.Finding.{Has, has_from, has_to, find_passes}
+use Rattle.rep_core.proofs.Members.{Has, has_from, contains_from}
+use Rattle.rep_core.proofs.Finding.{find_some}
 use Rattle.suite_collect.specs.Telling.{is_held, newer, newest, has_told, holds, has_refused, greatest}
 use Rattle.suite_collect.specs.Collecting.{Widening, Collector, told_since, all_told, votes_or, counted, wanted, mode_or, needed, needed_of, got, is_member, is_left, members_of, version, asked_of, mode_asked, ask_or_short, Asked, Poll, Upgrade, Current, Ask, next}
 use Rattle.suite_collect.specs.Laws.{among, WasShown, EachHasAVote, IsCurrent, CurrentIsAQuorum, WidenedIsAWriteQuorum, NobodyIsAskedTwice}
@@ -190,7 +191,7 @@ current_is_a_quorum c prefix dver members narrow is = at c.widening refl narrow
         record {
           known =
               subst (λ prefix. (prefix ≡ c.start) ⊎ WasShown c.told prefix) gives.prefix_is
-              (elim (newest_known c.start c.told) [ inl first ↦ inl first | inr shown ↦ inr (shown.0, shown.1, has_to c.told shown.0 shown.2, shown.3) ]);
+              (elim (newest_known c.start c.told) [ inl first ↦ inl first | inr shown ↦ inr (shown.0, shown.1, contains_from c.told shown.0 shown.2, shown.3) ]);
           not_older = subst (λ (prefix : Prefix). c.start.pver ≤ prefix.pver) gives.prefix_is (newest_from c.start c.told);
           voting = each_votes prefix.votes (holds c.mode c.told) members are;
           quorum = members_enough (needed_of c.mode prefix.votes) prefix.votes (holds c.mode c.told) members are enough;
@@ -243,7 +244,7 @@ asked_left c server asked is = at (nat_le (needed c) (got c)) is
     found_left None was is = cc
     found_left (Some rep) was is =
         let same : rep.0 ≡ server = cc in
-        let left = parts (nat_lt 0 rep.1) (is_member c rep.0) (has_refused (all_told c) rep.0) (find_passes (is_left c) (counted c).reps rep was) in
+        let left = parts (nat_lt 0 rep.1) (is_member c rep.0) (has_refused (all_told c) rep.0) (find_some (is_left c) (counted c).reps rep was).1 in
         let question : asked_of c rep.0 ≡ asked = cc in
         (ap (is_member c) (sym same) ∙ left.0, ap (has_refused (all_told c)) (sym same) ∙ left.1, ap (asked_of c) (sym same) ∙ question)
       where
@@ -275,7 +276,7 @@ asked_as_wanted c server is = at (find (is_left c) (counted c).reps) refl is
     at None was is = cc
     at (Some rep) was is =
         let same : rep.0 ≡ server = cc in
-        let left = parts (nat_lt 0 rep.1) (is_member c rep.0) (has_refused (all_told c) rep.0) (find_passes (is_left c) (counted c).reps rep was) in
+        let left = parts (nat_lt 0 rep.1) (is_member c rep.0) (has_refused (all_told c) rep.0) (find_some (is_left c) (counted c).reps rep was).1 in
         of (wanted c) refl (holds Shared (all_told c) server) refl (ap (is_member c) (sym same) ∙ left)
 
 pub nobody_is_asked_twice : NobodyIsAskedTwice

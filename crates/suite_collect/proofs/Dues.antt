@@ -1,33 +1,28 @@
 -- What is due of a collector is what comes next, and what a reply leaves due.
-use Rattle.std.proofs.Common.{◌≡◌, ℕ, Bool, true, false, cond, List, ◌∷◌, ◌++◌, Option, Some, None, refl, sym, ap, subst, ◌∙◌, arith}
-use Rattle.std.specs.Prelude.{nat_le, ◌&&◌, ◌||◌, ◌==◌, find, option_map, is_some, unwrap_or, IsSome, IfSome}
-use Rattle.std.proofs.lemmas.Bool.Decides.{nat_tests}
-use Rattle.std.proofs.lemmas.Option.{same_Some}
-use Rattle.vote_core.specs.Quorums.{Representative, Configuration, votes_in}
+use Rattle.std.proofs.Common.{◌≡◌, ℕ, Bool, true, false, cond, ◌∷◌, ◌++◌, List, Option, Some, None, refl, sym, ap, subst, ◌∙◌}
+use Rattle.std.specs.Prelude.{nat_le, ◌==◌, find, option_map, is_some, unwrap_or, IfSome}
+use Rattle.vote_core.specs.Quorums.{Representative, Configuration}
 use Rattle.suite_prefix.specs.declared.copies.Prefix.{Prefix}
 use Rattle.suite_prefix.specs.declared.lock_mode.LockMode.{LockMode}
-use Rattle.suite_prefix.specs.declared.lock_mode.LockMode.TheVariants.{Shared, Exclusive}
-use Rattle.suite_prefix.specs.LockModes.{serves}
+use Rattle.suite_prefix.specs.declared.lock_mode.LockMode.TheVariants.{Exclusive}
 use Rattle.rep_core.specs.declared.reply.Reply.{Reply}
-use Rattle.rep_core.specs.declared.reply.Reply.TheVariants as reply
 use Rattle.suite_collect.specs.declared.told.Said.{Said}
-use Rattle.suite_collect.specs.declared.told.Said.TheVariants.{Held, Busy, Down}
 use Rattle.suite_collect.specs.declared.told.Told.{Told}
 use Rattle.suite_collect.specs.declared.collect.Collect.TheInside.{Inside}
 use Rattle.suite_collect.specs.declared.widening.Widening.{Widening as Wide}
 use Rattle.suite_collect.specs.declared.due.Due.{Due as Coded}
-use Rattle.suite_collect.specs.declared.due.Due.TheVariants as coded
+use Rattle.suite_collect.specs.declared.hearing.Quorum.{Quorum}
 use Rattle.suite_collect.specs.code.Dues as due
-use Rattle.suite_collect.specs.code.Dues.{Due, due_left, due_among, due_by, due_in, IsPlaced, IsPlacedBy}
-use Rattle.suite_collect.specs.Telling.{is_held, newer, newest, holds, has_refused, first_busy}
-use Rattle.suite_collect.specs.Collecting.{Widening, Collector, Collecting, Asked, Poll, Upgrade, mode_asked, all_told, counted, wanted, needed, needed_of, got, is_member, is_left, members_of, version, asked_of, ask_or_short, said_to, tell, told_by, Next, Current, Ask, Short, next}
+use Rattle.suite_collect.specs.code.Dues.{Due, due_left, due_among, due_by, due_in, IsKnown}
+use Rattle.suite_collect.specs.Telling.{newer, newest, holds, has_refused, first_busy, shown}
+use Rattle.suite_collect.specs.Collecting.{Widening, Collector, all_told, counted, wanted, needed, got, is_member, is_left, members_of, version, source, asked_of, ask_or_short, said_to, tell, told_by, Current, Ask, Short, next}
 use Rattle.suite_collect.specs.code.CollectFields.{widening_of, collecting_of, due_of, IsSummed}
-use Rattle.suite_collect.specs.Answering.{has_quorum, HasNoQuorum, Takes, Leaves, shows_lock}
+use Rattle.suite_collect.specs.Answering.{has_quorum, IsQuorumOf}
 use Rattle.suite_collect.proofs.Collected.{asked_as_wanted}
 
 module _ (c : Collector) where
   abbrev now : Bool → Option Representative → Due
-  now b found = cond b due.Current (due_left (got c) (needed c) found)
+  now b found = cond b due.Current (due_left (got c) (needed c) (option_map (λ rep. rep.0) found))
 
   pub current_next : due_of c ≡ due.Current → next c ≡ Current (newest c.start c.told) (version c) (members_of (counted c) (is_member c))
   current_next is = at (nat_le (needed c) (got c)) (find (is_left c) (counted c).reps) is
@@ -72,100 +67,132 @@ module _ (c : Collector) where
       ap (λ next. told_by next answer) (ask_next server is)
       ∙ ap (λ mode. option_map (λ said. record { server = server; mode = mode; said = said }) (said_to (asked_of c server) answer)) (asked_as_wanted c server (asked_there server is))
 
-  -- ---- what a reply leaves
-
-  -- it is told something only where it has too few votes
-  too_few : (answer : Reply) (last : Told) → told_by (next c) answer ≡ Some last → nat_le (needed c) (got c) ≡ false
-  too_few answer last is = at (nat_le (needed c) (got c)) is
+  -- where no server is asked nothing is told
+  pub told_unasked : (answer : Reply) → ((server : ℕ) → due_of c ≡ due.Ask server → ⊥) → told_by (next c) answer ≡ None
+  told_unasked answer unasked = at (due_of c) refl unasked
     where
-      at : (b : Bool) → told_by (cond b (Current (newest c.start c.told) (version c) (members_of (counted c) (is_member c))) (ask_or_short c (find (is_left c) (counted c).reps))) answer ≡ Some last → b ≡ false
-      at true is = cc
-      at false is = refl
+      at : (left : Due) → due_of c ≡ left → ((server : ℕ) → due_of c ≡ due.Ask server → ⊥) → told_by (next c) answer ≡ None
+      at due.Current is unasked = ap (λ next. told_by next answer) (current_next is)
+      at (due.Ask server) is unasked = absurd (unasked server is)
+      at (due.Short had wanting) is unasked = ap (λ next. told_by next answer) (short_next had wanting is)
 
-  few_no_quorum : nat_le (needed c) (got c) ≡ false → HasNoQuorum (next c)
-  few_no_quorum few =
-      subst (λ b. HasNoQuorum (cond b (Current (newest c.start c.told) (version c) (members_of (counted c) (is_member c))) (ask_or_short c (find (is_left c) (counted c).reps)))) (sym few)
-      (of (find (is_left c) (counted c).reps))
+  -- what a reply says is told
+  pub told_said : (server : ℕ) (answer : Reply) (said : Said) → due_of c ≡ due.Ask server → said_to (asked_of c server) answer ≡ Some said
+      → told_by (next c) answer ≡ Some (record { server = server; mode = wanted c; said = said })
+  told_said server answer said is says =
+      told_asked server answer is
+      ∙ ap (λ (said : Option Said). option_map {U = Told} (λ said. record { server = server; mode = wanted c; said = said }) said) says
+
+  -- ---- whether there is a quorum
+
+  pub quorum_reached : has_quorum (next c) ≡ nat_le (needed c) (got c)
+  quorum_reached = at (nat_le (needed c) (got c)) (find (is_left c) (counted c).reps)
     where
-      of : (found : Option Representative) → HasNoQuorum (ask_or_short c found)
-      of (Some rep) = refl
-      of None = refl
+      at : (b : Bool) (found : Option Representative) → has_quorum (cond b (Current (newest c.start c.told) (version c) (members_of (counted c) (is_member c))) (ask_or_short c found)) ≡ b
+      at true found = refl
+      at false (Some rep) = refl
+      at false None = refl
 
-  pub not_current_no_quorum : (due_of c ≡ due.Current → ⊥) → HasNoQuorum (next c)
-  not_current_no_quorum short = few_no_quorum (at (nat_le (needed c) (got c)) short)
-    where
-      at : (b : Bool) → (now b (find (is_left c) (counted c).reps) ≡ due.Current → ⊥) → b ≡ false
-      at true short = absurd (short refl)
-      at false short = refl
+-- what is wanted stays once something is told
+pub wanted_still : (c : Collector) (last : Told) → wanted (tell last c) ≡ wanted c
+wanted_still c last = of c.widening
+  where
+    of : (widening : Option Widening) → (let was : Collector = record c { widening = widening } in wanted (tell last was) ≡ wanted was)
+    of None = refl
+    of (Some w) = refl
 
-pub due_current : (left : Coded) → due_in left ≡ due.Current → left ≡ coded.Current
-due_current coded.Current is = refl
-due_current (coded.Ask server place got) is = cc
-due_current (coded.Short got needed) is = cc
+pub all_told_then : (c : Collector) (last : Told) → all_told (tell last c) ≡ last ∷ all_told c
+all_told_then c last = of c.widening
+  where
+    of : (widening : Option Widening) → (let was : Collector = record c { widening = widening } in all_told (tell last was) ≡ last ∷ all_told was)
+    of None = refl
+    of (Some w) = refl
 
--- what a reply says where it answers what was asked
-abbrev pub said_by : Reply → Said
-said_by (reply.Held prefix dver) = Held prefix dver
-said_by (reply.Busy holder prepared) = Busy holder
-said_by other = Down
+-- what is due once something is told
+pub due_then : (c : Collector) (last : Told) (votes : Configuration) (held refused : ℕ → Bool) (left : Due)
+    → votes ≡ counted (tell last c) → ((other : ℕ) → held other ≡ holds (wanted c) (last ∷ all_told c) other) → ((other : ℕ) → refused other ≡ has_refused (last ∷ all_told c) other)
+    → left ≡ due_among votes (wanted c) held refused → left ≡ due_of (tell last c)
+due_then c last votes held refused left counting holding refusing is =
+    is
+    ∙ ap (λ votes. due_among votes (wanted c) held refused) counting
+    ∙ ap (λ held. due_among (counted (tell last c)) (wanted c) held refused) (λ i other. (holding other) i)
+    ∙ ap (due_among (counted (tell last c)) (wanted c) (holds (wanted c) (last ∷ all_told c))) (λ i other. (refusing other) i)
+    ∙ ap (λ told. due_by (counted (tell last c)) (wanted c) told) (sym (all_told_then c last))
+    ∙ ap (λ mode. due_by (counted (tell last c)) mode (all_told (tell last c))) (sym (wanted_still c last))
 
--- a reply that answers was taken
-module _ (was after : Collecting) (server : ℕ) (is : due_of was.collector ≡ due.Ask server) where
-  abbrev told_of : Said → Told
-  told_of said = record { server = server; mode = wanted was.collector; said = said }
+-- the votes that count then
+pub counted_narrow : (c : Collector) (last : Told) → c.widening ≡ None → counted (tell last c) ≡ (newer (newest c.start c.told) last.said).votes
+counted_narrow c last narrow = ap (λ widening. counted (tell last (record c { widening = widening }))) narrow
 
-  abbrev Took : Option Told → Type 0
-  Took one = IfSome one (λ last. after ≡ record was { collector = tell last was.collector })
+pub counted_wide : (c : Collector) (last : Told) (w : Widening) → c.widening ≡ Some w → counted (tell last c) ≡ w.votes
+counted_wide c last w wide = ap (λ widening. counted (tell last (record c { widening = widening }))) wide
 
-  pub took_answer : (answer : Reply) → IsSome (told_by (next was.collector) answer) → after ≡ record was { collector = tell (told_of (said_by answer)) was.collector } → Took (told_by (next was.collector) answer)
-  took_answer answer some new =
-      let told = told_asked was.collector server answer is in
-      subst Took (sym told) (of (asked_of was.collector server) answer (subst IsSome told some) new)
-    where
-      of : (asked : Asked) (answer : Reply) → IsSome (option_map told_of (said_to asked answer)) → after ≡ record was { collector = tell (told_of (said_by answer)) was.collector } → Took (option_map told_of (said_to asked answer))
-      of asked (reply.Held prefix dver) some new = new
-      of asked (reply.Busy holder prepared) some new = new
-      of (Poll mode) reply.Down some new = new
-      of Upgrade reply.Down some new = cc
-      of asked reply.Lost some new = cc
-      of asked (reply.Given dver content) some new = cc
-      of asked reply.Prepared some new = cc
-      of asked (reply.Verdict v) some new = cc
-      of asked reply.Done some new = cc
-      of asked (reply.Locked locks) some new = cc
+-- ---- what a quorum gives
+
+pub gives_narrow : (c : Collector) (last : Told) (quorum : Quorum) → c.widening ≡ None → quorum.prefix.now ≡ newer (newest c.start c.told) last.said
+    → (let after : Collector = record c { told = last ∷ c.told; widening = None } in (quorum.dver ≡ version after) × (quorum.source ≡ source after)) → IsQuorumOf quorum (tell last c)
+gives_narrow c last quorum narrow prefix rest =
+    subst (λ widening. IsQuorumOf quorum (tell last (record c { widening = widening }))) (sym narrow) (record { prefix = prefix; dver = rest.0; source = rest.1 })
+
+pub gives_wide : (c : Collector) (last : Told) (w : Widening) (quorum : Quorum) → c.widening ≡ Some w → quorum.prefix.now ≡ newest c.start c.told → quorum.dver ≡ version c
+    → quorum.source ≡ find (λ server. shown c.told server == version c) (members_of w.votes (holds Exclusive (last ∷ (w.told ++ c.told)))) → IsQuorumOf quorum (tell last c)
+gives_wide c last w quorum wide prefix dver source' =
+    subst (λ widening. IsQuorumOf quorum (tell last (record c { widening = widening }))) (sym wide) (record { prefix = prefix; dver = dver; source = source' })
 
 -- ---- what the fields keep
 
 module _ (was : Inside) (left : Coded) (votes : Configuration) where
   pub summed_narrow : (mode : LockMode) (kept : Option Prefix) (told : List Told) → was.widening ≡ None → unwrap_or kept was.start ≡ newest was.start told → votes ≡ (newest was.start told).votes
-      → due_in left ≡ due_by votes mode told → IsPlacedBy votes mode told left → IsSummed (record was { mode = mode; newer = kept; told = told; due = left })
-  summed_narrow mode kept told narrow newest' votes' is placed = record {
+      → due_in left ≡ due_by votes mode told → IsKnown left → IsSummed (record was { mode = mode; newer = kept; told = told; due = left })
+  summed_narrow mode kept told narrow newest' votes' is known = record {
     newest = newest';
     all = subst (λ (w : Option Wide). IfSome w (λ widening. widening.all ≡ widening.since.items ++ told)) (sym narrow) tt;
     due = is ∙ ap (λ votes. due_by votes mode told) votes' ∙ ap (λ w. due_of (of w)) (sym narrow);
-    placed = subst (λ w. Placed (of w)) (sym narrow) (subst (λ votes. IsPlacedBy votes mode told left) votes' placed);
+    known = known;
   }
     where
       of : Option Wide → Collector
       of w = record { start = was.start; mode = mode; told = told; widening = option_map widening_of w }
 
-      Placed : Collector → Type 0
-      Placed c = IsPlacedBy (counted c) (wanted c) (all_told c) left
-
   pub summed_wide : (w : Wide) (told : List Told) → was.widening ≡ Some w → unwrap_or was.newer was.start ≡ newest was.start was.told → w.all ≡ w.since.items ++ was.told → votes ≡ w.votes → told ≡ w.all
-      → due_in left ≡ due_by votes Exclusive told → IsPlacedBy votes Exclusive told left → IsSummed (record was { due = left })
-  summed_wide w told wide newest' all' votes' told' is placed = record {
+      → due_in left ≡ due_by votes Exclusive told → IsKnown left → IsSummed (record was { due = left })
+  summed_wide w told wide newest' all' votes' told' is known = record {
     newest = newest';
     all = subst (λ (w : Option Wide). IfSome w (λ widening. widening.all ≡ widening.since.items ++ was.told)) (sym wide) all';
     due = is ∙ ap (λ votes. due_by votes Exclusive told) votes' ∙ ap (due_by w.votes Exclusive) (told' ∙ all') ∙ ap (λ w. due_of (of w)) (sym wide);
-    placed = subst (λ w. Placed (of w)) (sym wide) (subst (λ told. IsPlacedBy w.votes Exclusive told left) (told' ∙ all') (subst (λ votes. IsPlacedBy votes Exclusive told left) votes' placed));
+    known = known;
   }
     where
       of : Option Wide → Collector
       of w = record { start = was.start; mode = was.mode; told = was.told; widening = option_map widening_of w }
 
-      Placed : Collector → Type 0
-      Placed c = IsPlacedBy (counted c) (wanted c) (all_told c) left
+-- what is told is put behind what was told
+module _ (was : Inside) (left : Coded) (last : Told) (known : IsKnown left) where
+  abbrev of : Option Wide → List Told → Collector
+  of w told = record { start = was.start; mode = was.mode; told = told; widening = option_map widening_of w }
+
+  pub put_narrow : (kept : Option Prefix) (told : List Told) → was.widening ≡ None → unwrap_or kept was.start ≡ newest was.start told → told ≡ last ∷ was.told
+      → due_in left ≡ due_of (tell last (collecting_of was).collector) → IsSummed (record was { newer = kept; told = told; due = left })
+  put_narrow kept told narrow newest' told' is = record {
+    newest = newest';
+    all = subst (λ (w : Option Wide). IfSome w (λ widening. widening.all ≡ widening.since.items ++ told)) (sym narrow) tt;
+    due = is ∙ ap (λ w. due_of (tell last (of w was.told))) narrow ∙ ap (λ told. due_of (of None told)) (sym told') ∙ ap (λ w. due_of (of w told)) (sym narrow);
+    known = known;
+  }
+
+  pub put_wide : (before after : Wide) → was.widening ≡ Some before → unwrap_or was.newer was.start ≡ newest was.start was.told
+      → before.all ≡ before.since.items ++ was.told → after.votes ≡ before.votes → after.all ≡ last ∷ before.all → after.since.items ≡ last ∷ before.since.items
+      → due_in left ≡ due_of (tell last (collecting_of was).collector) → IsSummed (record was { widening = Some after; due = left })
+  put_wide before after wide newest' all' votes' more since' is = record {
+    newest = newest';
+    all = more ∙ ap (λ told. last ∷ told) all' ∙ ap (λ items. items ++ was.told) (sym since');
+    due =
+        is
+        ∙ ap (λ w. due_of (tell last (of w was.told))) wide
+        ∙ ap (λ votes. due_of (record { start = was.start; mode = was.mode; told = was.told; widening = Some (record { votes = votes; told = last ∷ before.since.items }) })) (sym votes')
+        ∙ ap (λ told. due_of (record { start = was.start; mode = was.mode; told = was.told; widening = Some (record { votes = after.votes; told = told }) })) (sym since');
+    known = known;
+  }
 
 pub narrow_of : (w : Option Wide) → is_some w ≡ false → w ≡ None
 narrow_of None is = refl
@@ -174,188 +201,3 @@ narrow_of (Some wide) is = cc
 pub narrow_unless : (w : Option Wide) → ((wide : Wide) → w ≡ Some wide → ⊥) → w ≡ None
 narrow_unless None is = refl
 narrow_unless (Some wide) is = absurd (is wide refl)
-
--- who is down or busy holds nothing, and shows no prefix
-module _ (one : Told) (none : is_held one.said ≡ false) where
-  holds_same : (mode : LockMode) (told : List Told) → holds mode (one ∷ told) ≡ holds mode told
-  holds_same mode told = λ i server. (of (one.server == server) (serves one.mode mode) (holds mode told server) (is_held one.said) none) i
-    where
-      of : (a x b h : Bool) → h ≡ false → ((a && (h && x)) || b) ≡ b
-      of true x b false is = refl
-      of false x b h is = refl
-      of true x b true is = cc
-
-  newest_same : (prefix : Prefix) → newer prefix one.said ≡ prefix
-  newest_same prefix = of one.said none
-    where
-      of : (said : Said) → is_held said ≡ false → newer prefix said ≡ prefix
-      of (Held other dver) is = cc
-      of (Busy holder) is = refl
-      of Down is = refl
-
-  votes_same : (c : Collector) → nat_le (needed (tell one c)) (got (tell one c)) ≡ nat_le (needed c) (got c)
-  votes_same c = of c.widening
-    where
-      of : (widening : Option Widening) → (let was : Collector = record c { widening = widening } in nat_le (needed (tell one was)) (got (tell one was)) ≡ nat_le (needed was) (got was))
-      of None =
-          ap (λ (prefix : Prefix). nat_le (needed_of c.mode prefix.votes) (votes_in prefix.votes.reps (holds c.mode (one ∷ c.told)))) (newest_same (newest c.start c.told))
-          ∙ ap (λ held. nat_le (needed_of c.mode (newest c.start c.told).votes) (votes_in (newest c.start c.told).votes.reps held)) (holds_same c.mode c.told)
-      of (Some w) = ap (λ held. nat_le w.votes.w (votes_in w.votes.reps held)) (holds_same Exclusive (w.told ++ c.told))
-
-unheld_told : (next : Next) (answer : Reply) (last : Told) → told_by next answer ≡ Some last → shows_lock answer ≡ false → is_held last.said ≡ false
-unheld_told (Ask server asked) (reply.Busy holder prepared) last told none =
-    sym (ap (λ (one : Told). is_held one.said) (same_Some (record { server = server; mode = mode_asked asked; said = Busy holder }) last told))
-unheld_told (Ask server (Poll mode)) reply.Down last told none =
-    sym (ap (λ (one : Told). is_held one.said) (same_Some (record { server = server; mode = mode; said = Down }) last told))
-unheld_told (Ask server Upgrade) reply.Down last told none = cc
-unheld_told (Ask server asked) (reply.Held prefix dver) last told none = cc
-unheld_told (Ask server asked) reply.Lost last told none = cc
-unheld_told (Ask server asked) (reply.Given dver content) last told none = cc
-unheld_told (Ask server asked) reply.Prepared last told none = cc
-unheld_told (Ask server asked) (reply.Verdict v) last told none = cc
-unheld_told (Ask server asked) reply.Done last told none = cc
-unheld_told (Ask server asked) (reply.Locked locks) last told none = cc
-unheld_told (Current prefix dver members) answer last told none = cc
-unheld_told (Short had wanting busy) answer last told none = cc
-
--- a reply that shows no lock was taken
-pub took : (was after : Collecting) (answer : Reply) → is_some (told_by (next was.collector) answer) ≡ true → shows_lock answer ≡ false
-    → IfSome (told_by (next was.collector) answer) (λ last. after ≡ record was { collector = tell last was.collector }) → Takes was answer after
-took was after answer accepted none is = of (told_by (next was.collector) answer) refl accepted is
-  where
-    of : (one : Option Told) → told_by (next was.collector) answer ≡ one → is_some one ≡ true → IfSome one (λ last. after ≡ record was { collector = tell last was.collector }) → Takes was answer after
-    of (Some last) told some new =
-        let unheld = unheld_told (next was.collector) answer last told none in
-        record { last = last; told = told; new = new; short = few_no_quorum (tell last was.collector) (votes_same last unheld was.collector ∙ too_few was.collector answer last told) }
-    of None told some new = cc
-
--- a lock that is held was taken, before a widening, where it gives no quorum
-module _ (server : ℕ) (prefix : Prefix) (dver : ℕ) where
-  abbrev pub last : LockMode → Told
-  last mode = record { server = server; mode = mode; said = Held prefix dver }
-
-  abbrev pub told_last : Collecting → List Told
-  told_last was = last was.collector.mode ∷ was.collector.told
-
-  abbrev pub newest_last : Collecting → Prefix
-  newest_last was = newer (newest was.collector.start was.collector.told) (Held prefix dver)
-
-  abbrev with_last : Collecting → Collecting
-  with_last was = record was { collector = record was.collector { told = told_last was } }
-
-  took_last : (was : Collecting) → was.collector.widening ≡ None → due_of was.collector ≡ due.Ask server
-      → (due_by (newest_last was).votes was.collector.mode (told_last was) ≡ due.Current → ⊥) → Takes was (reply.Held prefix dver) (with_last was)
-  took_last was narrow is few = subst (λ (was : Collecting). Takes was (reply.Held prefix dver) (with_last was)) (sym same) (record {
-    last = last was.collector.mode;
-    told = told_asked c server (reply.Held prefix dver) (ap due_of (ap (λ (was : Collecting). was.collector) (sym same)) ∙ is);
-    new = refl;
-    short = not_current_no_quorum (tell (last was.collector.mode) c) few;
-  })
-    where
-      c : Collector
-      c = record was.collector { widening = None }
-
-      same : was ≡ record was { collector = c }
-      same = ap (λ widening. record was { collector = record was.collector { widening = widening } }) narrow
-
-  -- the sets of servers, once the lock is among what was told
-  pub with_holder : (mode : LockMode) (told : List Told) (held : ℕ → Bool) → ((other : ℕ) → held other ≡ ((other == server) || holds mode told other)) → held ≡ holds mode (last mode ∷ told)
-  with_holder mode told held are = λ i other. (are other ∙ here mode (holds mode told other) other) i
-    where
-      turned : (other : ℕ) → (other == server) ≡ (server == other)
-      turned other = grind (arith, nat_tests)
-
-      serving : (mode : LockMode) → serves mode mode ≡ true
-      serving Shared = refl
-      serving Exclusive = refl
-
-      kept : (b : Bool) → b ≡ (b && (true && true))
-      kept true = refl
-      kept false = refl
-
-      here : (mode : LockMode) (b : Bool) (other : ℕ) → ((other == server) || b) ≡ (((server == other) && (true && serves mode mode)) || b)
-      here mode b other =
-          ap (λ a. a || b) (turned other ∙ kept (server == other))
-          ∙ ap (λ s. ((server == other) && (true && s)) || b) (sym (serving mode))
-
-  pub with_refused : (mode : LockMode) (told : List Told) (refused : ℕ → Bool) → ((other : ℕ) → refused other ≡ has_refused told other) → refused ≡ has_refused (last mode ∷ told)
-  with_refused mode told refused are = λ i other. (are other ∙ here (server == other) (has_refused told other)) i
-    where
-      here : (a b : Bool) → b ≡ ((a && false) || b)
-      here true b = refl
-      here false b = refl
-
-  pub due_with : (mode : LockMode) (told : List Told) (votes : Configuration) (held refused : ℕ → Bool) (left : Due)
-      → ((other : ℕ) → held other ≡ ((other == server) || holds mode told other)) → ((other : ℕ) → refused other ≡ has_refused told other)
-      → left ≡ due_among votes mode held refused → left ≡ due_by votes mode (last mode ∷ told)
-  due_with mode told votes held refused left holding refusing is =
-      is
-      ∙ ap (λ held. due_among votes mode held refused) (with_holder mode told held holding)
-      ∙ ap (due_among votes mode (holds mode (last mode ∷ told))) (with_refused mode told refused refusing)
-
-  pub placed_with : (mode : LockMode) (told : List Told) (votes : Configuration) (held refused : ℕ → Bool) (left : Coded)
-      → ((other : ℕ) → held other ≡ ((other == server) || holds mode told other)) → ((other : ℕ) → refused other ≡ has_refused told other)
-      → IsPlaced votes.reps held refused left → IsPlacedBy votes mode (last mode ∷ told) left
-  placed_with mode told votes held refused left holding refusing placed =
-      subst (λ refused. IsPlaced votes.reps (holds mode (last mode ∷ told)) refused left) (with_refused mode told refused refusing)
-      (subst (λ held. IsPlaced votes.reps held refused left) (with_holder mode told held holding) placed)
-
-  -- and what the fields keep after it
-  pub keeps_summed : (was : Inside) (kept : Option Prefix) (seen : Prefix) (told : List Told) (left : Coded)
-      → was.widening ≡ None → unwrap_or kept was.start ≡ newest_last (collecting_of was) → seen ≡ newest_last (collecting_of was) → told ≡ told_last (collecting_of was)
-      → due_in left ≡ due_by seen.votes was.mode (told_last (collecting_of was)) → IsPlacedBy seen.votes was.mode (told_last (collecting_of was)) left → IsSummed (record was { newer = kept; told = told; due = left })
-  keeps_summed was kept seen told left narrow newer' seen' told' left' placed =
-      let now : newest_last (collecting_of was) ≡ newest was.start told = sym (ap (newest was.start) told') in
-      subst (λ told. IsSummed (record was { newer = kept; told = told; due = left })) (sym told')
-      (summed_narrow was left seen.votes was.mode kept (told_last (collecting_of was)) narrow newer' (ap (λ (prefix : Prefix). prefix.votes) seen') left' placed)
-
-  pub took_lock : (was : Collecting) (seen : Prefix) (told : List Told) (left : Due)
-      → was.collector.widening ≡ None → due_of was.collector ≡ due.Ask server → seen ≡ newest_last was → told ≡ told_last was
-      → left ≡ due_by seen.votes was.collector.mode told → (left ≡ due.Current → ⊥)
-      → Takes was (reply.Held prefix dver) (record was { collector = record was.collector { told = told } })
-  took_lock was seen told left narrow is newest' told' left' few =
-      subst (λ told. Takes was (reply.Held prefix dver) (record was { collector = record was.collector { told = told } })) (sym told')
-      (took_last was narrow is (λ current.
-      few (left' ∙ ap (λ (seen : Prefix). due_by seen.votes was.collector.mode told) newest' ∙ ap (due_by (newest_last was).votes was.collector.mode) told' ∙ current)))
-
-  -- where it gives a quorum it was left
-  left_last : (was : Collecting) → was.collector.widening ≡ None → due_of was.collector ≡ due.Ask server
-      → due_by (newest_last was).votes was.collector.mode (told_last was) ≡ due.Current → Leaves was (reply.Held prefix dver) was
-  left_last was narrow is current = subst (λ (was : Collecting). Leaves was (reply.Held prefix dver) was) (sym same) (record {
-    same = refl;
-    told = λ shown. refl;
-    late = λ one told.
-        subst (λ (one : Told). has_quorum (next (tell one c)) ≡ true) (same_Some (last was.collector.mode) one (sym (told_asked c server (reply.Held prefix dver) asked) ∙ told))
-        (ap has_quorum (current_next (tell (last was.collector.mode) c) current));
-  })
-    where
-      c : Collector
-      c = record was.collector { widening = None }
-
-      same : was ≡ record was { collector = c }
-      same = ap (λ widening. record was { collector = record was.collector { widening = widening } }) narrow
-
-      asked : due_of c ≡ due.Ask server
-      asked = ap due_of (ap (λ (was : Collecting). was.collector) (sym same)) ∙ is
-
-  pub left_lock : (was : Collecting) (seen : Prefix) (told : List Told) (left : Due)
-      → was.collector.widening ≡ None → due_of was.collector ≡ due.Ask server → seen ≡ newest_last was → told ≡ told_last was
-      → left ≡ due_by seen.votes was.collector.mode told → left ≡ due.Current → Leaves was (reply.Held prefix dver) was
-  left_lock was seen told left narrow is newest' told' left' now =
-      left_last was narrow is
-      (sym (ap (due_by (newest_last was).votes was.collector.mode) told') ∙ sym (ap (λ (seen : Prefix). due_by seen.votes was.collector.mode told) newest') ∙ sym left' ∙ now)
-
-  -- and where no server is asked, or something is widened
-  pub left_wide : (was : Collecting) → is_some was.collector.widening ≡ true → Leaves was (reply.Held prefix dver) was
-  left_wide was wide = record { same = refl; told = λ shown. refl; late = λ one told. ap (λ b. b || has_quorum (next (tell one was.collector))) wide }
-
-  pub left_unasked : (was : Collecting) → ((who : ℕ) → due_of was.collector ≡ due.Ask who → ⊥) → Leaves was (reply.Held prefix dver) was
-  left_unasked was unasked = record { same = refl; told = λ shown. refl; late = λ one told. absurd (none (due_of was.collector) refl unasked one told) }
-    where
-      c : Collector
-      c = was.collector
-
-      none : (left : Due) → due_of c ≡ left → ((who : ℕ) → due_of c ≡ due.Ask who → ⊥) → (one : Told) → told_by (next c) (reply.Held prefix dver) ≡ Some one → ⊥
-      none due.Current is unasked one told = let e : None ≡ Some one = sym (ap (λ next. told_by next (reply.Held prefix dver)) (current_next c is)) ∙ told in cc
-      none (due.Ask who) is unasked one told = unasked who is
-      none (due.Short had wanting) is unasked one told = let e : None ≡ Some one = sym (ap (λ next. told_by next (reply.Held prefix dver)) (short_next c had wanting is)) ∙ told in cc

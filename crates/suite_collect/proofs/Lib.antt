@@ -1,10 +1,9 @@
 mod Walks
-pub mod Finding
+mod Unseen
 pub mod Collected
 pub mod Sources
 pub mod Shortness
 pub mod Fewness
 pub mod Staying
-pub mod Placed
 pub mod Dues
-pub mod Undoing
+pub mod Refusals

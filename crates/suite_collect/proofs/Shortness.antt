@@ -10,7 +10,7 @@ use Rattle.suite_collect.specs.Telling.{is_held, is_down, is_busy_with, has_told
 use Rattle.suite_collect.specs.Collecting.{Collector, all_told, counted, needed, got, is_member, is_left, version, members_of, ask_or_short, Current, Short}
 use Rattle.suite_collect.specs.Telling as telling
 use Rattle.suite_collect.specs.Laws.{ShortHasNoneLeft}
-use Rattle.suite_collect.proofs.Finding.{has_from, find_none}
+use Rattle.rep_core.proofs.Members.{has_from, find_none}
 
 -- ---- who was found busy
 
@@ -86,7 +86,7 @@ short_has_none_left c had wanting busy is =
       too_few = below (needed c) (got c) tells.too_few tells.wanting_is tells.had_is;
       none_left = λ rep there some.
           not_left (nat_lt 0 rep.1) (is_member c rep.0) (has_refused (all_told c) rep.0) (votes some)
-          (find_none (is_left c) (counted c).reps rep (has_from (counted c).reps rep there) tells.nobody);
+          (find_none (is_left c) (counted c).reps rep tells.nobody (has_from (counted c).reps rep there));
       all_down = λ none server refused. sym (refused_are_down (all_told c) (tells.busy_is ∙ none) server) ∙ refused;
       busy_met = λ server holder found. was_met (all_told c) server holder (tells.busy_is ∙ found);
     }

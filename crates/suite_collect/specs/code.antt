@@ -1,5 +1,3 @@
 pub mod HeardFields
-pub mod BeforeFields
 pub mod Dues
-pub mod Undoing
 pub mod CollectFields

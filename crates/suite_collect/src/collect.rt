@@ -1,15 +1,17 @@
 //! The collector.
 
-ghost use Rattle.std.specs.Prelude.{◌≡◌, ◌<◌, ◌≤◌, ℕ, Some, false, find, option_map, is_some, unwrap_or, IsSome, IsTrue, IfSome, IfOk, IfErr, OnOk, OnErr};
+ghost use Rattle.std.specs.Prelude.{◌≡◌, ◌<◌, unwrap_or, IsTrue, IfOk, IfSome, IfErr, OnErr};
 ghost use Rattle.vote_core.specs.Validity.{IsValid};
+ghost use Rattle.suite_collect.specs.code.CollectFields.{due_of};
+ghost use Rattle.suite_collect.specs.code.Dues.{IsKnown, due_in};
 ghost use Rattle.suite_collect.specs.Collecting as spec;
 ghost use Rattle.suite_collect.specs.Laws.{HasSource};
 ghost use Rattle.suite_collect.specs.Telling as telling;
 
-use crate::before::Before;
 use crate::coming::{Asked, Coming};
-use crate::due::{Due, due_after, due_anew, due_of};
+use crate::due::{Due, due_among, due_of};
 use crate::heard::Heard;
+use crate::hearing::{Hearing, Quorum};
 use crate::log::Log;
 use crate::members::members_of;
 use crate::next::{Members, Next};
@@ -50,31 +52,9 @@ impl Model for Collect {
     ghost invariant = { IsSummed };
 }
 
-impl Clone for Collect {
-    ghost is_clone = { λ collect copy. copy ≡ collect };
-
-    fn clone(&self) -> Result<Collect, AllocError> {
-        let start = self.start.clone()?;
-        let newer = self.newer.clone()?;
-        let widening = self.widening.as_ref().map(Widening::same);
-        Ok(Collect {
-            t: self.t,
-            suite: self.suite,
-            mode: self.mode,
-            start,
-            newer,
-            told: self.told.same(),
-            widening,
-            due: self.due,
-        })
-    }
-}
-
 impl Collect {
     ghost use Rattle.suite_collect.specs.Telling.{newest};
-    ghost use Rattle.rep_core.specs.declared.reply.Reply.TheVariants as reply;
-    ghost use Rattle.suite_collect.specs.Answering.{Comes, Tells, TakesOn, asked_in, shows_lock};
-    ghost use Rattle.suite_collect.specs.Undoing.{TakesLast, Undoes, undone};
+    ghost use Rattle.suite_collect.specs.Answering.{Comes, Hears, IsQuorumOf, Tells, asked_in, shows_lock};
 
     /// A collector that was told nothing yet. `start` is any prefix that the suite once had, or that of
     /// what was never made.
@@ -132,14 +112,14 @@ impl Collect {
         match self.due {
             Due::Current => {
                 let first = self.first_members();
-                let dver = self.greatest(&first);
+                let dver = self.told.greatest(&first);
                 Next::Current {
                     prefix: self.newest(),
                     dver,
                     members: self.members(first),
                 }
             }
-            Due::Ask { server, .. } => Next::Ask {
+            Due::Ask { server } => Next::Ask {
                 server,
                 request: self.asked(server).request(self.t, self.suite),
             },
@@ -151,13 +131,13 @@ impl Collect {
         }
     }
 
-    /// The same, without what a quorum gives.
+    /// What comes next, without what a quorum gives.
     pub fn coming(&self) -> Coming
         ensures { Comes result (spec.next self.now.collector) }
     {
         match self.due {
             Due::Current => Coming::Current,
-            Due::Ask { server, .. } => Coming::Ask {
+            Due::Ask { server } => Coming::Ask {
                 server,
                 asked: self.asked(server),
             },
@@ -169,174 +149,64 @@ impl Collect {
         }
     }
 
-    /// Whether a reply answers what was asked next, and the collector goes on with it. After any other
-    /// the transaction ends: a lock is lost, or the server of a lock is down.
-    pub fn accepts(&self, reply: &Reply) -> bool
-        ensures { result ≡ is_some (spec.told_by (spec.next self.now.collector) reply.now) }
-    {
-        let Due::Ask { server, .. } = self.due else {
-            return false;
-        };
-        match reply {
-            Reply::Held { .. } | Reply::Busy { .. } => true,
-            Reply::Down => !self.holds(LockMode::Shared, server),
-            _ => false,
-        }
-    }
-
-    /// Takes the reply to what was asked next. A lock is asked for in the mode that is wanted: one that is
-    /// held, and not as is wanted, is to become exclusive.
-    pub fn take(&mut self, reply: Reply)
-        requires { IsSome (spec.told_by (spec.next self.old.collector) reply) }
-        ensures { IfSome (spec.told_by (spec.next self.old.collector) reply) (λ last. self.new ≡ record self.old { collector = spec.tell last self.old.collector }) }
-    {
-        let Due::Ask { server, .. } = self.due else {
-            return;
-        };
-        let mode = self.wanted();
-        let said = match reply {
-            Reply::Held { prefix, dver } => Said::Held { prefix, dver },
-            Reply::Busy { holder, .. } => Said::Busy { holder },
-            _ => Said::Down,
-        };
-        self.tell(Told { server, mode, said });
-    }
-
-    /// Takes a reply after which there is no quorum, and says that it did. It leaves a reply that does not
-    /// answer what was asked, a lock that gives a quorum, and any lock after a widening: then nothing changes.
-    /// Only a lock that is held may want memory.
-    pub fn take_on(&mut self, reply: &Reply) -> Result<bool, AllocError>
-        ensures ok { IfOk result (λ taken. TakesOn taken self.old reply.now self.new) }
+    /// Hears the reply to what was asked next. It is told what the reply says, but for a lock with which
+    /// there is a quorum: that comes back, and nothing changes yet. Only a lock that is held may want memory.
+    pub fn hear(&mut self, reply: &Reply) -> Result<Hearing, AllocError>
+        ensures ok { IfOk result (λ hearing. Hears hearing self.old reply.now self.new) }
         ensures err { OnErr result (self.new ≡ self.old) }
         ensures memory { IfErr result (λ _. IsTrue (shows_lock reply.now)) }
     {
-        match reply {
-            Reply::Held { prefix, dver } => self.take_lock(prefix, *dver),
-            other => Ok(self.take_refusal(other)),
-        }
-    }
-
-    /// Takes a reply that holds no lock, where it answers what was asked.
-    fn take_refusal(&mut self, reply: &Reply) -> bool
-        requires { shows_lock reply.now ≡ false }
-        ensures { TakesOn result self.old reply.now self.new }
-    {
-        if !self.accepts(reply) {
-            return false;
-        }
-        match reply {
-            Reply::Busy { holder, prepared } => {
-                let (holder, prepared) = (*holder, *prepared);
-                self.take(Reply::Busy { holder, prepared });
+        let Some(last) = self.told_by(reply)? else {
+            return Ok(Hearing::Lost);
+        };
+        let due = self.due_after(&last);
+        match due {
+            Due::Current => Ok(Hearing::Quorum(last)),
+            Due::Ask { .. } => {
+                self.put(last, due);
+                Ok(Hearing::Asks)
             }
-            _ => self.take(Reply::Down),
-        }
-        true
-    }
-
-    /// Takes a lock that is held, where it gives no quorum and nothing is widened.
-    fn take_lock(&mut self, prefix: &Prefix, dver: u64) -> Result<bool, AllocError>
-        ensures ok { IfOk result (λ taken. TakesOn taken self.old (reply.Held prefix.now dver) self.new) }
-        ensures err { OnErr result (self.new ≡ self.old) }
-    {
-        if prefix.pver > self.newest().pver {
-            self.take_newer(prefix, dver)
-        } else {
-            Ok(self.take_known(prefix, dver))
-        }
-    }
-
-    /// The same of a lock with a prefix no newer than the newest seen: the votes that count stay.
-    fn take_known(&mut self, prefix: &Prefix, dver: u64) -> bool
-        requires { prefix.now.pver ≤ (newest self.old.collector.start self.old.collector.told).pver }
-        ensures { TakesOn result self.old (reply.Held prefix.now dver) self.new }
-    {
-        let (Due::Ask { server, place, got }, None) = (self.due, &self.widening) else {
-            return false;
-        };
-        let due = due_after(
-            &self.newest().votes,
-            &self.told,
-            self.mode,
-            server,
-            place,
-            got,
-        );
-        if let Due::Current = due {
-            return false;
-        }
-        self.told.add_lock(server, self.mode, prefix, dver);
-        self.due = due;
-        true
-    }
-
-    /// The same of a lock with a prefix newer than those seen, whose votes count from now on.
-    fn take_newer(&mut self, prefix: &Prefix, dver: u64) -> Result<bool, AllocError>
-        requires { (newest self.old.collector.start self.old.collector.told).pver < prefix.now.pver }
-        ensures ok { IfOk result (λ taken. TakesOn taken self.old (reply.Held prefix.now dver) self.new) }
-        ensures err { OnErr result (self.new ≡ self.old) }
-    {
-        let (Due::Ask { server, .. }, None) = (self.due, &self.widening) else {
-            return Ok(false);
-        };
-        let due = due_anew(&prefix.votes, &self.told, self.mode, server);
-        if let Due::Current = due {
-            return Ok(false);
-        }
-        keep(&mut self.newer, prefix)?;
-        self.told.add_lock(server, self.mode, prefix, dver);
-        self.due = due;
-        Ok(true)
-    }
-
-    /// Takes a lock after which there is a quorum, and gives what takes it back. It leaves any other reply, a
-    /// lock with a prefix newer than those seen, and any lock after a widening: then nothing changes.
-    pub fn take_last(&mut self, reply: &Reply) -> Option<Before>
-        ensures taken { TakesLast result self.old.collector reply.now self.new.collector }
-        ensures rest { self.new ≡ record self.old { collector = self.new.collector } }
-    {
-        match reply {
-            Reply::Held { prefix, dver } if prefix.pver <= self.newest().pver => {
-                self.complete(prefix, *dver)
+            Due::Short { .. } => {
+                self.put(last, due);
+                Ok(Hearing::Short)
             }
-            _ => None,
         }
     }
 
-    /// The same of a lock with a prefix no newer than the newest seen.
-    fn complete(&mut self, prefix: &Prefix, dver: u64) -> Option<Before>
-        requires { prefix.now.pver ≤ (newest self.old.collector.start self.old.collector.told).pver }
-        ensures taken { TakesLast result self.old.collector (reply.Held prefix.now dver) self.new.collector }
-        ensures rest { self.new ≡ record self.old { collector = self.new.collector } }
+    /// Something is told: what a server said that was asked.
+    pub fn tell(&mut self, last: Told)
+        requires { last.server < MAX_SERVERS }
+        ensures { self.new ≡ record self.old { collector = spec.tell last self.old.collector } }
     {
-        let (Due::Ask { server, place, got }, None) = (self.due, &self.widening) else {
-            return None;
-        };
-        let due = due_after(
-            &self.newest().votes,
-            &self.told,
-            self.mode,
-            server,
-            place,
-            got,
-        );
-        let Due::Current = due else {
-            return None;
-        };
-        let before = self.told.before(server);
-        self.told.add_lock(server, self.mode, prefix, dver);
-        self.due = due;
-        Some(before)
+        let due = self.due_after(&last);
+        self.put(last, due);
     }
 
-    /// Takes back a lock that [`Collect::take_last`] took, where nothing was told, raised or widened since.
-    pub fn undo(&mut self, before: Before)
-        requires { Undoes before self.old.collector }
-        ensures { self.new ≡ record self.old { collector = undone before self.old.collector } }
+    /// What the quorum gives that there is once this is told.
+    pub fn quorum_after<'a>(&'a self, last: &'a Told) -> Quorum<'a>
+        requires { last.now.server < MAX_SERVERS }
+        ensures { IsQuorumOf result (spec.tell last.now self.now.collector) }
     {
-        self.told.undo(before);
-        let votes = votes_of(&self.newer, &self.start);
-        self.due = due_of(votes, &self.told, self.mode);
+        if let Some(widening) = &self.widening {
+            let dver = self.told.greatest(&self.first_members());
+            let holders = widening.all.holders_after(last, LockMode::Exclusive);
+            let members = members_of(&widening.votes, &holders);
+            return Quorum {
+                prefix: self.newest(),
+                dver,
+                source: self.told.first_showing(dver, &members),
+            };
+        }
+        let mut told = self.told.same();
+        told.add(last);
+        let prefix = newer_of(self.newest(), &last.said);
+        let members = members_of(&prefix.votes, &told.holders(self.mode));
+        let dver = told.greatest(&members);
+        Quorum {
+            prefix,
+            dver,
+            source: told.first_showing(dver, &members),
+        }
     }
 
     /// The mode in which locks are wanted before a widening.
@@ -350,10 +220,7 @@ impl Collect {
     pub fn newest(&self) -> &Prefix
         ensures { result.now ≡ newest self.now.collector.start self.now.collector.told }
     {
-        match &self.newer {
-            Some(prefix) => prefix,
-            None => &self.start,
-        }
+        newest_of(&self.newer, &self.start)
     }
 
     /// Whether a server holds a lock for the transaction, in this mode or a stronger one.
@@ -369,33 +236,63 @@ impl Collect {
         ensures found { HasSource self.now.collector }
     {
         let members = self.first_members();
-        let version = self.greatest(&members);
-        let shows = |server: &u8| self.told.shown(*server) == version;
-        members.as_slice().iter().copied().find(shows)
+        let version = self.told.greatest(&members);
+        self.told.first_showing(version, &members)
     }
 
-    /// The version of the content that a server showed last, before a widening.
-    pub fn shown(&self, server: u8) -> u64
-        ensures { result ≡ telling.shown self.now.collector.told server }
+    /// What is told by a reply that answers what was asked; nothing, where the transaction is to end.
+    fn told_by(&self, reply: &Reply) -> Result<Option<Told>, AllocError>
+        ensures told { IfOk result (λ one. one ≡ spec.told_by (spec.next self.now.collector) reply.now) }
+        ensures known { IfOk result (λ one. IfSome one (λ one. one.server < MAX_SERVERS)) }
+        ensures memory { IfErr result (λ _. IsTrue (shows_lock reply.now)) }
     {
-        self.told.shown(server)
+        let Due::Ask { server } = self.due else {
+            return Ok(None);
+        };
+        let said = match reply {
+            Reply::Held { prefix, dver } => Said::Held {
+                prefix: prefix.clone()?,
+                dver: *dver,
+            },
+            Reply::Busy { holder, .. } => Said::Busy { holder: *holder },
+            Reply::Down => match self.asked(server) {
+                Asked::Poll(_) => Said::Down,
+                Asked::Upgrade => return Ok(None),
+            },
+            _ => return Ok(None),
+        };
+        let mode = self.wanted();
+        Ok(Some(Told { server, mode, said }))
     }
 
-    /// Something told.
-    fn tell(&mut self, last: Told)
-        requires { last.server < MAX_SERVERS }
+    /// What is due once this is told.
+    fn due_after(&self, last: &Told) -> Due
+        requires { last.now.server < MAX_SERVERS }
+        ensures value { due_in result ≡ due_of (spec.tell last.now self.now.collector) }
+        ensures known { IsKnown result }
+    {
+        let wanted = self.wanted();
+        let heard = self.heard();
+        let holders = heard.holders_after(last, wanted);
+        let refused = heard.refused_after(last);
+        due_among(self.counted_after(last), &holders, &refused, wanted)
+    }
+
+    /// Puts what is told behind what was told before, and what is due then.
+    fn put(&mut self, last: Told, due: Due)
+        requires server { last.server < MAX_SERVERS }
+        requires due { due_in due ≡ due_of (spec.tell last self.old.collector) }
+        requires known { IsKnown due }
         ensures { self.new ≡ record self.old { collector = spec.tell last self.old.collector } }
     {
+        self.due = due;
         if let Some(widening) = &mut self.widening {
             widening.all.add(&last);
             widening.since = widening.since.and(&last);
-            self.due = due_of(&widening.votes, &widening.all, LockMode::Exclusive);
             return;
         }
         self.told.add(&last);
         show(&mut self.newer, &self.start, last.said);
-        let votes = votes_of(&self.newer, &self.start);
-        self.due = due_of(votes, &self.told, self.mode);
     }
 
     /// All that was told.
@@ -408,16 +305,17 @@ impl Collect {
         }
     }
 
-    /// The votes that count.
-    fn counted(&self) -> &Votes
-        ensures { result.now ≡ spec.counted self.now.collector }
+    /// The votes that count once this is told.
+    fn counted_after<'a>(&'a self, last: &'a Told) -> &'a Votes
+        ensures { result.now ≡ spec.counted (spec.tell last.now self.now.collector) }
     {
         match &self.widening {
             Some(widening) => &widening.votes,
-            None => &self.newest().votes,
+            None => &newer_of(self.newest(), &last.said).votes,
         }
     }
 
+    /// The mode in which locks are wanted.
     fn wanted(&self) -> LockMode
         ensures { result ≡ spec.wanted self.now.collector }
     {
@@ -459,27 +357,6 @@ impl Collect {
             None => first,
         }
     }
-
-    /// The greatest version of the content that some servers showed, before a widening.
-    fn greatest(&self, servers: &Members) -> u64
-        ensures { result ≡ telling.greatest self.now.collector.told servers.now }
-    {
-        let mut greatest = 0;
-        for server in servers.as_slice() {
-            greatest = self.told.shown(*server).max(greatest);
-        }
-        greatest
-    }
-}
-
-/// The votes of the newest prefix.
-fn votes_of<'a>(newer: &'a Option<Prefix>, start: &'a Prefix) -> &'a Votes
-    ensures { result.now ≡ (unwrap_or newer.now start.now).votes }
-{
-    match newer {
-        Some(prefix) => &prefix.votes,
-        None => &start.votes,
-    }
 }
 
 /// The newest prefix.
@@ -489,6 +366,16 @@ fn newest_of<'a>(newer: &'a Option<Prefix>, start: &'a Prefix) -> &'a Prefix
     match newer {
         Some(prefix) => prefix,
         None => start,
+    }
+}
+
+/// The newer of a prefix and what a server said.
+fn newer_of<'a>(newest: &'a Prefix, said: &'a Said) -> &'a Prefix
+    ensures { result.now ≡ telling.newer newest.now said.now }
+{
+    match said {
+        Said::Held { prefix, .. } if prefix.pver > newest.pver => prefix,
+        _ => newest,
     }
 }
 
@@ -502,13 +389,4 @@ fn show(newer: &mut Option<Prefix>, start: &Prefix, said: Said)
             *newer = Some(prefix);
         }
     }
-}
-
-/// Keeps a prefix as the newer one.
-fn keep(newer: &mut Option<Prefix>, prefix: &Prefix) -> Result<(), AllocError>
-    ensures ok { OnOk result (newer.new ≡ Some prefix.now) }
-    ensures err { OnErr result (newer.new ≡ newer.old) }
-{
-    *newer = Some(prefix.clone()?);
-    Ok(())
 }

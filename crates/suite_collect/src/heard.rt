@@ -1,15 +1,14 @@
 //! What was told, as far as a collector looks at it.
 
-ghost use Rattle.std.specs.Prelude.{◌≡◌, ℕ, ◌<◌, ◌==◌, ◌||◌, false, None, [], ◌∷◌};
+ghost use Rattle.std.specs.Prelude.{◌≡◌, ℕ, ◌<◌, ◌==◌, find, true, false, None, [], ◌∷◌};
 ghost use Rattle.std.specs.FinSet.{contains};
 ghost use Rattle.suite_collect.specs.Telling as telling;
-ghost use Rattle.suite_collect.specs.code.Undoing.{FollowsBy};
 
-use crate::before::Before;
 use crate::log::Log;
+use crate::next::Members;
 use crate::told::{Said, Told};
 use std::marker::Model;
-use suite_prefix::{LockMode, Prefix};
+use suite_prefix::LockMode;
 use vote_core::{MAX_SERVERS, ServerSet};
 
 /// A list of what was told, the newest first. It keeps what the list comes to: which servers hold a
@@ -53,7 +52,7 @@ impl Heard {
         }
     }
 
-    /// The same list.
+    /// A copy of the list.
     pub(crate) fn same(&self) -> Heard
         ensures { result ≡ self.now }
     {
@@ -73,9 +72,7 @@ impl Heard {
         ensures { self.new ≡ last.now ∷ self.old }
     {
         match &last.said {
-            Said::Held { prefix, dver } => {
-                self.add_lock(last.server, last.mode, prefix, *dver);
-            }
+            Said::Held { dver, .. } => self.add_lock(last, *dver),
             Said::Busy { holder } => self.add_refusal(last, Some((last.server, *holder))),
             Said::Down => self.add_refusal(last, None),
         }
@@ -93,42 +90,19 @@ impl Heard {
         self.told = self.told.and(last);
     }
 
-    /// Adds a lock that a server holds.
-    pub(crate) fn add_lock(&mut self, server: u8, mode: LockMode, prefix: &Prefix, dver: u64)
-        requires { server < MAX_SERVERS }
-        ensures { self.new ≡ record { server = server; mode = mode; said = Said.Held prefix.now dver } ∷ self.old }
+    /// Adds a lock that a server holds, which showed this version of the content.
+    fn add_lock(&mut self, last: &Told, dver: u64)
+        requires server { last.now.server < MAX_SERVERS }
+        requires held { telling.is_held last.now.said ≡ true }
+        requires version { (before : ℕ) → telling.version_in last.now.said before ≡ dver }
+        ensures { self.new ≡ last.now ∷ self.old }
     {
-        self.held.insert(server);
-        if mode.is_exclusive() {
-            self.exclusive.insert(server);
+        self.held.insert(last.server);
+        if last.mode.is_exclusive() {
+            self.exclusive.insert(last.server);
         }
-        self.shown[usize::from(server)] = dver;
-        self.told = self.told.and_lock(&server, &mode, prefix, &dver);
-    }
-
-    /// What a lock of this server overwrites.
-    pub(crate) fn before(&self, server: u8) -> Before
-        requires { server < MAX_SERVERS }
-        ensures { result ≡ record { server = server; told = self.now } }
-    {
-        Before {
-            server,
-            held: self.held,
-            exclusive: self.exclusive,
-            shown: self.shown[usize::from(server)],
-            told: self.told.same(),
-        }
-    }
-
-    /// Takes back a lock that was added last.
-    pub(crate) fn undo(&mut self, before: Before)
-        requires { FollowsBy before self.old }
-        ensures { self.new ≡ before.told }
-    {
-        self.held = before.held;
-        self.exclusive = before.exclusive;
-        self.shown[usize::from(before.server)] = before.shown;
-        self.told = before.told;
+        self.shown[usize::from(last.server)] = dver;
+        self.told = self.told.and(last);
     }
 
     /// The servers that hold a lock in a mode or a stronger one.
@@ -141,13 +115,15 @@ impl Heard {
         }
     }
 
-    /// The servers that hold a lock in a mode or a stronger one, once this one does too.
-    pub(crate) fn holders_with(&self, server: u8, mode: LockMode) -> ServerSet
-        requires { server < MAX_SERVERS }
-        ensures { (other : ℕ) → contains result other ≡ ((other == server) || telling.holds mode self.now other) }
+    /// The servers that hold a lock in a mode or a stronger one, once this is told too.
+    pub(crate) fn holders_after(&self, last: &Told, mode: LockMode) -> ServerSet
+        requires { last.now.server < MAX_SERVERS }
+        ensures { (server : ℕ) → contains result server ≡ telling.holds mode (last.now ∷ self.now) server }
     {
         let mut holders = self.holders(mode);
-        holders.insert(server);
+        if last.is_held() && last.mode.serves(mode) {
+            holders.insert(last.server);
+        }
         holders
     }
 
@@ -165,11 +141,42 @@ impl Heard {
         self.refused
     }
 
+    /// The servers that were found down or busy, once this is told too.
+    pub(crate) fn refused_after(&self, last: &Told) -> ServerSet
+        requires { last.now.server < MAX_SERVERS }
+        ensures { (server : ℕ) → contains result server ≡ telling.has_refused (last.now ∷ self.now) server }
+    {
+        let mut refused = self.refused;
+        if !last.is_held() {
+            refused.insert(last.server);
+        }
+        refused
+    }
+
     /// The version of the content that a server showed last.
     pub(crate) fn shown(&self, server: u8) -> u64
         ensures { result ≡ telling.shown self.now server }
     {
         self.shown.get(usize::from(server)).copied().unwrap_or(0)
+    }
+
+    /// The greatest version of the content that some servers showed.
+    pub(crate) fn greatest(&self, servers: &Members) -> u64
+        ensures { result ≡ telling.greatest self.now servers.now }
+    {
+        let mut greatest = 0;
+        for server in servers.as_slice() {
+            greatest = self.shown(*server).max(greatest);
+        }
+        greatest
+    }
+
+    /// The first of some servers that showed a version of the content.
+    pub(crate) fn first_showing(&self, version: u64, servers: &Members) -> Option<u8>
+        ensures { result ≡ find (λ server. telling.shown self.now server == version) servers.now }
+    {
+        let shows = |server: &u8| self.shown(*server) == version;
+        servers.as_slice().iter().copied().find(shows)
     }
 
     /// The first server found busy, with the transaction in its way.

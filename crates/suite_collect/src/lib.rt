@@ -3,20 +3,22 @@
 //!
 //! A [`Collect`] says what comes next ([`Collect::next`], and [`Collect::coming`] without what a quorum
 //! gives): a server is asked for a lock, or there is a quorum, or nobody is left to ask. Its caller asks
-//! that server, and hands the reply back ([`Collect::take`]). To contracts it is the list of what servers
-//! said; `next` is a function of that list (`specs/Collecting.antt`), and the laws of this crate speak of
-//! it. Only [`Collect::take_on`] may want memory. A lock that gives a quorum is mostly taken by
-//! [`Collect::take_last`], and can be taken back ([`Collect::undo`]).
+//! that server, and hands the reply back ([`Collect::hear`]), which alone may want memory. To contracts a
+//! collector is the list of what servers said; `next` is a function of that list
+//! (`specs/Collecting.antt`), and the laws of this crate speak of it.
 //!
-//! What a caller owes: `start` is a prefix that the suite once had, or that of what was never made; and
-//! what is taken answers what was asked ([`Collect::accepts`]). After any other reply a transaction ends.
+//! A lock that gives a quorum comes back first, so that the caller can get what it needs for all that
+//! follows ([`Collect::quorum_after`]). Then the collector is told ([`Collect::tell`]), which cannot fail.
+//!
+//! What a caller owes: `start` is a prefix that the suite once had, or that of what was never made. After
+//! a reply that does not answer what was asked ([`Hearing::Lost`]) its transaction ends.
 #![tactic(auto)]
 
-mod before;
 mod collect;
 mod coming;
 mod due;
 mod heard;
+mod hearing;
 mod laws;
 mod log;
 mod members;
@@ -24,9 +26,9 @@ mod next;
 mod told;
 mod widening;
 
-pub use before::Before;
 pub use collect::Collect;
 pub use coming::{Asked, Coming};
+pub use hearing::{Hearing, Quorum};
 pub use laws::{
     asks_are_few, current_is_a_quorum, nobody_is_asked_twice, prefix_and_version_stay,
     short_has_none_left, widened_is_a_write_quorum,

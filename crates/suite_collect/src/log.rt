@@ -6,9 +6,7 @@
 ghost use Rattle.std.specs.Prelude.{◌≡◌, List, [], ◌∷◌};
 ghost use Rattle.std.specs.Borrow.{ftrue};
 
-use crate::told::{Said, Told};
 use std::marker::{Model, PhantomData};
-use suite_prefix::{LockMode, Prefix};
 
 /// What came, the newest first. A clause reads it as `items`.
 #[derive(Drop)]
@@ -42,21 +40,6 @@ impl<T> Log<T> {
     /// The same history.
     pub(crate) fn same(&self) -> Log<T>
         ensures { result.items ≡ self.now.items }
-    {
-        Log { of: PhantomData }
-    }
-}
-
-impl Log<Told> {
-    /// The history with a lock more that is held. No `Told` is made of it.
-    pub(crate) fn and_lock(
-        &self,
-        server: &u8,
-        mode: &LockMode,
-        prefix: &Prefix,
-        dver: &u64,
-    ) -> Log<Told>
-        ensures { result.items ≡ record { server = server.now; mode = mode.now; said = Said.Held prefix.now dver.now } ∷ self.now.items }
     {
         Log { of: PhantomData }
     }

@@ -1,7 +1,6 @@
 //! The members of some votes.
 
-ghost use Rattle.std.specs.Prelude.{◌≡◌, ◌<◌, ◌≤◌, true, false, All, take, length, get_or};
-ghost use Rattle.std.specs.List.{list_any};
+ghost use Rattle.std.specs.Prelude.{◌≡◌, ◌<◌, All, find, option_map, IfSome};
 ghost use Rattle.std.specs.FinSet.{contains};
 ghost use Rattle.vote_core.specs.Validity.{IsValid};
 ghost use Rattle.suite_collect.specs.code.Dues.{is_left_by};
@@ -25,25 +24,15 @@ pub(crate) fn members_of(votes: &Votes, held: &ServerSet) -> Members
     members
 }
 
-/// The first place, from one on, of a server that has a vote and is in neither set; that after the last,
-/// where there is none.
-pub(crate) fn place_left(
-    reps: &[(u8, u8)],
-    from: usize,
-    holders: &ServerSet,
-    refused: &ServerSet,
-) -> usize
-    requires inside { from ≤ length reps.now }
-    requires first { list_any (is_left_by (contains holders.now) (contains refused.now)) (take from reps.now) ≡ false }
-    ensures first { list_any (is_left_by (contains holders.now) (contains refused.now)) (take result reps.now) ≡ false }
-    ensures there { result < length reps.now → is_left_by (contains holders.now) (contains refused.now) (get_or reps.now result (0, 0)) ≡ true }
-    ensures end { result ≤ length reps.now }
+/// The first server, in listed order, that has a vote and is in neither set.
+pub(crate) fn first_left(votes: &Votes, holders: &ServerSet, refused: &ServerSet) -> Option<u8>
+    ensures first { result ≡ option_map (λ rep. rep.0) (find (is_left_by (contains holders.now) (contains refused.now)) votes.now.reps) }
+    ensures known { IfSome result (λ server. server < MAX_SERVERS) }
 {
-    for place in from..reps.len() {
-        let (server, own) = reps[place];
-        if own > 0 && !holders.contains(server) && !refused.contains(server) {
-            return place;
+    for (server, own) in votes.reps() {
+        if *own > 0 && !holders.contains(*server) && !refused.contains(*server) {
+            return Some(*server);
         }
     }
-    reps.len()
+    None
 }

@@ -1,5 +1,8 @@
 //! What servers say to a collector.
 
+ghost use Rattle.std.specs.Prelude.{◌≡◌};
+ghost use Rattle.suite_collect.specs.Telling.{is_held};
+
 use suite_prefix::{LockMode, Prefix};
 
 /// What a server said when it was asked for a lock.
@@ -19,4 +22,13 @@ pub struct Told {
     pub server: u8,
     pub mode: LockMode,
     pub said: Said,
+}
+
+impl Told {
+    /// Whether the lock is held.
+    pub(crate) fn is_held(&self) -> bool
+        ensures { result ≡ is_held self.now.said }
+    {
+        matches!(self.said, Said::Held { .. })
+    }
 }

@@ -25,7 +25,7 @@ use Rattle.suite_collect.specs.declared.told.Said.{Said}
 use Rattle.suite_prefix.specs.declared.copies.Prefix.{Prefix}
 use Rattle.suite_prefix.specs.declared.lock_mode.LockMode.{LockMode}
 use Rattle.suite_prefix.specs.declared.lock_mode.LockMode.TheVariants.{Shared, Exclusive}
-use Rattle.suite_collect.proofs.Finding.{Has}
+use Rattle.rep_core.proofs.Members.{Has}
 use Rattle.suite_collect.specs.Collecting as collecting
 use Rattle.suite_collect.specs.Collecting.{Collector, all_told, raise, tell, mode_of, request_for, Asked, Poll, Upgrade, Next, Ask, Current, Short, next}
 use Rattle.weak_cache.specs.Entries.{Cache}

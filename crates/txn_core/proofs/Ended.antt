@@ -1,5 +1,5 @@
 -- The end of a transaction, as its code goes about it.
-use Rattle.std.proofs.Common.{◌≡◌, ℕ, List, [], ◌∷◌, Option, None, drop, refl, sym, ap, ◌∙◌, subst}
+use Rattle.std.proofs.Common.{◌≡◌, ℕ, List, [], ◌∷◌, Option, drop, refl, sym, ap, ◌∙◌, subst}
 use Rattle.rep_core.specs.declared.reply.Verdict.{Verdict}
 use Rattle.rep_core.specs.declared.stamped.Lack.{Lack}
 use Rattle.weak_cache.specs.Entries.{Cache}
@@ -16,9 +16,9 @@ module _ (task : Task) (cache : Cache) (suites given : Suites) (servers : List �
       let Told : List ℕ → Type 0 = λ servers. Steps (tell_end task cache suites verdict ending servers) result after cache in
       subst Told (found ∙ ap locked_at same) steps
 
-  pub prepares : (outcome : Outcome) → Steps (prepare task cache suites outcome servers) None after cache → Steps (prepare task cache suites outcome (locked_at suites)) None after cache
-  prepares outcome steps =
-      let Prepares : List ℕ → Type 0 = λ servers. Steps (prepare task cache suites outcome servers) None after cache in
+  pub prepares : (outcome : Outcome) (result : Option Ending) → Steps (prepare task cache suites outcome servers) result after cache → Steps (prepare task cache suites outcome (locked_at suites)) result after cache
+  prepares outcome result steps =
+      let Prepares : List ℕ → Type 0 = λ servers. Steps (prepare task cache suites outcome servers) result after cache in
       subst Prepares (found ∙ ap locked_at same) steps
 
 -- what a Finish is answered changes nothing

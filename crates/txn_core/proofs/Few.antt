@@ -5,6 +5,7 @@ use Rattle.std.proofs.lemmas.Bool.{eqb-true}
 use Rattle.std.proofs.lemmas.Bool.Decides.{nat_tests}
 use Rattle.std.proofs.lemmas.Option.{same_Some}
 use Rattle.acl_core.specs.Identity.{Identity}
+use Rattle.vote_core.specs.Validity.{max_servers}
 use Rattle.file_ops.specs.declared.operation.Op.{Op}
 use Rattle.rep_core.specs.Fits.{is_prepared}
 use Rattle.rep_core.specs.declared.request.Request.{Request}
@@ -85,7 +86,7 @@ once who p start (suc count) =
     at false other rest = omega (arith, rest)
 
 few_locked : (who : ℕ) (suites : Suites) → times_in who (locked_at suites) ≤ 1
-few_locked who suites = once who (has_locks suites) 0 16
+few_locked who suites = once who (has_locks suites) 0 max_servers
 
 few_end : (who : ℕ) (task : Task) (cache : Cache) (suites : Suites) (v : Verdict) (ending : Ending) (servers : List ℕ) → may who (left Running (tell_end task cache suites v ending servers).after) ≡ times_in who servers
 few_end who task cache suites v ending [] = refl

@@ -20,7 +20,7 @@ use Rattle.file_exec.specs.declared.need.Need.TheVariants.{Hold}
 use Rattle.suite_collect.specs.declared.told.Told.{Told}
 use Rattle.suite_collect.specs.declared.told.Said.{Said}
 use Rattle.suite_collect.specs.Collecting.{Widening, Collector, told_since, all_told, tell_at, tell, collect, Asked, Next, Current, Ask, next}
-use Rattle.suite_collect.proofs.Finding.{Has}
+use Rattle.rep_core.proofs.Members.{Has}
 use Rattle.txn_core.specs.Suites.{First, Suite, Suites, suite_of, with_suite, source_of, first_or, settled}
 use Rattle.txn_core.specs.Writing.{change_of}
 use Rattle.txn_core.specs.declared.word.Word.{Word}

@@ -1,19 +1,27 @@
 -- What comes of a reply to what a suite asks, as a transaction goes on by it.
 use Rattle.std.proofs.Common.{◌≡◌, ℕ, List, [], ◌∷◌, Option, Some, None, cond, true, false, refl, sym, ap, ◌∙◌}
+use Rattle.std.proofs.lemmas.Option.{none-some}
 use Rattle.std.specs.Prelude.{◌==◌, find, is_some, unwrap_or, option_map}
+use Rattle.std.specs.Option.{option_or}
+use Rattle.suite_prefix.specs.declared.copies.Prefix.{Prefix}
 use Rattle.rep_core.specs.declared.reply.Reply.{Reply}
 use Rattle.rep_core.specs.declared.reply.Reply.TheVariants as reply
 use Rattle.suite_collect.specs.declared.told.Said.{Said}
 use Rattle.suite_collect.specs.declared.told.Told.{Told}
+use Rattle.suite_collect.specs.declared.hearing.Quorum.{Quorum}
 use Rattle.suite_collect.specs.Telling.{shown}
-use Rattle.suite_collect.specs.Collecting.{Collector, Asked, Poll, Upgrade, Next, Current, Ask, Short, tell, request_for, mode_of, mode_asked, told_by, next}
+use Rattle.suite_collect.specs.Answering.{IsAsk, IsShort, IsQuorumOf, has_quorum}
+use Rattle.suite_collect.specs.Collecting.{Widening, Collector, Asked, Poll, Upgrade, Next, Current, Ask, Short, counted, is_member, members_of, version, tell, request_for, mode_of, mode_asked, told_by, next}
 use Rattle.suite_collect.specs.Collecting as collecting
+use Rattle.suite_collect.proofs.Collected.{gives_of}
 use Rattle.weak_cache.specs.Entries.{Cache}
-use Rattle.txn_core.specs.Suites.{Suite, Suites, source_of}
+use Rattle.txn_core.specs.Suites.{First, Suite, Suites, first_or, source_of}
 use Rattle.txn_core.specs.Doing.{Task, Phase}
 use Rattle.txn_core.specs.Transactions.{Step, said_to, collected, hear}
-use Rattle.txn_core.specs.code.Coming.{told_one}
-use Rattle.txn_core.specs.code.Hearing.{heard_next, heard_one, heard, on_hearing}
+use Rattle.txn_core.specs.declared.settling.Settling.{Settling}
+use Rattle.txn_core.specs.code.Hearing as hearing
+use Rattle.txn_core.specs.code.Hearing.{heard_next, heard_one, heard, on_hearing, FallsShort, IsFirstAfter}
+use Rattle.txn_core.specs.code.Seeing.{settled_with}
 
 -- a reply says to a transaction what it says to a collector
 pub same_said : (t number : ℕ) (asked : Asked) (answer : Reply) → said_to (request_for t number asked) answer ≡ collecting.said_to asked answer
@@ -62,11 +70,84 @@ source_found c dver (server ∷ members) =
       | false ↦ source_found c dver members
     ]
 
--- a suite that was told what it accepts
-pub heard_by : (suite copy after : Suite) (answer reply : Reply) → is_some (told_by (next suite.collector) answer) ≡ true → copy ≡ suite → reply ≡ answer → after ≡ told_one (told_by (next copy.collector) reply) copy
-    → heard suite answer ≡ heard_next after (next after.collector)
-heard_by suite copy after answer reply accepted same_suite same_reply is = of (told_by (next suite.collector) answer) accepted (is ∙ ap (λ (copy : Suite). told_one (told_by (next copy.collector) reply) copy) same_suite ∙ ap (λ reply. told_one (told_by (next suite.collector) reply) suite) same_reply)
+-- ---- what comes of a reply, by what the collector says of it
+
+pub mode_stays : (c : Collector) (one : Told) → (tell one c).mode ≡ c.mode
+mode_stays c one = of c.widening
   where
-    of : (one : Option Told) → is_some one ≡ true → after ≡ told_one one suite → heard_one suite one ≡ heard_next after (next after.collector)
-    of (Some one) accepted is = ap (λ (after : Suite). heard_next after (next after.collector)) (sym is)
-    of None accepted is = cc
+    of : (widening : Option Widening) → (tell one (record c { widening = widening })).mode ≡ c.mode
+    of None = refl
+    of (Some wide) = refl
+
+module _ (suite : Suite) (answer : Reply) where
+  pub hears_lost : told_by (next suite.collector) answer ≡ None → heard suite answer ≡ hearing.Lost
+  hears_lost told = ap (heard_one suite) told
+
+  pub hears_asks : (last : Told) (after : Collector) → told_by (next suite.collector) answer ≡ Some last → after ≡ tell last suite.collector → IsAsk (next after)
+      → heard suite answer ≡ hearing.Asks (record suite { collector = after })
+  hears_asks last after told new asks =
+      ap (heard_one suite) told
+      ∙ ap (λ (after : Collector). heard_next (record suite { collector = after }) (next after)) (sym new)
+      ∙ ap (heard_next (record suite { collector = after })) asks.2
+
+  pub hears_short : (last : Told) (after : Collector) → told_by (next suite.collector) answer ≡ Some last → after ≡ tell last suite.collector → IsShort (next after)
+      → FallsShort (heard suite answer) (record suite { collector = after })
+  hears_short last after told new short = (
+    short.0,
+    short.1,
+    short.2,
+    short.3,
+    ap (heard_one suite) told
+        ∙ ap (λ (after : Collector). heard_next (record suite { collector = after }) (next after)) (sym new)
+        ∙ ap (heard_next (record suite { collector = after })) short.3,
+  )
+
+  -- with a quorum the suite is settled
+  pub hears_settles : (settling : Settling) → told_by (next suite.collector) answer ≡ Some settling.last → has_quorum (next (tell settling.last suite.collector)) ≡ true → IsFirstAfter suite settling.last settling.first
+      → heard suite answer ≡ hearing.Settled (settled_with settling suite)
+  hears_settles settling told quorum first = ap (heard_one suite) told ∙ of (next c) refl quorum
+    where
+      c : Collector
+      c = tell settling.last suite.collector
+
+      of : (what : Next) → next c ≡ what → has_quorum what ≡ true → heard_next (record suite { collector = c }) what ≡ hearing.Settled (settled_with settling suite)
+      of (Current prefix dver members) is quorum =
+          ap (λ first. hearing.Settled (record suite { collector = c; first = first; mode = c.mode })) (sym (first prefix dver members is))
+          ∙ ap (λ mode. hearing.Settled (record suite { collector = c; first = option_or suite.first settling.first; mode = mode })) (mode_stays suite.collector settling.last)
+      of (Ask server asked) is quorum = cc
+      of (Short got needed busy) is quorum = cc
+
+-- what a quorum gives is what the first one of a suite gives
+abbrev the_first : Prefix → ℕ → ℕ → First
+the_first prefix dver source = record { prefix = prefix; dver = dver; source = source }
+
+module _ (c : Collector) (quorum : Quorum) (gives : IsQuorumOf quorum c) (prefix : Prefix) (dver : ℕ) (members : List ℕ) (is : next c ≡ Current prefix dver members) where
+  quorum_given : (source : ℕ) → source ≡ source_of c (version c) (members_of (counted c) (is_member c))
+      → the_first quorum.prefix.now quorum.dver source ≡ the_first prefix dver (source_of c dver members)
+  quorum_given source same =
+      let all = gives_of c prefix dver members is in
+      ap (λ prefix. the_first prefix quorum.dver source) (gives.prefix ∙ all.prefix_is)
+      ∙ ap (λ dver. the_first prefix dver source) (gives.dver ∙ all.version_is)
+      ∙ ap (λ source. the_first prefix dver source)
+      (same
+      ∙ ap (λ dver. source_of c dver (members_of (counted c) (is_member c))) all.version_is
+      ∙ ap (source_of c dver) all.members_are)
+
+  given_first : (first : Option First) → first ≡ None
+      → option_or first (Some (record { prefix = quorum.prefix.now; dver = quorum.dver; source = unwrap_or quorum.source 0 })) ≡ first_or first (record { prefix = prefix; dver = dver; source = source_of c dver members })
+  given_first None none =
+      ap (λ (first : First). Some first)
+      (quorum_given (unwrap_or quorum.source 0) (ap (λ source. unwrap_or source 0) gives.source ∙ source_found c (version c) (members_of (counted c) (is_member c))))
+  given_first (Some first) none = absurd (none-some first (sym none))
+
+pub first_given : (suite : Suite) (last : Told) (quorum : Quorum) → suite.first ≡ None → IsQuorumOf quorum (tell last suite.collector)
+    → IsFirstAfter suite last (Some (record { prefix = quorum.prefix.now; dver = quorum.dver; source = unwrap_or quorum.source 0 }))
+first_given suite last quorum none gives prefix dver members is = given_first (tell last suite.collector) quorum gives prefix dver members is suite.first none
+
+-- a suite that had a first quorum keeps what it gave
+pub first_kept : (suite : Suite) (last : Told) → is_some suite.first ≡ true → IsFirstAfter suite last None
+first_kept suite last some prefix dver members is = of suite.first some
+  where
+    of : (first : Option First) → is_some first ≡ true → option_or first None ≡ first_or first (record { prefix = prefix; dver = dver; source = source_of (tell last suite.collector) dver members })
+    of (Some first) some = refl
+    of None some = cc

@@ -24,10 +24,10 @@ module _ (task : Task) (suites : Suites) (cache : Cache) where
 
   -- ---- servers prepare
 
-  last_prepared : (outcome : Outcome) (left : List ℕ) (after : Course) → is_none left ≡ true
-      → Steps (prepare task cache suites outcome []) None after cache → Steps (prepare task cache suites outcome left) None after cache
-  last_prepared outcome [] after last steps = steps
-  last_prepared outcome (server ∷ left) after last steps = cc
+  last_prepared : (outcome : Outcome) (left : List ℕ) (result : Option Ending) (after : Course) → is_none left ≡ true
+      → Steps (prepare task cache suites outcome []) result after cache → Steps (prepare task cache suites outcome left) result after cache
+  last_prepared outcome [] result after last steps = steps
+  last_prepared outcome (server ∷ left) result after last steps = cc
 
   not_last_prepared : (outcome : Outcome) (left : List ℕ) → is_none left ≡ false
       → Steps (prepare task cache suites outcome left) None (record { task = task; suites = suites; phase = Preparing left outcome }) cache
@@ -55,14 +55,14 @@ module _ (before between after : Course) (cache : Cache) (passes : between ≡ r
       let Told : Course → Type 0 = λ course. Steps (tell_end before.task cache before.suites verdict ending (drop 1 servers)) None course cache in
       subst Told (sym (passes ∙ ap (λ phase. record before { phase = passed phase }) is)) (not_last_told before.task before.suites cache verdict ending (drop 1 servers) left)
 
-  pub prepared_last : (now : ℕ) (left : List ℕ) (outcome : Outcome) → before.phase ≡ Preparing (now ∷ left) outcome → passes_last before.phase ≡ true
-      → ((outcome : Outcome) (cache : Cache) → between.phase ≡ Preparing [] outcome → Steps (prepare between.task cache between.suites outcome []) None after cache)
-      → Steps (prepare before.task cache before.suites outcome left) None after cache
-  prepared_last now left outcome is last decides =
+  pub prepared_last : (now : ℕ) (left : List ℕ) (outcome : Outcome) (result : Option Ending) → before.phase ≡ Preparing (now ∷ left) outcome → passes_last before.phase ≡ true
+      → ((outcome : Outcome) (cache : Cache) → between.phase ≡ Preparing [] outcome → Steps (prepare between.task cache between.suites outcome []) result after cache)
+      → Steps (prepare before.task cache before.suites outcome left) result after cache
+  prepared_last now left outcome result is last decides =
       let none : is_none left ≡ true = ap passes_last (sym is) ∙ last in
       let at : between.phase ≡ Preparing [] outcome = ap (λ (course : Course). course.phase) passes ∙ ap passed is ∙ ap (λ left. Preparing left outcome) (none_left left none) in
-      let Prepares : Course → Type 0 = λ course. Steps (prepare course.task cache course.suites outcome []) None after cache in
-      last_prepared before.task before.suites cache outcome left after none (subst Prepares passes (decides outcome cache at))
+      let Prepares : Course → Type 0 = λ course. Steps (prepare course.task cache course.suites outcome []) result after cache in
+      last_prepared before.task before.suites cache outcome left result after none (subst Prepares passes (decides outcome cache at))
 
   pub prepared_more : (now : ℕ) (left : List ℕ) (outcome : Outcome) → before.phase ≡ Preparing (now ∷ left) outcome → passes_last before.phase ≡ false
       → Steps (prepare before.task cache before.suites outcome left) None between cache

@@ -1,7 +1,6 @@
 -- How far a transaction came, as its suites and its phase go on.
-use Rattle.std.proofs.Common.{◌≡◌, ℕ, Bool, true, false, cond, List, [], ◌∷◌, Option, Some, None, Result, Ok, Err, refl, sym, ap, subst, ◌∙◌}
-use Rattle.std.specs.declared.alloc.AllocError.{AllocError}
-use Rattle.std.specs.Prelude.{is_some, option_map, IfOk}
+use Rattle.std.proofs.Common.{◌≡◌, ℕ, Bool, true, false, cond, List, [], ◌∷◌, Option, Some, None, Ok, Err, refl, sym, ap, subst, ◌∙◌}
+use Rattle.std.specs.Prelude.{is_some, not, option_map}
 use Rattle.std.specs.Option.{MatchOption, IsSomeAnd}
 use Rattle.std.specs.Ordering.{nat_cmp}
 use Rattle.std.proofs.lemmas.Bool.{false≢true}
@@ -32,7 +31,7 @@ use Rattle.txn_core.specs.declared.ending.Ending.{Ending}
 use Rattle.txn_core.specs.declared.ending.Cause.TheVariants.{Lost}
 use Rattle.txn_core.specs.declared.ending.Ending.TheVariants.{Undecided}
 use Rattle.txn_core.specs.declared.word.Word.TheVariants.{Replied}
-use Rattle.txn_core.specs.declared.hearing.Hearing.TheVariants as hearing
+use Rattle.txn_core.specs.code.Hearing as hearing
 use Rattle.txn_core.specs.declared.plan.Plan.{Plan}
 use Rattle.txn_core.specs.declared.shelf.Fetched.{Fetched}
 use Rattle.txn_core.specs.declared.sequel.Sequel.{Sequel}
@@ -40,20 +39,23 @@ use Rattle.txn_core.specs.declared.sequel.Sequel.TheVariants.{Gather, Fetch, Gra
 use Rattle.txn_core.specs.Doing.{Fixed, Task, Granted, Outcome, Phase, Gathering, Fetching, Widening, Preparing, Deciding, Finishing, Course, After, GoesOn, Ends}
 use Rattle.txn_core.specs.Suites.{First, Suite, Suites, suite_of, with_suite, known_row, known_of, settled}
 use Rattle.txn_core.specs.Transactions.{Gathered, Step, decided, short_cause, verdict_in, ending_by, cause_of_abort, raised_or_new, tell_end, give_up, locked_at, prepare, gather_by, to_widen, widened, widen_by, widen_one, widen_all, collected, hear, heard_of, said_to, after_reply}
-use Rattle.txn_core.specs.code.AgentFields.{Reaches}
+use Rattle.txn_core.specs.Agents.{is_idle}
+use Rattle.txn_core.specs.code.AgentFields.{Reaches, doing_of}
 use Rattle.txn_core.specs.declared.agent.Doing.{Doing as Coded}
 use Rattle.txn_core.specs.declared.agent.Doing.TheVariants as coded
-use Rattle.txn_core.specs.code.Endings.{put_in}
-use Rattle.txn_core.specs.code.Hearing.{heard_next, heard_one, heard}
-use Rattle.txn_core.specs.code.HearingOn.{GoesOnBy}
-use Rattle.txn_core.specs.code.Settling.{SettlesIn}
-use Rattle.txn_core.specs.declared.hearing.Onward.{Onward}
-use Rattle.txn_core.specs.declared.hearing.Onward.TheVariants.{Left, Asks, Short as Shorted}
-use Rattle.txn_core.specs.declared.suites.Unsettled.{Unsettled}
-use Rattle.txn_core.specs.code.Reaching.{does_go_on, IsReachedIn, IsReachedAt, IsReachedBy, IsReachedIf, IsReachedUnless}
+use Rattle.txn_core.specs.code.Hearing.{heard_next, heard_one, heard, FallsShort}
+use Rattle.txn_core.specs.code.Goings.{GoesBy}
+use Rattle.txn_core.specs.code.Seeing.{changed_at, settled_with, with_content, learned_suites}
+use Rattle.txn_core.specs.code.Learning.{adds, is_fresh}
+use Rattle.txn_core.specs.declared.news.News.{News}
+use Rattle.txn_core.specs.declared.news.News.TheVariants.{Nothing, Quorum, Content as Given}
+use Rattle.txn_core.specs.declared.ending.Goes.{Goes as Going}
+use Rattle.txn_core.specs.declared.ending.Goes.TheVariants.{On, Ended}
+use Rattle.txn_core.specs.declared.settling.Settling.{Settling}
+use Rattle.txn_core.specs.code.Reaching.{IsReachedIn, IsReachedAt, IsReachedBy, IsReachedIf, IsReachedUnless, kept_after}
 use Rattle.txn_core.specs.code.Sequels.{gather_again, follow}
-use Rattle.txn_core.specs.code.Steps.{Becomes, Steps, taken}
-use Rattle.txn_core.specs.code.Plans.{takes_in, with_content, new_unless, new_for, raised_at, with_asked_at, with_asked, opened_all, carried_out, shelved, IsPlanOf}
+use Rattle.txn_core.specs.code.Steps.{Becomes, taken}
+use Rattle.txn_core.specs.code.Plans.{takes_in, new_unless, new_for, raised_at, with_asked_at, with_asked, opened_all, carried_out, shelved, IsPlanOf}
 use Rattle.txn_core.proofs.Kept.{Keeps, keeps_all}
 use Rattle.txn_core.proofs.Growing.{more_known, no_less, collects, starts}
 use Rattle.txn_core.proofs.Openings.{known_opened}
@@ -80,9 +82,14 @@ reached_at (Finishing left verdict ending) T is = tt
 pub unbegun_by : (service : Service) (course : Course) (reached : Reached) → reached ≡ unbegun → IsReachedBy service course reached
 unbegun_by service course reached is = reached_at course.phase (IsReachedIn service course.task course.suites reached) (unbegun_in service course.task course.suites reached is)
 
-pub unbegun_unless : (ends : Bool) (service : Service) (course : Course) (reached : Reached) → reached ≡ unbegun → IsReachedUnless ends service course reached
-unbegun_unless true service course reached is = tt
-unbegun_unless false service course reached is = unbegun_by service course reached is
+pub unbegun_unless : (goes : Going) (service : Service) (course : Course) (reached : Reached) → reached ≡ unbegun → IsReachedUnless goes service course reached
+unbegun_unless (Ended ending) service course reached is = tt
+unbegun_unless On service course reached is = unbegun_by service course reached is
+
+-- whether it goes on or not, with what is kept
+pub reached_after : (service : Service) (course : Course) (goes : Going) (reached : Reached) → IsReachedUnless goes service course reached → IsReachedBy service course (kept_after goes reached)
+reached_after service course (Ended ending) reached is = unbegun_by service course unbegun refl
+reached_after service course On reached is = is
 
 -- ---- by the steps of a course
 
@@ -181,36 +188,25 @@ module _ (service : Service) (reached : Reached) where
       stays (Finishing left verdict ending) late = tt
 
   -- so it is where the step is done, unless there is an ending
-  pub goes_unless : (step : Step) (ends : Bool) (place : Option Ending) (course : Course) (cache : Cache) → Goes step.after → Steps step (put_in ends place) course cache → IsReachedUnless ends service course reached
-  goes_unless step true place course cache goes steps = tt
-  goes_unless step false place course cache goes steps = of step.after goes steps.1
+  pub goes_unless : (step : Step) (goes : Going) (course : Course) (cache : Cache) → Goes step.after → GoesBy step goes course cache → IsReachedUnless goes service course reached
+  goes_unless step (Ended ending) course cache reaches steps = tt
+  goes_unless step On course cache reaches steps = of step.after reaches steps.1
     where
       of : (after : After Course) → Goes after → Becomes after None course → IsReachedBy service course reached
-      of (GoesOn more) goes becomes = subst (λ course. IsReachedBy service course reached) (sym becomes.1) goes
-      of (Ends how) goes becomes = absurd (none-some how becomes)
+      of (GoesOn more) reaches becomes = subst (λ course. IsReachedBy service course reached) (sym becomes.1) reaches
+      of (Ends how) reaches becomes = absurd (none-some how becomes)
 
-  pub follows_unless : (task : Task) (suites : Suites) (sequel : Sequel) (ends : Bool) (place : Option Ending) (course : Course) → IsReachedIn service task suites reached → ((cache : Cache) → Steps (follow task cache suites sequel) (put_in ends place) course cache)
-      → IsReachedUnless ends service course reached
-  follows_unless task suites sequel ends place course is steps = goes_unless (follow task [] suites sequel) ends place course [] (goes_follow task [] suites sequel is) (steps [])
+  pub follows_unless : (task : Task) (suites : Suites) (sequel : Sequel) (goes : Going) (course : Course) → IsReachedIn service task suites reached → ((cache : Cache) → GoesBy (follow task cache suites sequel) goes course cache)
+      → IsReachedUnless goes service course reached
+  follows_unless task suites sequel goes course is steps = goes_unless (follow task [] suites sequel) goes course [] (goes_follow task [] suites sequel is) (steps [])
 
-  pub gives_up : (task : Task) (suites : Suites) (cause : Cause) (ends : Bool) (place : Option Ending) (course : Course) → ((cache : Cache) → Steps (give_up task cache suites cause) (put_in ends place) course cache) → IsReachedUnless ends service course reached
-  gives_up task suites cause ends place course steps = goes_unless (give_up task [] suites cause) ends place course [] (goes_up task [] suites cause) (steps [])
+  pub gives_up : (task : Task) (suites : Suites) (cause : Cause) (goes : Going) (course : Course) → ((cache : Cache) → GoesBy (give_up task cache suites cause) goes course cache) → IsReachedUnless goes service course reached
+  gives_up task suites cause goes course steps = goes_unless (give_up task [] suites cause) goes course [] (goes_up task [] suites cause) (steps [])
 
-  -- the same of what a call answers
-  pub goes_if : (step : Step) (result : Result Bool AllocError) (place : Option Ending) (course : Course) (cache : Cache) → Goes step.after → IfOk result (λ ends. Steps step (put_in ends place) course cache)
-      → IfOk result (λ ends. IsReachedUnless ends service course reached)
-  goes_if step (Ok ends) place course cache goes steps = goes_unless step ends place course cache goes steps
-  goes_if step (Err why) place course cache goes steps = tt
-
-  pub goes_further : (told : Result Bool AllocError) (course : Course) → does_go_on told ≡ true → IfOk told (λ ends. IsReachedUnless ends service course reached) → IsReachedBy service course reached
-  goes_further (Ok false) course goes is = is
-  goes_further (Ok true) course goes is = cc
-  goes_further (Err refused) course goes is = cc
-
-  pub late_if : (fixed : Fixed) (before : Course) (asked : Option (ℕ × Request)) (said : Reply) (result : Result Bool AllocError) (place : Option Ending) (after : Course) (cache then' : Cache) (phase : Phase) → before.phase ≡ phase → IsLate phase
-      → IfOk result (λ ends. Steps (taken fixed before cache asked (Replied said)) (put_in ends place) after then') → IfOk result (λ ends. IsReachedUnless ends service after reached)
-  late_if fixed before asked said result place after cache then' phase is late steps =
-      goes_if (taken fixed before cache asked (Replied said)) result place after then' (goes_taken fixed before cache asked said (subst IsLate (sym is) late)) steps
+  pub late : (fixed : Fixed) (before : Course) (asked : Option (ℕ × Request)) (said : Reply) (goes : Going) (after : Course) (cache then' : Cache) (phase : Phase) → before.phase ≡ phase → IsLate phase
+      → GoesBy (taken fixed before cache asked (Replied said)) goes after then' → IsReachedUnless goes service after reached
+  late fixed before asked said goes after cache then' phase is past steps =
+      goes_unless (taken fixed before cache asked (Replied said)) goes after then' (goes_taken fixed before cache asked said (subst IsLate (sym is) past)) steps
 
 -- ---- by what is told
 
@@ -277,33 +273,34 @@ reached_carried service reached fixed task before put suites room after seen fet
 -- ---- by a reply, and by a content
 
 module _ (service : Service) (reached : Reached) where
-  pub reached_on : (before after : Course) (number : ℕ) (suite : Suite) (said : Reply) (onward : Onward) → IsOrdered nat_cmp before.suites → suite_of before.suites number ≡ Some suite → GoesOnBy onward before number suite said after
-      → IsReachedIn service before.task before.suites reached → IsReachedIn service after.task after.suites reached
-  reached_on before after number suite said Left ordered there goes is = subst (λ (course : Course). IsReachedIn service course.task course.suites reached) (sym goes.0) is
-  reached_on before after number suite said Asks ordered there goes is =
-      let new = goes.0 in
-      subst (λ (course : Course). IsReachedIn service course.task course.suites reached) (sym goes.2)
+  pub reached_asks : (before after : Course) (number : ℕ) (suite new : Suite) (said : Reply) → IsOrdered nat_cmp before.suites → suite_of before.suites number ≡ Some suite → heard suite said ≡ hearing.Asks new
+      → after ≡ record before { suites = with_suite number new before.suites } → IsReachedIn service before.task before.suites reached → IsReachedIn service after.task after.suites reached
+  reached_asks before after number suite new said ordered there asks put is =
+      subst (λ (course : Course). IsReachedIn service course.task course.suites reached) (sym put)
       (reached_in service before.task before.suites (with_suite number new before.suites) reached
-      (more_known before.suites number new ordered (λ one found. collects one new (asks_on suite new said goes.1 ∙ ap (λ (suite : Suite). record suite { collector = new.collector }) (same_Some suite one (sym there ∙ found))))) is)
-  reached_on before after number suite said Shorted ordered there goes is =
-      let new = goes.0 in
-      let short = goes.1 in
-      subst (λ (course : Course). IsReachedIn service course.task course.suites reached) (sym goes.2)
+      (more_known before.suites number new ordered (λ one found. collects one new (asks_on suite new said asks ∙ ap (λ (suite : Suite). record suite { collector = new.collector }) (same_Some suite one (sym there ∙ found))))) is)
+
+  pub reached_short : (before after : Course) (number : ℕ) (suite new : Suite) (said : Reply) → IsOrdered nat_cmp before.suites → suite_of before.suites number ≡ Some suite → FallsShort (heard suite said) new
+      → after ≡ record before { suites = with_suite number new before.suites } → IsReachedIn service before.task before.suites reached → IsReachedIn service after.task after.suites reached
+  reached_short before after number suite new said ordered there short put is =
+      subst (λ (course : Course). IsReachedIn service course.task course.suites reached) (sym put)
       (reached_in service before.task before.suites (with_suite number new before.suites) reached
       (more_known before.suites number new ordered (λ one found. collects one new (falls_short suite new said short.0 short.1 short.2 short.4 ∙ ap (λ (suite : Suite). record suite { collector = new.collector }) (same_Some suite one (sym there ∙ found))))) is)
 
   -- a suite that had no quorum is settled
-  pub reached_settled : (was given : Course) (number : ℕ) (suite : Suite) (said : Reply) (before : Unsettled) → IsOrdered nat_cmp was.suites → suite_of was.suites number ≡ Some suite → SettlesIn was number suite said before given
-      → before.had_first ≡ false → IsReachedIn service was.task was.suites reached → IsReachedIn service given.task given.suites reached
-  reached_settled was given number suite said before ordered there settles fresh is =
-      let new = settles.new in
-      let none : suite.first ≡ None = ap (λ (suite : Suite). suite.first) (sym settles.settles.back) ∙ ap (λ had. cond had new.first None) fresh in
-      subst (λ (course : Course). IsReachedIn service course.task course.suites reached) (sym settles.put)
-      (reached_in service was.task was.suites (with_suite number new was.suites) reached
-      (more_known was.suites number new ordered (λ one found. starts one new (ap (λ (suite : Suite). suite.first) (same_Some one suite (sym found ∙ there)) ∙ none))) is)
+  pub reached_settled : (task : Task) (suites : Suites) (number : ℕ) (settling : Settling) → IsOrdered nat_cmp suites → ((suite : Suite) → suite_of suites number ≡ Some suite → suite.first ≡ None)
+      → IsReachedIn service task suites reached → IsReachedIn service task (changed_at (settled_with settling) number (suite_of suites number) suites) reached
+  reached_settled task suites number settling ordered fresh is = of (suite_of suites number) refl
+    where
+      of : (found : Option Suite) → suite_of suites number ≡ found → IsReachedIn service task (changed_at (settled_with settling) number found suites) reached
+      of (Some suite) there =
+          let new : Suite = settled_with settling suite in
+          reached_in service task suites (with_suite number new suites) reached
+          (more_known suites number new ordered (λ one found. starts one new (fresh one found))) is
+      of None there = is
 
   -- a suite gets a content that it takes
-  pub reached_given : (task : Task) (suites now : Suites) (number : ℕ) (content : Content) → IsOrdered nat_cmp suites → takes_in (suite_of suites number) content ≡ true → now ≡ with_content number (Some content) (suite_of suites number) suites
+  pub reached_given : (task : Task) (suites now : Suites) (number : ℕ) (content : Content) → IsOrdered nat_cmp suites → takes_in (suite_of suites number) content ≡ true → now ≡ changed_at (with_content content) number (suite_of suites number) suites
       → IsReachedIn service task suites reached → IsReachedIn service task now reached
   reached_given task suites now number content ordered may given is = of (suite_of suites number) refl may given
     where
@@ -316,9 +313,21 @@ module _ (service : Service) (reached : Reached) where
           (reached_in service task suites more reached (subst (MoreKnown (known_of suites)) (known_opened suites number suite first content ordered there was) opens) is)
       had suite None there was may given = cc
 
-      of : (found : Option Suite) → suite_of suites number ≡ found → takes_in found content ≡ true → now ≡ with_content number (Some content) found suites → IsReachedIn service task now reached
+      of : (found : Option Suite) → suite_of suites number ≡ found → takes_in found content ≡ true → now ≡ changed_at (with_content content) number found suites → IsReachedIn service task now reached
       of (Some suite) there may given = had suite suite.first there refl may given
       of None there may given = cc
+
+-- something was learned by which more is known
+pub reached_learned : (service : Service) (reached : Reached) (task : Task) (suites : Suites) (news : News) → IsOrdered nat_cmp suites → adds news suites ≡ true → IsReachedIn service task suites reached → IsReachedIn service task (learned_suites news suites) reached
+reached_learned service reached task suites Nothing ordered may is = is
+reached_learned service reached task suites (Quorum number settling) ordered may is =
+    reached_settled service reached task suites number settling ordered (λ suite there. fresh suite.first (sym (ap is_fresh there) ∙ may)) is
+  where
+    fresh : (first : Option First) → not (is_some first) ≡ true → first ≡ None
+    fresh None none = refl
+    fresh (Some first) none = cc
+reached_learned service reached task suites (Given content fetched) ordered may is =
+    reached_given service reached task suites (learned_suites (Given content fetched) suites) fetched.suite content ordered may refl is
 
 -- ---- by an execution
 
@@ -349,3 +358,9 @@ pub reaches_begun : {P : Course → Coded → Type 0} (service : Service) (reach
 reaches_begun service reached (Some course) (Some doing) cases is reaches = subst (λ doing. Reaches (Some doing) service reached) (sym (is course doing cases)) reaches
 reaches_begun service reached (Some course) None cases is reaches = absurd cases
 reaches_begun service reached None doing cases is reaches = subst (λ doing. Reaches doing service reached) (sym cases) tt
+
+-- nothing is carried out
+pub reaches_idle : (service : Service) (reached : Reached) (doing : Option Coded) → is_idle (option_map doing_of doing) ≡ true → Reaches doing service reached
+reaches_idle service reached None idle = tt
+reaches_idle service reached (Some (coded.Running course)) idle = cc
+reaches_idle service reached (Some (coded.Rounding round)) idle = tt

@@ -39,6 +39,7 @@ use Rattle.txn_core.proofs.Locks as locks
 use Rattle.txn_core.specs.Transactions.{numbers_from}
 use Rattle.txn_core.specs.Suites.{has_locks}
 use Rattle.std.proofs.Common.{◌≤◌, ◌<◌}
+use Rattle.vote_core.specs.Validity.{max_servers}
 use Rattle.rep_core.specs.declared.reply.Verdict.TheVariants as verdict
 
 -- ---- the servers that hold locks
@@ -68,13 +69,13 @@ among_numbers p (suc count) start server low high is =
     later true is = or_true (start == server) is
     later false is = is
 
-among_locked : (suites : Suites) (server : ℕ) → nat_lt server 16 ≡ true → has_locks suites server ≡ true → among (locked_at suites) server ≡ true
-among_locked suites server few is = among_numbers (has_locks suites) 16 0 server (omega arith) (grind (arith, nat_tests)) is
+among_locked : (suites : Suites) (server : ℕ) → nat_lt server max_servers ≡ true → has_locks suites server ≡ true → among (locked_at suites) server ≡ true
+among_locked suites server few is = among_numbers (has_locks suites) max_servers 0 server (omega arith) (grind (arith, nat_tests)) is
 
 -- ---- what a phase has prepared
 
 abbrev Ready : (ℕ → Bool) → Suites → List ℕ → Type 0
-Ready done suites left = (server : ℕ) → nat_lt server 16 ≡ true → has_locks suites server ≡ true → (among left server || done server) ≡ true
+Ready done suites left = (server : ℕ) → nat_lt server max_servers ≡ true → has_locks suites server ≡ true → (among left server || done server) ≡ true
 
 abbrev PhaseReady : (ℕ → Bool) → Suites → Phase → Type 0
 PhaseReady done suites (Preparing left outcome) = Ready done suites left
@@ -248,7 +249,7 @@ no_decide : {P : Type 0} (a b t : ℕ) (asked : Request) (decision : Decision) �
 no_decide a b t asked decision other is = absurd (false≢true (sym other ∙ ap is_decide (asks_same a b asked (request.Decide t decision) is)))
 
 decide_ready : (held : ℕ → ℕ → Bool) (done : ℕ → Bool) (fixed : Fixed) (doing : Option Doing) (home t number server : ℕ) (decision : Decision) → locks.Keeps held doing → DoingReady done doing → next_in fixed doing ≡ Some (home, request.Decide t decision)
-    → nat_lt server 16 ≡ true → held number server ≡ true → done server ≡ true
+    → nat_lt server max_servers ≡ true → held number server ≡ true → done server ≡ true
 decide_ready held done fixed None home t number server decision keeps ready is few has = cc
 decide_ready held done fixed (Some (Rounding round)) home t number server decision keeps ready is few has = of round.now is
   where

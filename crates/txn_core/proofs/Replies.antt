@@ -1,7 +1,6 @@
 -- What comes of a reply, phase by phase.
-use Rattle.std.proofs.Common.{◌≡◌, ℕ, true, List, [], ◌∷◌, drop, Option, Some, None, Result, refl, sym, ap, ◌∙◌, subst}
-use Rattle.std.specs.Prelude.{Bool, option_map, IfOk}
-use Rattle.std.specs.declared.alloc.AllocError.{AllocError}
+use Rattle.std.proofs.Common.{◌≡◌, ℕ, true, List, [], ◌∷◌, drop, Option, Some, None, refl, sym, ap, ◌∙◌, subst}
+use Rattle.std.specs.Prelude.{option_map}
 use Rattle.std.proofs.lemmas.Option.{same_Some}
 use Rattle.rep_core.specs.declared.request.Request.{Request}
 use Rattle.rep_core.specs.declared.request.Request.TheVariants as request
@@ -10,13 +9,14 @@ use Rattle.rep_core.specs.declared.reply.Verdict.{Verdict}
 use Rattle.suite_collect.specs.Collecting.{Asked, Next, Current, Ask, Short, next, request_for}
 use Rattle.weak_cache.specs.Entries.{Cache}
 use Rattle.txn_core.specs.declared.word.Word.TheVariants.{Replied}
-use Rattle.txn_core.specs.Doing.{Fixed, Task, Granted, Outcome, Phase, Gathering, Widening, Preparing, Finishing, Course}
-use Rattle.txn_core.specs.code.Endings.{put_in}
-use Rattle.txn_core.specs.code.Hearing.{heard, on_hearing}
+use Rattle.txn_core.specs.Doing.{Fixed, Task, Granted, Outcome, Phase, Gathering, Fetching, Widening, Preparing, Deciding, Finishing, Course, home_of}
+use Rattle.txn_core.specs.code.Goings.{given, held}
+use Rattle.txn_core.specs.code.Goings.{widened as widens}
+use Rattle.txn_core.specs.code.Hearing.{heard, heard_at, on_hearing}
 use Rattle.txn_core.specs.Standing.{FitsAsked}
 use Rattle.txn_core.specs.code.Steps.{Steps, taken}
-use Rattle.txn_core.specs.Suites.{Suite, Suites, suite_of, with_suite}
-use Rattle.txn_core.specs.Transactions.{Step, execute, widen_all, asked_by, asked_for, request_in, request_of, heard_of, after_reply, changes_of, prepared, tell_end}
+use Rattle.txn_core.specs.Suites.{First, Suite, Suites, suite_of, with_suite}
+use Rattle.txn_core.specs.Transactions.{Step, decided, decision_of, fetched_at, fetched_for, execute, widen_all, asked_by, asked_for, request_in, request_of, heard_of, after_reply, changes_of, prepared, tell_end}
 use Rattle.txn_core.specs.code.Unused.{shows_unused}
 use Rattle.txn_core.specs.Writing.{parts_at}
 use Rattle.txn_core.specs.declared.ending.Ending.{Ending}
@@ -102,24 +102,39 @@ module _ (fixed : Fixed) (course : Course) (cache : Cache) (server : ℕ) (said 
   pub widening : (number : ℕ) (left : List ℕ) (granted : Granted) → course.phase ≡ Widening (number ∷ left) granted → Asks course.task course.suites number server
   widening number left granted is = asks_of course.task course.suites number server (asked_in_phase (Widening (number ∷ left) granted) is)
 
-  pub gathering_ok : (number : ℕ) (result : Result Bool AllocError) (place : Option Ending) (after : Course) (kept : Cache) → course.phase ≡ Gathering number
-      → ((suite : Suite) → suite_of course.suites number ≡ Some suite → IfOk result (λ ends. Steps (on_hearing course.task cache course.suites course.phase number server (heard suite said) (λ suite. execute fixed course.task (record { suites = with_suite number suite course.suites; cache = cache }))) (put_in ends place) after kept))
-      → IfOk result (λ ends. Steps (taken fixed course cache (request_of fixed course) (Replied said)) (put_in ends place) after kept)
-  gathering_ok number result place after kept is went =
+  -- and what comes of a reply to them
+  pub replied_held : (number : ℕ) → course.phase ≡ Gathering number → taken fixed course cache (request_of fixed course) (Replied said) ≡ held fixed course cache number server said
+  replied_held number is =
       let a : Asks course.task course.suites number server = gathering number is in
-      let Went : Step → Type 0 = λ step. IfOk result (λ ends. Steps step (put_in ends place) after kept) in
-      subst Went (sym (gathered fixed course cache number server said a is)) (went a.suite a.there)
+      gathered fixed course cache number server said a is
+      ∙ ap (λ found. on_hearing course.task cache course.suites course.phase number server (heard_at found said) (λ suite. execute fixed course.task (record { suites = with_suite number suite course.suites; cache = cache }))) (sym a.there)
 
-  pub widening_ok : (number : ℕ) (left : List ℕ) (granted : Granted) (result : Result Bool AllocError) (place : Option Ending) (after : Course) (kept : Cache) → course.phase ≡ Widening (number ∷ left) granted
-      → ((suite : Suite) (left : List ℕ) (granted : Granted) (cache : Cache) → suite_of course.suites number ≡ Some suite → course.phase ≡ Widening (number ∷ left) granted
-      → IfOk result (λ ends. Steps (on_hearing course.task cache course.suites course.phase number server (heard suite said) (λ suite. widen_all course.task cache (with_suite number suite course.suites) granted left)) (put_in ends place) after cache))
-      → kept ≡ cache
-      → IfOk result (λ ends. Steps (taken fixed course cache (request_of fixed course) (Replied said)) (put_in ends place) after kept)
-  widening_ok number left granted result place after kept is went same =
+  pub replied_widened : (number : ℕ) (left : List ℕ) (granted : Granted) → course.phase ≡ Widening (number ∷ left) granted
+      → taken fixed course cache (request_of fixed course) (Replied said) ≡ widens course cache number server left granted said
+  replied_widened number left granted is =
       let a : Asks course.task course.suites number server = widening number left granted is in
-      let Went : Step → Type 0 = λ step. IfOk result (λ ends. Steps step (put_in ends place) after cache) in
-      let Kept : Cache → Type 0 = λ kept. IfOk result (λ ends. Steps (taken fixed course cache (request_of fixed course) (Replied said)) (put_in ends place) after kept) in
-      subst Kept (sym same) (subst Went (sym (widened fixed course cache number server said a left granted is)) (went a.suite left granted cache a.there is))
+      widened fixed course cache number server said a left granted is
+      ∙ ap (λ found. on_hearing course.task cache course.suites course.phase number server (heard_at found said) (λ suite. widen_all course.task cache (with_suite number suite course.suites) granted left)) (sym a.there)
+
+  -- a content is fetched, from the server that is asked for it
+  asks_content : (number : ℕ) (found : Option Suite) → server_of (fetched_for course.task number found) ≡ Some server → fetched_for course.task number found ≡ Some (server, request.Fetch course.task.t number)
+  asks_content number None asked = cc
+  asks_content number (Some suite) asked = of suite.first asked
+    where
+      of : (first : Option First) → server_of (fetched_at course.task number first) ≡ Some server → fetched_at course.task number first ≡ Some (server, request.Fetch course.task.t number)
+      of (Some first) asked = ap (λ at. Some (at, request.Fetch course.task.t number)) (same_Some first.source server asked)
+      of None asked = cc
+
+  pub replied_given : (number : ℕ) → course.phase ≡ Fetching number → taken fixed course cache (request_of fixed course) (Replied said) ≡ given fixed course cache number server said
+  replied_given number is =
+      ap (λ asked. taken fixed course cache asked (Replied said)) (ap (request_in fixed course.task course.suites) is ∙ asks_content number (suite_of course.suites number) (asked_in_phase (Fetching number) is))
+      ∙ ap (λ phase. after_reply fixed course.task cache course.suites phase server (request.Fetch course.task.t number) said) is
+
+  -- the home decides
+  pub replied_decided : (outcome : Outcome) → course.phase ≡ Deciding outcome → taken fixed course cache (request_of fixed course) (Replied said) ≡ decided course.task cache course.suites said
+  replied_decided outcome is =
+      ap (λ asked. taken fixed course cache asked (Replied said)) (ap (request_in fixed course.task course.suites) is)
+      ∙ ap (λ phase. after_reply fixed course.task cache course.suites phase (home_of fixed.service course.task.t) (request.Decide course.task.t (decision_of course.task outcome)) said) is
 
   -- a reply to a Prepare, and to a Finish
   pub preparing_ok : (servers : List ℕ) (outcome : Outcome) (result : Option Ending) (after : Course) → course.phase ≡ Preparing servers outcome

@@ -1,27 +1,24 @@
 -- What a plan sets and what follows it is what an execution comes to.
 use Rattle.std.proofs.Common.{◌≡◌, ℕ, Option, Some, None, refl, sym, ap, subst, ◌∙◌}
-use Rattle.std.specs.Prelude.{is_some, option_map, unwrap_or}
+use Rattle.std.specs.Prelude.{is_some, unwrap_or}
 use Rattle.std.proofs.lemmas.Bool.{false≢true}
-use Rattle.std.proofs.lemmas.Option.{same_Some}
 use Rattle.sorted_map.specs.Numbers.{get_insert_here}
 use Rattle.suite_prefix.specs.Absent.{absent_prefix}
 use Rattle.suite_prefix.specs.declared.lock_mode.LockMode.{LockMode}
 use Rattle.suite_prefix.specs.declared.lock_mode.LockMode.TheVariants.{Shared}
 use Rattle.suite_collect.specs.Collecting.{collect}
 use Rattle.weak_cache.specs.Entries.{Cache}
-use Rattle.weak_cache.specs.Cache.{Limited, hint, put}
-use Rattle.suite_content.specs.declared.content.Content.{Content}
+use Rattle.weak_cache.specs.Cache.{Limited, hint}
 use Rattle.file_exec.specs.declared.need.Need.TheVariants.{Hold, Know}
 use Rattle.file_exec.specs.declared.executor.Outcome.{Outcome as Executed}
 use Rattle.file_exec.specs.declared.executor.Outcome.TheVariants as exec
-use Rattle.txn_core.specs.declared.ending.Cause.TheVariants.{Lost}
 use Rattle.txn_core.specs.declared.plan.Plan.{Plan}
 use Rattle.txn_core.specs.declared.sequel.Sequel.{Sequel}
 use Rattle.txn_core.specs.declared.shelf.Fetched.{Fetched}
-use Rattle.txn_core.specs.Suites.{First, Suite, Suites, suite_of, with_suite}
+use Rattle.txn_core.specs.Suites.{Suite, Suites, suite_of, with_suite}
 use Rattle.txn_core.specs.Doing.{Fixed, Task}
-use Rattle.txn_core.specs.Transactions.{Gathered, heard_on, gather, raised_or_new, proceed, execute, give_up, keep_content, fetched}
-use Rattle.txn_core.specs.code.Plans.{new_unless, new_for, with_asked_at, raised_at, with_asked, opened_all, carried_out, IsPlanOf, shelved, kept_of, fetched_of, with_content}
+use Rattle.txn_core.specs.Transactions.{Gathered, heard_on, gather, raised_or_new, proceed, execute}
+use Rattle.txn_core.specs.code.Plans.{new_unless, new_for, with_asked_at, raised_at, with_asked, opened_all, carried_out, IsPlanOf, shelved}
 use Rattle.txn_core.specs.code.Unused.{HasUnused}
 use Rattle.txn_core.specs.code.Sequels.{sequel_of, gather_again, follow}
 use Rattle.txn_core.proofs.Kept.{Keeps, keeps_all}
@@ -91,37 +88,3 @@ module _ (fixed : Fixed) (task : Task) (before : Limited) (suites : Suites) (see
   carried_unused unused =
       let kept = keeps_all task plan.opened.items now in
       subst (λ (l : Limited). HasUnused l.entries) (sym cache_then) (kept.unused (subst (λ (g : Gathered). HasUnused g.cache) (sym as_planned) unused))
-
--- ---- after a fetch
-
-pub given_follows : (fixed : Fixed) (task : Task) (cache : Limited) (suites now : Suites) (number server : ℕ) (content : Content) (one : Fetched) → fixed.limits ≡ cache.limits
-    → Some one ≡ fetched_of task number content (suite_of suites number) → now ≡ with_content number (Some content) (suite_of suites number) suites
-    → execute fixed task (record { suites = now; cache = shelved cache (Some one) }) ≡ fetched fixed task cache.entries suites number (suite_of suites number) server (Some content)
-given_follows fixed task cache suites now number server content one limits = of (suite_of suites number)
-  where
-    firsts : (found : Suite) (first : Option First) → Some one ≡ option_map (kept_of task number content) first → now ≡ with_suite number (record found { content = Some content }) suites
-        → execute fixed task (record { suites = now; cache = shelved cache (Some one) }) ≡ keep_content fixed task cache.entries suites number found content first server
-    firsts found (Some first) is opened =
-        ap (λ suites. execute fixed task (record { suites = suites; cache = shelved cache (Some one) })) opened
-        ∙ ap (λ one. execute fixed task (record { suites = with_suite number (record found { content = Some content }) suites; cache = shelved cache (Some one) })) (same_Some one (kept_of task number content first) is)
-        ∙ ap (λ limits. execute fixed task (record { suites = with_suite number (record found { content = Some content }) suites; cache = put limits (record { site = task.site; suite = number; prefix = first.prefix; dver = first.dver; content = content }) cache.entries })) (sym limits)
-    firsts found None is opened = cc
-
-    of : (found : Option Suite) → Some one ≡ fetched_of task number content found → now ≡ with_content number (Some content) found suites
-        → execute fixed task (record { suites = now; cache = shelved cache (Some one) }) ≡ fetched fixed task cache.entries suites number found server (Some content)
-    of (Some found) is opened = firsts found found.first is opened
-    of None is opened = cc
-
-pub not_given : (fixed : Fixed) (task : Task) (cache : Limited) (suites : Suites) (number server : ℕ) (content : Content) → None ≡ fetched_of task number content (suite_of suites number)
-    → give_up task cache.entries suites (Lost server) ≡ fetched fixed task cache.entries suites number (suite_of suites number) server (Some content)
-not_given fixed task cache suites number server content = of (suite_of suites number)
-  where
-    firsts : (found : Suite) (first : Option First) → None ≡ option_map (kept_of task number content) first
-        → give_up task cache.entries suites (Lost server) ≡ keep_content fixed task cache.entries suites number found content first server
-    firsts found (Some first) is = cc
-    firsts found None is = refl
-
-    of : (found : Option Suite) → None ≡ fetched_of task number content found
-        → give_up task cache.entries suites (Lost server) ≡ fetched fixed task cache.entries suites number found server (Some content)
-    of (Some found) is = firsts found found.first is
-    of None is = refl

@@ -1,5 +1,5 @@
 -- An agent that takes a word, as its code goes about it.
-use Rattle.std.proofs.Common.{◌≡◌, ℕ, Bool, true, false, Option, Some, None, refl, sym, ap, ◌∙◌}
+use Rattle.std.proofs.Common.{◌≡◌, ℕ, Option, Some, None, refl, sym, ap, ◌∙◌}
 use Rattle.std.specs.Prelude.{option_map}
 use Rattle.std.specs.Option.{option_or}
 use Rattle.rep_core.specs.declared.request.Request.{Request}
@@ -8,7 +8,6 @@ use Rattle.txn_core.specs.declared.ending.Ending.{Ending}
 use Rattle.txn_core.specs.declared.word.Word.{Word}
 use Rattle.txn_core.specs.Agents.{Agent, Taken, left, end_of, take_in, take, next_in, next_of}
 use Rattle.txn_core.specs.Doing.{Fixed, Course, Round, Doing, Running, Rounding, After, GoesOn, Ends}
-use Rattle.txn_core.specs.code.Endings.{Puts, put_in}
 use Rattle.txn_core.specs.code.RoundFields.{Comes}
 use Rattle.txn_core.specs.Standing.{Standing, left_by}
 use Rattle.txn_core.specs.code.Telling.{Tells}
@@ -79,35 +78,7 @@ module _ (fixed : Fixed) (state : Agent) (word : Word) (ending : Option Ending) 
       let same = take_of None is in
       record { told = ap (λ (t : Taken). t.ending) (sym same); agent = ap (λ doing. record state { doing = doing }) (sym is) ∙ ap (λ (t : Taken). t.agent) (sym same) }
 
--- ---- an ending in its place
-
-pub put_over : (ends : Bool) (before after : Option Ending) → Puts ends before after → after ≡ option_or (put_in ends after) before
-put_over true before (Some how) some = refl
-put_over true before None some = cc
-put_over false before after same = same
-
--- after an ending nothing is done
-left_put : (ends : Bool) (before after : Option Ending) (doing : Option Doing) → ends ≡ true → Puts ends before after → left_by (put_in ends after) doing ≡ None
-left_put true before (Some how) doing is some = refl
-left_put true before None doing is some = cc
-left_put false before after doing is same = cc
-
-stays_put : (ends : Bool) (after : Option Ending) (doing : Option Doing) → ends ≡ false → left_by (put_in ends after) doing ≡ doing
-stays_put true after doing is = cc
-stays_put false after doing is = refl
-
-module _ (before : Standing) (word : Word) (ends : Bool) (old new : Option Ending) (after : Standing) (tells : Tells before word (put_in ends new) after) (puts : Puts ends old new) where
-  abbrev after_doing : Option Doing → Standing
-  after_doing doing = record after { state = record after.state { doing = doing } }
-
-  pub tells_ending : new ≡ option_or (take before.fixed before.state word).ending old
-  tells_ending = put_over ends old new puts ∙ ap (λ ending. option_or ending old) tells.told
-
-  pub tells_left : ends ≡ true → after_doing None ≡ record before { state = (take before.fixed before.state word).agent }
-  tells_left is = ap after_doing (sym (left_put ends old new after.state.doing is puts)) ∙ tells.agent
-
-  pub tells_more : ends ≡ false → after ≡ record before { state = (take before.fixed before.state word).agent }
-  tells_more is = ap after_doing (sym (stays_put ends new after.state.doing is)) ∙ tells.agent
+-- ---- an ending
 
 pub over_none : (ending : Option Ending) → option_or ending None ≡ ending
 over_none (Some how) = refl

@@ -23,7 +23,7 @@ use Rattle.rep_core.specs.Fits.{fits}
 use Rattle.suite_collect.specs.Telling.{newest, has_told, has_refused, first_busy}
 use Rattle.suite_collect.specs.Collecting.{told_since, votes_or, mode_or, all_told, counted, wanted, is_member}
 use Rattle.suite_collect.specs.Collecting as collecting
-use Rattle.suite_collect.proofs.Finding.{has_to}
+use Rattle.rep_core.proofs.Members.{contains_from}
 use Rattle.suite_collect.proofs.Shortness.{short_has_none_left}
 use Rattle.txn_core.specs.declared.word.Word.{Word}
 use Rattle.txn_core.specs.declared.word.Word.TheVariants.{Replied, Lacked}
@@ -190,7 +190,7 @@ module _ (fixed : Fixed) (agent : Agent) (job : Job) (events : List Event) where
     answers = set.answers;
     changes = set.changes;
     done = ap (λ task. heard_on fixed task set.suites) (sym own.task_is) ∙ set.done;
-    gets = has_to (to_widen set.changes) number set.gets;
+    gets = contains_from (to_widen set.changes) number set.gets;
     are = set.are;
   }
 

@@ -13,15 +13,21 @@ use Rattle.rep_core.specs.declared.reply.Reply.TheVariants as reply
 use Rattle.suite_collect.specs.declared.told.Said.{Said}
 use Rattle.suite_collect.specs.declared.told.Said.TheVariants as said
 use Rattle.suite_collect.specs.declared.told.Told.{Told}
+use Rattle.suite_collect.specs.declared.hearing.Quorum.{Quorum as Gives}
+use Rattle.suite_collect.specs.Answering.{IsQuorumOf}
 use Rattle.suite_collect.specs.Telling.{newer, newest, version_in, shown, greatest}
 use Rattle.suite_collect.specs.Collecting.{Collector, Widening, Asked, Poll, Upgrade, Next, Current, Ask, Short, first_members, version, collect, tell_at, tell, request_for, mode_asked, told_by, next}
 use Rattle.suite_collect.proofs.Collected.{gives_of}
 use Rattle.weak_cache.specs.Entries.{Entry, Cache, forgotten}
-use Rattle.weak_cache.specs.Cache.{Limits, hint, searched, put}
+use Rattle.weak_cache.specs.Cache.{Limits, Limited, hint, searched, put}
 use Rattle.weak_cache.proofs.Origins.{entries_come_from_puts}
 use Rattle.txn_core.specs.Doing.{Fixed, Task}
 use Rattle.txn_core.specs.Transactions.{start_from}
-use Rattle.txn_core.specs.code.Unused.{HasUnused, SawUnused, shows_unused}
+use Rattle.txn_core.specs.declared.news.News.{News}
+use Rattle.txn_core.specs.declared.news.News.TheVariants.{Nothing, Quorum, Content as Given}
+use Rattle.txn_core.specs.code.Learning.{Fits, kept_by}
+use Rattle.txn_core.specs.code.Plans.{shelved}
+use Rattle.txn_core.specs.code.Unused.{HasUnused, SawUnused, shows_unused, says_unused}
 
 -- ---- replies
 
@@ -120,6 +126,24 @@ current_unused c prefix dver members is saw =
 
 -- ---- caches
 
+-- the same of what is told, and of what a quorum then gives
+pub tell_says : (c : Collector) (one : Told) → says_unused one.said ≡ true → SawUnused c → SawUnused (tell one c)
+tell_says c one unused saw = tell_unused c one (λ other dver is. both (is_used_up other.pver) (is_used_up dver) (sym (ap says_unused is) ∙ unused)) saw
+
+pub told_says : (next : Next) (answer : Reply) (one : Told) → told_by next answer ≡ Some one → shows_unused answer ≡ true → says_unused one.said ≡ true
+told_says next answer one told unused = of one.said (told_shows next answer one told unused)
+  where
+    of : (what : Said) → ((other : Prefix) (dver : ℕ) → what ≡ said.Held other dver → (is_used_up other.pver ≡ false) × (is_used_up dver ≡ false)) → says_unused what ≡ true
+    of (said.Held other dver) shows = let fine = shows other dver refl in ap (λ b. not b && not (is_used_up dver)) fine.0 ∙ ap (λ b. not b) fine.1
+    of (said.Busy holder) shows = refl
+    of said.Down shows = refl
+
+pub given_unused : (c : Collector) (quorum : Gives) → IsQuorumOf quorum c → SawUnused c → (is_used_up quorum.prefix.now.pver ≡ false) × (is_used_up quorum.dver ≡ false)
+given_unused c quorum gives saw = (
+  ap (λ (prefix : Prefix). is_used_up prefix.pver) gives.prefix ∙ saw.prefix,
+  ap is_used_up gives.dver ∙ greatest_unused c.told (first_members c) saw.shown,
+)
+
 pub unused_none : HasUnused []
 unused_none entry there = absurd (let below : there.0 < 0 = there.1 in omega (arith, below))
 
@@ -129,6 +153,13 @@ unused_put limits entry cache unused all other there =
       | inl same ↦ ap (λ (entry : Entry). is_used_up entry.prefix.pver) same ∙ unused
       | inr before ↦ all other before
     ]
+
+-- and once something was learned
+pub unused_learned : (news : News) (cache : Limited) → Fits news → HasUnused cache.entries → HasUnused (shelved cache (kept_by news))
+unused_learned Nothing cache fits all = all
+unused_learned (Quorum number settling) cache fits all = all
+unused_learned (Given content one) cache fits all =
+    unused_put cache.limits (record { site = one.site; suite = one.suite; prefix = one.prefix; dver = one.dver; content = one.content }) cache.entries fits.unused all
 
 pub unused_searched : (site suite dver : ℕ) (cache : Cache) → HasUnused cache → HasUnused (searched site suite dver cache)
 unused_searched site suite dver cache all other there = all other (entries_come_from_puts.searched site suite dver cache other there)

@@ -121,10 +121,10 @@ module _ (start : Course) (from : ℕ) (granted : Granted) (now : Course) (at : 
   ended : (given : Changes) → drop at given ≡ [] → to_widen (drop at given) ≡ []
   ended given none = ap to_widen none
 
-  pub left_none : (cache : Cache) (after : Course) → slice_get granted.changes at ≡ None → Steps (prepare now.task cache now.suites (Ok granted) (locked_at now.suites)) None after cache
-      → Steps (widen_all start.task cache start.suites granted (to_widen (drop from granted.changes))) None after cache
-  left_none cache after none steps =
-      let Stepped : Step → Type 0 = λ step. Steps step None after cache in
+  pub left_none : (cache : Cache) (result : Option Ending) (after : Course) → slice_get granted.changes at ≡ None → Steps (prepare now.task cache now.suites (Ok granted) (locked_at now.suites)) result after cache
+      → Steps (widen_all start.task cache start.suites granted (to_widen (drop from granted.changes))) result after cache
+  left_none cache result after none steps =
+      let Stepped : Step → Type 0 = λ step. Steps step result after cache in
       subst Stepped (sym (left.same cache ∙ ap (λ l. widen_all now.task cache now.suites granted l) (ended granted.changes (past granted.changes at none)))) steps
     where
       past : (l : Changes) (n : ℕ) → slice_get l n ≡ None → drop n l ≡ []

@@ -1,32 +1,23 @@
 -- Where memory may be wanting, phase by phase.
-use Rattle.std.proofs.Common.{◌≡◌, ℕ, true, Option, Some, None, Result, Ok, Err, refl, sym, ap, ◌∙◌}
-use Rattle.std.specs.Prelude.{Bool, List, ◌∷◌, is_some, IfErr}
+use Rattle.std.proofs.Common.{◌≡◌, ℕ, true, Option, Some, None, Result, Ok, Err, sym, ap, ◌∙◌}
+use Rattle.std.specs.Prelude.{List, ◌∷◌, is_some, IfErr}
 use Rattle.std.specs.declared.alloc.AllocError.{AllocError}
 use Rattle.rep_core.specs.declared.reply.Reply.{Reply}
 use Rattle.rep_core.specs.Fits.{is_held}
 use Rattle.rep_core.specs.declared.reply.Verdict.TheVariants as verdict
 use Rattle.rep_core.specs.Service.{is_answered}
-use Rattle.suite_collect.specs.declared.told.Told.{Told}
-use Rattle.suite_collect.specs.Collecting.{Asked, Poll, Upgrade, next, request_for, told_by}
-use Rattle.txn_core.specs.declared.hearing.Hearing.TheVariants as hearing
+use Rattle.suite_collect.specs.Collecting.{Asked, Poll, Upgrade, request_for}
+use Rattle.txn_core.specs.declared.ending.Goes.{Goes}
 use Rattle.txn_core.specs.declared.word.Word.{Word}
 use Rattle.txn_core.specs.declared.word.Word.TheVariants.{Replied}
 use Rattle.txn_core.specs.Agents.{Agent, next_in, next_of}
 use Rattle.txn_core.specs.Doing.{Fixed, Outcome, Gathering, Fetching, Widening, Deciding, Granted, Course, Doing}
-use Rattle.txn_core.specs.code.Hearing.{heard_one, heard}
 use Rattle.txn_core.specs.Suites.{First, Suite, suite_of}
 use Rattle.txn_core.specs.Transactions.{given_in, verdict_in, asked_by, asked_for, fetched_at, fetched_for, request_in, request_of}
 use Rattle.txn_core.specs.Wanting.{by_reply, by_taking}
 use Rattle.txn_core.proofs.Replies.{server_of, asks_of}
 
--- ---- what a suite was told
-
-pub settled_told : (suite after : Suite) (said : Reply) → heard suite said ≡ hearing.Settled after → is_some (told_by (next suite.collector) said) ≡ true
-settled_told suite after said is = of (told_by (next suite.collector) said) is
-  where
-    of : (one : Option Told) → heard_one suite one ≡ hearing.Settled after → is_some one ≡ true
-    of (Some one) is = refl
-    of None is = cc
+-- ---- a reply to what a suite asks
 
 told_wants : (t number : ℕ) (asked : Asked) (said : Reply) → is_held said ≡ true → by_reply (request_for t number asked) said ≡ true
 told_wants t number (Poll mode) said held = held
@@ -37,23 +28,23 @@ told_wants t number Upgrade said held = held
 module _ (fixed : Fixed) (course : Course) (server : ℕ) (said : Reply) where
   -- a suite asks
   asking_wants : (number : ℕ) → request_of fixed course ≡ asked_for course.task number (suite_of course.suites number) → server_of (request_of fixed course) ≡ Some server
-      → ((suite : Suite) → suite_of course.suites number ≡ Some suite → is_held said ≡ true) → by_taking (request_of fixed course) (Replied said) ≡ true
+      → is_held said ≡ true → by_taking (request_of fixed course) (Replied said) ≡ true
   asking_wants number same asked told =
       let a = asks_of course.task course.suites number server (ap server_of (sym same) ∙ asked) in
       ap (λ what. by_taking what (Replied said)) (same ∙ ap (asked_for course.task number) a.there ∙ ap (asked_by course.task number) a.asks)
-      ∙ told_wants course.task.t number a.asked said (told a.suite a.there)
+      ∙ told_wants course.task.t number a.asked said told
 
-  told_if : (number : ℕ) (result : Result Bool AllocError) → request_of fixed course ≡ asked_for course.task number (suite_of course.suites number) → server_of (request_of fixed course) ≡ Some server
-      → ((suite : Suite) → suite_of course.suites number ≡ Some suite → IfErr result (λ _. is_held said ≡ true)) → IfErr result (λ _. by_taking (request_of fixed course) (Replied said) ≡ true)
+  told_if : (number : ℕ) (result : Result Goes AllocError) → request_of fixed course ≡ asked_for course.task number (suite_of course.suites number) → server_of (request_of fixed course) ≡ Some server
+      → IfErr result (λ _. is_held said ≡ true) → IfErr result (λ _. by_taking (request_of fixed course) (Replied said) ≡ true)
   told_if number (Ok ending) same asked told = tt
   told_if number (Err why) same asked told = asking_wants number same asked told
 
-  pub gathering_wants : (number : ℕ) (result : Result Bool AllocError) → course.phase ≡ Gathering number → server_of (request_of fixed course) ≡ Some server
-      → ((suite : Suite) → suite_of course.suites number ≡ Some suite → IfErr result (λ _. is_held said ≡ true)) → IfErr result (λ _. by_taking (request_of fixed course) (Replied said) ≡ true)
+  pub gathering_wants : (number : ℕ) (result : Result Goes AllocError) → course.phase ≡ Gathering number → server_of (request_of fixed course) ≡ Some server
+      → IfErr result (λ _. is_held said ≡ true) → IfErr result (λ _. by_taking (request_of fixed course) (Replied said) ≡ true)
   gathering_wants number result is asked told = told_if number result (ap (request_in fixed course.task course.suites) is) asked told
 
-  pub widening_wants : (number : ℕ) (left : List ℕ) (granted : Granted) (result : Result Bool AllocError) → course.phase ≡ Widening (number ∷ left) granted → server_of (request_of fixed course) ≡ Some server
-      → ((suite : Suite) → suite_of course.suites number ≡ Some suite → IfErr result (λ _. is_held said ≡ true)) → IfErr result (λ _. by_taking (request_of fixed course) (Replied said) ≡ true)
+  pub widening_wants : (number : ℕ) (left : List ℕ) (granted : Granted) (result : Result Goes AllocError) → course.phase ≡ Widening (number ∷ left) granted → server_of (request_of fixed course) ≡ Some server
+      → IfErr result (λ _. is_held said ≡ true) → IfErr result (λ _. by_taking (request_of fixed course) (Replied said) ≡ true)
   widening_wants number left granted result is asked told = told_if number result (ap (request_in fixed course.task course.suites) is) asked told
 
   -- a content is fetched
@@ -65,7 +56,7 @@ module _ (fixed : Fixed) (course : Course) (server : ℕ) (said : Reply) where
       at (Some first) asked = given
       at None asked = cc
 
-  pub fetching_wants : (number : ℕ) (result : Result Bool AllocError) → course.phase ≡ Fetching number → server_of (request_of fixed course) ≡ Some server → IfErr result (λ _. is_some (given_in said) ≡ true)
+  pub fetching_wants : (number : ℕ) (result : Result Goes AllocError) → course.phase ≡ Fetching number → server_of (request_of fixed course) ≡ Some server → IfErr result (λ _. is_some (given_in said) ≡ true)
       → IfErr result (λ _. by_taking (request_of fixed course) (Replied said) ≡ true)
   fetching_wants number (Ok ending) is asked given = tt
   fetching_wants number (Err why) is asked given =
@@ -73,7 +64,7 @@ module _ (fixed : Fixed) (course : Course) (server : ℕ) (said : Reply) where
       ap (λ what. by_taking what (Replied said)) same ∙ fetched_wants number (suite_of course.suites number) (ap server_of (sym same) ∙ asked) given
 
   -- the home decides
-  pub deciding_wants : (outcome : Outcome) (result : Result Bool AllocError) → course.phase ≡ Deciding outcome → IfErr result (λ _. is_answered (verdict_in said verdict.Aborted) ≡ true)
+  pub deciding_wants : (outcome : Outcome) (result : Result Goes AllocError) → course.phase ≡ Deciding outcome → IfErr result (λ _. is_answered (verdict_in said verdict.Aborted) ≡ true)
       → IfErr result (λ _. by_taking (request_of fixed course) (Replied said) ≡ true)
   deciding_wants outcome (Ok ending) is answered = tt
   deciding_wants outcome (Err why) is answered = ap (λ phase. by_taking (request_in fixed course.task course.suites phase) (Replied said)) is ∙ answered

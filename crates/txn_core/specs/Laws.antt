@@ -6,6 +6,7 @@ use Rattle.std.specs.Ordering.{nat_cmp}
 use Rattle.acl_core.specs.Identity.{Identity}
 use Rattle.file_ops.specs.declared.operation.Op.{Op}
 use Rattle.vote_core.specs.Quorums.{votes_in, is_write_quorum}
+use Rattle.vote_core.specs.Validity.{max_servers}
 use Rattle.suite_prefix.specs.declared.copies.Prefix.{Prefix}
 use Rattle.rep_core.specs.declared.request.Request.{Request}
 use Rattle.rep_core.specs.declared.request.Request.TheVariants as request
@@ -154,12 +155,12 @@ APrepareRises =
 
 -- ---- when a decision is asked for
 
--- a decision is asked for once each server that was heard to hold a lock has prepared; servers are numbered below 16
+-- a decision is asked for once each server that was heard to hold a lock has prepared; servers are numbered from 0, and there are no more than the most
 abbrev pub AllPrepareFirst : Type 0
 AllPrepareFirst =
     (fixed : Fixed) (agent : Agent) (job : Job) (events : List Event) (home t server suite : ℕ) (decision : Decision) → is_idle agent.doing ≡ true
     → next_of fixed (after_all fixed (begin fixed agent job) events) ≡ Some (home, request.Decide t decision)
-    → nat_lt server 16 ≡ true → was_held (of_job fixed agent job events) suite server ≡ true
+    → nat_lt server max_servers ≡ true → was_held (of_job fixed agent job events) suite server ≡ true
     → was_prepared (of_job fixed agent job events) server ≡ true
 
 -- ---- on which quorums

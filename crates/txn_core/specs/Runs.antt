@@ -1,4 +1,5 @@
 -- Runs whose ends are known from outside.
+use Rattle.std.specs.FinSet.{empty}
 use Rattle.std.specs.Prelude.{◌≡◌, ℕ, ◌-◌, List, [], ◌∷◌, None}
 use Rattle.suite_prefix.specs.SettingsRules.{Opening}
 use Rattle.acl_core.specs.Modes.{minimal_list}
@@ -36,6 +37,7 @@ settings servers room r w = record {
   budget = room;
   quota = room;
   slots = room;
+  old = empty;
 }
 
 abbrev pub owner : Identity

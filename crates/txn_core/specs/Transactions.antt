@@ -1,6 +1,7 @@
 -- How a transaction goes: what it asks next, and what comes of a word that it is told.
 use Rattle.std.specs.Prelude.{ℕ, zero, suc, ◌+◌, ◌==◌, Bool, true, false, if◌then◌else◌, List, [], ◌∷◌, length, map, filter, unwrap_or, Option, Some, None, Ok, Err}
 use Rattle.vote_core.specs.Quorums.{Configuration}
+use Rattle.vote_core.specs.Validity.{max_servers}
 use Rattle.suite_content.specs.declared.content.Content.{Content}
 use Rattle.suite_content.specs.Contents.{empty_content}
 use Rattle.suite_prefix.specs.Copies.{held_by}
@@ -57,7 +58,7 @@ numbers_from start (suc count) = start ∷ numbers_from (start + 1) count
 
 -- the servers that answered that a lock is held, rising
 abbrev pub locked_at : Suites → List ℕ
-locked_at suites = filter (has_locks suites) (numbers_from 0 16)
+locked_at suites = filter (has_locks suites) (numbers_from 0 max_servers)
 
 abbrev pub tell_end : Task → Cache → Suites → Verdict → Ending → List ℕ → Step
 tell_end task cache suites verdict ending [] = record { cache = cache; after = Ends ending }

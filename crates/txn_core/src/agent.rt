@@ -1,22 +1,23 @@
 //! An agent.
 
-ghost use Rattle.std.specs.Prelude.{◌≡◌, ◌<◌, ◌≤◌, [], IfOk, IfErr, IfNone, OnOk, OnErr, IsTrue, Some, None, option_map, true};
+ghost use Rattle.std.specs.Prelude.{◌≡◌, ◌<◌, ◌≤◌, IfOk, IfErr, IfNone, OnOk, OnErr, IsTrue, Some, option_map, true};
 ghost use Rattle.std.specs.Option.{option_or};
 ghost use Rattle.weak_cache.specs.Cache.{Limits};
 ghost use Rattle.txn_core.specs.code.AgentFields.{doing_of};
 ghost use Rattle.txn_core.specs.Agents as agents;
 ghost use Rattle.txn_core.specs.Standing.{FitsAsked};
-ghost use Rattle.txn_core.specs.Transactions as course;
 ghost use Rattle.txn_core.specs.Wanting as wanting;
-ghost use Rattle.txn_core.specs.code.Endings.{Puts, put_in};
+ghost use Rattle.txn_core.specs.code.Asking.{Asks, Wants, fixed_on};
+ghost use Rattle.txn_core.specs.code.Goings.{begun, ending_of};
 ghost use Rattle.txn_core.specs.code.Telling.{Tells};
 ghost use Rattle.txn_core.specs.declared.job.Job.TheVariants.{Sweep};
 ghost use Rattle.txn_core.specs.declared.word.Word.TheVariants.{Replied, Lacked};
 
 use crate::course::Course;
-use crate::ending::Ending;
+use crate::ending::{Ending, Goes};
 use crate::ground::Ground;
 use crate::job::Job;
+use crate::means::Means;
 use crate::sweep::Round;
 use crate::task::Task;
 use crate::word::Word;
@@ -45,14 +46,10 @@ enum Doing {
 /// which server, and is told what comes of it.
 #[derive(Drop)]
 pub struct Agent {
-    alloc: Global,
     index: u8,
     count: u64,
-    service: Ground,
-    cache: WeakCache,
+    means: Means,
     doing: Option<Doing>,
-    /// How far the transaction came that it carries out.
-    progress: Progress,
 }
 
 impl Model for Agent {
@@ -77,16 +74,19 @@ impl Agent {
             servers: settings.servers(),
             c0: *settings.c0(),
         };
-        let service = Ground::new(alloc, service)?;
+        let ground = Ground::new(alloc, service)?;
         let cache = WeakCache::new(alloc, settings.budget(), settings.quota(), settings.slots())?;
+        let progress = Progress::new(alloc);
         Ok(Agent {
-            alloc,
             index,
             count: 0,
-            service,
-            cache,
+            means: Means {
+                alloc,
+                ground,
+                cache,
+                progress,
+            },
             doing: None,
-            progress: Progress::new(alloc),
         })
     }
 
@@ -112,7 +112,7 @@ impl Agent {
     {
         match job {
             Job::Transaction { site, .. } => *site < MAX_SITES,
-            Job::Sweep { server } => usize::from(*server) < self.service.servers(),
+            Job::Sweep { server } => usize::from(*server) < self.means.ground.servers(),
         }
     }
 
@@ -144,18 +144,11 @@ impl Agent {
 
     /// A transaction starts.
     fn carry_out(&mut self, task: Task) -> Result<(), AllocError>
-        ensures ok { OnOk result (self.new ≡ record self.old { state = (agents.with_step self.old.state (course.execute self.old.fixed task (record { suites = []; cache = self.old.state.cache }))).agent }) }
+        requires { agents.is_idle self.old.state.doing ≡ true }
+        ensures ok { OnOk result (self.new ≡ record self.old { state = (agents.with_step self.old.state (begun self.old.fixed task self.old.state.cache)).agent }) }
         ensures err { OnErr result (self.new ≡ self.old) }
     {
-        let mut progress = Progress::new(self.alloc);
-        let course = Course::begin(
-            self.alloc,
-            &self.service,
-            &mut self.cache,
-            &mut progress,
-            task,
-        )?;
-        self.progress = progress;
+        let course = Course::begin(&mut self.means, task)?;
         self.doing = course.map(Doing::Running);
         Ok(())
     }
@@ -164,7 +157,7 @@ impl Agent {
     fn sweep(&mut self, server: u8)
         ensures { self.new ≡ record self.old { state = agents.started self.old.fixed self.old.state (Sweep server) } }
     {
-        let round = Round::new(self.alloc, server);
+        let round = Round::new(self.means.alloc, server);
         self.doing = Some(Doing::Rounding(round));
     }
 
@@ -178,7 +171,7 @@ impl Agent {
         ensures memory { IfErr result (λ _. IsTrue (wanting.by_asking (agents.next_of self.now.fixed self.now.state))) }
     {
         match &self.doing {
-            Some(doing) => doing.ask(self.alloc, &self.service, request),
+            Some(doing) => doing.ask(&self.means, request),
             None => Ok(None),
         }
     }
@@ -200,7 +193,7 @@ impl Agent {
         ensures { result ≡ option_map (λ asked. asked.0) (agents.next_of self.now.fixed self.now.state) }
     {
         match &self.doing {
-            Some(doing) => doing.asked(&self.service),
+            Some(doing) => doing.asked(&self.means.ground),
             None => None,
         }
     }
@@ -222,7 +215,7 @@ impl Agent {
         let mut ended = None;
         match word {
             Word::Replied(said) => self.hear(server, said, &mut ended)?,
-            Word::Lacked(lack) => self.lack(*lack, &mut ended),
+            Word::Lacked(lack) => ended = self.lack(*lack),
         }
         Ok(ended)
     }
@@ -243,79 +236,60 @@ impl Agent {
         ensures err { OnErr result ((self.new ≡ self.old) × (ended.new ≡ ended.old)) }
         ensures memory { IfErr result (λ _. IsTrue (wanting.by_taking (agents.next_of self.old.fixed self.old.state) (Replied said.now))) }
     {
-        if self.answer(server, said, ended)? {
-            self.stop();
+        if let Goes::Ended(ending) = self.on_reply(server, said)? {
+            self.doing = None;
+            *ended = Some(ending);
         }
         Ok(())
     }
 
-    /// Takes the reply, and goes on with its job, also where that is at its end: tells whether it is.
-    fn answer(
-        &mut self,
-        server: u8,
-        said: &Reply,
-        ended: &mut Option<Ending>,
-    ) -> Result<bool, AllocError>
+    /// The server that it asks next replied.
+    fn on_reply(&mut self, server: u8, said: &Reply) -> Result<Goes, AllocError>
         requires asked { option_map (λ asked. asked.0) (agents.next_of self.old.fixed self.old.state) ≡ Some server }
         requires fits { FitsAsked (agents.next_of self.old.fixed self.old.state) (Replied said.now) }
-        ensures ok { IfOk result (λ ends. Tells self.old (Replied said.now) (put_in ends ended.new) self.new) }
-        ensures place { IfOk result (λ ends. Puts ends ended.old ended.new) }
-        ensures err { OnErr result ((self.new ≡ self.old) × (ended.new ≡ ended.old)) }
+        ensures ok { IfOk result (λ goes. Tells self.old (Replied said.now) (ending_of goes) self.new) }
+        ensures err { OnErr result (self.new ≡ self.old) }
         ensures memory { IfErr result (λ _. IsTrue (wanting.by_taking (agents.next_of self.old.fixed self.old.state) (Replied said.now))) }
     {
         match &mut self.doing {
-            Some(Doing::Running(course)) => {
-                course.answer(
-                    self.alloc,
-                    &self.service,
-                    &mut self.cache,
-                    &mut self.progress,
-                    server,
-                    said,
-                    ended,
-                )
+            Some(Doing::Running(course)) => course.on_reply(&mut self.means, server, said),
+            Some(Doing::Rounding(round)) => {
+                round.on_reply(self.means.alloc, &self.means.ground, said)
             }
-            Some(Doing::Rounding(round)) => round.answer(self.alloc, &self.service, said, ended),
-            None => Ok(false),
+            None => Ok(Goes::On),
         }
     }
 
-    /// Its request was not served.
-    fn lack(&mut self, lack: Lack, ended: &mut Option<Ending>)
-        ensures ending { ended.new ≡ option_or (agents.take self.old.fixed self.old.state (Lacked lack)).ending ended.old }
+    /// Its request was not served: the ending of its job, where that is at its end.
+    fn lack(&mut self, lack: Lack) -> Option<Ending>
+        ensures ending { result ≡ (agents.take self.old.fixed self.old.state (Lacked lack)).ending }
         ensures new { self.new ≡ record self.old { state = (agents.take self.old.fixed self.old.state (Lacked lack)).agent } }
     {
-        if self.lacked(lack, ended) {
-            self.stop();
+        match self.on_lack(lack) {
+            Goes::On => None,
+            Goes::Ended(ending) => {
+                self.doing = None;
+                Some(ending)
+            }
         }
     }
 
-    /// The same, also where its job is at its end: tells whether it is.
-    fn lacked(&mut self, lack: Lack, ended: &mut Option<Ending>) -> bool
-        ensures told { Tells self.old (Lacked lack) (put_in result ended.new) self.new }
-        ensures place { Puts result ended.old ended.new }
+    /// What it asks next was not served.
+    fn on_lack(&mut self, lack: Lack) -> Goes
+        ensures { Tells self.old (Lacked lack) (ending_of result) self.new }
     {
         match &mut self.doing {
-            Some(Doing::Running(course)) => {
-                course.hear_lack(self.alloc, &self.service, &mut self.progress, lack, ended)
-            }
-            Some(Doing::Rounding(round)) => round.lacked(&self.service, lack, ended),
-            None => false,
+            Some(Doing::Running(course)) => course.on_lack(&mut self.means, lack),
+            Some(Doing::Rounding(round)) => round.on_lack(&self.means.ground, lack),
+            None => Goes::On,
         }
-    }
-
-    /// It does no job any more.
-    fn stop(&mut self)
-        ensures { self.new ≡ record self.old { state = record self.old.state { doing = None } } }
-    {
-        self.doing = None;
     }
 
     /// Lets go what it keeps for a site.
     pub fn forget(&mut self, site: u8)
         ensures { self.new ≡ record self.old { state = agents.forget self.old.state site } }
     {
-        self.cache.forget(site);
+        self.means.cache.forget(site);
     }
 
     /// Whether it does no job.
@@ -335,33 +309,28 @@ impl Agent {
 
 impl Doing {
     /// The server that is asked next.
-    fn asked(&self, service: &Ground) -> Option<u8>
-        requires { (0 < service.now.servers) × (service.now.servers ≤ MAX_SERVERS) }
-        ensures { (limits : Limits) → result ≡ option_map (λ asked. asked.0) (agents.next_in (record { service = service.now; limits = limits }) (Some (doing_of self.now))) }
+    fn asked(&self, ground: &Ground) -> Option<u8>
+        requires { (0 < ground.now.servers) × (ground.now.servers ≤ MAX_SERVERS) }
+        ensures { (limits : Limits) → result ≡ option_map (λ asked. asked.0) (agents.next_in (fixed_on ground.now limits) (Some (doing_of self.now))) }
     {
         match self {
-            Doing::Running(course) => course.asked(service),
-            Doing::Rounding(round) => Some(round.asked(service)),
+            Doing::Running(course) => course.asked(ground),
+            Doing::Rounding(round) => Some(round.asked(ground)),
         }
     }
 
     /// Of which server is asked next, and what, which is put into its place.
-    fn ask(
-        &self,
-        alloc: Global,
-        service: &Ground,
-        request: &mut Request,
-    ) -> Result<Option<u8>, AllocError>
-        requires { (0 < service.now.servers) × (service.now.servers ≤ MAX_SERVERS) }
-        ensures ok { IfOk result (λ server. (limits : Limits) → option_map (λ server. (server, request.new)) server ≡ agents.next_in (record { service = service.now; limits = limits }) (Some (doing_of self.now))) }
+    fn ask(&self, means: &Means, request: &mut Request) -> Result<Option<u8>, AllocError>
+        requires { (0 < means.now.ground.servers) × (means.now.ground.servers ≤ MAX_SERVERS) }
+        ensures ok { IfOk result (λ server. Asks (λ fixed. agents.next_in fixed (Some (doing_of self.now))) means.now.ground server request.new) }
         ensures none { IfOk result (λ server. IfNone server (request.new ≡ request.old)) }
         ensures err { OnErr result (request.new ≡ request.old) }
-        ensures memory { IfErr result (λ _. (limits : Limits) → IsTrue (wanting.by_asking (agents.next_in (record { service = service.now; limits = limits }) (Some (doing_of self.now))))) }
+        ensures memory { IfErr result (λ _. Wants (λ fixed. agents.next_in fixed (Some (doing_of self.now))) means.now.ground) }
     {
         match self {
-            Doing::Running(course) => course.ask(alloc, service, request),
+            Doing::Running(course) => course.ask(means.alloc, &means.ground, request),
             Doing::Rounding(round) => {
-                let server = round.ask(service, request)?;
+                let server = round.ask(&means.ground, request)?;
                 Ok(Some(server))
             }
         }

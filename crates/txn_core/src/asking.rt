@@ -6,7 +6,7 @@ ghost use Rattle.weak_cache.specs.Cache.{Limits};
 ghost use Rattle.txn_core.specs.Doing as doing;
 ghost use Rattle.txn_core.specs.Suites.{suite_of};
 ghost use Rattle.txn_core.specs.Transactions as course;
-ghost use Rattle.txn_core.specs.Wanting as wanting;
+ghost use Rattle.txn_core.specs.code.Asking.{Asks, AsksIn, Wants, WantsIn, asked_in, fixed_on};
 ghost use Rattle.txn_core.specs.declared.ending.Ending.{Ending};
 
 use crate::course::Course;
@@ -28,14 +28,14 @@ impl Course {
     pub(crate) fn ask(
         &self,
         alloc: Global,
-        service: &Ground,
+        ground: &Ground,
         request: &mut Request,
     ) -> Result<Option<u8>, AllocError>
-        requires { (0 < service.now.servers) × (service.now.servers ≤ MAX_SERVERS) }
-        ensures ok { IfOk result (λ server. (limits : Limits) → option_map (λ server. (server, request.new)) server ≡ course.request_of (record { service = service.now; limits = limits }) self.now) }
+        requires { (0 < ground.now.servers) × (ground.now.servers ≤ MAX_SERVERS) }
+        ensures ok { IfOk result (λ server. Asks (λ fixed. course.request_of fixed self.now) ground.now server request.new) }
         ensures none { IfOk result (λ server. IfNone server (request.new ≡ request.old)) }
         ensures err { OnErr result (request.new ≡ request.old) }
-        ensures memory { IfErr result (λ _. (limits : Limits) → IsTrue (wanting.by_asking (course.request_of (record { service = service.now; limits = limits }) self.now))) }
+        ensures memory { IfErr result (λ _. Wants (λ fixed. course.request_of fixed self.now) ground.now) }
     {
         match &self.phase {
             Phase::Gathering(number) | Phase::Widening { number, .. } => {
@@ -45,21 +45,21 @@ impl Course {
             Phase::Preparing(servers, outcome) => {
                 self.ask_prepare(alloc, servers, outcome, request)
             }
-            Phase::Deciding(outcome) => self.ask_decide(service, outcome, request),
+            Phase::Deciding(outcome) => self.ask_decide(ground, outcome, request),
             Phase::Finishing(servers, verdict, _) => self.ask_finish(servers, verdict, request),
         }
     }
 
     /// The server that is asked next.
-    pub(crate) fn asked(&self, service: &Ground) -> Option<u8>
-        requires { (0 < service.now.servers) × (service.now.servers ≤ MAX_SERVERS) }
-        ensures { (limits : Limits) → result ≡ option_map (λ asked. asked.0) (course.request_of (record { service = service.now; limits = limits }) self.now) }
+    pub(crate) fn asked(&self, ground: &Ground) -> Option<u8>
+        requires { (0 < ground.now.servers) × (ground.now.servers ≤ MAX_SERVERS) }
+        ensures { (limits : Limits) → result ≡ option_map (λ asked. asked.0) (course.request_of (fixed_on ground.now limits) self.now) }
     {
         match &self.phase {
             Phase::Gathering(number) | Phase::Widening { number, .. } => self.asked_for(*number),
             Phase::Fetching(number) => self.fetched_from(*number),
             Phase::Preparing(servers, _) | Phase::Finishing(servers, ..) => servers.first(),
-            Phase::Deciding(_) => Some(home_of(service, self.task.t)),
+            Phase::Deciding(_) => Some(home_of(ground, self.task.t)),
         }
     }
 
@@ -116,10 +116,10 @@ impl Course {
         outcome: &Outcome,
         request: &mut Request,
     ) -> Result<Option<u8>, AllocError>
-        ensures ok { IfOk result (λ server. (fixed : doing.Fixed) → option_map (λ server. (server, request.new)) server ≡ course.request_in fixed self.now.task self.now.suites (doing.Preparing servers.now outcome.now)) }
+        ensures ok { IfOk result (λ server. AsksIn (doing.Preparing servers.now outcome.now) self.now server request.new) }
         ensures none { IfOk result (λ server. IfNone server (request.new ≡ request.old)) }
         ensures err { OnErr result (request.new ≡ request.old) }
-        ensures memory { IfErr result (λ _. (fixed : doing.Fixed) → IsTrue (wanting.by_asking (course.request_in fixed self.now.task self.now.suites (doing.Preparing servers.now outcome.now)))) }
+        ensures memory { IfErr result (λ _. WantsIn (doing.Preparing servers.now outcome.now) self.now) }
     {
         let Some(server) = servers.first() else {
             return Ok(None);
@@ -136,20 +136,20 @@ impl Course {
     /// The home is asked to record an outcome.
     fn ask_decide(
         &self,
-        service: &Ground,
+        ground: &Ground,
         outcome: &Outcome,
         request: &mut Request,
     ) -> Result<Option<u8>, AllocError>
-        requires { (0 < service.now.servers) × (service.now.servers ≤ MAX_SERVERS) }
-        ensures ok { IfOk result (λ server. (limits : Limits) → option_map (λ server. (server, request.new)) server ≡ course.request_in (record { service = service.now; limits = limits }) self.now.task self.now.suites (doing.Deciding outcome.now)) }
+        requires { (0 < ground.now.servers) × (ground.now.servers ≤ MAX_SERVERS) }
+        ensures ok { IfOk result (λ server. Asks (asked_in (doing.Deciding outcome.now) self.now) ground.now server request.new) }
         ensures none { IfOk result (λ server. IfNone server (request.new ≡ request.old)) }
         ensures err { OnErr result (request.new ≡ request.old) }
-        ensures memory { IfErr result (λ _. (limits : Limits) → IsTrue (wanting.by_asking (course.request_in (record { service = service.now; limits = limits }) self.now.task self.now.suites (doing.Deciding outcome.now)))) }
+        ensures memory { IfErr result (λ _. Wants (asked_in (doing.Deciding outcome.now) self.now) ground.now) }
     {
         let decision = decision_of(&self.task, outcome)?;
         let t = self.task.t;
         *request = Request::Decide { t, decision };
-        Ok(Some(home_of(service, t)))
+        Ok(Some(home_of(ground, t)))
     }
 
     /// The first of these servers is told how the transaction ended.
@@ -159,10 +159,10 @@ impl Course {
         verdict: &Verdict,
         request: &mut Request,
     ) -> Result<Option<u8>, AllocError>
-        ensures ok { IfOk result (λ server. (fixed : doing.Fixed) (ending : Ending) → option_map (λ server. (server, request.new)) server ≡ course.request_in fixed self.now.task self.now.suites (doing.Finishing servers.now verdict.now ending)) }
+        ensures ok { IfOk result (λ server. (ending : Ending) → AsksIn (doing.Finishing servers.now verdict.now ending) self.now server request.new) }
         ensures none { IfOk result (λ server. IfNone server (request.new ≡ request.old)) }
         ensures err { OnErr result (request.new ≡ request.old) }
-        ensures memory { IfErr result (λ _. (fixed : doing.Fixed) (ending : Ending) → IsTrue (wanting.by_asking (course.request_in fixed self.now.task self.now.suites (doing.Finishing servers.now verdict.now ending)))) }
+        ensures memory { IfErr result (λ _. (ending : Ending) → WantsIn (doing.Finishing servers.now verdict.now ending) self.now) }
     {
         let Some(server) = servers.first() else {
             return Ok(None);

@@ -38,8 +38,8 @@ impl Plan {
         cache: &mut WeakCache,
     ) -> Sequel
         requires { IsSome self.new → 0 < suites.old.room }
-        ensures suites { suites.new.pairs ≡ (spec.carried_out task.now self (record { suites = suites.old.pairs; cache = cache.old.entries })).suites }
-        ensures cache { cache.new ≡ record cache.old { entries = (spec.carried_out task.now self (record { suites = suites.old.pairs; cache = cache.old.entries })).cache } }
+        ensures suites { suites.new.pairs ≡ (spec.carried_out task.now self (spec.all_in suites.old.pairs cache.old)).suites }
+        ensures cache { cache.new ≡ record cache.old { entries = (spec.carried_out task.now self (spec.all_in suites.old.pairs cache.old)).cache } }
         ensures sequel { result ≡ sequel_of self.outcome }
     {
         let Plan {
@@ -60,8 +60,8 @@ fn open_all(
     cache: &mut WeakCache,
     opened: Vec<(u64, Content)>,
 )
-    ensures suites { suites.new.pairs ≡ (spec.opened_all task.now opened.items (record { suites = suites.old.pairs; cache = cache.old.entries })).suites }
-    ensures cache { cache.new ≡ record cache.old { entries = (spec.opened_all task.now opened.items (record { suites = suites.old.pairs; cache = cache.old.entries })).cache } }
+    ensures suites { suites.new.pairs ≡ (spec.opened_all task.now opened.items (spec.all_in suites.old.pairs cache.old)).suites }
+    ensures cache { cache.new ≡ record cache.old { entries = (spec.opened_all task.now opened.items (spec.all_in suites.old.pairs cache.old)).cache } }
     ensures room { suites.new.room ≡ suites.old.room }
 {
     for (number, content) in opened {
@@ -77,8 +77,8 @@ fn open(
     number: u64,
     content: Content,
 )
-    ensures suites { suites.new.pairs ≡ (spec.opened_by task.now (record { suites = suites.old.pairs; cache = cache.old.entries }) (number, content)).suites }
-    ensures cache { cache.new ≡ record cache.old { entries = (spec.opened_by task.now (record { suites = suites.old.pairs; cache = cache.old.entries }) (number, content)).cache } }
+    ensures suites { suites.new.pairs ≡ (spec.opened_by task.now (spec.all_in suites.old.pairs cache.old) (number, content)).suites }
+    ensures cache { cache.new ≡ record cache.old { entries = (spec.opened_by task.now (spec.all_in suites.old.pairs cache.old) (number, content)).cache } }
     ensures room { suites.new.room ≡ suites.old.room }
 {
     let Some(suite) = suites.get_mut(&number) else {

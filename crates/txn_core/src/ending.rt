@@ -45,6 +45,15 @@ pub enum Ending {
     Undecided(Cause),
 }
 
+/// How a job goes on after a word.
+#[derive(Debug, Drop)]
+pub(crate) enum Goes {
+    /// Something more is to be asked.
+    On,
+    /// It is at its end.
+    Ended(Ending),
+}
+
 impl PartialEq for Cause {
     ghost use Rattle.txn_core.specs.code.Equality.{same_cause, same_cause_partial_laws};
 

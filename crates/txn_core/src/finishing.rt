@@ -1,57 +1,55 @@
 //! The end of a transaction: servers prepare, its home decides, and the end is told.
 
-ghost use Rattle.std.specs.Prelude.{◌≡◌, ℕ, List, IfOk, IfErr, OnErr, IsTrue, None, [], ◌∷◌, drop};
+ghost use Rattle.std.specs.Prelude.{◌≡◌, ◌<◌, ◌≤◌, IfOk, IfErr, OnErr, IsTrue};
+ghost use Rattle.file_exec.specs.Reaching.{unbegun};
 ghost use Rattle.rep_core.specs.Service.{is_answered};
-ghost use Rattle.rep_core.specs.declared.reply.Verdict.{Verdict as Ended};
 ghost use Rattle.weak_cache.specs.Entries.{Cache};
 ghost use Rattle.txn_core.specs.code.CourseFields.{phase_of};
-ghost use Rattle.txn_core.specs.Doing as doing;
-ghost use Rattle.txn_core.specs.code.Endings.{Puts, put_in};
+ghost use Rattle.txn_core.specs.code.Goings.{GoesBy, HasPrepared, HasTold, IsPreparedBy, PreparesOn, TellsOn, fixed_by, lacked};
 ghost use Rattle.txn_core.specs.code.Passing.{passed, passes_last};
-ghost use Rattle.txn_core.specs.code.Steps.{Steps};
 ghost use Rattle.txn_core.specs.Transactions as course;
-ghost use Rattle.txn_core.specs.declared.ending.Ending.{Ending as Ends};
 
 use crate::course::Course;
-use crate::ending::{Cause, Ending};
+use crate::ending::{Cause, Ending, Goes};
 use crate::granted::Outcome;
+use crate::means::Means;
 use crate::phase::Phase;
 use crate::servers::{Servers, locked_at};
 use rep_core::{Lack, Reply, Verdict};
 use std::alloc::AllocError;
 use std::mem;
+use vote_core::MAX_SERVERS;
 
 impl Course {
     /// These servers prepare, one after the other; then the home decides.
-    pub(crate) fn prepare(&mut self, servers: Servers, outcome: Outcome)
-        ensures { (cache : Cache) → Steps (course.prepare self.old.task cache self.old.suites outcome servers) None self.new cache }
+    pub(crate) fn prepare(&mut self, servers: Servers, outcome: Outcome) -> Goes
+        ensures { (cache : Cache) → GoesBy (course.prepare self.old.task cache self.old.suites outcome servers) result self.new cache }
     {
         self.phase = match servers.first() {
             Some(_) => Phase::Preparing(servers, outcome),
             None => Phase::Deciding(outcome),
         };
+        Goes::On
     }
 
     /// The first server has prepared, or it has not.
-    pub(crate) fn prepared(&mut self, server: u8, said: &Reply, ended: &mut Option<Ending>) -> bool
-        ensures steps { (now : ℕ) (left : List ℕ) (outcome : doing.Outcome) (cache : Cache) → self.old.phase ≡ doing.Preparing (now ∷ left) outcome → Steps (course.prepared self.old.task cache self.old.suites outcome server left said.now) (put_in result ended.new) self.new cache }
-        ensures place { Puts result ended.old ended.new }
+    pub(crate) fn on_prepared(&mut self, server: u8, said: &Reply) -> Goes
+        ensures { IsPreparedBy self.old server said.now result self.new }
     {
         if !matches!(said, Reply::Prepared) {
-            return self.give_up(Cause::Lost { server }, ended);
+            return self.give_up(Cause::Lost { server });
         }
-        self.one_prepared();
-        false
+        self.prepare_on()
     }
 
-    /// One server more has prepared.
-    fn one_prepared(&mut self)
-        ensures { (now : ℕ) (left : List ℕ) (outcome : doing.Outcome) (cache : Cache) → self.old.phase ≡ doing.Preparing (now ∷ left) outcome → Steps (course.prepare self.old.task cache self.old.suites outcome left) None self.new cache }
+    /// The next server prepares; or all have, and the home decides.
+    fn prepare_on(&mut self) -> Goes
+        ensures { PreparesOn self.old result self.new }
     {
-        if !self.pass() {
-            return;
+        if self.pass() {
+            return self.decide();
         }
-        self.decide();
+        Goes::On
     }
 
     /// The first of the servers that are asked one after the other was asked. Tells whether it was the
@@ -68,103 +66,97 @@ impl Course {
     }
 
     /// All servers have prepared: the home decides.
-    fn decide(&mut self)
-        ensures { (outcome : doing.Outcome) (cache : Cache) → self.old.phase ≡ doing.Preparing [] outcome → Steps (course.prepare self.old.task cache self.old.suites outcome []) None self.new cache }
+    fn decide(&mut self) -> Goes
+        ensures { HasPrepared self.old result self.new }
     {
         self.phase = match self.leave() {
             Phase::Preparing(_, outcome) => Phase::Deciding(outcome),
             other => other,
         };
+        Goes::On
     }
 
     /// What the home said. Only to tell answers again it may want memory.
-    pub(crate) fn decided(
-        &mut self,
-        said: &Reply,
-        ended: &mut Option<Ending>,
-    ) -> Result<bool, AllocError>
-        ensures ok { IfOk result (λ ends. (cache : Cache) → Steps (course.decided self.old.task cache self.old.suites said.now) (put_in ends ended.new) self.new cache) }
-        ensures place { IfOk result (λ ends. Puts ends ended.old ended.new) }
-        ensures err { OnErr result ((self.new ≡ self.old) × (ended.new ≡ ended.old)) }
+    pub(crate) fn on_verdict(&mut self, said: &Reply) -> Result<Goes, AllocError>
+        ensures ok { IfOk result (λ goes. (cache : Cache) → GoesBy (course.decided self.old.task cache self.old.suites said.now) goes self.new cache) }
+        ensures err { OnErr result (self.new ≡ self.old) }
         ensures memory { IfErr result (λ _. IsTrue (is_answered (course.verdict_in said.now Verdict.Aborted))) }
     {
         let verdict = verdict_in(said)?;
         let ending = ending_by(&verdict, cause_of_abort(said))?;
-        Ok(self.finish(verdict, ending, ended))
+        Ok(self.finish(verdict, ending))
     }
 
     /// The end is told to each server that holds a lock.
-    fn finish(&mut self, verdict: Verdict, ending: Ending, ended: &mut Option<Ending>) -> bool
-        ensures steps { (cache : Cache) → Steps (course.finish self.old.task cache self.old.suites verdict ending) (put_in result ended.new) self.new cache }
-        ensures place { Puts result ended.old ended.new }
+    fn finish(&mut self, verdict: Verdict, ending: Ending) -> Goes
+        ensures { (cache : Cache) → GoesBy (course.finish self.old.task cache self.old.suites verdict ending) result self.new cache }
     {
         let servers = locked_at(self.suites.as_slice());
-        self.tell_end(servers, verdict, ending, ended)
+        self.tell_end(servers, verdict, ending)
     }
 
     /// A cause was met: nothing is decided any more.
-    pub(crate) fn give_up(&mut self, cause: Cause, ended: &mut Option<Ending>) -> bool
-        ensures steps { (cache : Cache) → Steps (course.give_up self.old.task cache self.old.suites cause) (put_in result ended.new) self.new cache }
-        ensures place { Puts result ended.old ended.new }
+    pub(crate) fn give_up(&mut self, cause: Cause) -> Goes
+        ensures { (cache : Cache) → GoesBy (course.give_up self.old.task cache self.old.suites cause) result self.new cache }
     {
-        self.finish(Verdict::Aborted, Ending::Undecided(cause), ended)
+        self.finish(Verdict::Aborted, Ending::Undecided(cause))
     }
 
     /// The end is told to these servers, one after the other.
-    fn tell_end(
-        &mut self,
-        servers: Servers,
-        verdict: Verdict,
-        ending: Ending,
-        ended: &mut Option<Ending>,
-    ) -> bool
-        ensures steps { (cache : Cache) → Steps (course.tell_end self.old.task cache self.old.suites verdict ending servers) (put_in result ended.new) self.new cache }
-        ensures place { Puts result ended.old ended.new }
+    fn tell_end(&mut self, servers: Servers, verdict: Verdict, ending: Ending) -> Goes
+        ensures { (cache : Cache) → GoesBy (course.tell_end self.old.task cache self.old.suites verdict ending servers) result self.new cache }
     {
         if servers.first().is_none() {
-            *ended = Some(ending);
-            return true;
+            return Goes::Ended(ending);
         }
         self.phase = Phase::Finishing(servers, verdict, ending);
-        false
+        Goes::On
     }
 
     /// The end was told to the first server. Whatever comes of it changes nothing.
-    pub(crate) fn told(&mut self, ended: &mut Option<Ending>) -> bool
-        ensures steps { (servers : List ℕ) (verdict : Ended) (ending : Ends) (cache : Cache) → self.old.phase ≡ doing.Finishing servers verdict ending → Steps (course.tell_end self.old.task cache self.old.suites verdict ending (drop 1 servers)) (put_in result ended.new) self.new cache }
-        ensures place { Puts result ended.old ended.new }
+    pub(crate) fn on_told(&mut self) -> Goes
+        ensures { TellsOn self.old result self.new }
     {
-        if !self.pass() {
-            return false;
+        if self.pass() {
+            return self.end();
         }
-        self.end(ended)
+        Goes::On
     }
 
     /// The end was told to all: the transaction is at its end.
-    fn end(&mut self, ended: &mut Option<Ending>) -> bool
-        ensures steps { (verdict : Ended) (ending : Ends) (cache : Cache) → self.old.phase ≡ doing.Finishing [] verdict ending → Steps (course.tell_end self.old.task cache self.old.suites verdict ending []) (put_in result ended.new) self.new cache }
-        ensures place { Puts result ended.old ended.new }
+    fn end(&mut self) -> Goes
+        ensures { HasTold self.old result self.new }
     {
         match self.leave() {
-            Phase::Finishing(_, _, ending) => {
-                *ended = Some(ending);
-                true
-            }
+            Phase::Finishing(_, _, ending) => Goes::Ended(ending),
             other => {
                 self.phase = other;
-                false
+                Goes::On
             }
+        }
+    }
+
+    /// What was asked next was not served: the transaction is not executed any more.
+    pub(crate) fn on_lack(&mut self, means: &mut Means, lack: Lack) -> Goes
+        requires { (0 < means.old.ground.servers) × (means.old.ground.servers ≤ MAX_SERVERS) }
+        ensures steps { let cache = means.old.cache.entries in GoesBy (lacked (fixed_by means.old) self.old cache lack) result self.new cache }
+        ensures means { means.new ≡ record means.old { progress = unbegun } }
+    {
+        let asked = self.asked(&means.ground);
+        means.begin_anew();
+        match asked {
+            Some(server) => self.on_lack_at(server, lack),
+            None => Goes::On,
         }
     }
 
     /// A server did not serve what it was asked.
-    pub(crate) fn lacked(&mut self, server: u8, lack: Lack, ended: &mut Option<Ending>) -> bool
-        ensures steps { (cache : Cache) → Steps (course.after_lack self.old.task cache self.old.suites self.old.phase server lack) (put_in result ended.new) self.new cache }
-        ensures place { Puts result ended.old ended.new }
+    fn on_lack_at(&mut self, server: u8, lack: Lack) -> Goes
+        ensures { (cache : Cache) → GoesBy (course.after_lack self.old.task cache self.old.suites self.old.phase server lack) result self.new cache }
     {
         match &self.phase {
-            Phase::Finishing(..) => self.told(ended),
-            _ => self.give_up(Cause::of_lack(server, lack), ended),
+            Phase::Finishing(..) => self.on_told(),
+            _ => self.give_up(Cause::of_lack(server, lack)),
         }
     }
 

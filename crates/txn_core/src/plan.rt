@@ -1,26 +1,24 @@
 //! What an execution sets, found before anything is set.
 
-ghost use Rattle.std.specs.Prelude.{◌≡◌, ◌<◌, ◌≤◌, IfOk, OnOk, IsSome, unwrap_or, option_map};
+ghost use Rattle.std.specs.Prelude.{◌≡◌, IfOk, OnOk, option_map};
 ghost use Rattle.std.specs.Option.{option_copied};
 ghost use Rattle.std.specs.Ordering.{nat_cmp};
 ghost use Rattle.sorted_map.specs.SortedMap.{IsOrdered};
-ghost use Rattle.suite_collect.specs.Collecting.{raise};
-ghost use Rattle.suite_prefix.specs.Absent.{absent_prefix};
-ghost use Rattle.weak_cache.specs.Cache.{hint};
+ghost use Rattle.txn_core.specs.code.Planning.{IsPlanFor, IsPlayedFor, IsReachedWith, all_seen, fixed_at};
 ghost use Rattle.txn_core.specs.code.Plans as spec;
-ghost use Rattle.txn_core.specs.code.Sequels as sequel;
 ghost use Rattle.txn_core.specs.Suites.{suite_of};
-ghost use Rattle.txn_core.specs.Transactions.{free_content};
+ghost use Rattle.txn_core.specs.Transactions.{free_content, start_from};
 ghost use Rattle.txn_core.specs.code.Reaching.{IsReachedIn};
+ghost use Rattle.txn_core.specs.code.Seeing.{seen_in};
 ghost use Rattle.txn_core.specs.code.Unused.{HasUnused};
 
 use crate::execution::Execution;
 use crate::first::First;
 use crate::knowing::known_of;
+use crate::seen::Seen;
 use crate::shelf::Shelf;
 use crate::suites::Suite;
 use file_exec::{Need, Outcome, Progress, exec_on};
-use sorted_map::RoomyMap;
 use std::alloc::AllocError;
 use suite_content::Content;
 use suite_prefix::Prefix;
@@ -40,18 +38,18 @@ impl<'a> Execution<'a> {
     /// The plan of an execution, which goes on from where the transaction came. Nothing else is changed.
     pub(crate) fn plan(
         self,
-        suites: &RoomyMap<u64, Suite>,
+        seen: Seen<'_>,
         shelf: Shelf<'_>,
         progress: &mut Progress,
     ) -> Result<Plan, AllocError>
         requires unused { HasUnused (spec.entries_on shelf) }
-        requires reached { IsReachedIn self.service.now self.task.now suites.now.pairs progress.old }
-        ensures ordered { OnOk result (IsOrdered nat_cmp suites.now.pairs) }
-        ensures plan { IfOk result (λ plan. spec.IsPlanOf (spec.fixed_in self.entry shelf.entry.cache.now) self.entry.task.now (spec.seen_on shelf.entry suites.now.pairs) plan) }
-        ensures reached { IfOk result (λ plan. IsReachedIn self.entry.service.now self.entry.task.now (spec.opened_all self.entry.task.now plan.opened.items (spec.seen_on shelf.entry suites.now.pairs)).suites progress.new) }
+        requires reached { IsReachedIn self.ground.now self.task.now seen.suites.now.pairs progress.old }
+        ensures ordered { OnOk result (IsOrdered nat_cmp seen.entry.suites.now.pairs) }
+        ensures plan { IfOk result (λ plan. IsPlanFor self.entry shelf.entry seen.entry plan) }
+        ensures reached { IfOk result (λ plan. IsReachedWith self.entry shelf.entry seen.entry plan.opened.items progress.new) }
     {
-        let (opened, outcome) = self.play(suites, shelf, progress)?;
-        let new = self.new_for(suites, shelf, &outcome)?;
+        let (opened, outcome) = self.play(seen, shelf, progress)?;
+        let new = self.new_for(seen, shelf, &outcome)?;
         Ok(Plan {
             opened,
             outcome,
@@ -62,18 +60,21 @@ impl<'a> Execution<'a> {
     /// Executes the transaction, opens what it needs and is to be had without asking, and goes on.
     fn play(
         self,
-        suites: &RoomyMap<u64, Suite>,
+        seen: Seen<'_>,
         shelf: Shelf<'_>,
         progress: &mut Progress,
     ) -> Result<(Vec<(u64, Content)>, Outcome), AllocError>
-        requires { IsReachedIn self.service.now self.task.now suites.now.pairs progress.old }
-        ensures reached { IfOk result (λ played. IsReachedIn self.entry.service.now self.entry.task.now (spec.opened_all self.entry.task.now played.0.items (spec.seen_on shelf.entry suites.now.pairs)).suites progress.new) }
-        ensures ordered { OnOk result (IsOrdered nat_cmp suites.now.pairs) }
-        ensures played { IfOk result (λ played. spec.IsPlayed (spec.fixed_in self.entry shelf.entry.cache.now) self.entry.task.now (spec.seen_on shelf.entry suites.now.pairs) played.0.items played.1) }
+        requires { IsReachedIn self.ground.now self.task.now seen.suites.now.pairs progress.old }
+        ensures reached { IfOk result (λ played. IsReachedWith self.entry shelf.entry seen.entry played.0.items progress.new) }
+        ensures ordered { OnOk result (IsOrdered nat_cmp seen.entry.suites.now.pairs) }
+        ensures played { IfOk result (λ played. IsPlayedFor self.entry shelf.entry seen.entry played.0.items played.1) }
     {
         let task = self.task;
         task.facts();
-        let mut known = known_of(self.alloc, self.service, suites)?;
+        let mut known = known_of(self.alloc, self.ground, seen)?;
+        if !seen.news.adds_to(seen.suites) {
+            *progress = Progress::new(self.alloc);
+        }
         let mut opened = Vec::new(self.alloc);
         loop {
             let outcome = exec_on(
@@ -84,10 +85,10 @@ impl<'a> Execution<'a> {
                 task.ops.as_slice(),
                 progress,
             )?;
-            if opened.len() == suites.len() {
+            if opened.len() == seen.len() {
                 return Ok((opened, outcome));
             }
-            let Some((number, content)) = self.to_open(suites, shelf, &outcome) else {
+            let Some((number, content)) = self.to_open(seen, shelf, &outcome) else {
                 return Ok((opened, outcome));
             };
             // With a content that it takes more is known of a suite; with any other something else.
@@ -102,30 +103,24 @@ impl<'a> Execution<'a> {
     /// The content that is needed, where it is to be had without asking.
     fn to_open(
         self,
-        suites: &RoomyMap<u64, Suite>,
+        seen: Seen<'_>,
         shelf: Shelf<'a>,
         outcome: &Outcome,
     ) -> Option<(u64, &'a Content)>
-        ensures { option_map (λ one. (one.0, one.1.now)) result ≡ spec.to_open self.entry.task.now (spec.seen_on shelf.entry suites.now.pairs) outcome.now }
+        ensures { option_map (λ one. (one.0, one.1.now)) result ≡ spec.to_open self.entry.task.now (all_seen shelf.entry seen.entry) outcome.now }
     {
         let Outcome::Need(Need::Know(number)) = outcome else {
             return None;
         };
-        let content = self.free_of(suites, shelf, *number)?;
+        let content = self.free_of(seen, shelf, *number)?;
         Some((*number, content))
     }
 
     /// The content of a suite, where it is to be had without asking.
-    fn free_of(
-        self,
-        suites: &RoomyMap<u64, Suite>,
-        shelf: Shelf<'a>,
-        number: u64,
-    ) -> Option<&'a Content>
-        ensures { option_copied result ≡ spec.free_of self.entry.task.now (spec.entries_on shelf.entry) number (suite_of suites.now.pairs number) }
+    fn free_of(self, seen: Seen<'_>, shelf: Shelf<'a>, number: u64) -> Option<&'a Content>
+        ensures { option_copied result ≡ spec.free_of self.entry.task.now (spec.entries_on shelf.entry) number (suite_of (seen_in seen.entry) number) }
     {
-        let suite = suites.get(&number)?;
-        let first = suite.first()?;
+        let first = seen.first(number)?;
         self.free_content(shelf, number, first)
     }
 
@@ -134,7 +129,7 @@ impl<'a> Execution<'a> {
         ensures { option_copied result ≡ free_content self.entry.task.now (spec.entries_on shelf.entry) number first.now }
     {
         if first.dver == 0 {
-            let empty = self.service.empty();
+            let empty = self.ground.empty();
             return Some(empty.content(first.prefix.kind.held()));
         }
         let task = self.task;
@@ -144,17 +139,17 @@ impl<'a> Execution<'a> {
     /// The suite that is needed, where it was not asked for yet.
     fn new_for(
         self,
-        suites: &RoomyMap<u64, Suite>,
+        seen: Seen<'_>,
         shelf: Shelf<'_>,
         outcome: &Outcome,
     ) -> Result<Option<Suite>, AllocError>
         requires { HasUnused (spec.entries_on shelf) }
-        ensures { IfOk result (λ new. new ≡ spec.new_for (spec.fixed_in self.entry shelf.entry.cache.now) self.entry.task.now (spec.seen_on shelf.entry suites.now.pairs) outcome.now) }
+        ensures { IfOk result (λ new. new ≡ spec.new_for (fixed_at self.entry shelf.entry) self.entry.task.now (all_seen shelf.entry seen.entry) outcome.now) }
     {
         let Outcome::Need(Need::Hold(number, mode)) = outcome else {
             return Ok(None);
         };
-        if suites.contains_key(number) {
+        if seen.contains(*number) {
             return Ok(None);
         }
         let task = self.task;
@@ -165,12 +160,12 @@ impl<'a> Execution<'a> {
 
     /// From which prefix a suite is gathered: the site's hint, or that of what was never made.
     fn start_of(self, shelf: Shelf<'_>, number: u64) -> Result<Prefix, AllocError>
-        ensures { IfOk result (λ start. start ≡ unwrap_or (hint (spec.entries_on shelf.entry) self.entry.task.now.site number) (absent_prefix self.entry.service.now.c0)) }
+        ensures { IfOk result (λ start. start ≡ start_from (fixed_at self.entry shelf.entry) self.entry.task.now (spec.entries_on shelf.entry) number) }
     {
         let task = self.task;
         match shelf.hint(task.site, number) {
             Some(prefix) => prefix.clone(),
-            None => self.service.absent().clone(),
+            None => self.ground.absent().clone(),
         }
     }
 }

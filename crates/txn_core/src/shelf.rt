@@ -1,11 +1,14 @@
 //! What a cache has, once a content that was fetched is put there.
 
-ghost use Rattle.std.specs.Prelude.{◌≡◌, ◌<◌, IfSome, OnOk, OnErr};
+ghost use Rattle.std.specs.Prelude.{◌≡◌, ◌<◌, IfOk, OnOk, OnErr, Some};
 ghost use Rattle.std.specs.Option.{option_copied};
 ghost use Rattle.weak_cache.specs.Cache.{content_at, hint};
 ghost use Rattle.weak_cache.specs.Entries.{max_sites};
-ghost use Rattle.txn_core.specs.code.Plans.{entries_on, shelved};
+ghost use Rattle.txn_core.specs.code.Learning.{IsKeepable};
+ghost use Rattle.txn_core.specs.code.Plans.{entries_on, kept_of, shelved};
 
+use crate::first::First;
+use crate::task::Task;
 use std::alloc::AllocError;
 use suite_content::Content;
 use suite_prefix::Prefix;
@@ -22,6 +25,26 @@ pub(crate) struct Fetched {
 }
 
 impl Fetched {
+    /// A content of a suite, with what the first quorum gave, for the site of a transaction.
+    pub(crate) fn new(
+        task: &Task,
+        number: u64,
+        first: &First,
+        content: &Content,
+    ) -> Result<Fetched, AllocError>
+        ensures value { IfOk result (λ one. one ≡ kept_of task.now number content.now first.now) }
+        ensures keepable { IfOk result (λ one. IsKeepable one) }
+    {
+        task.facts();
+        Ok(Fetched {
+            site: task.site,
+            suite: number,
+            prefix: first.prefix.clone()?,
+            dver: first.dver,
+            content: content.clone()?,
+        })
+    }
+
     /// It as an entry that may be put.
     fn entry(&self) -> NewEntry<'_>
         ensures site { result.site ≡ self.now.site }
@@ -37,6 +60,15 @@ impl Fetched {
             dver: self.dver,
             content: &self.content,
         }
+    }
+
+    /// It is put into a cache. An error leaves the cache as it was.
+    pub(crate) fn put(self, cache: &mut WeakCache) -> Result<(), AllocError>
+        requires { self.site < max_sites }
+        ensures ok { OnOk result (cache.new ≡ record cache.old { entries = shelved cache.old (Some self) }) }
+        ensures err { OnErr result (cache.new ≡ cache.old) }
+    {
+        cache.put(self.site, self.suite, self.prefix, self.dver, self.content)
     }
 }
 
@@ -69,16 +101,4 @@ impl<'a> Shelf<'a> {
             None => self.cache.hint(site, suite),
         }
     }
-}
-
-/// Puts what was fetched into a cache. An error leaves the cache as it was.
-pub(crate) fn put(cache: &mut WeakCache, fetched: Option<Fetched>) -> Result<(), AllocError>
-    requires { IfSome fetched (λ one. one.site < max_sites) }
-    ensures ok { OnOk result (cache.new ≡ record cache.old { entries = shelved cache.old fetched }) }
-    ensures err { OnErr result (cache.new ≡ cache.old) }
-{
-    let Some(one) = fetched else {
-        return Ok(());
-    };
-    cache.put(one.site, one.suite, one.prefix, one.dver, one.content)
 }

@@ -1,29 +1,27 @@
 //! What a transaction gathered of a suite.
 
-ghost use Rattle.std.specs.Prelude.{◌≡◌, ◌==◌, find, None, Some, is_some, IfOk, IfErr, IsSome, IsTrue, OnOk, OnErr, true, false};
-ghost use Rattle.std.specs.Option.{option_copied};
+ghost use Rattle.std.specs.Prelude.{◌≡◌, ◌<◌, IfOk, IfErr, IsTrue, OnErr, None, Some, false, true};
+ghost use Rattle.std.specs.Option.{option_copied, option_or};
 ghost use Rattle.rep_core.specs.Fits.{is_held};
 ghost use Rattle.rep_core.specs.Store.{is_used_up};
 ghost use Rattle.suite_collect.specs.Answering.{Comes};
 ghost use Rattle.suite_collect.specs.Collecting as spec;
-ghost use Rattle.suite_collect.specs.Telling.{shown};
-ghost use Rattle.txn_core.specs.code.Coming.{told_one, settled_by};
-ghost use Rattle.txn_core.specs.code.HearingOn.{HearsOn};
+ghost use Rattle.txn_core.specs.code.Hearing.{Hears, IsFirstAfter};
 ghost use Rattle.txn_core.specs.code.Plans.{takes_in};
-ghost use Rattle.txn_core.specs.code.Settling.{Restores, SettledBy, unsettled};
+ghost use Rattle.txn_core.specs.code.Seeing.{settled_with, sight_of, sight_of_suite};
 ghost use Rattle.txn_core.specs.Suites as gathering;
-ghost use Rattle.txn_core.specs.code.Unused.{shows_unused};
+ghost use Rattle.txn_core.specs.code.Unused.{shows_unused, says_unused};
 
 use crate::first::First;
-use crate::hearing::Onward;
+use crate::seen::Sight;
+use crate::settling::Settling;
 use rep_core::Reply;
 use std::alloc::{AllocError, Global};
 use std::marker::Model;
-use std::mem;
-use suite_collect::{Before, Collect, Coming, Members, Next};
+use suite_collect::{Collect, Coming, Hearing, Told};
 use suite_content::Content;
 use suite_prefix::{LockMode, Prefix, PrefixKind};
-use vote_core::Votes;
+use vote_core::{MAX_SERVERS, Votes};
 
 /// A suite that was asked for. What was gathered of it stands on the heap, so that it is cheap to move.
 #[derive(Drop)]
@@ -41,12 +39,17 @@ struct Gathered {
     content: Option<Content>,
 }
 
-/// What a suite was before the lock that completed its quorum, as far as the lock changed it.
+/// What comes of a reply to what a suite asked.
 #[derive(Drop)]
-pub(crate) struct Unsettled {
-    collect: Before,
-    had_first: bool,
-    mode: LockMode,
+pub(crate) enum Heard {
+    /// A lock is lost, or its server is down: the transaction ends.
+    Lost,
+    /// Another server is to be asked.
+    Asks,
+    /// Nobody is left to ask.
+    Short,
+    /// With it there is a quorum, which the suite does not have yet.
+    Settles(Settling),
 }
 
 impl Model for Suite {
@@ -58,40 +61,6 @@ impl Model for Suite {
     ghost view = { suite_of };
 
     ghost invariant = { IsUnused };
-}
-
-impl Clone for Suite {
-    ghost is_clone = { λ suite copy. copy ≡ suite };
-
-    fn clone(&self) -> Result<Suite, AllocError> {
-        let gathered = self.gathered.clone()?;
-        Ok(Suite { gathered })
-    }
-}
-
-impl Clone for Gathered {
-    ghost is_clone = { λ gathered copy. copy ≡ gathered };
-
-    fn clone(&self) -> Result<Gathered, AllocError> {
-        let collect = self.collect.clone()?;
-        let first = self.first.clone()?;
-        let content = self.content.clone()?;
-        Ok(Gathered {
-            collect,
-            first,
-            mode: self.mode,
-            content,
-        })
-    }
-}
-
-impl Unsettled {
-    /// Whether a first quorum had given what is there.
-    pub(crate) fn had_first(&self) -> bool
-        ensures { result ≡ self.now.had_first }
-    {
-        self.had_first
-    }
 }
 
 impl Suite {
@@ -124,20 +93,6 @@ impl Suite {
         self.gathered.first.as_ref()
     }
 
-    /// Its content, once it is there.
-    pub(crate) fn content(&self) -> Option<&Content>
-        ensures { option_copied result ≡ self.now.content }
-    {
-        self.gathered.content.as_ref()
-    }
-
-    /// In which mode it had a quorum last.
-    pub(crate) fn mode(&self) -> LockMode
-        ensures { result ≡ self.now.mode }
-    {
-        self.gathered.mode
-    }
-
     /// Its content is there from now on.
     pub(crate) fn open(&mut self, content: Content)
         ensures { self.new ≡ record self.old { content = Some content } }
@@ -149,7 +104,7 @@ impl Suite {
     pub(crate) fn takes(&self, content: &Content) -> bool
         ensures { result ≡ takes_in (Some self.now) content.now }
     {
-        if self.content().is_some() {
+        if self.gathered.content.is_some() {
             return false;
         }
         let Some(first) = self.first() else {
@@ -160,14 +115,6 @@ impl Suite {
             PrefixKind::File => matches!(content, Content::Bytes(_)),
             PrefixKind::Folder => matches!(content, Content::Names(_)),
         }
-    }
-
-    /// It has this content from now on, or none. What it had comes back.
-    pub(crate) fn exchange(&mut self, content: Option<Content>) -> Option<Content>
-        ensures before { result ≡ self.old.content }
-        ensures after { self.new ≡ record self.old { content = content } }
-    {
-        mem::replace(&mut self.gathered.content, content)
     }
 
     /// From now on an exclusive lock is wanted.
@@ -191,107 +138,75 @@ impl Suite {
         self.gathered.collect.coming()
     }
 
-    /// Whether a reply answers what was asked next, and the suite goes on with it. After any other the
-    /// transaction ends.
-    pub(crate) fn accepts(&self, reply: &Reply) -> bool
-        ensures { result ≡ is_some (spec.told_by (spec.next self.now.collector) reply.now) }
-    {
-        self.gathered.collect.accepts(reply)
-    }
-
-    /// Takes the reply to what was asked next.
-    pub(crate) fn take(&mut self, reply: Reply)
-        requires accepted { IsSome (spec.told_by (spec.next self.old.collector) reply) }
-        requires unused { shows_unused reply ≡ true }
-        ensures { self.new ≡ told_one (spec.told_by (spec.next self.old.collector) reply) self.old }
-    {
-        self.gathered.collect.take(reply);
-    }
-
-    /// Takes a reply that gives no quorum, and tells how it goes on. It leaves a reply that does not answer
-    /// what was asked, and may leave one that holds a lock: then it stays as it was. Only a lock that is held
-    /// may want memory.
-    pub(crate) fn hear_on(&mut self, reply: &Reply) -> Result<Onward, AllocError>
+    /// Hears the reply to what was asked next. With a lock that gives a quorum nothing changes yet. Only a lock
+    /// that is held may want memory, and nothing has changed then.
+    pub(crate) fn hear(&mut self, reply: &Reply) -> Result<Heard, AllocError>
         requires { shows_unused reply.now ≡ true }
-        ensures ok { IfOk result (λ onward. HearsOn onward self.old reply.now self.new) }
+        ensures ok { IfOk result (λ heard. Hears heard self.old reply.now self.new) }
         ensures err { OnErr result (self.new ≡ self.old) }
         ensures memory { IfErr result (λ _. IsTrue (is_held reply.now)) }
     {
-        if !self.gathered.collect.take_on(reply)? {
-            return Ok(Onward::Left);
-        }
-        match self.next() {
-            Coming::Short { .. } => Ok(Onward::Short),
-            _ => Ok(Onward::Asks),
-        }
-    }
-
-    /// Where it has a quorum: it is known in the mode that is wanted, and the first quorum gave what is
-    /// there. A want of memory leaves it as it was.
-    pub(crate) fn settle(&mut self) -> Result<(), AllocError>
-        ensures ok { OnOk result (self.new ≡ settled_by (spec.next self.old.collector) self.old) }
-        ensures err { OnErr result (self.new ≡ self.old) }
-    {
-        let Next::Current {
-            prefix,
-            dver,
-            members,
-        } = self.gathered.collect.next()
-        else {
-            return Ok(());
-        };
-        if self.gathered.first.is_none() {
-            let source = source_of(&self.gathered.collect, dver, &members);
-            let prefix = prefix.clone()?;
-            let first = First {
-                prefix,
-                dver,
-                source,
-            };
-            self.gathered.first = Some(first);
-        }
-        self.gathered.mode = self.gathered.collect.mode();
-        Ok(())
-    }
-
-    /// Takes the lock that completes its quorum and is settled, and gives what undoes both. It leaves a reply
-    /// that does not, and may leave another: then it stays as it was. A want of memory leaves it as it was,
-    /// too.
-    pub(crate) fn settle_by(&mut self, reply: &Reply) -> Result<Option<Unsettled>, AllocError>
-        requires { shows_unused reply.now ≡ true }
-        ensures ok { IfOk result (λ before. SettledBy before self.old reply.now self.new) }
-        ensures err { OnErr result (self.new ≡ self.old) }
-        ensures memory { IfErr result (λ _. IsTrue (is_held reply.now)) }
-    {
-        let had_first = self.gathered.first.is_some();
-        let mode = self.gathered.mode;
-        let Some(collect) = self.gathered.collect.take_last(reply) else {
-            return Ok(None);
-        };
-        let before = Unsettled {
-            collect,
-            had_first,
-            mode,
-        };
-        match self.settle() {
-            Ok(()) => Ok(Some(before)),
-            Err(refused) => {
-                self.undo(before);
-                Err(refused)
+        match self.gathered.collect.hear(reply)? {
+            Hearing::Lost => Ok(Heard::Lost),
+            Hearing::Asks => Ok(Heard::Asks),
+            Hearing::Short => Ok(Heard::Short),
+            Hearing::Quorum(last) => {
+                let first = self.first_after(&last)?;
+                Ok(Heard::Settles(Settling { last, first }))
             }
         }
     }
 
-    /// Undoes that it was settled in its place.
-    pub(crate) fn undo(&mut self, before: Unsettled)
-        requires { Restores before self.old }
-        ensures { self.new ≡ unsettled before self.old }
+    /// What the first quorum gives, where there is one once this is told, and was none before.
+    fn first_after(&self, last: &Told) -> Result<Option<First>, AllocError>
+        requires known { last.now.server < MAX_SERVERS }
+        requires unused { says_unused last.now.said ≡ true }
+        ensures { IfOk result (λ first. IsFirstAfter self.now last.now first) }
     {
-        self.gathered.collect.undo(before.collect);
-        if !before.had_first {
-            self.gathered.first = None;
+        if self.first().is_some() {
+            return Ok(None);
         }
-        self.gathered.mode = before.mode;
+        let quorum = self.gathered.collect.quorum_after(last);
+        let prefix = quorum.prefix.clone()?;
+        Ok(Some(First {
+            prefix,
+            dver: quorum.dver,
+            source: quorum.source.unwrap_or(0),
+        }))
+    }
+
+    /// From now on it has the quorum. It takes no memory.
+    pub(crate) fn settle(&mut self, settling: Settling)
+        ensures { self.new ≡ settled_with settling self.old }
+    {
+        let gathered = &mut self.gathered;
+        gathered.collect.tell(settling.last);
+        gathered.mode = gathered.collect.mode();
+        keep_first(&mut gathered.first, settling.first);
+    }
+
+    /// What is known of it.
+    pub(crate) fn sight(&self) -> Sight<'_>
+        ensures { sight_of result ≡ sight_of_suite self.now }
+    {
+        let gathered = &self.gathered;
+        Sight {
+            first: gathered.first.as_ref(),
+            mode: gathered.mode,
+            content: gathered.content.as_ref(),
+        }
+    }
+
+    /// What is known of it once it has a quorum.
+    pub(crate) fn sight_settled<'a>(&'a self, settling: &'a Settling) -> Sight<'a>
+        ensures { sight_of result ≡ sight_of_suite (settled_with settling.now self.now) }
+    {
+        let gathered = &self.gathered;
+        Sight {
+            first: gathered.first.as_ref().or(settling.first.as_ref()),
+            mode: gathered.collect.mode(),
+            content: gathered.content.as_ref(),
+        }
     }
 
     /// Whether a server answered that it holds a lock.
@@ -320,17 +235,11 @@ impl Suite {
     }
 }
 
-/// The first of these servers that showed a version; another, where none did.
-fn source_of(collect: &Collect, dver: u64, members: &Members) -> u8
-    ensures { result ≡ gathering.source_of collect.now.collector dver members.now }
+/// What a first quorum gave stays; where there was none, another is the first.
+fn keep_first(first: &mut Option<First>, given: Option<First>)
+    ensures { first.new ≡ option_or first.old given }
 {
-    first_showing(collect, dver, members).unwrap_or(0)
-}
-
-/// The first of these servers that showed a version.
-fn first_showing(collect: &Collect, dver: u64, members: &Members) -> Option<u8>
-    ensures { result ≡ find (λ server. shown collect.now.collector.told server == dver) members.now }
-{
-    let shows = |server: &u8| collect.shown(*server) == dver;
-    members.as_slice().iter().copied().find(shows)
+    if first.is_none() {
+        *first = given;
+    }
 }

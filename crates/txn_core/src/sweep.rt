@@ -5,7 +5,8 @@ ghost use Rattle.std.specs.Prelude.{◌≡◌, ◌==◌, ◌<◌, ◌≤◌, ◌
 ghost use Rattle.std.specs.List.{list_any};
 ghost use Rattle.rep_core.specs.Wanting.{by_request};
 ghost use Rattle.txn_core.specs.Doing as doing;
-ghost use Rattle.txn_core.specs.code.Endings.{Puts, put_in};
+ghost use Rattle.txn_core.specs.code.Goings.{ending_of};
+ghost use Rattle.txn_core.specs.declared.ending.Goes.TheVariants.{Ended};
 ghost use Rattle.txn_core.specs.declared.ending.Cause.TheVariants.{Lost};
 ghost use Rattle.txn_core.specs.code.Sorting.{in_order};
 ghost use Rattle.txn_core.specs.Sweeps as sweeping;
@@ -13,7 +14,7 @@ ghost use Rattle.txn_core.specs.Transactions as course;
 ghost use Rattle.txn_core.specs.Wanting as wanting;
 ghost use Rattle.txn_core.specs.code.RoundFields.{sweeping_of, with_counts, total, left_in, first_of, Comes};
 
-use crate::ending::{Cause, Ending};
+use crate::ending::{Cause, Ending, Goes};
 use crate::ground::Ground;
 use crate::home::home_of;
 use crate::sorting::rising;
@@ -84,11 +85,11 @@ impl Round {
 
     /// Of which server is asked next, and what, which is put into its place. Only to tell answers again it
     /// may want memory.
-    pub(crate) fn ask(&self, service: &Ground, request: &mut Request) -> Result<u8, AllocError>
-        requires { (0 < service.now.servers) × (service.now.servers ≤ MAX_SERVERS) }
-        ensures ok { IfOk result (λ server. (server, request.new) ≡ sweeping.asked_now service.now self.now self.now.now) }
+    pub(crate) fn ask(&self, ground: &Ground, request: &mut Request) -> Result<u8, AllocError>
+        requires { (0 < ground.now.servers) × (ground.now.servers ≤ MAX_SERVERS) }
+        ensures ok { IfOk result (λ server. (server, request.new) ≡ sweeping.asked_now ground.now self.now self.now.now) }
         ensures err { OnErr result (request.new ≡ request.old) }
-        ensures memory { IfErr result (λ _. IsTrue (by_request (sweeping.asked_now service.now self.now self.now.now).1)) }
+        ensures memory { IfErr result (λ _. IsTrue (by_request (sweeping.asked_now ground.now self.now self.now.now).1)) }
     {
         *request = match &self.asking {
             Asking::Locks => Request::Locks,
@@ -102,125 +103,102 @@ impl Round {
                 suite: lock.suite,
             },
         };
-        Ok(self.asked(service))
+        Ok(self.asked(ground))
     }
 
     /// The server that is asked next.
-    pub(crate) fn asked(&self, service: &Ground) -> u8
-        requires { (0 < service.now.servers) × (service.now.servers ≤ MAX_SERVERS) }
-        ensures { result ≡ (sweeping.asked_now service.now self.now self.now.now).0 }
+    pub(crate) fn asked(&self, ground: &Ground) -> u8
+        requires { (0 < ground.now.servers) × (ground.now.servers ≤ MAX_SERVERS) }
+        ensures { result ≡ (sweeping.asked_now ground.now self.now self.now.now).0 }
     {
         match &self.asking {
-            Asking::Resolve(t) => home_of(service, *t),
+            Asking::Resolve(t) => home_of(ground, *t),
             _ => self.server,
         }
     }
 
     /// What was asked next was not served: the round is at its end.
-    pub(crate) fn lacked(&self, service: &Ground, lack: Lack, ended: &mut Option<Ending>) -> bool
-        requires { (0 < service.now.servers) × (service.now.servers ≤ MAX_SERVERS) }
-        ensures ends { result ≡ true }
-        ensures place { ended.new ≡ Some (Ending.Undecided (course.lack_cause (sweeping.asked_now service.now self.now self.now.now).0 lack)) }
+    pub(crate) fn on_lack(&self, ground: &Ground, lack: Lack) -> Goes
+        requires { (0 < ground.now.servers) × (ground.now.servers ≤ MAX_SERVERS) }
+        ensures { result ≡ Ended (Ending.Undecided (course.lack_cause (sweeping.asked_now ground.now self.now self.now.now).0 lack)) }
     {
-        let cause = Cause::of_lack(self.asked(service), lack);
-        *ended = Some(Ending::Undecided(cause));
-        true
+        let cause = Cause::of_lack(self.asked(ground), lack);
+        Goes::Ended(Ending::Undecided(cause))
     }
 
-    /// Takes what was said to what was asked next. Where the round is at its end, the ending is put into its
-    /// place: tells whether it is. A list of locks and answers may want memory. Where it is refused, the
-    /// round is as it was.
-    pub(crate) fn answer(
+    /// The server that was asked next replied. A list of locks and answers may want memory. Where it is refused,
+    /// the round is as it was.
+    pub(crate) fn on_reply(
         &mut self,
         alloc: Global,
-        service: &Ground,
+        ground: &Ground,
         said: &Reply,
-        ended: &mut Option<Ending>,
-    ) -> Result<bool, AllocError>
-        requires { (0 < service.now.servers) × (service.now.servers ≤ MAX_SERVERS) }
-        ensures ok { IfOk result (λ ends. Comes (sweeping.after_answer service.now self.old self.old.now said.now) (put_in ends ended.new) self.new) }
-        ensures place { IfOk result (λ ends. Puts ends ended.old ended.new) }
-        ensures err { OnErr result ((self.new ≡ self.old) × (ended.new ≡ ended.old)) }
-        ensures memory { IfErr result (λ _. IsTrue (wanting.by_reply (sweeping.asked_now service.now self.old self.old.now).1 said.now)) }
+    ) -> Result<Goes, AllocError>
+        requires { (0 < ground.now.servers) × (ground.now.servers ≤ MAX_SERVERS) }
+        ensures ok { IfOk result (λ goes. Comes (sweeping.after_answer ground.now self.old self.old.now said.now) (ending_of goes) self.new) }
+        ensures err { OnErr result (self.new ≡ self.old) }
+        ensures memory { IfErr result (λ _. IsTrue (wanting.by_reply (sweeping.asked_now ground.now self.old self.old.now).1 said.now)) }
     {
         match (&self.asking, said) {
-            (Asking::Locks, Reply::Locked(locks)) => self.list(alloc, locks.as_slice(), ended),
+            (Asking::Locks, Reply::Locked(locks)) => self.on_locks(alloc, locks.as_slice()),
             (Asking::Resolve(t), Reply::Verdict(verdict)) => {
                 let (t, verdict) = (*t, verdict.clone()?);
                 self.asking = Asking::Finish(t, verdict);
-                Ok(false)
+                Ok(Goes::On)
             }
-            (Asking::Resolve(t), _) if home_of(service, *t) != self.server => {
-                let counts = Counts {
-                    left: self.counts.left + 1,
-                    ..self.counts
-                };
-                Ok(self.go_on(counts, ended))
+            (Asking::Resolve(t), _) if home_of(ground, *t) != self.server => {
+                let mut counts = self.counts;
+                counts.left += 1;
+                Ok(self.go_on(counts))
             }
             (Asking::Finish(..), Reply::Done) => {
-                let counts = Counts {
-                    finished: self.counts.finished + 1,
-                    ..self.counts
-                };
-                Ok(self.go_on(counts, ended))
+                let mut counts = self.counts;
+                counts.finished += 1;
+                Ok(self.go_on(counts))
             }
             (Asking::Break(_), Reply::Done) => {
-                let counts = Counts {
-                    broken: self.counts.broken + 1,
-                    ..self.counts
-                };
-                Ok(self.go_on(counts, ended))
+                let mut counts = self.counts;
+                counts.broken += 1;
+                Ok(self.go_on(counts))
             }
-            _ => Ok(self.lost(ended)),
+            _ => Ok(self.lost()),
         }
     }
 
     /// The server that is swept is down.
-    fn lost(&self, ended: &mut Option<Ending>) -> bool
-        ensures ends { result ≡ true }
-        ensures place { ended.new ≡ Some (Ending.Undecided (Lost self.now.server)) }
+    fn lost(&self) -> Goes
+        ensures { result ≡ Ended (Ending.Undecided (Lost self.now.server)) }
     {
-        *ended = Some(Ending::Undecided(Cause::Lost {
-            server: self.server,
-        }));
-        true
+        let server = self.server;
+        Goes::Ended(Ending::Undecided(Cause::Lost { server }))
     }
 
     /// The locks were told.
-    fn list(
-        &mut self,
-        alloc: Global,
-        told: &[Lock],
-        ended: &mut Option<Ending>,
-    ) -> Result<bool, AllocError>
+    fn on_locks(&mut self, alloc: Global, told: &[Lock]) -> Result<Goes, AllocError>
         requires { self.old.now ≡ doing.Listing }
-        ensures ok { IfOk result (λ ends. Comes (sweeping.sweep_on self.old (sweeping.rising told.now)) (put_in ends ended.new) self.new) }
-        ensures place { IfOk result (λ ends. Puts ends ended.old ended.new) }
-        ensures err { OnErr result ((self.new ≡ self.old) × (ended.new ≡ ended.old)) }
+        ensures ok { IfOk result (λ goes. Comes (sweeping.sweep_on self.old (sweeping.rising told.now)) (ending_of goes) self.new) }
+        ensures err { OnErr result (self.new ≡ self.old) }
     {
         let mut locks = rising(alloc, told)?;
         let Some(asking) = first_of(&mut locks) else {
-            *ended = Some(self.counts.swept());
-            return Ok(true);
+            return Ok(Goes::Ended(self.counts.swept()));
         };
         self.asking = asking;
         self.locks = locks;
-        Ok(false)
+        Ok(Goes::On)
     }
 
     /// Goes on to the locks that are left.
-    fn go_on(&mut self, counts: Counts, ended: &mut Option<Ending>) -> bool
+    fn go_on(&mut self, counts: Counts) -> Goes
         requires { total counts + length (left_in self.old.now) < 2 ^ 64 }
-        ensures comes { Comes (sweeping.sweep_on (with_counts counts self.old) (left_in self.old.now)) (put_in result ended.new) self.new }
-        ensures place { Puts result ended.old ended.new }
+        ensures { Comes (sweeping.sweep_on (with_counts counts self.old) (left_in self.old.now)) (ending_of result) self.new }
     {
         let Some(asking) = first_of(&mut self.locks) else {
-            *ended = Some(counts.swept());
-            return true;
+            return Goes::Ended(counts.swept());
         };
         self.asking = asking;
         self.counts = counts;
-        false
+        Goes::On
     }
 }
 

@@ -1,17 +1,13 @@
 //! The suites that get votes are widened to them.
 
-ghost use Rattle.std.specs.Prelude.{◌≡◌, ℕ, drop};
-ghost use Rattle.std.specs.Option.{option_map};
-ghost use Rattle.file_exec.specs.declared.changes.Change.{Change as Changed};
+ghost use Rattle.std.specs.Prelude.{drop};
 ghost use Rattle.weak_cache.specs.Entries.{Cache};
-ghost use Rattle.txn_core.specs.Doing as doing;
-ghost use Rattle.txn_core.specs.code.Endings.{Puts, put_in};
-ghost use Rattle.txn_core.specs.code.Steps.{Steps, Widens};
-ghost use Rattle.txn_core.specs.Suites.{suite_of, with_suite};
+ghost use Rattle.txn_core.specs.code.Goings.{GoesBy, WidensOn, widens};
+ghost use Rattle.txn_core.specs.code.Steps.{Widens};
 ghost use Rattle.txn_core.specs.Transactions as course;
 
 use crate::course::Course;
-use crate::ending::{Cause, Ending};
+use crate::ending::{Cause, Goes};
 use crate::granted::Granted;
 use crate::phase::Phase;
 use crate::servers::locked_at;
@@ -21,14 +17,8 @@ use vote_core::Votes;
 impl Course {
     /// The suites that get votes are widened to them, those of the changes from a place on; then the
     /// servers prepare.
-    pub(crate) fn widen_all(
-        &mut self,
-        from: usize,
-        granted: Granted,
-        ended: &mut Option<Ending>,
-    ) -> bool
-        ensures steps { (cache : Cache) → Steps (course.widen_all self.old.task cache self.old.suites granted (course.to_widen (drop from granted.changes))) (put_in result ended.new) self.new cache }
-        ensures place { Puts result ended.old ended.new }
+    pub(crate) fn widen_all(&mut self, from: usize, granted: Granted) -> Goes
+        ensures { (cache : Cache) → GoesBy (widens self.old cache granted (course.to_widen (drop from granted.changes))) result self.new cache }
     {
         let mut after = from;
         while let Some((number, change)) = granted.changes.as_slice().get(after) {
@@ -45,16 +35,28 @@ impl Course {
                         after,
                         granted,
                     };
-                    return false;
+                    return Goes::On;
                 }
                 Coming::Short { got, needed, busy } => {
-                    return self.give_up(Cause::of_short(number, got, needed, busy), ended);
+                    return self.give_up(Cause::of_short(number, got, needed, busy));
                 }
             }
         }
         let servers = locked_at(self.suites.as_slice());
-        self.prepare(servers, Ok(granted));
-        false
+        self.prepare(servers, Ok(granted))
+    }
+
+    /// The suites that are left are widened, once one has its quorum.
+    pub(crate) fn widen_on(&mut self) -> Goes
+        ensures { WidensOn self.old result self.new }
+    {
+        match self.leave() {
+            Phase::Widening { after, granted, .. } => self.widen_all(after, granted),
+            other => {
+                self.phase = other;
+                Goes::On
+            }
+        }
     }
 
     /// A suite is widened to these votes. Where there is no such suite, nothing has to be asked.

@@ -4,6 +4,7 @@ ghost use Rattle.std.specs.Prelude.{◌≡◌, ◌+◌, ◌++◌, ◌∷◌, fal
 ghost use Rattle.std.specs.Option.{option_copied};
 ghost use Rattle.rep_core.specs.Store.{is_used_up};
 ghost use Rattle.txn_core.specs.Writing as spec;
+ghost use Rattle.txn_core.specs.code.Leaving.{take_of};
 
 use crate::first::First;
 use crate::suites::Suite;
@@ -71,8 +72,8 @@ fn taken<'a>(
     changes: Option<&'a Changes>,
     server: u8,
 ) -> Option<(&'a First, &'a Change)>
-    ensures some { IfSome result (λ one. spec.take_from suite.now server suite.now.first (spec.change_of (unwrap_or (option_copied changes.entry) []) number) ≡ spec.take_of_changed one.0.now one.1.now server) }
-    ensures none { IfNone result (spec.take_from suite.now server suite.now.first (spec.change_of (unwrap_or (option_copied changes.entry) []) number) ≡ Take.Keep) }
+    ensures some { IfSome result (λ one. take_of suite.now server (option_copied changes.entry) number ≡ spec.take_of_changed one.0.now one.1.now server) }
+    ensures none { IfNone result (take_of suite.now server (option_copied changes.entry) number ≡ Take.Keep) }
 {
     if !suite.holds_exclusively(server) {
         return None;

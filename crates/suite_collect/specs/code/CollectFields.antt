@@ -5,7 +5,7 @@ use Rattle.suite_collect.specs.declared.widening.Widening.{Widening}
 use Rattle.suite_collect.specs.Telling.{newest}
 use Rattle.suite_collect.specs.Collecting as spec
 use Rattle.suite_collect.specs.Collecting.{Collecting, Collector, counted, wanted, all_told}
-use Rattle.suite_collect.specs.code.Dues.{Due, due_in, due_by, IsPlacedBy}
+use Rattle.suite_collect.specs.code.Dues.{Due, due_in, due_by, IsKnown}
 
 abbrev pub widening_of : Widening → spec.Widening
 widening_of widening = record { votes = widening.votes; told = widening.since.items }
@@ -30,4 +30,4 @@ pub record IsSummed (fields : Inside) : Type 0 where
   pub newest : unwrap_or fields.newer fields.start ≡ newest fields.start fields.told
   pub all : IfSome fields.widening (λ widening. widening.all ≡ widening.since.items ++ fields.told)
   pub due : due_in fields.due ≡ due_of (collecting_of fields).collector
-  pub placed : let c = (collecting_of fields).collector in IsPlacedBy (counted c) (wanted c) (all_told c) fields.due
+  pub known : IsKnown fields.due

@@ -18,8 +18,8 @@ doing_of (coded.Rounding round) = Rounding round
 
 abbrev pub standing_of : Inside → Standing
 standing_of fields = record {
-  fixed = record { service = fields.service; limits = fields.cache.limits };
-  state = record { index = fields.index; count = fields.count; cache = fields.cache.entries; doing = option_map doing_of fields.doing };
+  fixed = record { service = fields.means.ground; limits = fields.means.cache.limits };
+  state = record { index = fields.index; count = fields.count; cache = fields.means.cache.entries; doing = option_map doing_of fields.doing };
 }
 
 -- the transaction that is carried out, if one is, came so far
@@ -31,6 +31,6 @@ Reaches None service reached = Unit {0}
 pub record IsStanding (fields : Inside) : Type 0 where
   pub index : fields.index < 64
   pub jobs : fields.count ≤ max_jobs
-  pub servers : (0 < fields.service.servers) × (fields.service.servers ≤ MAX_SERVERS)
-  pub unused : HasUnused fields.cache.entries
-  pub reached : Reaches fields.doing fields.service fields.progress
+  pub servers : (0 < fields.means.ground.servers) × (fields.means.ground.servers ≤ MAX_SERVERS)
+  pub unused : HasUnused fields.means.cache.entries
+  pub reached : Reaches fields.doing fields.means.ground fields.means.progress

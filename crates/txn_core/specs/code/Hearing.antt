@@ -1,33 +1,80 @@
 -- What comes of a reply to what a suite asks.
-use Rattle.std.specs.Prelude.{ℕ, Option, Some, None}
+use Rattle.std.specs.Prelude.{◌≡◌, ℕ, List, true, Option, Some, None}
+use Rattle.std.specs.Option.{option_or}
+use Rattle.suite_prefix.specs.declared.copies.Prefix.{Prefix}
+use Rattle.rep_core.specs.Fits.{is_held}
 use Rattle.rep_core.specs.declared.reply.Reply.{Reply}
 use Rattle.suite_collect.specs.declared.told.Told.{Told}
-use Rattle.suite_collect.specs.Collecting.{Next, Current, Ask, Short, next, tell, told_by}
+use Rattle.suite_collect.specs.Collecting as collecting
+use Rattle.suite_collect.specs.Collecting.{Next, next, tell, told_by}
 use Rattle.weak_cache.specs.Entries.{Cache}
-use Rattle.txn_core.specs.Suites.{Suite, Suites, with_suite, settled}
-use Rattle.txn_core.specs.declared.hearing.Hearing.{Hearing}
-use Rattle.txn_core.specs.declared.hearing.Hearing.TheVariants as hearing
-use Rattle.txn_core.specs.declared.ending.Cause.TheVariants.{Lost}
-use Rattle.txn_core.specs.Doing.{Task, Phase}
+use Rattle.txn_core.specs.Suites.{First, Suite, Suites, with_suite, settled}
+use Rattle.txn_core.specs.declared.suites.Heard.{Heard}
+use Rattle.txn_core.specs.declared.suites.Heard.TheVariants as coded
+use Rattle.txn_core.specs.declared.ending.Cause.TheVariants as cause
+use Rattle.txn_core.specs.Doing.{Task, Phase, Course}
+use Rattle.txn_core.specs.code.Seeing.{settled_with}
 use Rattle.txn_core.specs.Transactions.{Step, on_with, give_up, short_cause}
 
+-- the transaction ends; the suite asks on; nobody is left to ask; or it has a quorum, and knows what that gave
+pub data Hearing : Type 0 where
+  Lost : Hearing
+  Asks : Suite → Hearing
+  Short : Suite → ℕ → ℕ → Option (ℕ × ℕ) → Hearing
+  Settled : Suite → Hearing
+
 abbrev pub heard_next : Suite → Next → Hearing
-heard_next suite (Current prefix dver members) = hearing.Settled (settled prefix dver members suite)
-heard_next suite (Ask server asked) = hearing.Asks suite
-heard_next suite (Short got needed busy) = hearing.Short suite got needed busy
+heard_next suite (collecting.Current prefix dver members) = Settled (settled prefix dver members suite)
+heard_next suite (collecting.Ask server asked) = Asks suite
+heard_next suite (collecting.Short got needed busy) = Short suite got needed busy
 
 abbrev pub heard_one : Suite → Option Told → Hearing
 heard_one suite (Some one) = let after : Suite = record suite { collector = tell one suite.collector } in heard_next after (next after.collector)
-heard_one suite None = hearing.Lost
+heard_one suite None = Lost
 
 -- the suite once its collector was told the reply, and settled where it so is Current
 abbrev pub heard : Suite → Reply → Hearing
 heard suite said = heard_one suite (told_by (next suite.collector) said)
 
+-- the same of the suite of a number
+abbrev pub heard_at : Option Suite → Reply → Hearing
+heard_at (Some suite) said = heard suite said
+heard_at None said = Lost
+
 -- how the transaction goes on by it
 abbrev pub on_hearing : Task → Cache → Suites → Phase → ℕ → ℕ → Hearing → (Suite → Step) → Step
-on_hearing task cache suites phase number server hearing.Lost go_on = give_up task cache suites (Lost server)
-on_hearing task cache suites phase number server (hearing.Asks suite) go_on = on_with task cache (with_suite number suite suites) phase
-on_hearing task cache suites phase number server (hearing.Short suite got needed busy) go_on =
+on_hearing task cache suites phase number server Lost go_on = give_up task cache suites (cause.Lost server)
+on_hearing task cache suites phase number server (Asks suite) go_on = on_with task cache (with_suite number suite suites) phase
+on_hearing task cache suites phase number server (Short suite got needed busy) go_on =
     give_up task cache (with_suite number suite suites) (short_cause number got needed busy)
-on_hearing task cache suites phase number server (hearing.Settled suite) go_on = go_on suite
+on_hearing task cache suites phase number server (Settled suite) go_on = go_on suite
+
+-- ---- what a call leaves
+
+-- nobody is left to ask of a suite
+abbrev pub FallsShort : Hearing → Suite → Type 0
+FallsShort hearing after =
+    (got : ℕ) × (needed : ℕ) × (busy : Option (ℕ × ℕ)) × (next after.collector ≡ collecting.Short got needed busy) × (hearing ≡ Short after got needed busy)
+
+-- a suite was told; or the lock gives a quorum, and the suite is as it was
+abbrev pub Hears : Heard → Suite → Reply → Suite → Type 0
+Hears coded.Lost before said after = (heard before said ≡ Lost) × (after ≡ before)
+Hears coded.Asks before said after = heard before said ≡ Asks after
+Hears coded.Short before said after = FallsShort (heard before said) after
+Hears (coded.Settles settling) before said after = (heard before said ≡ Settled (settled_with settling before)) × (after ≡ before) × (is_held said ≡ true)
+
+-- the same of a suite among those of a course
+abbrev pub HearsIn : Heard → ℕ → Suite → Course → Reply → Course → Type 0
+HearsIn coded.Lost number suite before said after = (heard suite said ≡ Lost) × (after ≡ before)
+HearsIn (coded.Settles settling) number suite before said after = (heard suite said ≡ Settled (settled_with settling suite)) × (after ≡ before) × (is_held said ≡ true)
+HearsIn heard number suite before said after = (new : Suite) × Hears heard suite said new × (after ≡ record before { suites = with_suite number new before.suites })
+
+abbrev pub HearsAt : Option Suite → ℕ → Heard → Course → Reply → Course → Type 0
+HearsAt (Some suite) number heard before said after = HearsIn heard number suite before said after
+HearsAt None number heard before said after = (heard ≡ coded.Lost) × (after ≡ before)
+
+-- what the first quorum gives, where there is one once a suite is told, and was none before
+abbrev pub IsFirstAfter : Suite → Told → Option First → Type 0
+IsFirstAfter suite last first =
+    (prefix : Prefix) (dver : ℕ) (members : List ℕ) → next (tell last suite.collector) ≡ collecting.Current prefix dver members
+    → option_or suite.first first ≡ (settled prefix dver members (record suite { collector = tell last suite.collector })).first

@@ -21,7 +21,11 @@ use Rattle.txn_core.specs.Transactions.{Gathered, heard_on, free_content, after_
 
 -- the service of an execution, with the limits of a cache
 abbrev pub fixed_in : Execution → Limited → Fixed
-fixed_in execution cache = record { service = execution.service.now; limits = cache.limits }
+fixed_in execution cache = record { service = execution.ground.now; limits = cache.limits }
+
+-- all that was gathered, with the entries of a cache
+abbrev pub all_in : Suites → Limited → Gathered
+all_in suites cache = record { suites = suites; cache = cache.entries }
 
 -- ---- the cache
 
@@ -121,15 +125,6 @@ carried_out task plan all =
 abbrev pub kept_of : Task → ℕ → Content → First → Fetched
 kept_of task number content first = record { site = task.site; suite = number; prefix = first.prefix; dver = first.dver; content = content }
 
-abbrev pub fetched_of : Task → ℕ → Content → Option Suite → Option Fetched
-fetched_of task number content (Some suite) = option_map (kept_of task number content) suite.first
-fetched_of task number content None = None
-
--- the content that a suite has
-abbrev pub content_in : Option Suite → Option Content
-content_in (Some suite) = suite.content
-content_in None = None
-
 -- whether a suite had a quorum, its content is not there, and another is of its kind
 abbrev pub known_in : Option Suite → Option KnownSuite
 known_in (Some suite) = option_map (known_row suite) suite.first
@@ -137,8 +132,3 @@ known_in None = None
 
 abbrev pub takes_in : Option Suite → Content → Bool
 takes_in suite content = takes (known_in suite) content
-
--- and another in its place
-abbrev pub with_content : ℕ → Option Content → Option Suite → Suites → Suites
-with_content number content (Some suite) suites = with_suite number (record suite { content = content }) suites
-with_content number content None suites = suites

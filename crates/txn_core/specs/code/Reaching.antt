@@ -1,8 +1,9 @@
 -- How far the transaction of an agent came on what was known of its suites.
-use Rattle.std.specs.Prelude.{Bool, true, false, not, Option, Some, None, Result, Ok, Err}
-use Rattle.std.specs.declared.alloc.AllocError.{AllocError}
+use Rattle.std.specs.Prelude.{Option, Some, None}
 use Rattle.file_ops.specs.declared.service.Service.{Service}
-use Rattle.file_exec.specs.Reaching.{Reached, IsReached}
+use Rattle.file_exec.specs.Reaching.{Reached, IsReached, unbegun}
+use Rattle.txn_core.specs.declared.ending.Goes.{Goes}
+use Rattle.txn_core.specs.declared.ending.Goes.TheVariants.{On, Ended}
 use Rattle.txn_core.specs.Doing.{Task, Phase, Gathering, Fetching, Widening, Preparing, Deciding, Finishing, Course}
 use Rattle.txn_core.specs.Suites.{Suites, known_of}
 
@@ -22,16 +23,16 @@ abbrev pub IsReachedBy : Service → Course → Reached → Type 0
 IsReachedBy service course reached = IsReachedAt course.phase (IsReachedIn service course.task course.suites reached)
 
 -- so it is where a transaction is not at its end
-abbrev pub IsReachedUnless : Bool → Service → Course → Reached → Type 0
-IsReachedUnless true service course reached = Unit {0}
-IsReachedUnless false service course reached = IsReachedBy service course reached
+abbrev pub IsReachedUnless : Goes → Service → Course → Reached → Type 0
+IsReachedUnless (Ended ending) service course reached = Unit {0}
+IsReachedUnless On service course reached = IsReachedBy service course reached
+
+-- what was reached is let go with a transaction that is at its end
+abbrev pub kept_after : Goes → Reached → Reached
+kept_after (Ended ending) reached = unbegun
+kept_after On reached = reached
 
 -- and where one goes on at all
 abbrev pub IsReachedIf : Option Course → Service → Reached → Type 0
 IsReachedIf (Some course) service reached = IsReachedBy service course reached
 IsReachedIf None service reached = Unit {0}
-
--- it goes on: it is not at its end, and wants no memory
-abbrev pub does_go_on : Result Bool AllocError → Bool
-does_go_on (Ok ends) = not ends
-does_go_on (Err refused) = false

@@ -7,10 +7,9 @@ use Rattle.file_exec.specs.declared.executor.Outcome.{Outcome as Executed}
 use Rattle.file_exec.specs.declared.executor.Outcome.TheVariants as exec
 use Rattle.txn_core.specs.declared.sequel.Sequel.{Sequel}
 use Rattle.txn_core.specs.declared.sequel.Sequel.TheVariants.{Gather, Fetch, Grant, Refuse}
-use Rattle.txn_core.specs.declared.ending.Cause.TheVariants.{Lost}
 use Rattle.txn_core.specs.Doing.{Task, Gathering, Fetching}
 use Rattle.txn_core.specs.Suites.{Suite, Suites, suite_of}
-use Rattle.txn_core.specs.Transactions.{Step, on_with, give_up, gather_by, widen_all, to_widen, prepare, locked_at}
+use Rattle.txn_core.specs.Transactions.{Step, on_with, gather_by, widen_all, to_widen, prepare, locked_at}
 
 -- what the executor's answer comes to
 abbrev pub sequel_of : Executed → Sequel
@@ -29,8 +28,3 @@ follow task cache suites (Gather number) = gather_again task cache suites number
 follow task cache suites (Fetch number) = on_with task cache suites (Fetching number)
 follow task cache suites (Grant granted) = widen_all task cache suites granted (to_widen granted.changes)
 follow task cache suites (Refuse refusal) = prepare task cache suites (Err refusal) (locked_at suites)
-
--- the same after a fetch; nothing follows where the suite had no quorum, and the lock at the server counts as lost
-abbrev pub follow_or : Task → Cache → Suites → ℕ → Option Sequel → Step
-follow_or task cache suites server (Some sequel) = follow task cache suites sequel
-follow_or task cache suites server None = give_up task cache suites (Lost server)

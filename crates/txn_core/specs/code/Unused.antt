@@ -3,6 +3,8 @@ use Rattle.std.specs.Prelude.{◌≡◌, ℕ, Bool, true, false, ◌&&◌, not, 
 use Rattle.rep_core.specs.Store.{is_used_up}
 use Rattle.rep_core.specs.declared.reply.Reply.{Reply}
 use Rattle.rep_core.specs.declared.reply.Reply.TheVariants.{Held}
+use Rattle.suite_collect.specs.declared.told.Said.{Said}
+use Rattle.suite_collect.specs.declared.told.Said.TheVariants as told
 use Rattle.suite_collect.specs.Telling.{newest, shown}
 use Rattle.suite_collect.specs.Collecting.{Collector}
 use Rattle.weak_cache.specs.Entries.{Entry, Cache}
@@ -20,3 +22,8 @@ pub record SawUnused (c : Collector) : Type 0 where
 abbrev pub shows_unused : Reply → Bool
 shows_unused (Held prefix dver) = not (is_used_up prefix.pver) && not (is_used_up dver)
 shows_unused _ = true
+
+-- and of those that were told
+abbrev pub says_unused : Said → Bool
+says_unused (told.Held prefix dver) = not (is_used_up prefix.pver) && not (is_used_up dver)
+says_unused other = true

@@ -12,7 +12,7 @@ pub returns-in-Current : goal.returns-in-Current
 returns-in-Current c =
     let now = c.args.self.now.collector in
     let is : due_of now ≡ due.Current = ap (λ (c : Collecting). due_of c.collector) (sym c.self.view_is) ∙ sym c.self.invariant.due ∙ ap due_in c.in-Current.is in
-    let version : spec.version now ≡ c.greatest-dver.result = ap (telling.greatest now.told) (sym c.first_members-first.ensures.members) ∙ sym c.greatest-dver.ensures in
+    let version : spec.version now ≡ c.greatest-dver.result = ap (telling.greatest now.told) (sym c.first_members-first.ensures.members) ∙ ap (λ (it : Collecting). telling.greatest it.collector.told c.first_members-first.result) (sym c.self.view_is) ∙ sym c.greatest-dver.ensures in
     current_next now is
     ∙ ap (λ prefix. Current prefix (spec.version now) (spec.members_of (spec.counted now) (spec.is_member now))) (sym c.newest.ensures)
     ∙ ap (λ dver. Current c.newest.result.now dver (spec.members_of (spec.counted now) (spec.is_member now))) version

@@ -1,14 +1,33 @@
-use Rattle.std.proofs.Common.{rules}
-use Rattle.txn_core.proofs.Reaching.{reaches_begun}
+use Rattle.std.proofs.Common.{◌<◌, ◌≤◌, sym, ap, subst, ◌∙◌, rules}
+use Rattle.vote_core.specs.declared.TheConstants.{MAX_SERVERS}
+use Rattle.file_ops.specs.declared.service.Service.{Service}
+use Rattle.txn_core.specs.Agents.{is_idle}
+use Rattle.txn_core.specs.Standing.{Standing}
+use Rattle.txn_core.proofs.Reaching.{reaches_begun, reaches_idle}
 use Rattle.txn_core.proofs.agent.Agent.carry_out.Goals as goal
+
+pub invariant_of-self : goal.invariant_of-self
+invariant_of-self c =
+    let kept = c.self.invariant in
+    let keeps = c.begin.ensures.keeps in
+    record {
+      index = kept.index;
+      jobs = kept.jobs;
+      servers = subst (λ (service : Service). (0 < service.servers) × (service.servers ≤ MAX_SERVERS)) (sym keeps.ground) kept.servers;
+      unused = keeps.unused;
+      reached =
+          reaches_idle c.begin.new.means.ground c.begin.new.means.progress c.self.inside.doing
+          (ap (λ (s : Standing). is_idle s.state.doing) c.self.view_is ∙ c.requires);
+    }
 
 pub invariant_of-self-2 : goal.invariant_of-self-2
 invariant_of-self-2 c =
     let kept = c.self.invariant in
+    let keeps = c.begin.ensures.keeps in
     record {
       index = kept.index;
       jobs = kept.jobs;
-      servers = kept.servers;
-      unused = c.begin.ensures.unused;
-      reached = reaches_begun c.self.inside.service c.begin.new.progress c.in_ok-course.course c.map.result c.map.ensures.cases (λ course doing post. search rules) c.in_ok-course.ensures.reached;
+      servers = subst (λ (service : Service). (0 < service.servers) × (service.servers ≤ MAX_SERVERS)) (sym keeps.ground) kept.servers;
+      unused = keeps.unused;
+      reached = reaches_begun c.begin.new.means.ground c.begin.new.means.progress c.in_ok-course.course c.map.result c.map.ensures.cases (λ course doing post. search rules) c.in_ok-course.ensures.reached;
     }

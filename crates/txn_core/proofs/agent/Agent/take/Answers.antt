@@ -12,5 +12,5 @@ returns-clause-ok c =
     let ending : Word → Option Ending = λ word. (take now.fixed now.state word).ending in
     elim c.match-word.branch [
       | in-Replied+in_ok-hear-in-Replied w ↦ w.ended-is ∙ w.in_ok-hear-in-Replied.ensures.ok ∙ over_none _ ∙ ap ending (sym w.in-Replied.is)
-      | in-Lacked w ↦ w.ended-is ∙ w.lack.ensures.ending ∙ over_none _ ∙ ap ending (sym w.in-Lacked.is)
+      | in-Lacked w ↦ w.ended-is ∙ w.lack-ended.ensures.ending ∙ ap ending (sym w.in-Lacked.is)
     ]

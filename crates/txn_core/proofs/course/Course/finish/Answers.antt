@@ -1,10 +1,10 @@
 use Rattle.std.proofs.Common.{ap, ◌∙◌}
-use Rattle.txn_core.specs.code.Endings.{put_in}
+use Rattle.txn_core.specs.code.Goings.{ending_of}
 use Rattle.txn_core.specs.Doing.{Course}
 use Rattle.txn_core.proofs.Ended.{finishes}
 use Rattle.txn_core.proofs.course.Course.finish.Goals as goal
 
-pub returns-clause-steps : goal.returns-clause-steps
-returns-clause-steps c = λ cache.
+pub returns : goal.returns
+returns c = λ cache.
     finishes c.args.self.now.task cache c.args.self.now.suites c.as_slice.result.now c.locked_at-servers.result c.tell_end.new.self c.locked_at-servers.ensures
-    (c.as_slice.ensures.pairs ∙ ap (λ (course : Course). course.suites) c.self.view_is) c.args.verdict c.args.ending (put_in c.tell_end.result c.tell_end.new.ended) (c.tell_end.ensures.steps cache)
+    (c.as_slice.ensures.pairs ∙ ap (λ (course : Course). course.suites) c.self.view_is) c.args.verdict c.args.ending (ending_of c.tell_end.result) (c.tell_end.ensures cache)

@@ -1,4 +1,5 @@
 use Rattle.std.proofs.Common.{◌-◌, length}
+use Rattle.txn_core.specs.code.Seeing.{seen_in}
 use Rattle.txn_core.specs.code.Plans.{fixed_in, seen_on}
 use Rattle.txn_core.proofs.Reaching.{IsReachedOn}
 use Rattle.txn_core.proofs.Rounds.{IsPlaying}
@@ -6,7 +7,7 @@ use Rattle.txn_core.proofs.execution.Execution.play.Given as goal
 
 abbrev pub invariant-loop-opened : goal.invariant-loop-opened
 invariant-loop-opened l =
-    IsPlaying (fixed_in l.self l.shelf.cache.now) l.self.task.now (seen_on l.shelf l.suites.pairs) l.opened.items l.known × IsReachedOn l.known l.self.task.now l.progress
+    IsPlaying (fixed_in l.self l.shelf.cache.now) l.self.task.now (seen_on l.shelf (seen_in l.seen)) l.opened.items l.known × IsReachedOn l.known l.self.task.now l.progress
 
 abbrev pub decreases-loop-opened : goal.decreases-loop-opened
-decreases-loop-opened l = length l.suites.pairs - length l.opened.items
+decreases-loop-opened l = length (seen_in l.seen) - length l.opened.items

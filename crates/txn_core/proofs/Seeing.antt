@@ -1,0 +1,131 @@
+-- The suites of a transaction, once something more is known, suite by suite.
+use Rattle.std.proofs.Common.{◌≡◌, ◌≢◌, ◌<◌, ℕ, zero, suc, Bool, true, false, cond, [], ◌∷◌, List, length, get_or, Option, Some, None, refl, sym, ap, subst, ◌∙◌, arith}
+use Rattle.std.specs.Prelude.{◌==◌, is_some, option_map}
+use Rattle.std.specs.Ordering.{nat_cmp, is_eq}
+use Rattle.std.specs.List.Sorted.{IsStrictlySortedBy}
+use Rattle.std.specs.Map.{keys_of}
+use Rattle.std.proofs.lemmas.Cmp.{nat_cmp_total}
+use Rattle.std.proofs.lemmas.Map.Lookups.{exact_unsigned}
+use Rattle.std.proofs.lemmas.Bool.{eqb-true, eqb-false}
+use Rattle.sorted_map.specs.Comparisons.{equal_if}
+use Rattle.sorted_map.specs.Laws.{IsOrdered-insert}
+use Rattle.sorted_map.specs.Numbers.{get_insert_here, get_insert_apart, same_maps}
+use Rattle.sorted_map.specs.SortedMap.{IsOrdered}
+use Rattle.file_exec.specs.Known.{Known}
+use Rattle.txn_core.specs.declared.news.News.{News}
+use Rattle.txn_core.specs.declared.news.News.TheVariants.{Nothing, Quorum, Content as Given}
+use Rattle.txn_core.specs.code.Seeing.{settled_with, with_content, told_of, changed_at, learned_suites, sight_of_suite, known_first, known_by}
+use Rattle.txn_core.specs.Suites.{First, Suite, Suites, suite_of, known_if}
+
+-- ---- a suite among those that are seen
+
+module _ (news : News) where
+  -- one after the other
+  abbrev pub told_all : Suites → Suites
+  told_all [] = []
+  told_all (one ∷ suites) = (one.0, told_of news one.0 one.1) ∷ told_all suites
+
+  pub told_length : (suites : Suites) → length (told_all suites) ≡ length suites
+  told_length [] = refl
+  told_length (one ∷ suites) = ap (λ n. suc n) (told_length suites)
+
+  pub told_item : (suites : Suites) (i : ℕ) (one : ℕ × Suite) → i < length suites → one ≡ get_or suites i one → (one.0, told_of news one.0 one.1) ≡ get_or (told_all suites) i (one.0, told_of news one.0 one.1)
+  told_item suites i one below is = ap (λ (it : ℕ × Suite). (it.0, told_of news it.0 it.1)) is ∙ at suites i one below
+    where
+      at : (suites : Suites) (i : ℕ) (one : ℕ × Suite) → i < length suites → (let it = get_or suites i one in (it.0, told_of news it.0 it.1)) ≡ get_or (told_all suites) i (one.0, told_of news one.0 one.1)
+      at [] i one below = absurd (omega arith)
+      at (x ∷ suites) zero one below = refl
+      at (x ∷ suites) (suc i) one below = at suites i one (omega arith)
+
+  told_keys : (suites : Suites) → keys_of (told_all suites) ≡ keys_of suites
+  told_keys [] = refl
+  told_keys (one ∷ suites) = ap (λ keys. one.0 ∷ keys) (told_keys suites)
+
+  pub told_ordered : (suites : Suites) → IsOrdered nat_cmp suites → IsOrdered nat_cmp (told_all suites)
+  told_ordered suites ordered = subst (λ (keys : List ℕ). IsStrictlySortedBy nat_cmp keys) (sym (told_keys suites)) ordered
+
+  told_at : (suites : Suites) (number : ℕ) → suite_of (told_all suites) number ≡ option_map (told_of news number) (suite_of suites number)
+  told_at [] number = refl
+  told_at (one ∷ suites) number = of (told_at suites number) (is_eq (nat_cmp number one.0)) refl
+    where
+      of : suite_of (told_all suites) number ≡ option_map (told_of news number) (suite_of suites number) → (b : Bool) → is_eq (nat_cmp number one.0) ≡ b → cond b (Some (told_of news one.0 one.1)) (suite_of (told_all suites) number) ≡ option_map (told_of news number) (cond b (Some one.1) (suite_of suites number))
+      of rest true at = ap (λ n. Some (told_of news n one.1)) (sym (exact_unsigned number one.0 (equal_if (nat_cmp number one.0) at)))
+      of rest false at = rest
+
+-- ---- and what was learned, set
+
+-- one of them is another from now on
+module _ (change : Suite → Suite) (place : ℕ) (suites : Suites) where
+  abbrev changed : Option Suite → Suites
+  changed found = changed_at change place found suites
+
+  abbrev changed_of : ℕ → Suite → Suite
+  changed_of number suite = cond (place == number) (change suite) suite
+
+  changed_ordered : (found : Option Suite) → IsOrdered nat_cmp suites → IsOrdered nat_cmp (changed found)
+  changed_ordered (Some suite) ordered = IsOrdered-insert nat_cmp_total suites place (change suite) ordered
+  changed_ordered None ordered = ordered
+
+  changed_here : (found : Option Suite) → suite_of suites place ≡ found → suite_of (changed found) place ≡ option_map change (suite_of suites place)
+  changed_here (Some suite) is = get_insert_here suites place (change suite) ∙ ap (option_map change) (sym is)
+  changed_here None is = is ∙ ap (option_map change) (sym is)
+
+  changed_apart : (found : Option Suite) (number : ℕ) → number ≢ place → suite_of (changed found) number ≡ suite_of suites number
+  changed_apart (Some suite) number apart = get_insert_apart suites place (change suite) number apart
+  changed_apart None number apart = refl
+
+  unchanged : (found : Option Suite) → found ≡ option_map (λ (suite : Suite). suite) found
+  unchanged (Some suite) = refl
+  unchanged None = refl
+
+  found_at : (number : ℕ) → suite_of (changed (suite_of suites place)) number ≡ option_map (changed_of number) (suite_of suites number)
+  found_at number = of (place == number) refl
+    where
+      of : (b : Bool) → (place == number) ≡ b → suite_of (changed (suite_of suites place)) number ≡ option_map (λ suite. cond b (change suite) suite) (suite_of suites number)
+      of true is =
+          let same : place ≡ number = eqb-true place number is in
+          ap (suite_of (changed (suite_of suites place))) (sym same)
+          ∙ changed_here (suite_of suites place) refl
+          ∙ ap (λ n. option_map change (suite_of suites n)) same
+      of false is =
+          changed_apart (suite_of suites place) number (λ same. eqb-false place number is (sym same))
+          ∙ unchanged (suite_of suites number)
+
+module _ (suites : Suites) where
+  pub learned_ordered : (news : News) → IsOrdered nat_cmp suites → IsOrdered nat_cmp (learned_suites news suites)
+  learned_ordered Nothing ordered = ordered
+  learned_ordered (Quorum number settling) ordered = changed_ordered (settled_with settling) number suites (suite_of suites number) ordered
+  learned_ordered (Given content fetched) ordered = changed_ordered (with_content content) fetched.suite suites (suite_of suites fetched.suite) ordered
+
+  learned_at : (news : News) (number : ℕ) → suite_of (learned_suites news suites) number ≡ option_map (told_of news number) (suite_of suites number)
+  learned_at Nothing number = unchanged (λ suite. suite) number suites (suite_of suites number)
+  learned_at (Quorum place settling) number = found_at (settled_with settling) place suites number
+  learned_at (Given content fetched) number = found_at (with_content content) fetched.suite suites number
+
+  -- it is the same suite by suite
+  pub told_learned : (news : News) → IsOrdered nat_cmp suites → told_all news suites ≡ learned_suites news suites
+  told_learned news ordered =
+      same_maps (told_all news suites) (learned_suites news suites) (told_ordered news suites ordered) (learned_ordered news ordered)
+      (λ number. told_at news suites number ∙ sym (learned_at news number))
+
+  pub learned_found : (news : News) (number : ℕ) (suite : Suite) → Some suite ≡ suite_of suites number → suite_of (learned_suites news suites) number ≡ Some (told_of news number suite)
+  learned_found news number suite is = learned_at news number ∙ ap (option_map (told_of news number)) (sym is)
+
+  pub learned_absent : (news : News) (number : ℕ) → suite_of suites number ≡ None → suite_of (learned_suites news suites) number ≡ None
+  learned_absent news number is = learned_at news number ∙ ap (option_map (told_of news number)) is
+
+  pub learned_there : (news : News) (number : ℕ) → is_some (suite_of (learned_suites news suites) number) ≡ is_some (suite_of suites number)
+  learned_there news number = ap (λ found. is_some found) (learned_at news number) ∙ of (suite_of suites number)
+    where
+      of : (found : Option Suite) → is_some (option_map (told_of news number) found) ≡ is_some found
+      of (Some suite) = refl
+      of None = refl
+
+-- ---- what is known of a suite is what is seen of it
+
+pub known_seen : (number : ℕ) (suite : Suite) (known : Known) → known_by number (sight_of_suite suite) known ≡ known_if number suite suite.first known
+known_seen number suite known = of suite.first
+  where
+    of : (first : Option First) → known_first number (sight_of_suite suite) first known ≡ known_if number suite first known
+    of (Some first) = refl
+    of None = refl

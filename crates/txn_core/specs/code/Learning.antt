@@ -1,0 +1,49 @@
+-- What a transaction learned of a suite, set.
+use Rattle.std.specs.Prelude.{◌≡◌, ◌<◌, ℕ, Bool, true, false, not, is_some, option_map, Option, Some, None}
+use Rattle.suite_content.specs.declared.content.Content.{Content}
+use Rattle.rep_core.specs.Store.{is_used_up}
+use Rattle.weak_cache.specs.Entries.{max_sites}
+use Rattle.weak_cache.specs.Cache.{Limited}
+use Rattle.txn_core.specs.declared.news.News.{News}
+use Rattle.txn_core.specs.declared.news.News.TheVariants.{Nothing, Quorum, Content as Given}
+use Rattle.txn_core.specs.declared.shelf.Fetched.{Fetched}
+use Rattle.txn_core.specs.Doing.{Course}
+use Rattle.txn_core.specs.Suites.{Suite, Suites, suite_of}
+use Rattle.txn_core.specs.Transactions.{Gathered}
+use Rattle.txn_core.specs.code.Plans.{shelved, kept_of, takes_in}
+use Rattle.txn_core.specs.code.Seeing.{learned_suites, first_at}
+
+-- what the cache is to keep
+abbrev pub kept_by : News → Option Fetched
+kept_by (Given content fetched) = Some fetched
+kept_by other = None
+
+-- all that was gathered, once it was set
+abbrev pub learned : News → Limited → Suites → Gathered
+learned news cache suites = record { suites = learned_suites news suites; cache = shelved cache (kept_by news) }
+
+-- a suite had no quorum
+abbrev pub is_fresh : Option Suite → Bool
+is_fresh (Some suite) = not (is_some suite.first)
+is_fresh None = true
+
+-- more is known by it, and nothing else than before
+abbrev pub adds : News → Suites → Bool
+adds Nothing suites = true
+adds (Quorum number settling) suites = is_fresh (suite_of suites number)
+adds (Given content fetched) suites = takes_in (suite_of suites fetched.suite) content
+
+-- what the cache is to keep is of one of its sites, and its prefix not used up
+pub record IsKeepable (fetched : Fetched) : Type 0 where
+  pub site : fetched.site < max_sites
+  pub unused : is_used_up fetched.prefix.pver ≡ false
+
+abbrev pub Fits : News → Type 0
+Fits Nothing = Unit {0}
+Fits (Quorum number settling) = Unit {0}
+Fits (Given content fetched) = IsKeepable fetched
+
+-- what is learned by the content of a suite that had a quorum
+abbrev pub content_news : Course → ℕ → Content → Option News
+content_news course number content =
+    option_map (λ first. Given content (kept_of course.task number content first)) (first_at (suite_of course.suites number))

@@ -1,0 +1,67 @@
+//! The suites of a transaction, as they are once something more is known.
+
+ghost use Rattle.std.specs.Prelude.{◌≡◌, length, is_some};
+ghost use Rattle.std.specs.Option.{option_copied};
+ghost use Rattle.txn_core.specs.code.Seeing.{first_at, seen_in, sight_of, sight_of_suite, told_of};
+ghost use Rattle.txn_core.specs.Suites.{suite_of};
+
+use crate::first::First;
+use crate::news::News;
+use crate::suites::Suite;
+use sorted_map::RoomyMap;
+use suite_content::Content;
+use suite_prefix::LockMode;
+
+/// The suites of a transaction as they will be, once what was learned is set.
+#[derive(Clone, Copy)]
+pub(crate) struct Seen<'a> {
+    pub(crate) suites: &'a RoomyMap<u64, Suite>,
+    pub(crate) news: &'a News,
+}
+
+/// What is known of a suite: what its first quorum gave, in which mode it had a quorum last, and its
+/// content.
+#[derive(Clone, Copy)]
+pub(crate) struct Sight<'a> {
+    pub(crate) first: Option<&'a First>,
+    pub(crate) mode: LockMode,
+    pub(crate) content: Option<&'a Content>,
+}
+
+impl<'a> Seen<'a> {
+    /// How many suites there are.
+    pub(crate) fn len(self) -> usize
+        ensures { result ≡ length (seen_in self.entry) }
+    {
+        self.suites.len()
+    }
+
+    /// Whether a suite was asked for.
+    pub(crate) fn contains(self, number: u64) -> bool
+        ensures { result ≡ is_some (suite_of (seen_in self.entry) number) }
+    {
+        self.suites.contains_key(&number)
+    }
+
+    /// What the first quorum of a suite gave.
+    pub(crate) fn first(self, number: u64) -> Option<&'a First>
+        ensures { option_copied result ≡ first_at (suite_of (seen_in self.entry) number) }
+    {
+        let suite = self.suites.get(&number)?;
+        self.at(number, suite).first
+    }
+
+    /// What is known of the suite of a number.
+    pub(crate) fn at(self, number: u64, suite: &'a Suite) -> Sight<'a>
+        ensures { sight_of result ≡ sight_of_suite (told_of self.entry.news.now number suite.now) }
+    {
+        match self.news {
+            News::Quorum(place, settling) if *place == number => suite.sight_settled(settling),
+            News::Content(content, entry) if entry.suite == number => Sight {
+                content: Some(content),
+                ..suite.sight()
+            },
+            _ => suite.sight(),
+        }
+    }
+}
