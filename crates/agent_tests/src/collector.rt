@@ -4,16 +4,18 @@
 
 mod talks;
 
+ghost use Rattle.std.specs.Prelude.{◌<◌};
+
 use crate::fixtures::{lists, number};
 use rep_core::{Reply, Request};
 use std::process::Abort;
 use suite_collect::{
-    Collect, Hearing, Next, asks_are_few, current_is_a_quorum, nobody_is_asked_twice,
+    Collect, Hearing, Next, Told, asks_are_few, current_is_a_quorum, nobody_is_asked_twice,
     prefix_and_version_stay, short_has_none_left, widened_is_a_write_quorum,
 };
 use suite_prefix::{LockMode, Prefix, PrefixKind};
 use talks::TALKS;
-use vote_core::Votes;
+use vote_core::{MAX_SERVERS, Votes};
 
 /// Votes by a word: `here` are one each at servers 0, 1 and 2, two to read and two to write; `there` the same at servers
 /// 3, 4 and 5; `uneven` none at server 0, two at server 1, one at server 2, one to read and three to write; `pair` one
@@ -235,20 +237,23 @@ fn only_some_replies_are_gone_on_with(rt: HostRuntime) {
     assert!(rt; heard(&rt, &mut collect, "down") == "lost");
 }
 
+/// What a lock that gives a quorum is told by.
+fn quorum_of(rt: &impl Abort, collect: &mut Collect, reply: &Reply) -> Told
+    ensures { result.server < MAX_SERVERS }
+{
+    let last = match collect.hear(reply).ok().expect(rt, "memory") {
+        Hearing::Quorum(last) => Some(last),
+        _ => None,
+    };
+    last.expect(rt, "a quorum")
+}
+
 /// What a quorum gives is the same before it is told and after it.
 #[test]
 fn a_quorum_is_known_before_it_is_told(rt: HostRuntime) {
     let mut collect = collector(&rt, LockMode::Shared, "here");
     assert!(rt; heard(&rt, &mut collect, "held 1 here 1") == "asks");
-    let last = match collect
-        .hear(&reply(&rt, "held 2 here 2"))
-        .ok()
-        .expect(&rt, "memory")
-    {
-        Hearing::Quorum(last) => Some(last),
-        _ => None,
-    };
-    let last = last.expect(&rt, "a quorum");
+    let last = quorum_of(&rt, &mut collect, &reply(&rt, "held 2 here 2"));
     let about = "a quorum that is not told";
     comes(&rt, &collect, "Shared at 1", about);
     let quorum = collect.quorum_after(&last);

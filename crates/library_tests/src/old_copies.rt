@@ -146,7 +146,7 @@ fn kept_old(rt: &(impl Abort + AllocGlobal), copy: &Replica) -> StoredCopy {
 }
 
 #[test]
-fn a_kept_copy_stays_in_its_form_until_it_is_put_under_another_prefix(rt: HostRuntime) {
+fn a_kept_copy_stays_in_its_form(rt: HostRuntime) {
     let copy = file(&rt, 1, 1, b"hi");
     let old = kept_old(&rt, &copy);
     holds(&rt, old.form() == Form::One, "form 1");
@@ -165,9 +165,6 @@ fn a_kept_copy_stays_in_its_form_until_it_is_put_under_another_prefix(rt: HostRu
         new.as_bytes() == bytes(&rt, NEW).as_slice(),
         "63 bytes",
     );
-    let under = had(&rt, old.under(rt.alloc(), &copy.prefix));
-    holds(&rt, under.form() == Form::Two, "written anew");
-    holds(&rt, under.as_bytes() == new.as_bytes(), "the same bytes");
 }
 
 /// The fault of settings of three servers, of which these open with their root in form 1, with a default list
