@@ -149,8 +149,8 @@ impl Collect {
         }
     }
 
-    /// Hears the reply to what was asked next. It is told what the reply says, but for a lock with which
-    /// there is a quorum: that comes back, and nothing changes yet. Only a lock that is held may want memory.
+    /// Hears the reply to what was asked next. It is told what the reply says (`told_by`), but for a lock with
+    /// which there is a quorum: nothing changes yet. Only a lock that is held may want memory.
     pub fn hear(&mut self, reply: &Reply) -> Result<Hearing, AllocError>
         ensures ok { IfOk result (λ hearing. Hears hearing self.old reply.now self.new) }
         ensures err { OnErr result (self.new ≡ self.old) }
@@ -161,7 +161,7 @@ impl Collect {
         };
         let due = self.due_after(&last);
         match due {
-            Due::Current => Ok(Hearing::Quorum(last)),
+            Due::Current => Ok(Hearing::Quorum),
             Due::Ask { .. } => {
                 self.put(last, due);
                 Ok(Hearing::Asks)
@@ -171,6 +171,32 @@ impl Collect {
                 Ok(Hearing::Short)
             }
         }
+    }
+
+    /// What is told by a reply that answers what was asked; nothing, where the transaction is to end. Only a lock
+    /// that is held may want memory.
+    pub fn told_by(&self, reply: &Reply) -> Result<Option<Told>, AllocError>
+        ensures told { IfOk result (λ one. one ≡ spec.told_by (spec.next self.now.collector) reply.now) }
+        ensures known { IfOk result (λ one. IfSome one (λ one. one.server < MAX_SERVERS)) }
+        ensures memory { IfErr result (λ _. IsTrue (shows_lock reply.now)) }
+    {
+        let Due::Ask { server } = self.due else {
+            return Ok(None);
+        };
+        let said = match reply {
+            Reply::Held { prefix, dver } => Said::Held {
+                prefix: prefix.clone()?,
+                dver: *dver,
+            },
+            Reply::Busy { holder, .. } => Said::Busy { holder: *holder },
+            Reply::Down => match self.asked(server) {
+                Asked::Poll(_) => Said::Down,
+                Asked::Upgrade => return Ok(None),
+            },
+            _ => return Ok(None),
+        };
+        let mode = self.wanted();
+        Ok(Some(Told { server, mode, said }))
     }
 
     /// Something is told: what a server said that was asked.
@@ -238,31 +264,6 @@ impl Collect {
         let members = self.first_members();
         let version = self.told.greatest(&members);
         self.told.first_showing(version, &members)
-    }
-
-    /// What is told by a reply that answers what was asked; nothing, where the transaction is to end.
-    fn told_by(&self, reply: &Reply) -> Result<Option<Told>, AllocError>
-        ensures told { IfOk result (λ one. one ≡ spec.told_by (spec.next self.now.collector) reply.now) }
-        ensures known { IfOk result (λ one. IfSome one (λ one. one.server < MAX_SERVERS)) }
-        ensures memory { IfErr result (λ _. IsTrue (shows_lock reply.now)) }
-    {
-        let Due::Ask { server } = self.due else {
-            return Ok(None);
-        };
-        let said = match reply {
-            Reply::Held { prefix, dver } => Said::Held {
-                prefix: prefix.clone()?,
-                dver: *dver,
-            },
-            Reply::Busy { holder, .. } => Said::Busy { holder: *holder },
-            Reply::Down => match self.asked(server) {
-                Asked::Poll(_) => Said::Down,
-                Asked::Upgrade => return Ok(None),
-            },
-            _ => return Ok(None),
-        };
-        let mode = self.wanted();
-        Ok(Some(Told { server, mode, said }))
     }
 
     /// What is due once this is told.

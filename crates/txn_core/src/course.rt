@@ -26,13 +26,14 @@ use crate::phase::Phase;
 use crate::sequel::Sequel;
 use crate::servers::locked_at;
 use crate::shelf::Fetched;
-use crate::suites::{Heard, Suite};
+use crate::settling::Settling;
+use crate::suites::Suite;
 use crate::task::Task;
 use rep_core::Reply;
 use sorted_map::RoomyMap;
 use std::alloc::AllocError;
 use std::marker::Model;
-use suite_collect::Coming;
+use suite_collect::{Coming, Hearing};
 use suite_content::Content;
 
 /// A transaction that an agent carries out: what it gathered of the suites that it locks, and where it
@@ -148,10 +149,13 @@ impl Course {
         ensures memory { IfErr result (λ _. IsTrue (is_held said.now)) }
     {
         match self.hear(number, said)? {
-            Heard::Lost => Ok(self.give_up(Cause::Lost { server })),
-            Heard::Asks => Ok(Goes::On),
-            Heard::Short => Ok(self.gather(number)),
-            Heard::Settles(settling) => self.execute(means, News::Quorum(number, settling)),
+            Hearing::Lost => Ok(self.give_up(Cause::Lost { server })),
+            Hearing::Asks => Ok(Goes::On),
+            Hearing::Short => Ok(self.gather(number)),
+            Hearing::Quorum => match self.settling(number, said)? {
+                Some(settling) => self.execute(means, News::Quorum(number, settling)),
+                None => Ok(self.give_up(Cause::Lost { server })),
+            },
         }
     }
 
@@ -163,18 +167,21 @@ impl Course {
         ensures memory { IfErr result (λ _. IsTrue (is_held said.now)) }
     {
         match self.hear(number, said)? {
-            Heard::Lost => Ok(self.give_up(Cause::Lost { server })),
-            Heard::Asks => Ok(Goes::On),
-            Heard::Short => Ok(self.gather(number)),
-            Heard::Settles(settling) => {
-                settle(&mut self.suites, number, settling);
-                Ok(self.widen_on())
-            }
+            Hearing::Lost => Ok(self.give_up(Cause::Lost { server })),
+            Hearing::Asks => Ok(Goes::On),
+            Hearing::Short => Ok(self.gather(number)),
+            Hearing::Quorum => match self.settling(number, said)? {
+                Some(settling) => {
+                    settle(&mut self.suites, number, settling);
+                    Ok(self.widen_on())
+                }
+                None => Ok(self.give_up(Cause::Lost { server })),
+            },
         }
     }
 
     /// A suite hears what a server said. With a quorum it is as it was, and is still to be settled.
-    fn hear(&mut self, number: u64, said: &Reply) -> Result<Heard, AllocError>
+    fn hear(&mut self, number: u64, said: &Reply) -> Result<Hearing, AllocError>
         requires { shows_unused said.now ≡ true }
         ensures ok { IfOk result (λ heard. HearsAt (gathering.suite_of self.old.suites number) number heard self.old said.now self.new) }
         ensures ordered { IsOrdered nat_cmp self.old.suites }
@@ -182,9 +189,17 @@ impl Course {
         ensures memory { IfErr result (λ _. IsTrue (is_held said.now)) }
     {
         let Some(suite) = self.suites.get_mut(&number) else {
-            return Ok(Heard::Lost);
+            return Ok(Hearing::Lost);
         };
         suite.hear(said)
+    }
+
+    /// The quorum that a suite has with a reply.
+    fn settling(&self, number: u64, said: &Reply) -> Result<Option<Settling>, AllocError> {
+        match self.suites.get(&number) {
+            Some(suite) => suite.settling(said),
+            None => Ok(None),
+        }
     }
 
     /// A server gave the content of a suite, or it did not.

@@ -39,19 +39,6 @@ struct Gathered {
     content: Option<Content>,
 }
 
-/// What comes of a reply to what a suite asked.
-#[derive(Drop)]
-pub(crate) enum Heard {
-    /// A lock is lost, or its server is down: the transaction ends.
-    Lost,
-    /// Another server is to be asked.
-    Asks,
-    /// Nobody is left to ask.
-    Short,
-    /// With it there is a quorum, which the suite does not have yet.
-    Settles(Settling),
-}
-
 impl Model for Suite {
     ghost use Rattle.txn_core.specs.Suites as gathering;
     ghost use Rattle.txn_core.specs.code.SuiteFields.{suite_of, IsUnused};
@@ -140,20 +127,24 @@ impl Suite {
 
     /// Hears the reply to what was asked next. With a lock that gives a quorum nothing changes yet. Only a lock
     /// that is held may want memory, and nothing has changed then.
-    pub(crate) fn hear(&mut self, reply: &Reply) -> Result<Heard, AllocError>
+    pub(crate) fn hear(&mut self, reply: &Reply) -> Result<Hearing, AllocError>
         requires { shows_unused reply.now ≡ true }
-        ensures ok { IfOk result (λ heard. Hears heard self.old reply.now self.new) }
+        ensures ok { IfOk result (λ hearing. Hears hearing self.old reply.now self.new) }
         ensures err { OnErr result (self.new ≡ self.old) }
         ensures memory { IfErr result (λ _. IsTrue (is_held reply.now)) }
     {
-        match self.gathered.collect.hear(reply)? {
-            Hearing::Lost => Ok(Heard::Lost),
-            Hearing::Asks => Ok(Heard::Asks),
-            Hearing::Short => Ok(Heard::Short),
-            Hearing::Quorum(last) => {
+        self.gathered.collect.hear(reply)
+    }
+
+    /// The quorum that there is with a reply, and what it gives.
+    pub(crate) fn settling(&self, reply: &Reply) -> Result<Option<Settling>, AllocError>
+    {
+        match self.gathered.collect.told_by(reply)? {
+            Some(last) => {
                 let first = self.first_after(&last)?;
-                Ok(Heard::Settles(Settling { last, first }))
+                Ok(Some(Settling { last, first }))
             }
+            None => Ok(None),
         }
     }
 

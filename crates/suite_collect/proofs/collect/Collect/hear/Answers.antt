@@ -13,7 +13,7 @@ returns-in-Current-clause-ok c =
     let last = c.in-Some.last in
     let told : told_by (next was) c.args.reply.now ≡ Some last = search rules in
     let quorum : has_quorum (next (tell last was)) ≡ true = ap has_quorum (current_next (tell last was) (sym c.due_after-due.ensures.value ∙ ap due_in c.in-Current.is)) in
-    record { known = search rules; told = told; lock = quorum_shows was c.args.reply.now last told quorum; quorum = quorum; same = refl }
+    record { last = last; told = told; lock = quorum_shows was c.args.reply.now last told quorum; quorum = quorum; same = refl }
 
 pub returns-in-Ask-clause-ok : goal.returns-in-Ask-clause-ok
 returns-in-Ask-clause-ok c =
