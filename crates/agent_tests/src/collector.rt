@@ -72,15 +72,25 @@ fn reply(rt: &(impl Abort + AllocGlobal), text: &str) -> Reply {
 
 /// What a reply to what is asked next comes to. A lock that gives a quorum is told, too.
 fn heard(rt: &(impl Abort + AllocGlobal), collect: &mut Collect, text: &str) -> &'static str {
-    match collect.hear(&reply(rt, text)).ok().expect(rt, "memory") {
+    let reply = reply(rt, text);
+    match collect.hear(&reply).ok().expect(rt, "memory") {
         Hearing::Lost => "lost",
         Hearing::Asks => "asks",
         Hearing::Short => "short",
-        Hearing::Quorum(last) => {
+        Hearing::Quorum => {
+            let last = told_by(rt, collect, &reply);
             collect.tell(last);
             "quorum"
         }
     }
+}
+
+/// What is told by a reply that answers what was asked.
+fn told_by(rt: &impl Abort, collect: &Collect, reply: &Reply) -> Told
+    ensures { result.server < MAX_SERVERS }
+{
+    let told = collect.told_by(reply).ok().expect(rt, "memory");
+    told.expect(rt, "an answer")
 }
 
 /// What is done with a collector: it is raised, widened to votes, or told a reply.
@@ -237,15 +247,13 @@ fn only_some_replies_are_gone_on_with(rt: HostRuntime) {
     assert!(rt; heard(&rt, &mut collect, "down") == "lost");
 }
 
-/// What a lock that gives a quorum is told by.
+/// What is told by a lock that gives a quorum.
 fn quorum_of(rt: &impl Abort, collect: &mut Collect, reply: &Reply) -> Told
     ensures { result.server < MAX_SERVERS }
 {
-    let last = match collect.hear(reply).ok().expect(rt, "memory") {
-        Hearing::Quorum(last) => Some(last),
-        _ => None,
-    };
-    last.expect(rt, "a quorum")
+    let hearing = collect.hear(reply).ok().expect(rt, "memory");
+    assert!(rt; matches!(hearing, Hearing::Quorum));
+    told_by(rt, collect, reply)
 }
 
 /// What a quorum gives is the same before it is told and after it.

@@ -14,6 +14,7 @@ use Rattle.weak_cache.specs.Cache.{Limited}
 use Rattle.std.specs.Prelude.{option_map, IfErr, OnErr}
 use Rattle.std.specs.declared.alloc.AllocError.{AllocError}
 use Rattle.std.proofs.lemmas.Option.{none-some, same_Some}
+use Rattle.suite_collect.specs.declared.hearing.Hearing.TheVariants.{Lost, Asks, Short, Quorum as Complete}
 use Rattle.suite_content.specs.declared.content.Content.{Content}
 use Rattle.txn_core.specs.declared.ending.Cause.{Cause}
 use Rattle.txn_core.specs.declared.ending.Cause.TheVariants as cause
@@ -24,14 +25,13 @@ use Rattle.txn_core.specs.declared.means.Means.{Means}
 use Rattle.txn_core.specs.declared.news.News.{News}
 use Rattle.txn_core.specs.declared.news.News.TheVariants.{Quorum, Content as Given}
 use Rattle.txn_core.specs.declared.settling.Settling.{Settling}
-use Rattle.txn_core.specs.declared.suites.Heard.TheVariants.{Lost, Asks, Short, Settles}
 use Rattle.txn_core.specs.declared.word.Word.TheVariants.{Lacked}
 use Rattle.txn_core.specs.Agents.{left as begun}
 use Rattle.txn_core.specs.Doing.{Fixed, Course, Granted, Phase, Running, After, GoesOn, Ends}
 use Rattle.txn_core.specs.Suites.{First, Suite, Suites, suite_of, with_suite}
 use Rattle.txn_core.specs.Transactions.{Step, after_lack, execute, fetched, gather_by, give_up, given_in, keep_content, request_of, widen_all}
 use Rattle.txn_core.specs.code.Goings.{GoesBy, IsStep, IsUntouched, Keeps, fixed_by, given, held, replied, widened}
-use Rattle.txn_core.specs.code.Hearing.{Hearing, HearsAt, heard_at, on_hearing}
+use Rattle.txn_core.specs.code.Hearing.{Hearing, HearsAt, IsSettled, SettlesAt, heard_at, on_hearing}
 use Rattle.txn_core.specs.code.Learning.{content_news, learned}
 use Rattle.txn_core.specs.code.Plans.{kept_of, shelved}
 use Rattle.txn_core.specs.code.Reaching.{IsReachedBy, IsReachedIn}
@@ -39,7 +39,7 @@ use Rattle.txn_core.specs.code.Seeing.{changed_at, first_at, settled_with, with_
 use Rattle.txn_core.specs.code.Sequels.{gather_again}
 use Rattle.txn_core.specs.code.Steps.{Becomes, taken}
 use Rattle.txn_core.specs.code.Unused.{HasUnused}
-use Rattle.txn_core.proofs.InPlace.{at_lost, at_asks, at_short, at_settles}
+use Rattle.txn_core.proofs.InPlace.{at_lost, at_asks, at_short, at_quorum, settles_there, settles_lost}
 use Rattle.txn_core.proofs.Reaching.{IsLate, gives_up, goes_gather, goes_unless, late, reached_asks, reached_at, reached_short}
 
 module _ (before mid : Course) (number server : ℕ) (said : Reply) where
@@ -77,17 +77,11 @@ module _ (before mid : Course) (number server : ℕ) (said : Reply) where
         ∙ ap (gather_by before.task cache more number) short.3
         ∙ ap step_on (sym short.4)) gathers
 
-  pub settled_step : (cache : Cache) (settling : Settling) (then' : Suites → Step) → HearsAt found number (Settles settling) before said mid
+  pub settled_step : (cache : Cache) (settling : Settling) (then' : Suites → Step) → IsSettled (heard_at found said) → SettlesAt found (Some settling) said
       → then' (changed_at (settled_with settling) number found before.suites) ≡ step_on cache (λ suite. then' (with_suite number suite before.suites)) (heard_at found said)
-  settled_step cache settling then' hears =
-      let at = at_settles before mid number said settling found hears in
+  settled_step cache settling then' settles by =
+      let at = settles_there said settling found settles by in
       ap (λ it. then' (changed_at (settled_with settling) number it before.suites)) at.1 ∙ ap (step_on cache (λ suite. then' (with_suite number suite before.suites))) (sym at.2)
-
-  pub settles_same : (settling : Settling) → HearsAt found number (Settles settling) before said mid → mid ≡ before
-  settles_same settling hears = (at_settles before mid number said settling found hears).3
-
-  pub settles_held : (settling : Settling) → HearsAt found number (Settles settling) before said mid → is_held said ≡ true
-  settles_held settling hears = (at_settles before mid number said settling found hears).4
 
   -- ---- how far the transaction came
 
@@ -148,11 +142,34 @@ module _ (means : Means) (before mid : Course) (number server : ℕ) (said : Rep
           reached = goes_unless means.ground means.progress again goes after cache (goes_gather means.ground means.progress mid.task cache mid.suites number (suite_of mid.suites number) reaches) (gathers cache);
         }
 
-  -- with a quorum the transaction is executed
-  pub held_settles : (settling : Settling) → HearsAt found' number (Settles settling) before said mid → execute (fixed_by means) mid.task (learned (Quorum number settling) means.cache mid.suites) ≡ held'
-  held_settles settling hears =
-      ap (λ (course : Course). execute (fixed_by means) course.task (learned (Quorum number settling) means.cache course.suites)) (settles_same before mid number server said settling hears)
-      ∙ settled_step before mid number server said means.cache.entries settling (λ suites. execute (fixed_by means) before.task (record { suites = suites; cache = means.cache.entries })) hears
+  -- with a quorum nothing changes yet
+  module _ (hears : HearsAt found' number Complete before said mid) where
+    pub quorum_same : mid ≡ before
+    quorum_same = (at_quorum before mid number said found' hears).1
+
+    pub quorum_held : is_held said ≡ true
+    quorum_held = (at_quorum before mid number said found' hears).2
+
+    pub quorum_settles : IsSettled (heard_at (suite_of mid.suites number) said)
+    quorum_settles = subst (λ (course : Course). IsSettled (heard_at (suite_of course.suites number) said)) (sym quorum_same) (at_quorum before mid number said found' hears).0
+
+    pub quorum_step : (goes : Goes) (after : Course) (left : Means) → IsStep means (held (fixed_by means) mid means.cache.entries number server said) goes after left → IsStep means held' goes after left
+    quorum_step goes after left is = subst (λ (course : Course). IsStep means (held (fixed_by means) course means.cache.entries number server said) goes after left) quorum_same is
+
+-- the transaction is executed then
+module _ (means : Means) (course : Course) (number server : ℕ) (said : Reply) where
+  abbrev pub settling_step : Step
+  settling_step = held (fixed_by means) course means.cache.entries number server said
+
+  pub held_settles : (settling : Settling) → IsSettled (heard_at (suite_of course.suites number) said) → SettlesAt (suite_of course.suites number) (Some settling) said
+      → execute (fixed_by means) course.task (learned (Quorum number settling) means.cache course.suites) ≡ settling_step
+  held_settles settling settles by =
+      settled_step course course number server said means.cache.entries settling (λ suites. execute (fixed_by means) course.task (record { suites = suites; cache = means.cache.entries })) settles by
+
+  pub held_unsettled : SettlesAt (suite_of course.suites number) None said → give_up course.task means.cache.entries course.suites (cause.Lost server) ≡ settling_step
+  held_unsettled by =
+      ap (λ what. on_hearing course.task means.cache.entries course.suites course.phase number server what (λ suite. execute (fixed_by means) course.task (record { suites = with_suite number suite course.suites; cache = means.cache.entries })))
+      (sym (settles_lost said (suite_of course.suites number) by))
 
 -- ---- a suite that is widened
 
@@ -174,15 +191,29 @@ module _ (before mid : Course) (number server : ℕ) (said : Reply) (cache : Cac
   widened_short goes after hears gathers = short_goes before mid number server said cache (λ suite. widens (with_suite number suite before.suites)) goes after hears gathers
 
   -- with a quorum the suites that are left are widened
-  pub widened_settles : (settling : Settling) (then' after : Course) (goes : Goes) → HearsAt (suite_of before.suites number) number (Settles settling) before said mid
-      → then' ≡ record mid { suites = changed_at (settled_with settling) number (suite_of mid.suites number) mid.suites }
-      → GoesBy (widen_all then'.task cache then'.suites granted left) goes after cache → GoesBy widened' goes after cache
-  widened_settles settling then' after goes hears is steps =
-      let Goes' : Step → Type 0 = λ step. GoesBy step goes after cache in
-      let settled : Course → Course = λ course. record course { suites = changed_at (settled_with settling) number (suite_of course.suites number) course.suites } in
-      subst Goes'
-      (ap (λ (course : Course). widen_all course.task cache course.suites granted left) (is ∙ ap settled (settles_same before mid number server said settling hears))
-      ∙ settled_step before mid number server said cache settling widens hears) steps
+  module _ (hears : HearsAt (suite_of before.suites number) number Complete before said mid) where
+    abbrev pub at_mid : IsSettled (heard_at (suite_of before.suites number) said) × (mid ≡ before) × (is_held said ≡ true)
+    at_mid = at_quorum before mid number said (suite_of before.suites number) hears
+
+    settles_mid : (settling : Option Settling) → SettlesAt (suite_of mid.suites number) settling said → SettlesAt (suite_of before.suites number) settling said
+    settles_mid settling by = subst (λ (course : Course). SettlesAt (suite_of course.suites number) settling said) at_mid.1 by
+
+    pub widened_settles : (settling : Settling) (then' after : Course) (goes : Goes) → SettlesAt (suite_of mid.suites number) (Some settling) said
+        → then' ≡ record mid { suites = changed_at (settled_with settling) number (suite_of mid.suites number) mid.suites }
+        → GoesBy (widen_all then'.task cache then'.suites granted left) goes after cache → GoesBy widened' goes after cache
+    widened_settles settling then' after goes by is steps =
+        let Goes' : Step → Type 0 = λ step. GoesBy step goes after cache in
+        let settled : Course → Course = λ course. record course { suites = changed_at (settled_with settling) number (suite_of course.suites number) course.suites } in
+        subst Goes'
+        (ap (λ (course : Course). widen_all course.task cache course.suites granted left) (is ∙ ap settled at_mid.1)
+        ∙ settled_step before mid number server said cache settling widens at_mid.0 (settles_mid (Some settling) by)) steps
+
+    pub widened_unsettled : (goes : Goes) (after : Course) → SettlesAt (suite_of mid.suites number) None said → GoesBy (give_up mid.task cache mid.suites (cause.Lost server)) goes after cache → GoesBy widened' goes after cache
+    widened_unsettled goes after by up =
+        let Goes' : Step → Type 0 = λ step. GoesBy step goes after cache in
+        subst Goes'
+        (ap (λ (course : Course). give_up course.task cache course.suites (cause.Lost server)) at_mid.1
+        ∙ ap (step_on before mid number server said cache (λ suite. widens (with_suite number suite before.suites))) (sym (settles_lost said (suite_of before.suites number) (settles_mid None by)))) up
 
 -- ---- whatever is replied
 

@@ -15,12 +15,12 @@ use Rattle.suite_collect.specs.Collecting.{Widening, Collector, Asked, Poll, Upg
 use Rattle.suite_collect.specs.Collecting as collecting
 use Rattle.suite_collect.proofs.Collected.{gives_of}
 use Rattle.weak_cache.specs.Entries.{Cache}
-use Rattle.txn_core.specs.Suites.{First, Suite, Suites, first_or, source_of}
+use Rattle.txn_core.specs.Suites.{First, Suite, Suites, first_or, settled, source_of}
 use Rattle.txn_core.specs.Doing.{Task, Phase}
 use Rattle.txn_core.specs.Transactions.{Step, said_to, collected, hear}
 use Rattle.txn_core.specs.declared.settling.Settling.{Settling}
 use Rattle.txn_core.specs.code.Hearing as hearing
-use Rattle.txn_core.specs.code.Hearing.{heard_next, heard_one, heard, on_hearing, FallsShort, IsFirstAfter}
+use Rattle.txn_core.specs.code.Hearing.{heard_next, heard_one, heard, on_hearing, FallsShort, IsFirstAfter, IsSettled}
 use Rattle.txn_core.specs.code.Seeing.{settled_with}
 
 -- a reply says to a transaction what it says to a collector
@@ -116,6 +116,36 @@ module _ (suite : Suite) (answer : Reply) where
           ∙ ap (λ mode. hearing.Settled (record suite { collector = c; first = option_or suite.first settling.first; mode = mode })) (mode_stays suite.collector settling.last)
       of (Ask server asked) is quorum = cc
       of (Short got needed busy) is quorum = cc
+
+  -- it is to be settled where there is a quorum, and only there
+  pub hears_quorum : (last : Told) → told_by (next suite.collector) answer ≡ Some last → has_quorum (next (tell last suite.collector)) ≡ true → IsSettled (heard suite answer)
+  hears_quorum last told quorum = of (next c) refl quorum
+    where
+      c : Collector
+      c = tell last suite.collector
+
+      of : (what : Next) → next c ≡ what → has_quorum what ≡ true → IsSettled (heard suite answer)
+      of (Current prefix dver members) is quorum = (settled prefix dver members (record suite { collector = c }), ap (heard_one suite) told ∙ ap (heard_next (record suite { collector = c })) is)
+      of (Ask server asked) is quorum = cc
+      of (Short got needed busy) is quorum = cc
+
+  pub settles_if : (settling : Settling) → told_by (next suite.collector) answer ≡ Some settling.last → IsFirstAfter suite settling.last settling.first → IsSettled (heard suite answer)
+      → heard suite answer ≡ hearing.Settled (settled_with settling suite)
+  settles_if settling told first settles = hears_settles settling told (of (next c) refl) first
+    where
+      c : Collector
+      c = tell settling.last suite.collector
+
+      after : Suite
+      after = record suite { collector = c }
+
+      told_to : (what : Next) → next c ≡ what → heard_next after what ≡ hearing.Settled settles.0
+      told_to what is = sym (ap (heard_one suite) told ∙ ap (heard_next after) is) ∙ settles.1
+
+      of : (what : Next) → next c ≡ what → has_quorum (next c) ≡ true
+      of (Current prefix dver members) is = ap has_quorum is
+      of (Ask server asked) is = let bad : hearing.Asks after ≡ hearing.Settled settles.0 = told_to (Ask server asked) is in cc
+      of (Short got needed busy) is = let bad : hearing.Short after got needed busy ≡ hearing.Settled settles.0 = told_to (Short got needed busy) is in cc
 
 -- what a quorum gives is what the first one of a suite gives
 abbrev the_first : Prefix → ℕ → ℕ → First

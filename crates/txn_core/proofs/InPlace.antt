@@ -10,12 +10,12 @@ use Rattle.rep_core.specs.Fits.{is_held}
 use Rattle.sorted_map.specs.SortedMap.{IsOrdered, replace}
 use Rattle.sorted_map.specs.Edits.{replace_same}
 use Rattle.suite_collect.specs.Answering.{shows_lock}
-use Rattle.txn_core.specs.declared.suites.Heard.{Heard}
-use Rattle.txn_core.specs.declared.suites.Heard.TheVariants.{Lost, Asks, Short, Settles}
+use Rattle.suite_collect.specs.declared.hearing.Hearing.{Hearing as Heard}
+use Rattle.suite_collect.specs.declared.hearing.Hearing.TheVariants.{Lost, Asks, Short, Quorum}
 use Rattle.txn_core.specs.declared.settling.Settling.{Settling}
 use Rattle.txn_core.specs.Doing.{Course}
 use Rattle.txn_core.specs.code.Hearing as hearing
-use Rattle.txn_core.specs.code.Hearing.{heard, heard_at, Hears, HearsIn, HearsAt, FallsShort}
+use Rattle.txn_core.specs.code.Hearing.{heard, heard_at, Hears, HearsIn, HearsAt, FallsShort, IsSettled, SettlesAt}
 use Rattle.txn_core.specs.code.Seeing.{settled_with}
 use Rattle.txn_core.specs.Suites.{Suite, Suites, suite_of, with_suite}
 use Rattle.txn_core.specs.code.Unused.{shows_unused}
@@ -54,7 +54,7 @@ module _ (before after : Course) (held : Suites) (number : ℕ) (suite new : Sui
   hears_one Lost hears = (hears.0, left_there before after held number suite new same there hears.1 put)
   hears_one Asks hears = (new, hears, inserted)
   hears_one Short hears = (new, hears, inserted)
-  hears_one (Settles settling) hears = (hears.0, left_there before after held number suite new same there hears.1 put, hears.2)
+  hears_one Quorum hears = (hears.0, left_there before after held number suite new same there hears.1 put, hears.2)
 
   pub hears_there : (result : Result Heard AllocError) → IfOk result (λ what. Hears what suite said new) → IfOk result (λ what. HearsAt (suite_of before.suites number) number what before said after)
   hears_there (Ok what) hears = subst (λ found. HearsAt found number what before said after) (there ∙ ap (λ held. suite_of held number) same) (hears_one what hears)
@@ -78,7 +78,17 @@ module _ (before after : Course) (number : ℕ) (said : Reply) where
   at_short (Some suite) hears = hears
   at_short None hears = cc
 
-  pub at_settles : (settling : Settling) (found : Option Suite) → HearsAt found number (Settles settling) before said after
-      → (suite : Suite) × (found ≡ Some suite) × (heard_at found said ≡ hearing.Settled (settled_with settling suite)) × (after ≡ before) × (is_held said ≡ true)
-  at_settles settling (Some suite) hears = (suite, refl, hears.0, hears.1, hears.2)
-  at_settles settling None hears = cc
+  pub at_quorum : (found : Option Suite) → HearsAt found number Quorum before said after → IsSettled (heard_at found said) × (after ≡ before) × (is_held said ≡ true)
+  at_quorum (Some suite) hears = hears
+  at_quorum None hears = cc
+
+-- the quorum that a suite is to have then
+module _ (said : Reply) where
+  pub settles_there : (settling : Settling) (found : Option Suite) → IsSettled (heard_at found said) → SettlesAt found (Some settling) said
+      → (suite : Suite) × (found ≡ Some suite) × (heard_at found said ≡ hearing.Settled (settled_with settling suite))
+  settles_there settling (Some suite) settles by = (suite, refl, by settles)
+  settles_there settling None settles by = cc
+
+  pub settles_lost : (found : Option Suite) → SettlesAt found None said → heard_at found said ≡ hearing.Lost
+  settles_lost (Some suite) by = by
+  settles_lost None by = refl

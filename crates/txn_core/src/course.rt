@@ -7,12 +7,13 @@ ghost use Rattle.rep_core.specs.Fits.{is_held};
 ghost use Rattle.weak_cache.specs.Entries.{Cache};
 ghost use Rattle.txn_core.specs.Doing as doing;
 ghost use Rattle.txn_core.specs.code.Goings.{Begins, GoesBy, IsReady, IsStep, IsUntouched, IsWidenedBy, Keeps, begun, executed, fixed_by, gathers, given_by, held_by, replied};
-ghost use Rattle.txn_core.specs.code.Hearing.{HearsAt};
+ghost use Rattle.txn_core.specs.code.Hearing.{HearsAt, IsSettled, SettlesAt, heard_at};
 ghost use Rattle.txn_core.specs.code.Learning.{Fits, content_news};
 ghost use Rattle.txn_core.specs.code.Reaching.{IsReachedBy, IsReachedIf, IsReachedIn};
 ghost use Rattle.txn_core.specs.code.Sequels.{follow};
 ghost use Rattle.txn_core.specs.Standing.{FitsAsked};
 ghost use Rattle.txn_core.specs.Suites as gathering;
+ghost use Rattle.txn_core.specs.Suites.{suite_of};
 ghost use Rattle.txn_core.specs.Transactions as course;
 ghost use Rattle.txn_core.specs.code.Unused.{HasUnused, shows_unused};
 ghost use Rattle.txn_core.specs.Wanting as wanting;
@@ -25,8 +26,8 @@ use crate::news::{News, settle};
 use crate::phase::Phase;
 use crate::sequel::Sequel;
 use crate::servers::locked_at;
-use crate::shelf::Fetched;
 use crate::settling::Settling;
+use crate::shelf::Fetched;
 use crate::suites::Suite;
 use crate::task::Task;
 use rep_core::Reply;
@@ -152,10 +153,7 @@ impl Course {
             Hearing::Lost => Ok(self.give_up(Cause::Lost { server })),
             Hearing::Asks => Ok(Goes::On),
             Hearing::Short => Ok(self.gather(number)),
-            Hearing::Quorum => match self.settling(number, said)? {
-                Some(settling) => self.execute(means, News::Quorum(number, settling)),
-                None => Ok(self.give_up(Cause::Lost { server })),
-            },
+            Hearing::Quorum => self.on_quorum(means, number, server, said),
         }
     }
 
@@ -194,8 +192,34 @@ impl Course {
         suite.hear(said)
     }
 
-    /// The quorum that a suite has with a reply.
-    fn settling(&self, number: u64, said: &Reply) -> Result<Option<Settling>, AllocError> {
+    /// With a lock a suite that is gathered has a quorum, on which the transaction is executed. It is a call of its
+    /// own, so that what it takes on the stack is not cleared for each lock.
+    #[inline(never)]
+    fn on_quorum(
+        &mut self,
+        means: &mut Means,
+        number: u64,
+        server: u8,
+        said: &Reply,
+    ) -> Result<Goes, AllocError>
+        requires unused { HasUnused means.old.cache.entries }
+        requires reached { IsReachedIn means.old.ground self.old.task self.old.suites means.old.progress }
+        requires shown { shows_unused said.now ≡ true }
+        requires quorum { IsSettled (heard_at (suite_of self.old.suites number) said.now) }
+        ensures ok { IfOk result (λ goes. IsStep means.old (held_by means.old self.old number server said.now) goes self.new means.new) }
+        ensures err { OnErr result (IsUntouched means.old self.old self.new means.new) }
+    {
+        match self.settling(number, said)? {
+            Some(settling) => self.execute(means, News::Quorum(number, settling)),
+            None => Ok(self.give_up(Cause::Lost { server })),
+        }
+    }
+
+    /// The quorum that a suite is to have with a reply that completes one.
+    fn settling(&self, number: u64, said: &Reply) -> Result<Option<Settling>, AllocError>
+        requires { shows_unused said.now ≡ true }
+        ensures { IfOk result (λ settling. SettlesAt (suite_of self.now.suites number) settling said.now) }
+    {
         match self.suites.get(&number) {
             Some(suite) => suite.settling(said),
             None => Ok(None),

@@ -6,7 +6,7 @@ ghost use Rattle.rep_core.specs.Fits.{is_held};
 ghost use Rattle.rep_core.specs.Store.{is_used_up};
 ghost use Rattle.suite_collect.specs.Answering.{Comes};
 ghost use Rattle.suite_collect.specs.Collecting as spec;
-ghost use Rattle.txn_core.specs.code.Hearing.{Hears, IsFirstAfter};
+ghost use Rattle.txn_core.specs.code.Hearing.{Hears, IsFirstAfter, Settles};
 ghost use Rattle.txn_core.specs.code.Plans.{takes_in};
 ghost use Rattle.txn_core.specs.code.Seeing.{settled_with, sight_of, sight_of_suite};
 ghost use Rattle.txn_core.specs.Suites as gathering;
@@ -136,16 +136,16 @@ impl Suite {
         self.gathered.collect.hear(reply)
     }
 
-    /// The quorum that there is with a reply, and what it gives.
+    /// The quorum that it is to have with a reply that completes one; none, where a lock is lost.
     pub(crate) fn settling(&self, reply: &Reply) -> Result<Option<Settling>, AllocError>
+        requires { shows_unused reply.now ≡ true }
+        ensures { IfOk result (λ settling. Settles settling self.now reply.now) }
     {
-        match self.gathered.collect.told_by(reply)? {
-            Some(last) => {
-                let first = self.first_after(&last)?;
-                Ok(Some(Settling { last, first }))
-            }
-            None => Ok(None),
-        }
+        let Some(last) = self.gathered.collect.told_by(reply)? else {
+            return Ok(None);
+        };
+        let first = self.first_after(&last)?;
+        Ok(Some(Settling { last, first }))
     }
 
     /// What the first quorum gives, where there is one once this is told, and was none before.

@@ -4,13 +4,14 @@ use Rattle.std.specs.Option.{option_or}
 use Rattle.suite_prefix.specs.declared.copies.Prefix.{Prefix}
 use Rattle.rep_core.specs.Fits.{is_held}
 use Rattle.rep_core.specs.declared.reply.Reply.{Reply}
+use Rattle.suite_collect.specs.declared.hearing.Hearing.{Hearing as Heard}
+use Rattle.suite_collect.specs.declared.hearing.Hearing.TheVariants as coded
 use Rattle.suite_collect.specs.declared.told.Told.{Told}
 use Rattle.suite_collect.specs.Collecting as collecting
 use Rattle.suite_collect.specs.Collecting.{Next, next, tell, told_by}
 use Rattle.weak_cache.specs.Entries.{Cache}
 use Rattle.txn_core.specs.Suites.{First, Suite, Suites, with_suite, settled}
-use Rattle.txn_core.specs.declared.suites.Heard.{Heard}
-use Rattle.txn_core.specs.declared.suites.Heard.TheVariants as coded
+use Rattle.txn_core.specs.declared.settling.Settling.{Settling}
 use Rattle.txn_core.specs.declared.ending.Cause.TheVariants as cause
 use Rattle.txn_core.specs.Doing.{Task, Phase, Course}
 use Rattle.txn_core.specs.code.Seeing.{settled_with}
@@ -56,17 +57,21 @@ abbrev pub FallsShort : Hearing → Suite → Type 0
 FallsShort hearing after =
     (got : ℕ) × (needed : ℕ) × (busy : Option (ℕ × ℕ)) × (next after.collector ≡ collecting.Short got needed busy) × (hearing ≡ Short after got needed busy)
 
+-- with a quorum a suite is to be settled
+abbrev pub IsSettled : Hearing → Type 0
+IsSettled hearing = (suite : Suite) × (hearing ≡ Settled suite)
+
 -- a suite was told; or the lock gives a quorum, and the suite is as it was
 abbrev pub Hears : Heard → Suite → Reply → Suite → Type 0
 Hears coded.Lost before said after = (heard before said ≡ Lost) × (after ≡ before)
 Hears coded.Asks before said after = heard before said ≡ Asks after
 Hears coded.Short before said after = FallsShort (heard before said) after
-Hears (coded.Settles settling) before said after = (heard before said ≡ Settled (settled_with settling before)) × (after ≡ before) × (is_held said ≡ true)
+Hears coded.Quorum before said after = IsSettled (heard before said) × (after ≡ before) × (is_held said ≡ true)
 
 -- the same of a suite among those of a course
 abbrev pub HearsIn : Heard → ℕ → Suite → Course → Reply → Course → Type 0
 HearsIn coded.Lost number suite before said after = (heard suite said ≡ Lost) × (after ≡ before)
-HearsIn (coded.Settles settling) number suite before said after = (heard suite said ≡ Settled (settled_with settling suite)) × (after ≡ before) × (is_held said ≡ true)
+HearsIn coded.Quorum number suite before said after = IsSettled (heard suite said) × (after ≡ before) × (is_held said ≡ true)
 HearsIn heard number suite before said after = (new : Suite) × Hears heard suite said new × (after ≡ record before { suites = with_suite number new before.suites })
 
 abbrev pub HearsAt : Option Suite → ℕ → Heard → Course → Reply → Course → Type 0
@@ -78,3 +83,12 @@ abbrev pub IsFirstAfter : Suite → Told → Option First → Type 0
 IsFirstAfter suite last first =
     (prefix : Prefix) (dver : ℕ) (members : List ℕ) → next (tell last suite.collector) ≡ collecting.Current prefix dver members
     → option_or suite.first first ≡ (settled prefix dver members (record suite { collector = tell last suite.collector })).first
+
+-- the quorum that a suite is to have with a reply; none, where a lock is lost
+abbrev pub Settles : Option Settling → Suite → Reply → Type 0
+Settles (Some settling) suite said = IsSettled (heard suite said) → heard suite said ≡ Settled (settled_with settling suite)
+Settles None suite said = heard suite said ≡ Lost
+
+abbrev pub SettlesAt : Option Suite → Option Settling → Reply → Type 0
+SettlesAt (Some suite) settling said = Settles settling suite said
+SettlesAt None settling said = settling ≡ None
