@@ -9,7 +9,9 @@ use Rattle.rep_core.specs.declared.reply.Reply.TheVariants as reply
 use Rattle.rep_core.specs.Fits.{is_held}
 use Rattle.sorted_map.specs.SortedMap.{IsOrdered, replace}
 use Rattle.sorted_map.specs.Edits.{replace_same}
-use Rattle.suite_collect.specs.Answering.{shows_lock}
+use Rattle.suite_collect.specs.Answering as collector
+use Rattle.suite_collect.specs.Answering.{IsTold, shows_lock}
+use Rattle.suite_collect.specs.Collecting.{Collector, Collecting}
 use Rattle.suite_collect.specs.declared.hearing.Hearing.{Hearing as Heard}
 use Rattle.suite_collect.specs.declared.hearing.Hearing.TheVariants.{Lost, Asks, Short, Quorum}
 use Rattle.txn_core.specs.declared.settling.Settling.{Settling}
@@ -18,8 +20,10 @@ use Rattle.txn_core.specs.code.Hearing as hearing
 use Rattle.txn_core.specs.code.Hearing.{heard, heard_at, Hears, HearsIn, HearsAt, FallsShort, IsSettled, SettlesAt}
 use Rattle.txn_core.specs.code.Seeing.{settled_with}
 use Rattle.txn_core.specs.Suites.{Suite, Suites, suite_of, with_suite}
-use Rattle.txn_core.specs.code.Unused.{shows_unused}
+use Rattle.txn_core.specs.code.Unused.{SawUnused, shows_unused}
 use Rattle.txn_core.proofs.Carried.{set_there}
+use Rattle.txn_core.proofs.Heard.{hears_lost, hears_asks, hears_short, hears_quorum}
+use Rattle.txn_core.proofs.Unused.{saw_more}
 
 -- a lock that is shown, of versions that are not used up, is held
 pub locks_held : (answer : Reply) → shows_unused answer ≡ true → shows_lock answer ≡ true → is_held answer ≡ true
@@ -32,6 +36,39 @@ locks_held (reply.Verdict v) unused shows = cc
 locks_held reply.Done unused shows = cc
 locks_held reply.Down unused shows = cc
 locks_held (reply.Locked locks) unused shows = cc
+
+-- what a collector heard, of its suite
+module _ (rest : Suite) (before after : Collecting) (answer : Reply) (unused : shows_unused answer ≡ true) where
+  abbrev pub with_collector : Collector → Suite
+  with_collector c = record rest { collector = c }
+
+  pub heard_as : (result : Result Heard AllocError) → IfOk result (λ hearing. collector.Hears hearing before answer after)
+      → IfOk result (λ hearing. Hears hearing (with_collector before.collector) answer (with_collector after.collector))
+  heard_as (Err why) hears = tt
+  heard_as (Ok Lost) hears = (hears_lost (with_collector before.collector) answer hears.0, ap (λ (now : Collecting). with_collector now.collector) hears.1)
+  heard_as (Ok Asks) hears = hears_asks (with_collector before.collector) answer hears.0.last after.collector hears.0.told (ap (λ (now : Collecting). now.collector) hears.0.new) hears.1
+  heard_as (Ok Short) hears = hears_short (with_collector before.collector) answer hears.0.last after.collector hears.0.told (ap (λ (now : Collecting). now.collector) hears.0.new) hears.1
+  heard_as (Ok Quorum) hears = (
+    hears_quorum (with_collector before.collector) answer hears.last hears.told hears.quorum,
+    ap (λ (now : Collecting). with_collector now.collector) hears.same,
+    locks_held answer unused hears.lock,
+  )
+
+  pub heard_unused : (result : Result Heard AllocError) → IfOk result (λ hearing. collector.Hears hearing before answer after) → OnErr result (after ≡ before) → SawUnused before.collector → SawUnused after.collector
+  heard_unused result hears left saw = of result hears left
+    where
+      same : after ≡ before → SawUnused after.collector
+      same is = subst (λ (now : Collecting). SawUnused now.collector) (sym is) saw
+
+      told : IsTold before answer after → SawUnused after.collector
+      told is = subst (λ (now : Collecting). SawUnused now.collector) (sym is.new) (saw_more before.collector _ answer is.last is.told unused saw)
+
+      of : (result : Result Heard AllocError) → IfOk result (λ hearing. collector.Hears hearing before answer after) → OnErr result (after ≡ before) → SawUnused after.collector
+      of (Err why) hears left = same left
+      of (Ok Lost) hears left = same hears.1
+      of (Ok Asks) hears left = told hears.0
+      of (Ok Short) hears left = told hears.0
+      of (Ok Quorum) hears left = same hears.same
 
 -- a suite that was left is as it was
 pub left_there : (before after : Course) (held : Suites) (number : ℕ) (suite new : Suite) → held ≡ before.suites → Some suite ≡ suite_of held number → new ≡ suite
