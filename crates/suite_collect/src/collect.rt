@@ -161,17 +161,13 @@ impl Collect {
             return Ok(Hearing::Lost);
         };
         let tally = self.tally_after(&last);
-        match tally.due {
-            Due::Current => Ok(Hearing::Quorum),
-            Due::Ask { .. } => {
-                self.put(last, tally);
-                Ok(Hearing::Asks)
-            }
-            Due::Short { .. } => {
-                self.put(last, tally);
-                Ok(Hearing::Short)
-            }
-        }
+        let hearing = match tally.due {
+            Due::Current => return Ok(Hearing::Quorum),
+            Due::Ask { .. } => Hearing::Asks,
+            Due::Short { .. } => Hearing::Short,
+        };
+        self.put(last, tally);
+        Ok(hearing)
     }
 
     /// What is told by a reply that answers what was asked; nothing, where the transaction is to end. Only a lock
@@ -314,6 +310,7 @@ impl Collect {
     }
 
     /// Puts what is told behind what was told before, and what is due and had then.
+    #[inline(always)]
     fn put(&mut self, last: Told, tally: Tally)
         requires server { last.server < MAX_SERVERS }
         requires tally { tally_in tally ≡ tally_of (spec.tell last self.old.collector) }
@@ -415,6 +412,7 @@ fn newer_of<'a>(newest: &'a Prefix, said: &'a Said) -> &'a Prefix
 }
 
 /// Keeps the prefix that a server showed, where it is newer than the newest so far.
+#[inline(always)]
 fn show(newer: &mut Option<Prefix>, start: &Prefix, said: Said)
     ensures { unwrap_or newer.new start.now ≡ telling.newer (unwrap_or newer.old start.now) said }
 {
