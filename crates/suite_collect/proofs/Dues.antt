@@ -10,13 +10,13 @@ use Rattle.suite_collect.specs.declared.told.Said.{Said}
 use Rattle.suite_collect.specs.declared.told.Told.{Told}
 use Rattle.suite_collect.specs.declared.collect.Collect.TheInside.{Inside}
 use Rattle.suite_collect.specs.declared.widening.Widening.{Widening as Wide}
-use Rattle.suite_collect.specs.declared.due.Due.{Due as Coded}
+use Rattle.suite_collect.specs.declared.due.Tally.{Tally as Coded}
 use Rattle.suite_collect.specs.declared.hearing.Quorum.{Quorum}
 use Rattle.suite_collect.specs.code.Dues as due
-use Rattle.suite_collect.specs.code.Dues.{Due, due_left, due_among, due_by, due_in, IsKnown}
+use Rattle.suite_collect.specs.code.Dues.{Due, Tally, due_left, tally_among, tally_by, tally_in, IsKnown}
 use Rattle.suite_collect.specs.Telling.{newer, newest, holds, has_refused, first_busy, shown}
 use Rattle.suite_collect.specs.Collecting.{Widening, Collector, all_told, counted, wanted, needed, got, is_member, is_left, members_of, version, source, asked_of, ask_or_short, said_to, tell, told_by, Current, Ask, Short, next}
-use Rattle.suite_collect.specs.code.CollectFields.{widening_of, collecting_of, due_of, IsSummed}
+use Rattle.suite_collect.specs.code.CollectFields.{widening_of, collecting_of, tally_of, due_of, IsSummed}
 use Rattle.suite_collect.specs.Answering.{has_quorum, IsQuorumOf}
 use Rattle.suite_collect.proofs.Collected.{asked_as_wanted}
 
@@ -108,17 +108,17 @@ all_told_then c last = of c.widening
     of None = refl
     of (Some w) = refl
 
--- what is due once something is told
-pub due_then : (c : Collector) (last : Told) (votes : Configuration) (held refused : ℕ → Bool) (left : Due)
+-- what is due once something is told, and the votes that are had
+pub tally_then : (c : Collector) (last : Told) (votes : Configuration) (held refused : ℕ → Bool) (tally : Tally)
     → votes ≡ counted (tell last c) → ((other : ℕ) → held other ≡ holds (wanted c) (last ∷ all_told c) other) → ((other : ℕ) → refused other ≡ has_refused (last ∷ all_told c) other)
-    → left ≡ due_among votes (wanted c) held refused → left ≡ due_of (tell last c)
-due_then c last votes held refused left counting holding refusing is =
+    → tally ≡ tally_among votes (wanted c) held refused → tally ≡ tally_of (tell last c)
+tally_then c last votes held refused tally counting holding refusing is =
     is
-    ∙ ap (λ votes. due_among votes (wanted c) held refused) counting
-    ∙ ap (λ held. due_among (counted (tell last c)) (wanted c) held refused) (λ i other. (holding other) i)
-    ∙ ap (due_among (counted (tell last c)) (wanted c) (holds (wanted c) (last ∷ all_told c))) (λ i other. (refusing other) i)
-    ∙ ap (λ told. due_by (counted (tell last c)) (wanted c) told) (sym (all_told_then c last))
-    ∙ ap (λ mode. due_by (counted (tell last c)) mode (all_told (tell last c))) (sym (wanted_still c last))
+    ∙ ap (λ votes. tally_among votes (wanted c) held refused) counting
+    ∙ ap (λ held. tally_among (counted (tell last c)) (wanted c) held refused) (λ i other. (holding other) i)
+    ∙ ap (tally_among (counted (tell last c)) (wanted c) (holds (wanted c) (last ∷ all_told c))) (λ i other. (refusing other) i)
+    ∙ ap (λ told. tally_by (counted (tell last c)) (wanted c) told) (sym (all_told_then c last))
+    ∙ ap (λ mode. tally_by (counted (tell last c)) mode (all_told (tell last c))) (sym (wanted_still c last))
 
 -- the votes that count then
 pub counted_narrow : (c : Collector) (last : Told) → c.widening ≡ None → counted (tell last c) ≡ (newer (newest c.start c.told) last.said).votes
@@ -141,13 +141,13 @@ gives_wide c last w quorum wide prefix dver source' =
 
 -- ---- what the fields keep
 
-module _ (was : Inside) (left : Coded) (votes : Configuration) where
+module _ (was : Inside) (tally : Coded) (votes : Configuration) where
   pub summed_narrow : (mode : LockMode) (kept : Option Prefix) (told : List Told) → was.widening ≡ None → unwrap_or kept was.start ≡ newest was.start told → votes ≡ (newest was.start told).votes
-      → due_in left ≡ due_by votes mode told → IsKnown left → IsSummed (record was { mode = mode; newer = kept; told = told; due = left })
+      → tally_in tally ≡ tally_by votes mode told → IsKnown tally.due → IsSummed (record was { mode = mode; newer = kept; told = told; tally = tally })
   summed_narrow mode kept told narrow newest' votes' is known = record {
     newest = newest';
     all = subst (λ (w : Option Wide). IfSome w (λ widening. widening.all ≡ widening.since.items ++ told)) (sym narrow) tt;
-    due = is ∙ ap (λ votes. due_by votes mode told) votes' ∙ ap (λ w. due_of (of w)) (sym narrow);
+    tally = is ∙ ap (λ votes. tally_by votes mode told) votes' ∙ ap (λ w. tally_of (of w)) (sym narrow);
     known = known;
   }
     where
@@ -155,11 +155,11 @@ module _ (was : Inside) (left : Coded) (votes : Configuration) where
       of w = record { start = was.start; mode = mode; told = told; widening = option_map widening_of w }
 
   pub summed_wide : (w : Wide) (told : List Told) → was.widening ≡ Some w → unwrap_or was.newer was.start ≡ newest was.start was.told → w.all ≡ w.since.items ++ was.told → votes ≡ w.votes → told ≡ w.all
-      → due_in left ≡ due_by votes Exclusive told → IsKnown left → IsSummed (record was { due = left })
+      → tally_in tally ≡ tally_by votes Exclusive told → IsKnown tally.due → IsSummed (record was { tally = tally })
   summed_wide w told wide newest' all' votes' told' is known = record {
     newest = newest';
     all = subst (λ (w : Option Wide). IfSome w (λ widening. widening.all ≡ widening.since.items ++ was.told)) (sym wide) all';
-    due = is ∙ ap (λ votes. due_by votes Exclusive told) votes' ∙ ap (due_by w.votes Exclusive) (told' ∙ all') ∙ ap (λ w. due_of (of w)) (sym wide);
+    tally = is ∙ ap (λ votes. tally_by votes Exclusive told) votes' ∙ ap (tally_by w.votes Exclusive) (told' ∙ all') ∙ ap (λ w. tally_of (of w)) (sym wide);
     known = known;
   }
     where
@@ -167,30 +167,30 @@ module _ (was : Inside) (left : Coded) (votes : Configuration) where
       of w = record { start = was.start; mode = was.mode; told = was.told; widening = option_map widening_of w }
 
 -- what is told is put behind what was told
-module _ (was : Inside) (left : Coded) (last : Told) (known : IsKnown left) where
+module _ (was : Inside) (tally : Coded) (last : Told) (known : IsKnown tally.due) where
   abbrev of : Option Wide → List Told → Collector
   of w told = record { start = was.start; mode = was.mode; told = told; widening = option_map widening_of w }
 
   pub put_narrow : (kept : Option Prefix) (told : List Told) → was.widening ≡ None → unwrap_or kept was.start ≡ newest was.start told → told ≡ last ∷ was.told
-      → due_in left ≡ due_of (tell last (collecting_of was).collector) → IsSummed (record was { newer = kept; told = told; due = left })
+      → tally_in tally ≡ tally_of (tell last (collecting_of was).collector) → IsSummed (record was { newer = kept; told = told; tally = tally })
   put_narrow kept told narrow newest' told' is = record {
     newest = newest';
     all = subst (λ (w : Option Wide). IfSome w (λ widening. widening.all ≡ widening.since.items ++ told)) (sym narrow) tt;
-    due = is ∙ ap (λ w. due_of (tell last (of w was.told))) narrow ∙ ap (λ told. due_of (of None told)) (sym told') ∙ ap (λ w. due_of (of w told)) (sym narrow);
+    tally = is ∙ ap (λ w. tally_of (tell last (of w was.told))) narrow ∙ ap (λ told. tally_of (of None told)) (sym told') ∙ ap (λ w. tally_of (of w told)) (sym narrow);
     known = known;
   }
 
   pub put_wide : (before after : Wide) → was.widening ≡ Some before → unwrap_or was.newer was.start ≡ newest was.start was.told
       → before.all ≡ before.since.items ++ was.told → after.votes ≡ before.votes → after.all ≡ last ∷ before.all → after.since.items ≡ last ∷ before.since.items
-      → due_in left ≡ due_of (tell last (collecting_of was).collector) → IsSummed (record was { widening = Some after; due = left })
+      → tally_in tally ≡ tally_of (tell last (collecting_of was).collector) → IsSummed (record was { widening = Some after; tally = tally })
   put_wide before after wide newest' all' votes' more since' is = record {
     newest = newest';
     all = more ∙ ap (λ told. last ∷ told) all' ∙ ap (λ items. items ++ was.told) (sym since');
-    due =
+    tally =
         is
-        ∙ ap (λ w. due_of (tell last (of w was.told))) wide
-        ∙ ap (λ votes. due_of (record { start = was.start; mode = was.mode; told = was.told; widening = Some (record { votes = votes; told = last ∷ before.since.items }) })) (sym votes')
-        ∙ ap (λ told. due_of (record { start = was.start; mode = was.mode; told = was.told; widening = Some (record { votes = after.votes; told = told }) })) (sym since');
+        ∙ ap (λ w. tally_of (tell last (of w was.told))) wide
+        ∙ ap (λ votes. tally_of (record { start = was.start; mode = was.mode; told = was.told; widening = Some (record { votes = votes; told = last ∷ before.since.items }) })) (sym votes')
+        ∙ ap (λ told. tally_of (record { start = was.start; mode = was.mode; told = was.told; widening = Some (record { votes = after.votes; told = told }) })) (sym since');
     known = known;
   }
 

@@ -1,19 +1,19 @@
 //! The collector.
 
-ghost use Rattle.std.specs.Prelude.{◌≡◌, ◌<◌, unwrap_or, IsTrue, IfOk, IfSome, IfErr, OnErr};
+ghost use Rattle.std.specs.Prelude.{◌≡◌, ◌<◌, unwrap_or, true, IsTrue, IfOk, IfSome, IfErr, OnErr};
 ghost use Rattle.vote_core.specs.Validity.{IsValid};
-ghost use Rattle.suite_collect.specs.code.CollectFields.{due_of};
-ghost use Rattle.suite_collect.specs.code.Dues.{IsKnown, due_in};
+ghost use Rattle.suite_collect.specs.code.CollectFields.{tally_of};
+ghost use Rattle.suite_collect.specs.code.Dues.{IsKnown, tally_in};
 ghost use Rattle.suite_collect.specs.Collecting as spec;
 ghost use Rattle.suite_collect.specs.Laws.{HasSource};
 ghost use Rattle.suite_collect.specs.Telling as telling;
 
 use crate::coming::{Asked, Coming};
-use crate::due::{Due, due_among, due_of};
+use crate::due::{Due, Tally, due_among, tally_of};
 use crate::heard::Heard;
 use crate::hearing::{Hearing, Quorum};
 use crate::log::Log;
-use crate::members::members_of;
+use crate::members::{members_of, votes_with};
 use crate::next::{Members, Next};
 use crate::told::{Said, Told};
 use crate::widening::Widening;
@@ -36,8 +36,9 @@ pub struct Collect {
     /// What was told before a widening.
     told: Heard,
     widening: Option<Widening>,
-    /// What is due. It is found where something changes, and not each time that it is asked for.
-    due: Due,
+    /// What is due, and the votes that are had. They are found where something changes, and not each time
+    /// that they are asked for.
+    tally: Tally,
 }
 
 impl Model for Collect {
@@ -62,7 +63,7 @@ impl Collect {
         ensures { result ≡ record { t = t; suite = suite; collector = spec.collect mode start } }
     {
         let told = Heard::new();
-        let due = due_of(&start.votes, &told, mode);
+        let tally = tally_of(&start.votes, &told, mode);
         Collect {
             t,
             suite,
@@ -71,7 +72,7 @@ impl Collect {
             newer: None,
             told,
             widening: None,
-            due,
+            tally,
         }
     }
 
@@ -81,9 +82,9 @@ impl Collect {
         ensures { self.new ≡ record self.old { collector = spec.raise self.old.collector } }
     {
         if self.widening.is_none() {
-            let due = due_of(&self.newest().votes, &self.told, LockMode::Exclusive);
+            let tally = tally_of(&self.newest().votes, &self.told, LockMode::Exclusive);
             self.mode = LockMode::Exclusive;
-            self.due = due;
+            self.tally = tally;
         }
     }
 
@@ -91,7 +92,7 @@ impl Collect {
     pub fn widen(&mut self, votes: &Votes)
         ensures { self.new ≡ record self.old { collector = spec.widen votes.now self.old.collector } }
     {
-        let due = due_of(votes, self.heard(), LockMode::Exclusive);
+        let tally = tally_of(votes, self.heard(), LockMode::Exclusive);
         match &mut self.widening {
             Some(widening) => widening.votes = *votes,
             None => {
@@ -102,14 +103,14 @@ impl Collect {
                 });
             }
         }
-        self.due = due;
+        self.tally = tally;
     }
 
     /// What comes next. It takes no memory.
     pub fn next(&self) -> Next<'_>
         ensures { Tells result self.now }
     {
-        match self.due {
+        match self.tally.due {
             Due::Current => {
                 let first = self.first_members();
                 let dver = self.told.greatest(&first);
@@ -135,7 +136,7 @@ impl Collect {
     pub fn coming(&self) -> Coming
         ensures { Comes result (spec.next self.now.collector) }
     {
-        match self.due {
+        match self.tally.due {
             Due::Current => Coming::Current,
             Due::Ask { server } => Coming::Ask {
                 server,
@@ -159,18 +160,14 @@ impl Collect {
         let Some(last) = self.told_by(reply)? else {
             return Ok(Hearing::Lost);
         };
-        let due = self.due_after(&last);
-        match due {
-            Due::Current => Ok(Hearing::Quorum),
-            Due::Ask { .. } => {
-                self.put(last, due);
-                Ok(Hearing::Asks)
-            }
-            Due::Short { .. } => {
-                self.put(last, due);
-                Ok(Hearing::Short)
-            }
-        }
+        let tally = self.tally_after(&last);
+        let hearing = match tally.due {
+            Due::Current => return Ok(Hearing::Quorum),
+            Due::Ask { .. } => Hearing::Asks,
+            Due::Short { .. } => Hearing::Short,
+        };
+        self.put(last, tally);
+        Ok(hearing)
     }
 
     /// What is told by a reply that answers what was asked; nothing, where the transaction is to end. Only a lock
@@ -180,7 +177,7 @@ impl Collect {
         ensures known { IfOk result (λ one. IfSome one (λ one. one.server < MAX_SERVERS)) }
         ensures memory { IfErr result (λ _. IsTrue (shows_lock reply.now)) }
     {
-        let Due::Ask { server } = self.due else {
+        let Due::Ask { server } = self.tally.due else {
             return Ok(None);
         };
         let said = match reply {
@@ -204,8 +201,8 @@ impl Collect {
         requires { last.server < MAX_SERVERS }
         ensures { self.new ≡ record self.old { collector = spec.tell last self.old.collector } }
     {
-        let due = self.due_after(&last);
-        self.put(last, due);
+        let tally = self.tally_after(&last);
+        self.put(last, tally);
     }
 
     /// What the quorum gives that there is once this is told.
@@ -266,27 +263,61 @@ impl Collect {
         self.told.first_showing(version, &members)
     }
 
-    /// What is due once this is told.
-    fn due_after(&self, last: &Told) -> Due
+    /// What is due once this is told, and the votes that are had then.
+    fn tally_after(&self, last: &Told) -> Tally
         requires { last.now.server < MAX_SERVERS }
-        ensures value { due_in result ≡ due_of (spec.tell last.now self.now.collector) }
-        ensures known { IsKnown result }
+        ensures value { tally_in result ≡ tally_of (spec.tell last.now self.now.collector) }
+        ensures known { IsKnown result.due }
     {
         let wanted = self.wanted();
         let heard = self.heard();
         let holders = heard.holders_after(last, wanted);
         let refused = heard.refused_after(last);
-        due_among(self.counted_after(last), &holders, &refused, wanted)
+        let votes = self.counted_after(last);
+        let got = self.got_after(last, votes);
+        let due = due_among(got, votes, &holders, &refused, wanted);
+        Tally { got, due }
     }
 
-    /// Puts what is told behind what was told before, and what is due then.
-    fn put(&mut self, last: Told, due: Due)
+    /// The votes that are had once this is told, where these votes count then. All are counted only where
+    /// others counted before.
+    fn got_after(&self, last: &Told, votes: &Votes) -> u32
+        requires server { last.now.server < MAX_SERVERS }
+        requires votes { votes.now ≡ spec.counted (spec.tell last.now self.now.collector) }
+        ensures { result ≡ spec.got (spec.tell last.now self.now.collector) }
+    {
+        let wanted = self.wanted();
+        let heard = self.heard();
+        if !self.keeps_votes(last) {
+            return votes.votes_of(&heard.holders_after(last, wanted));
+        }
+        if !last.gives(wanted) {
+            return self.tally.got;
+        }
+        votes_with(votes, self.tally.got, &heard.holders(wanted), last.server)
+    }
+
+    /// Whether the votes that count stay once this is told. Before a widening those of a newer prefix do not.
+    fn keeps_votes(&self, last: &Told) -> bool
+        ensures { let c = self.now.collector in result ≡ true → spec.counted (spec.tell last.now c) ≡ spec.counted c }
+    {
+        match &last.said {
+            Said::Held { prefix, .. } => {
+                self.widening.is_some() || prefix.pver <= self.newest().pver
+            }
+            Said::Busy { .. } | Said::Down => true,
+        }
+    }
+
+    /// Puts what is told behind what was told before, and what is due and had then.
+    #[inline(always)]
+    fn put(&mut self, last: Told, tally: Tally)
         requires server { last.server < MAX_SERVERS }
-        requires due { due_in due ≡ due_of (spec.tell last self.old.collector) }
-        requires known { IsKnown due }
+        requires tally { tally_in tally ≡ tally_of (spec.tell last self.old.collector) }
+        requires known { IsKnown tally.due }
         ensures { self.new ≡ record self.old { collector = spec.tell last self.old.collector } }
     {
-        self.due = due;
+        self.tally = tally;
         if let Some(widening) = &mut self.widening {
             widening.all.add(&last);
             widening.since = widening.since.and(&last);
@@ -381,6 +412,7 @@ fn newer_of<'a>(newest: &'a Prefix, said: &'a Said) -> &'a Prefix
 }
 
 /// Keeps the prefix that a server showed, where it is newer than the newest so far.
+#[inline(always)]
 fn show(newer: &mut Option<Prefix>, start: &Prefix, said: Said)
     ensures { unwrap_or newer.new start.now ≡ telling.newer (unwrap_or newer.old start.now) said }
 {

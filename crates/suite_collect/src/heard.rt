@@ -121,7 +121,7 @@ impl Heard {
         ensures { (server : ℕ) → contains result server ≡ telling.holds mode (last.now ∷ self.now) server }
     {
         let mut holders = self.holders(mode);
-        if last.is_held() && last.mode.serves(mode) {
+        if last.gives(mode) {
             holders.insert(last.server);
         }
         holders

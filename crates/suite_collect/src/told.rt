@@ -1,6 +1,7 @@
 //! What servers say to a collector.
 
-ghost use Rattle.std.specs.Prelude.{◌≡◌};
+ghost use Rattle.std.specs.Prelude.{◌≡◌, ◌&&◌};
+ghost use Rattle.suite_prefix.specs.LockModes.{serves};
 ghost use Rattle.suite_collect.specs.Telling.{is_held};
 
 use suite_prefix::{LockMode, Prefix};
@@ -30,5 +31,12 @@ impl Told {
         ensures { result ≡ is_held self.now.said }
     {
         matches!(self.said, Said::Held { .. })
+    }
+
+    /// Whether the lock is held, in a mode or a stronger one.
+    pub(crate) fn gives(&self, mode: LockMode) -> bool
+        ensures { result ≡ (is_held self.now.said && serves self.now.mode mode) }
+    {
+        self.is_held() && self.mode.serves(mode)
     }
 }
