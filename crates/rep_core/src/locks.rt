@@ -129,25 +129,7 @@ pub(crate) fn is_in_the_way(locks: &[Lock], t: u64, suite: u64, mode: LockMode) 
     any_conflicts(locks, t, suite, mode)
 }
 
-/// They are looked at by fours: there are many, and few are on the suite.
 fn any_conflicts(locks: &[Lock], t: u64, suite: u64, mode: LockMode) -> bool
-    ensures { result ≡ list_any (locking.conflicts t suite mode) locks.now }
-{
-    let mut left = locks;
-    while let [a, b, c, d, others @ ..] = left {
-        if conflicts(t, suite, mode, a)
-            || conflicts(t, suite, mode, b)
-            || conflicts(t, suite, mode, c)
-            || conflicts(t, suite, mode, d)
-        {
-            return true;
-        }
-        left = others;
-    }
-    any_left_conflicts(left, t, suite, mode)
-}
-
-fn any_left_conflicts(locks: &[Lock], t: u64, suite: u64, mode: LockMode) -> bool
     ensures { result ≡ list_any (locking.conflicts t suite mode) locks.now }
 {
     locks.iter().any(|lock| conflicts(t, suite, mode, lock))
