@@ -12,6 +12,7 @@ use Rattle.suite_collect.specs.declared.collect.Collect.TheInside.{Inside}
 use Rattle.suite_collect.specs.declared.widening.Widening.{Widening as Wide}
 use Rattle.suite_collect.specs.declared.due.Tally.{Tally as Coded}
 use Rattle.suite_collect.specs.declared.hearing.Quorum.{Quorum}
+use Rattle.suite_collect.specs.code.Adding.{IsAdded}
 use Rattle.suite_collect.specs.code.Dues as due
 use Rattle.suite_collect.specs.code.Dues.{Due, Tally, due_left, tally_among, tally_by, tally_in, IsKnown}
 use Rattle.suite_collect.specs.Telling.{newer, newest, holds, has_refused, first_busy, shown}
@@ -201,3 +202,49 @@ narrow_of (Some wide) is = cc
 pub narrow_unless : (w : Option Wide) → ((wide : Wide) → w ≡ Some wide → ⊥) → w ≡ None
 narrow_unless None is = refl
 narrow_unless (Some wide) is = absurd (is wide refl)
+
+-- ---- what is told, put behind what was told before
+
+-- what the fields keep as their newest prefix, before something is told
+pub record KeepsNewest (was : Inside) (kept : Option Prefix) (last : Told) : Type 0 where
+  pub narrow : was.widening ≡ None → unwrap_or kept was.start ≡ newer (newest was.start was.told) last.said
+  pub wide : (w : Wide) → was.widening ≡ Some w → kept ≡ was.newer
+
+pub put_added : (was mid : Inside) (kept : Option Prefix) (last : Told) (tally : Coded) (told : List Told) (w : Option Wide)
+    → mid ≡ record was { newer = kept } → KeepsNewest was kept last → IsSummed was → IsKnown tally.due
+    → IsAdded last mid.told mid.widening told w → tally_in tally ≡ tally_of (tell last (collecting_of was).collector)
+    → IsSummed (record mid { told = told; widening = w; tally = tally })
+put_added was mid kept last tally told w middle keeps sound known added is =
+    subst (λ (mid : Inside). IsSummed (record mid { told = told; widening = w; tally = tally })) (sym middle)
+    (at was.widening refl (subst (λ (mid : Inside). IsAdded last mid.told mid.widening told w) middle added))
+  where
+    at : (before : Option Wide) → was.widening ≡ before → IsAdded last was.told before told w → IsSummed (record was { newer = kept; told = told; widening = w; tally = tally })
+    at None narrow added =
+        let newest' : unwrap_or kept was.start ≡ newest was.start told = keeps.narrow narrow ∙ ap (newest was.start) (sym added.0) in
+        let summed = put_narrow was tally last known kept told narrow newest' added.0 is in
+        subst (λ (w : Option Wide). IsSummed (record was { newer = kept; told = told; widening = w; tally = tally })) (narrow ∙ sym added.1) summed
+    at (Some before) wide added =
+        let after = added.1.0 in
+        let more = added.1.2 in
+        let all : before.all ≡ before.since.items ++ was.told = subst (λ (w : Option Wide). IfSome w (λ widening. widening.all ≡ widening.since.items ++ was.told)) wide sound.all in
+        let summed = put_wide was tally last known before after wide sound.newest all more.votes more.all more.since is in
+        subst (λ (w : Option Wide). IsSummed (record was { newer = kept; told = told; widening = w; tally = tally })) (sym added.1.1)
+        (subst (λ (told : List Told). IsSummed (record was { newer = kept; told = told; widening = Some after; tally = tally })) (sym added.0)
+        (subst (λ (kept : Option Prefix). IsSummed (record was { newer = kept; widening = Some after; tally = tally })) (sym (keeps.wide before wide)) summed))
+
+narrow_alone : (w : Option Wide) (wide : Wide) → is_some w ≡ false → w ≡ Some wide → ⊥
+narrow_alone None wide narrow is = cc
+narrow_alone (Some other) wide narrow is = cc
+
+pub keeps_shown : (was : Inside) (prefix : Prefix) (last : Told) → is_some was.widening ≡ false → prefix ≡ newer (newest was.start was.told) last.said → KeepsNewest was (Some prefix) last
+keeps_shown was prefix last narrow is = record { narrow = λ _. is; wide = λ wide some. absurd (narrow_alone was.widening wide narrow some) }
+
+pub keeps_newest : (was : Inside) (last : Told) → is_some was.widening ≡ false → IsSummed was → newest was.start was.told ≡ newer (newest was.start was.told) last.said → KeepsNewest was was.newer last
+keeps_newest was last narrow sound is = record { narrow = λ _. sound.newest ∙ is; wide = λ wide some. refl }
+
+pub keeps_wide : (was : Inside) (last : Told) → is_some was.widening ≡ true → KeepsNewest was was.newer last
+keeps_wide was last wide = record { narrow = λ none. absurd (apart was.widening wide none); wide = λ w some. refl }
+  where
+    apart : (w : Option Wide) → is_some w ≡ true → w ≡ None → ⊥
+    apart None wide is = cc
+    apart (Some wide) some is = cc

@@ -19,7 +19,7 @@ use Rattle.suite_collect.specs.Telling.{newest, shown}
 
 -- it is what comes next, with the request in its words
 abbrev pub Tells : Next → Collecting → Type 0
-Tells (Current prefix dver members) c = next c.collector ≡ spec.Current prefix.now dver members
+Tells (Current prefix dver members) c = next c.collector ≡ spec.Current prefix.now dver members.items
 Tells (Ask server request) c = (asked : spec.Asked) × (next c.collector ≡ spec.Ask server asked) × (request ≡ request_for c.t c.suite asked)
 Tells (Short got needed busy) c = next c.collector ≡ spec.Short got needed busy
 

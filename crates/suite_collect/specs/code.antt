@@ -1,3 +1,5 @@
+pub mod Sayings
+pub mod Adding
 pub mod HeardFields
 pub mod Dues
 pub mod CollectFields

@@ -1,12 +1,16 @@
 //! The collector.
 
-ghost use Rattle.std.specs.Prelude.{◌≡◌, ◌<◌, unwrap_or, true, IsTrue, IfOk, IfSome, IfErr, OnErr};
+ghost use Rattle.std.specs.Prelude.{◌≡◌, ◌<◌, unwrap_or, option_map, is_some, true, IsTrue, IfOk, IfSome, IfErr, OnOk, OnErr};
+ghost use Rattle.std.specs.Option.{option_copied};
 ghost use Rattle.vote_core.specs.Validity.{IsValid};
 ghost use Rattle.suite_collect.specs.code.CollectFields.{tally_of};
+ghost use Rattle.suite_collect.specs.code.Adding.{IsAdded};
 ghost use Rattle.suite_collect.specs.code.Dues.{IsKnown, tally_in};
+ghost use Rattle.suite_collect.specs.code.Sayings.{said_of, told_of};
 ghost use Rattle.suite_collect.specs.Collecting as spec;
 ghost use Rattle.suite_collect.specs.Laws.{HasSource};
 ghost use Rattle.suite_collect.specs.Telling as telling;
+ghost use Rattle.suite_collect.specs.Telling.{is_held};
 
 use crate::coming::{Asked, Coming};
 use crate::due::{Due, Tally, due_among, tally_of};
@@ -15,7 +19,7 @@ use crate::hearing::{Hearing, Quorum};
 use crate::log::Log;
 use crate::members::{members_of, votes_with};
 use crate::next::{Members, Next};
-use crate::told::{Said, Told};
+use crate::told::{Said, Saying, Spoken, Told};
 use crate::widening::Widening;
 use rep_core::Reply;
 use std::alloc::AllocError;
@@ -113,7 +117,7 @@ impl Collect {
         match self.tally.due {
             Due::Current => {
                 let first = self.first_members();
-                let dver = self.told.greatest(&first);
+                let dver = self.told.greatest(first.as_slice());
                 Next::Current {
                     prefix: self.newest(),
                     dver,
@@ -157,16 +161,16 @@ impl Collect {
         ensures err { OnErr result (self.new ≡ self.old) }
         ensures memory { IfErr result (λ _. IsTrue (shows_lock reply.now)) }
     {
-        let Some(last) = self.told_by(reply)? else {
+        let Some(last) = self.said_by(reply) else {
             return Ok(Hearing::Lost);
         };
-        let tally = self.tally_after(&last);
+        let tally = self.tally_after(last);
         let hearing = match tally.due {
             Due::Current => return Ok(Hearing::Quorum),
             Due::Ask { .. } => Hearing::Asks,
             Due::Short { .. } => Hearing::Short,
         };
-        self.put(last, tally);
+        self.put(last, tally)?;
         Ok(hearing)
     }
 
@@ -177,23 +181,35 @@ impl Collect {
         ensures known { IfOk result (λ one. IfSome one (λ one. one.server < MAX_SERVERS)) }
         ensures memory { IfErr result (λ _. IsTrue (shows_lock reply.now)) }
     {
+        match self.said_by(reply) {
+            Some(last) => Ok(Some(last.keep()?)),
+            None => Ok(None),
+        }
+    }
+
+    /// What a reply says that answers what was asked; nothing, where the transaction is to end.
+    fn said_by<'a>(&self, reply: &'a Reply) -> Option<Saying<'a>>
+        ensures told { option_map told_of result ≡ spec.told_by (spec.next self.now.collector) reply.now }
+        ensures known { IfSome result (λ one. one.server < MAX_SERVERS) }
+        ensures lock { IfSome result (λ one. is_held (said_of one.what) ≡ shows_lock reply.now) }
+    {
         let Due::Ask { server } = self.tally.due else {
-            return Ok(None);
+            return None;
         };
-        let said = match reply {
-            Reply::Held { prefix, dver } => Said::Held {
-                prefix: prefix.clone()?,
+        let what = match reply {
+            Reply::Held { prefix, dver } => Spoken::Held {
+                prefix,
                 dver: *dver,
             },
-            Reply::Busy { holder, .. } => Said::Busy { holder: *holder },
+            Reply::Busy { holder, .. } => Spoken::Busy { holder: *holder },
             Reply::Down => match self.asked(server) {
-                Asked::Poll(_) => Said::Down,
-                Asked::Upgrade => return Ok(None),
+                Asked::Poll(_) => Spoken::Down,
+                Asked::Upgrade => return None,
             },
-            _ => return Ok(None),
+            _ => return None,
         };
         let mode = self.wanted();
-        Ok(Some(Told { server, mode, said }))
+        Some(Saying { server, mode, what })
     }
 
     /// Something is told: what a server said that was asked.
@@ -201,8 +217,11 @@ impl Collect {
         requires { last.server < MAX_SERVERS }
         ensures { self.new ≡ record self.old { collector = spec.tell last self.old.collector } }
     {
-        let tally = self.tally_after(&last);
-        self.put(last, tally);
+        self.tally = self.tally_after(last.lend());
+        add(&mut self.told, &mut self.widening, last.lend());
+        if self.widening.is_none() {
+            show(&mut self.newer, &self.start, last.said);
+        }
     }
 
     /// What the quorum gives that there is once this is told.
@@ -211,24 +230,24 @@ impl Collect {
         ensures { IsQuorumOf result (spec.tell last.now self.now.collector) }
     {
         if let Some(widening) = &self.widening {
-            let dver = self.told.greatest(&self.first_members());
-            let holders = widening.all.holders_after(last, LockMode::Exclusive);
+            let dver = self.told.greatest(self.first_members().as_slice());
+            let holders = widening.all.holders_after(last.lend(), LockMode::Exclusive);
             let members = members_of(&widening.votes, &holders);
             return Quorum {
                 prefix: self.newest(),
                 dver,
-                source: self.told.first_showing(dver, &members),
+                source: self.told.first_showing(dver, members.as_slice()),
             };
         }
         let mut told = self.told.same();
-        told.add(last);
-        let prefix = newer_of(self.newest(), &last.said);
+        told.add(last.lend());
+        let prefix = newer_of(self.newest(), last.lend());
         let members = members_of(&prefix.votes, &told.holders(self.mode));
-        let dver = told.greatest(&members);
+        let dver = told.greatest(members.as_slice());
         Quorum {
             prefix,
             dver,
-            source: told.first_showing(dver, &members),
+            source: told.first_showing(dver, members.as_slice()),
         }
     }
 
@@ -259,14 +278,14 @@ impl Collect {
         ensures found { HasSource self.now.collector }
     {
         let members = self.first_members();
-        let version = self.told.greatest(&members);
-        self.told.first_showing(version, &members)
+        let version = self.told.greatest(members.as_slice());
+        self.told.first_showing(version, members.as_slice())
     }
 
     /// What is due once this is told, and the votes that are had then.
-    fn tally_after(&self, last: &Told) -> Tally
-        requires { last.now.server < MAX_SERVERS }
-        ensures value { tally_in result ≡ tally_of (spec.tell last.now self.now.collector) }
+    fn tally_after(&self, last: Saying<'_>) -> Tally
+        requires { last.server < MAX_SERVERS }
+        ensures value { tally_in result ≡ tally_of (spec.tell (told_of last.entry) self.now.collector) }
         ensures known { IsKnown result.due }
     {
         let wanted = self.wanted();
@@ -281,10 +300,10 @@ impl Collect {
 
     /// The votes that are had once this is told, where these votes count then. All are counted only where
     /// others counted before.
-    fn got_after(&self, last: &Told, votes: &Votes) -> u32
-        requires server { last.now.server < MAX_SERVERS }
-        requires votes { votes.now ≡ spec.counted (spec.tell last.now self.now.collector) }
-        ensures { result ≡ spec.got (spec.tell last.now self.now.collector) }
+    fn got_after(&self, last: Saying<'_>, votes: &Votes) -> u32
+        requires server { last.server < MAX_SERVERS }
+        requires votes { votes.now ≡ spec.counted (spec.tell (told_of last) self.now.collector) }
+        ensures { result ≡ spec.got (spec.tell (told_of last.entry) self.now.collector) }
     {
         let wanted = self.wanted();
         let heard = self.heard();
@@ -298,33 +317,36 @@ impl Collect {
     }
 
     /// Whether the votes that count stay once this is told. Before a widening those of a newer prefix do not.
-    fn keeps_votes(&self, last: &Told) -> bool
-        ensures { let c = self.now.collector in result ≡ true → spec.counted (spec.tell last.now c) ≡ spec.counted c }
+    fn keeps_votes(&self, last: Saying<'_>) -> bool
+        ensures { let c = self.now.collector in result ≡ true → spec.counted (spec.tell (told_of last.entry) c) ≡ spec.counted c }
     {
-        match &last.said {
-            Said::Held { prefix, .. } => {
+        match last.what {
+            Spoken::Held { prefix, .. } => {
                 self.widening.is_some() || prefix.pver <= self.newest().pver
             }
-            Said::Busy { .. } | Said::Down => true,
+            Spoken::Busy { .. } | Spoken::Down => true,
         }
     }
 
-    /// Puts what is told behind what was told before, and what is due and had then.
+    /// Puts what is told behind what was told before, and what is due and had then. Only a prefix that is newer
+    /// than all others wants memory: a copy of it is kept.
     #[inline(always)]
-    fn put(&mut self, last: Told, tally: Tally)
+    fn put(&mut self, last: Saying<'_>, tally: Tally) -> Result<(), AllocError>
         requires server { last.server < MAX_SERVERS }
-        requires tally { tally_in tally ≡ tally_of (spec.tell last self.old.collector) }
+        requires tally { tally_in tally ≡ tally_of (spec.tell (told_of last) self.old.collector) }
         requires known { IsKnown tally.due }
-        ensures { self.new ≡ record self.old { collector = spec.tell last self.old.collector } }
+        ensures ok { OnOk result (self.new ≡ record self.old { collector = spec.tell (told_of last.entry) self.old.collector }) }
+        ensures err { OnErr result (self.new ≡ self.old) }
+        ensures memory { IfErr result (λ _. IsTrue (is_held (said_of last.entry.what))) }
     {
-        self.tally = tally;
-        if let Some(widening) = &mut self.widening {
-            widening.all.add(&last);
-            widening.since = widening.since.and(&last);
-            return;
+        if self.widening.is_none() {
+            if let Some(prefix) = newer_in(self.newest(), last) {
+                self.newer = Some(prefix.clone()?);
+            }
         }
-        self.told.add(&last);
-        show(&mut self.newer, &self.start, last.said);
+        self.tally = tally;
+        add(&mut self.told, &mut self.widening, last);
+        Ok(())
     }
 
     /// All that was told.
@@ -338,12 +360,12 @@ impl Collect {
     }
 
     /// The votes that count once this is told.
-    fn counted_after<'a>(&'a self, last: &'a Told) -> &'a Votes
-        ensures { result.now ≡ spec.counted (spec.tell last.now self.now.collector) }
+    fn counted_after<'a>(&'a self, last: Saying<'a>) -> &'a Votes
+        ensures { result.now ≡ spec.counted (spec.tell (told_of last.entry) self.now.collector) }
     {
         match &self.widening {
             Some(widening) => &widening.votes,
-            None => &newer_of(self.newest(), &last.said).votes,
+            None => &newer_of(self.newest(), last).votes,
         }
     }
 
@@ -371,7 +393,7 @@ impl Collect {
 
     /// The members that are held, before a widening.
     fn first_members(&self) -> Members
-        ensures members { result ≡ spec.first_members self.now.collector }
+        ensures members { result.items ≡ spec.first_members self.now.collector }
         ensures valid { IsValid (newest self.now.collector.start self.now.collector.told).votes }
     {
         members_of(&self.newest().votes, &self.told.holders(self.mode))
@@ -379,8 +401,8 @@ impl Collect {
 
     /// The members that are held of the votes that count: before a widening, the first ones.
     fn members(&self, first: Members) -> Members
-        requires { first ≡ spec.first_members self.now.collector }
-        ensures { let c = self.now.collector in result ≡ spec.members_of (spec.counted c) (spec.is_member c) }
+        requires { first.items ≡ spec.first_members self.now.collector }
+        ensures { let c = self.now.collector in result.items ≡ spec.members_of (spec.counted c) (spec.is_member c) }
     {
         match &self.widening {
             Some(widening) => {
@@ -401,13 +423,36 @@ fn newest_of<'a>(newer: &'a Option<Prefix>, start: &'a Prefix) -> &'a Prefix
     }
 }
 
-/// The newer of a prefix and what a server said.
-fn newer_of<'a>(newest: &'a Prefix, said: &'a Said) -> &'a Prefix
-    ensures { result.now ≡ telling.newer newest.now said.now }
+/// The newer of a prefix and what a server says.
+fn newer_of<'a>(newest: &'a Prefix, last: Saying<'a>) -> &'a Prefix
+    ensures { result.now ≡ telling.newer newest.now (said_of last.entry.what) }
 {
-    match said {
-        Said::Held { prefix, .. } if prefix.pver > newest.pver => prefix,
-        _ => newest,
+    newer_in(newest, last).unwrap_or(newest)
+}
+
+/// The prefix that a server shows, where it is newer than the newest so far.
+fn newer_in<'a>(newest: &Prefix, last: Saying<'a>) -> Option<&'a Prefix>
+    ensures newer { unwrap_or (option_copied result) newest.now ≡ telling.newer newest.now (said_of last.entry.what) }
+    ensures held { is_some result ≡ true → is_held (said_of last.entry.what) ≡ true }
+{
+    match last.what {
+        Spoken::Held { prefix, .. } if prefix.pver > newest.pver => Some(prefix),
+        _ => None,
+    }
+}
+
+/// Puts what is told behind what was told before: since the widening, where there is one.
+#[inline(always)]
+fn add(told: &mut Heard, widening: &mut Option<Widening>, last: Saying<'_>)
+    requires { last.server < MAX_SERVERS }
+    ensures { IsAdded (told_of last.entry) told.old widening.old told.new widening.new }
+{
+    match widening {
+        Some(widening) => {
+            widening.all.add(last);
+            widening.since = widening.since.and(&last);
+        }
+        None => told.add(last),
     }
 }
 

@@ -2,11 +2,11 @@
 
 ghost use Rattle.std.specs.Prelude.{◌≡◌, ℕ, ◌<◌, ◌==◌, find, true, false, None, [], ◌∷◌};
 ghost use Rattle.std.specs.FinSet.{contains};
+ghost use Rattle.suite_collect.specs.code.Sayings.{said_of, told_of};
 ghost use Rattle.suite_collect.specs.Telling as telling;
 
 use crate::log::Log;
-use crate::next::Members;
-use crate::told::{Said, Told};
+use crate::told::{Saying, Spoken, Told};
 use std::marker::Model;
 use suite_prefix::LockMode;
 use vote_core::{MAX_SERVERS, ServerSet};
@@ -66,43 +66,43 @@ impl Heard {
         }
     }
 
-    /// Adds what was told last.
-    pub(crate) fn add(&mut self, last: &Told)
-        requires { last.now.server < MAX_SERVERS }
-        ensures { self.new ≡ last.now ∷ self.old }
+    /// Adds what is told last.
+    pub(crate) fn add(&mut self, last: Saying<'_>)
+        requires { last.server < MAX_SERVERS }
+        ensures { self.new ≡ told_of last.entry ∷ self.old }
     {
-        match &last.said {
-            Said::Held { dver, .. } => self.add_lock(last, *dver),
-            Said::Busy { holder } => self.add_refusal(last, Some((last.server, *holder))),
-            Said::Down => self.add_refusal(last, None),
+        match last.what {
+            Spoken::Held { dver, .. } => self.add_lock(last, dver),
+            Spoken::Busy { holder } => self.add_refusal(last, Some((last.server, holder))),
+            Spoken::Down => self.add_refusal(last, None),
         }
     }
 
-    /// Adds that a server was down, or busy with another transaction.
-    fn add_refusal(&mut self, last: &Told, busy: Option<(u8, u64)>)
-        requires server { last.now.server < MAX_SERVERS }
-        requires refused { telling.is_held last.now.said ≡ false }
-        requires busy { busy ≡ telling.busy_in last.now.server last.now.said None }
-        ensures { self.new ≡ last.now ∷ self.old }
+    /// Adds that a server is down, or busy with another transaction.
+    fn add_refusal(&mut self, last: Saying<'_>, busy: Option<(u8, u64)>)
+        requires server { last.server < MAX_SERVERS }
+        requires refused { telling.is_held (said_of last.what) ≡ false }
+        requires busy { busy ≡ telling.busy_in last.server (said_of last.what) None }
+        ensures { self.new ≡ told_of last.entry ∷ self.old }
     {
         self.refused.insert(last.server);
         self.busy = self.busy.or(busy);
-        self.told = self.told.and(last);
+        self.told = self.told.and(&last);
     }
 
-    /// Adds a lock that a server holds, which showed this version of the content.
-    fn add_lock(&mut self, last: &Told, dver: u64)
-        requires server { last.now.server < MAX_SERVERS }
-        requires held { telling.is_held last.now.said ≡ true }
-        requires version { (before : ℕ) → telling.version_in last.now.said before ≡ dver }
-        ensures { self.new ≡ last.now ∷ self.old }
+    /// Adds a lock that a server holds, which shows this version of the content.
+    fn add_lock(&mut self, last: Saying<'_>, dver: u64)
+        requires server { last.server < MAX_SERVERS }
+        requires held { telling.is_held (said_of last.what) ≡ true }
+        requires version { (before : ℕ) → telling.version_in (said_of last.what) before ≡ dver }
+        ensures { self.new ≡ told_of last.entry ∷ self.old }
     {
         self.held.insert(last.server);
         if last.mode.is_exclusive() {
             self.exclusive.insert(last.server);
         }
         self.shown[usize::from(last.server)] = dver;
-        self.told = self.told.and(last);
+        self.told = self.told.and(&last);
     }
 
     /// The servers that hold a lock in a mode or a stronger one.
@@ -116,9 +116,9 @@ impl Heard {
     }
 
     /// The servers that hold a lock in a mode or a stronger one, once this is told too.
-    pub(crate) fn holders_after(&self, last: &Told, mode: LockMode) -> ServerSet
-        requires { last.now.server < MAX_SERVERS }
-        ensures { (server : ℕ) → contains result server ≡ telling.holds mode (last.now ∷ self.now) server }
+    pub(crate) fn holders_after(&self, last: Saying<'_>, mode: LockMode) -> ServerSet
+        requires { last.server < MAX_SERVERS }
+        ensures { (server : ℕ) → contains result server ≡ telling.holds mode (told_of last.entry ∷ self.now) server }
     {
         let mut holders = self.holders(mode);
         if last.gives(mode) {
@@ -142,9 +142,9 @@ impl Heard {
     }
 
     /// The servers that were found down or busy, once this is told too.
-    pub(crate) fn refused_after(&self, last: &Told) -> ServerSet
-        requires { last.now.server < MAX_SERVERS }
-        ensures { (server : ℕ) → contains result server ≡ telling.has_refused (last.now ∷ self.now) server }
+    pub(crate) fn refused_after(&self, last: Saying<'_>) -> ServerSet
+        requires { last.server < MAX_SERVERS }
+        ensures { (server : ℕ) → contains result server ≡ telling.has_refused (told_of last.entry ∷ self.now) server }
     {
         let mut refused = self.refused;
         if !last.is_held() {
@@ -161,22 +161,22 @@ impl Heard {
     }
 
     /// The greatest version of the content that some servers showed.
-    pub(crate) fn greatest(&self, servers: &Members) -> u64
+    pub(crate) fn greatest(&self, servers: &[u8]) -> u64
         ensures { result ≡ telling.greatest self.now servers.now }
     {
         let mut greatest = 0;
-        for server in servers.as_slice() {
+        for server in servers {
             greatest = self.shown(*server).max(greatest);
         }
         greatest
     }
 
     /// The first of some servers that showed a version of the content.
-    pub(crate) fn first_showing(&self, version: u64, servers: &Members) -> Option<u8>
+    pub(crate) fn first_showing(&self, version: u64, servers: &[u8]) -> Option<u8>
         ensures { result ≡ find (λ server. telling.shown self.now server == version) servers.now }
     {
         let shows = |server: &u8| self.shown(*server) == version;
-        servers.as_slice().iter().copied().find(shows)
+        servers.iter().copied().find(shows)
     }
 
     /// The first server found busy, with the transaction in its way.

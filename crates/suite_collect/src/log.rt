@@ -30,9 +30,10 @@ impl<T> Log<T> {
         Log { of: PhantomData }
     }
 
-    /// The history with one thing more.
-    pub(crate) fn and(&self, one: &T) -> Log<T>
-        ensures { result.items ≡ one.now ∷ self.now.items }
+    /// The history with one thing more, which its caller picks from what it lends.
+    pub(crate) fn and<U>(&self, _from: &U) -> Log<T>
+        ghost one: { T }
+        ensures { result.items ≡ one ∷ self.now.items }
     {
         Log { of: PhantomData }
     }

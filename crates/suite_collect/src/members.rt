@@ -12,8 +12,8 @@ use vote_core::{MAX_SERVERS, ServerSet, Votes};
 
 /// The servers of a set that have a vote, in listed order.
 pub(crate) fn members_of(votes: &Votes, held: &ServerSet) -> Members
-    ensures members { result ≡ spec.members_of votes.now (contains held.now) }
-    ensures known { All (λ server. server < MAX_SERVERS) result }
+    ensures members { result.items ≡ spec.members_of votes.now (contains held.now) }
+    ensures known { All (λ server. server < MAX_SERVERS) result.items }
     ensures valid { IsValid votes.now }
 {
     let mut members = Members::new();

@@ -1,58 +1,12 @@
 //! What comes next of a collector.
 
-ghost use Rattle.std.specs.Prelude.{◌≡◌, ◌<◌, ◌≤◌, [], ◌∷◌, ◌++◌, length};
-
+use arrayvec::ArrayVec;
 use rep_core::Request;
-use std::marker::Model;
 use suite_prefix::Prefix;
 use vote_core::MAX_SERVERS;
 
 /// Some servers in listed order.
-#[derive(Debug, Drop)]
-pub struct Members {
-    servers: [u8; MAX_SERVERS],
-    count: usize,
-}
-
-impl Model for Members {
-    ghost use Rattle.std.specs.Prelude.{◌≤◌, ℕ, List, take};
-    ghost use Rattle.vote_core.specs.declared.TheConstants.{MAX_SERVERS};
-
-    ghost Value = { List ℕ };
-
-    ghost view = { λ members. take members.count members.servers };
-
-    ghost invariant = { λ members. members.count ≤ MAX_SERVERS };
-}
-
-impl Members {
-    /// No servers.
-    pub(crate) fn new() -> Members
-        ensures { result ≡ [] }
-    {
-        Members {
-            servers: [0; MAX_SERVERS],
-            count: 0,
-        }
-    }
-
-    /// Adds a server at the end.
-    pub(crate) fn push(&mut self, server: u8)
-        requires { length self.old < MAX_SERVERS }
-        ensures { self.new ≡ self.old ++ server ∷ [] }
-    {
-        self.servers[self.count] = server;
-        self.count += 1;
-    }
-
-    /// The servers.
-    pub fn as_slice(&self) -> &[u8]
-        ensures servers { result.now ≡ self.now }
-        ensures few { length self.now ≤ MAX_SERVERS }
-    {
-        &self.servers[..self.count]
-    }
-}
+pub type Members = ArrayVec<u8, MAX_SERVERS>;
 
 /// What comes next of a collector.
 #[derive(Debug, Drop)]

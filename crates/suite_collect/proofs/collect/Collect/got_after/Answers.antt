@@ -3,6 +3,7 @@ use Rattle.std.specs.Prelude.{◌==◌, ◌&&◌, ◌||◌}
 use Rattle.std.specs.FinSet.{contains}
 use Rattle.vote_core.specs.Quorums.{Configuration, votes_in}
 use Rattle.suite_prefix.specs.LockModes.{serves}
+use Rattle.suite_collect.specs.code.Sayings.{told_of}
 use Rattle.suite_collect.specs.Collecting.{all_told, counted, wanted, is_member, got, tell}
 use Rattle.suite_collect.specs.Telling.{is_held, holds}
 use Rattle.suite_collect.proofs.Counts.{got_then, nobody_more, its_server_more}
@@ -11,7 +12,7 @@ use Rattle.suite_collect.proofs.collect.Collect.got_after.Goals as goal
 pub returns-then-not-keeps_votes : goal.returns-then-not-keeps_votes
 returns-then-not-keeps_votes c =
     let now = c.args.self.now.collector in
-    let last = c.args.last.now in
+    let last = told_of c.args.last in
     c.votes_of.ensures
     ∙ got_then now last c.args.votes.now (contains c.holders_after.result) c.requires.votes
     (λ other. c.holders_after.ensures other ∙ ap (λ mode. holds mode (last ∷ c.heard-heard.result.now) other) c.wanted-wanted.ensures ∙ ap (λ told. holds (wanted now) (last ∷ told) other) c.heard-heard.ensures)
@@ -19,7 +20,7 @@ returns-then-not-keeps_votes c =
 pub returns-then-not-gives : goal.returns-then-not-gives
 returns-then-not-gives c =
     let now = c.args.self.now.collector in
-    let last = c.args.last.now in
+    let last = told_of c.args.last in
     let stay : counted (tell last now) ≡ counted now = search rules in
     let had : c.self.inside.tally.got ≡ got now = search rules in
     let none : (is_held last.said && serves last.mode (wanted now)) ≡ false = search rules in
@@ -28,7 +29,7 @@ returns-then-not-gives c =
 pub votes_with-requires : goal.votes_with-requires
 votes_with-requires c =
     let now = c.args.self.now.collector in
-    let last = c.args.last.now in
+    let last = told_of c.args.last in
     let stay : counted (tell last now) ≡ counted now = search rules in
     let had : c.self.inside.tally.got ≡ got now = search rules in
     let held : is_member now ≡ contains c.holders.result = λ i other. (sym (c.holders.ensures other ∙ ap (λ mode. holds mode c.heard-heard.result.now other) c.wanted-wanted.ensures ∙ ap (λ told. holds (wanted now) told other) c.heard-heard.ensures)) i in
@@ -37,7 +38,7 @@ votes_with-requires c =
 pub returns : goal.returns
 returns c =
     let now = c.args.self.now.collector in
-    let last = c.args.last.now in
+    let last = told_of c.args.last in
     let given : (is_held last.said && serves last.mode (wanted now)) ≡ true = search rules in
     c.votes_with.ensures
     ∙ got_then now last c.args.votes.now (λ other. (last.server == other) || contains c.holders.result other) c.requires.votes

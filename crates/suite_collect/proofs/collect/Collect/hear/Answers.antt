@@ -2,6 +2,7 @@ use Rattle.std.proofs.Common.{◌≡◌, true, Some, refl, sym, ap, subst, ◌�
 use Rattle.suite_collect.specs.code.Dues.{Tally, due_in}
 use Rattle.suite_collect.specs.declared.hearing.Hearing.{Hearing}
 use Rattle.suite_collect.specs.Answering.{IsTold, Hears, has_quorum}
+use Rattle.suite_collect.specs.code.Sayings.{told_of}
 use Rattle.suite_collect.specs.Telling.{first_busy}
 use Rattle.suite_collect.specs.Collecting.{Collecting, all_told, asked_of, next, tell, told_by}
 use Rattle.suite_collect.proofs.Dues.{current_next, ask_next, short_next}
@@ -12,7 +13,7 @@ use Rattle.suite_collect.proofs.collect.Collect.hear.Goals as goal
 pub returns-in-Current-clause-ok : goal.returns-in-Current-clause-ok
 returns-in-Current-clause-ok c =
     let was = c.args.self.now.collector in
-    let last = c.in-Some.last in
+    let last = told_of c.in-Some.last in
     let told : told_by (next was) c.args.reply.now ≡ Some last = search rules in
     let quorum : has_quorum (next (tell last was)) ≡ true = ap has_quorum (current_next (tell last was) (ap (λ (tally : Tally). tally.due) (sym c.tally_after-tally.ensures.value) ∙ ap due_in c.in-Current.is)) in
     record { last = last; told = told; lock = quorum_shows was c.args.reply.now last told quorum; quorum = quorum; same = refl }
@@ -20,10 +21,10 @@ returns-in-Current-clause-ok c =
 pub returns-clause-ok : goal.returns-clause-ok
 returns-clause-ok c =
     let was = c.args.self.now.collector in
-    let last = c.in-Some.last in
+    let last = told_of c.in-Some.last in
     let after = tell last was in
     let told : told_by (next was) c.args.reply.now ≡ Some last = search rules in
-    let new : c.put.new.self ≡ record c.args.self.now { collector = after } = c.put.ensures in
+    let new : c.put.new.self ≡ record c.args.self.now { collector = after } = search rules in
     let tells : IsTold c.args.self.now c.args.reply.now c.put.new.self = record { last = last; told = told; new = new } in
     let Heard : Hearing → Type 0 = λ hearing. Hears hearing c.args.self.now c.args.reply.now c.put.new.self in
     let tallied = ap (λ (tally : Tally). tally.due) (sym c.tally_after-tally.ensures.value) in

@@ -3,7 +3,6 @@ use Rattle.suite_collect.specs.code.Dues as due
 use Rattle.suite_collect.specs.code.Dues.{due_in}
 use Rattle.suite_collect.specs.code.CollectFields.{due_of}
 use Rattle.suite_collect.specs.Collecting as spec
-use Rattle.suite_collect.specs.Telling as telling
 use Rattle.suite_collect.specs.Collecting.{Collecting, Current, asked_of, request_for}
 use Rattle.suite_collect.proofs.Dues.{current_next, ask_next}
 use Rattle.suite_collect.proofs.collect.Collect.next.Goals as goal
@@ -12,7 +11,7 @@ pub returns-in-Current : goal.returns-in-Current
 returns-in-Current c =
     let now = c.args.self.now.collector in
     let is : due_of now ≡ due.Current = ap (λ (c : Collecting). due_of c.collector) (sym c.self.view_is) ∙ ap (λ (tally : due.Tally). tally.due) (sym c.self.invariant.tally) ∙ ap due_in c.in-Current.is in
-    let version : spec.version now ≡ c.greatest-dver.result = ap (telling.greatest now.told) (sym c.first_members-first.ensures.members) ∙ ap (λ (it : Collecting). telling.greatest it.collector.told c.first_members-first.result) (sym c.self.view_is) ∙ sym c.greatest-dver.ensures in
+    let version : spec.version now ≡ c.greatest-dver.result = search rules in
     current_next now is
     ∙ ap (λ prefix. Current prefix (spec.version now) (spec.members_of (spec.counted now) (spec.is_member now))) (sym c.newest.ensures)
     ∙ ap (λ dver. Current c.newest.result.now dver (spec.members_of (spec.counted now) (spec.is_member now))) version

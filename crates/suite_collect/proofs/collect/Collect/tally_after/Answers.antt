@@ -2,6 +2,7 @@ use Rattle.std.proofs.Common.{◌≡◌, ℕ, ◌∷◌, ap, sym, ◌∙◌}
 use Rattle.std.specs.FinSet.{contains}
 use Rattle.vote_core.specs.Quorums.{votes_in}
 use Rattle.suite_collect.specs.code.Dues.{Due, due_among, due_in}
+use Rattle.suite_collect.specs.code.Sayings.{told_of}
 use Rattle.suite_collect.specs.Collecting.{all_told, wanted}
 use Rattle.suite_collect.specs.Telling.{holds, has_refused}
 use Rattle.suite_collect.proofs.Dues.{tally_then}
@@ -11,7 +12,7 @@ use Rattle.suite_collect.proofs.collect.Collect.tally_after.Goals as goal
 pub due_among-due-requires : goal.due_among-due-requires
 due_among-due-requires c =
     let now = c.args.self.now.collector in
-    let last = c.args.last.now in
+    let last = told_of c.args.last in
     c.got_after-got.ensures
     ∙ sym (got_then now last c.counted_after-votes.result.now (contains c.holders_after-holders.result) c.counted_after-votes.ensures
     (λ other. c.holders_after-holders.ensures other ∙ ap (λ mode. holds mode (last ∷ c.heard-heard.result.now) other) c.wanted-wanted.ensures ∙ ap (λ told. holds (wanted now) (last ∷ told) other) c.heard-heard.ensures))
@@ -19,7 +20,7 @@ due_among-due-requires c =
 pub returns-clause-value : goal.returns-clause-value
 returns-clause-value c =
     let now = c.args.self.now.collector in
-    let last = c.args.last.now in
+    let last = told_of c.args.last in
     let votes = c.counted_after-votes.result.now in
     let held = contains c.holders_after-holders.result in
     let refused = contains c.refused_after-refused.result in

@@ -3,4 +3,4 @@ use Rattle.suite_collect.specs.Telling.{greatest}
 use Rattle.suite_collect.proofs.heard.Heard.greatest.Given as goal
 
 abbrev pub invariant-loop-server : goal.invariant-loop-server
-invariant-loop-server l = max (greatest l.self (drop l.server-index l.server-items)) l.greatest ≡ greatest l.self l.server-items
+invariant-loop-server l = max (greatest l.self (drop l.server-index l.servers)) l.greatest ≡ greatest l.self l.servers

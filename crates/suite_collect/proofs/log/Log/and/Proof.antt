@@ -37,27 +37,27 @@ use Rattle.suite_collect.specs.contracts.log.Log.and.Key.{name as #self}
 use Rattle.suite_collect.proofs.log.Log.and.Statement as stated
 use Rattle.suite_collect.proofs.log.Log.and.Code as code
 
-module _ (A : RattleType) where
+module _ (A B : RattleType) where
   abbrev args : Args
-  args = layouts (a_type ∷ []) (A, tt)
+  args = layouts (a_type ∷ a_type ∷ []) (A, (B, tt))
 
   abbrev function : Fn
   function = inst_fn args code.function
 
   abbrev ended : Ended
-  ended = F.ended A
+  ended = F.ended A B
 
   abbrev stayed : Stays ended.signature.params ended.kept
   stayed = (
     stay_dropped (RefOf (0 ∷ []) tt (plain (λ _. Log.the_row (param 0 A))) (λ _. tt)) yes,
-    (stay_dropped (RefOf (1 ∷ []) tt (plain (λ _. param 0 A)) (λ _. tt)) yes, tt),
+    (stay_dropped (RefOf (1 ∷ []) tt (plain (λ _. param 1 B)) (λ _. tt)) yes, tt),
   )
 
   module _ {M : Type 1} {𝓤 : Ura M} (𝓛 : Logic 𝓤) (at_mem : Memory → SProp 𝓤) (run : Routine → Fun 𝓤) where
     open 𝓛 use {H}
 
     abbrev held : Clauses 𝓤 ended
-    held = F.clauses A 𝓛 at_mem run
+    held = F.clauses A B 𝓛 at_mem run
 
     module _ (C : Calls 𝓤 H) (Λ : Loops 𝓤 H) (z : (walk_of 𝓛 ended stayed held).Ghost) where
       abbrev Post : Val → SProp 𝓤
@@ -71,7 +71,7 @@ module _ (A : RattleType) where
           let a = z.0.3 in
           let vss = z.0.4 in
           let made : (Log.the_row (param 0 A)).Denot =
-          record { of = record {}; items = a.1.0.now ∷ a.0.now.items } in
+          record { of = record {}; items = z.1 ∷ a.0.now.items } in
           qed 𝓛 ((raw toks ⊛ ‵ (owns (types_at ended.signature.params z.0.0) a vss)) ∷ raw ((held z.0.0 a).requires z.1) ∷ []) ∵
           keep ! (0 ∷ []) $ split ! $ move ! (1 ∷ []) $
           fsplit ! $ fsplit ! $ feq_l ! (λ is₀. drop ! $ fsplit ! $ fsplit ! $ feq_l ! (λ is₁. drop ! $ drop ! $
@@ -91,14 +91,14 @@ module _ (A : RattleType) where
     meets : (𝓣 : Tables 𝓤 H) → Meets 𝓛 ended.signature (WpFn 𝓤 H 𝓣.C 𝓣.Λ function) (closing 𝓛 ended held)
     meets 𝓣 =
         walk_Meets 𝓛 ended stayed (
-          Goes-dropped 𝓛 3 (RefOf (0 ∷ []) tt (plain (λ _. Log.the_row (param 0 A))) (λ _. tt)) yes (λ κs x f. refl),
-          (Goes-dropped 𝓛 3 (RefOf (1 ∷ []) tt (plain (λ _. param 0 A)) (λ _. tt)) yes (λ κs x f. refl), tt),
+          Goes-dropped 𝓛 4 (RefOf (0 ∷ []) tt (plain (λ _. Log.the_row (param 0 A))) (λ _. tt)) yes (λ κs x f. refl),
+          (Goes-dropped 𝓛 4 (RefOf (1 ∷ []) tt (plain (λ _. param 1 B)) (λ _. tt)) yes (λ κs x f. refl), tt),
         ) held
         (WpFn 𝓤 H 𝓣.C 𝓣.Λ function) (WpFn-mono 𝓤 H 𝓛.laws 𝓣 function) (walks 𝓣.C 𝓣.Λ)
 
 pub and_spec : {M : Type 1} → stated.statement M
 unfolding tables_of
-and_spec 𝓤 𝓛 𝓜 𝓡 wired A LA =
+and_spec 𝓤 𝓛 𝓜 𝓡 wired A B LA LB =
     let 𝓣 : Tables 𝓤 𝓛.H = tables_of 𝓤 𝓛.H 𝓜 (tables 𝓤 𝓛.H 𝓜 𝓡 𝓡.env) in
-    entered 𝓤 𝓛.H (triple_of 𝓛 (ended A).signature (closing 𝓛 (ended A) (held A 𝓛 𝓜.mem 𝓡.returns))) 𝓣.C 𝓣.Λ (#self (args A)) (function A)
-    (code.unfolded 𝓤 𝓛.H 𝓜 𝓡 wired (A, tt)) (meets A 𝓛 𝓜.mem 𝓡.returns 𝓣)
+    entered 𝓤 𝓛.H (triple_of 𝓛 (ended A B).signature (closing 𝓛 (ended A B) (held A B 𝓛 𝓜.mem 𝓡.returns))) 𝓣.C 𝓣.Λ (#self (args A B)) (function A B)
+    (code.unfolded 𝓤 𝓛.H 𝓜 𝓡 wired (A, (B, tt))) (meets A B 𝓛 𝓜.mem 𝓡.returns 𝓣)
