@@ -8,7 +8,7 @@ ghost use Rattle.weak_cache.specs.Entries.{Cache};
 ghost use Rattle.txn_core.specs.Doing as doing;
 ghost use Rattle.txn_core.specs.code.Goings.{Begins, GoesBy, IsReady, IsStep, IsUntouched, IsWidenedBy, Keeps, begun, executed, fixed_by, gathers, given_by, held_by, replied};
 ghost use Rattle.txn_core.specs.code.Hearing.{HearsAt, IsSettled, SettlesAt, heard_at};
-ghost use Rattle.txn_core.specs.code.Learning.{Fits, content_news};
+ghost use Rattle.txn_core.specs.code.Learning.{Fits, IsKeepable, content_kept};
 ghost use Rattle.txn_core.specs.code.Reaching.{IsReachedBy, IsReachedIf, IsReachedIn};
 ghost use Rattle.txn_core.specs.code.Sequels.{follow};
 ghost use Rattle.txn_core.specs.Standing.{FitsAsked};
@@ -32,7 +32,7 @@ use crate::suites::Suite;
 use crate::task::Task;
 use rep_core::Reply;
 use sorted_map::RoomyMap;
-use std::alloc::AllocError;
+use std::alloc::{AllocError, Global};
 use std::marker::Model;
 use suite_collect::{Coming, Hearing};
 use suite_content::Content;
@@ -126,7 +126,7 @@ impl Course {
             }
             Phase::Widening { number, .. } => {
                 let number = *number;
-                self.on_widened(number, server, said)
+                self.on_widened(means.alloc, number, server, said)
             }
             Phase::Preparing(..) => Ok(self.on_prepared(server, said)),
             Phase::Deciding(_) => self.on_verdict(said),
@@ -158,7 +158,13 @@ impl Course {
     }
 
     /// A suite that is widened hears what a server said.
-    fn on_widened(&mut self, number: u64, server: u8, said: &Reply) -> Result<Goes, AllocError>
+    fn on_widened(
+        &mut self,
+        alloc: Global,
+        number: u64,
+        server: u8,
+        said: &Reply,
+    ) -> Result<Goes, AllocError>
         requires shown { shows_unused said.now ≡ true }
         ensures ok { IfOk result (λ goes. IsWidenedBy self.old number server said.now goes self.new) }
         ensures err { OnErr result (self.new ≡ self.old) }
@@ -168,7 +174,7 @@ impl Course {
             Hearing::Lost => Ok(self.give_up(Cause::Lost { server })),
             Hearing::Asks => Ok(Goes::On),
             Hearing::Short => Ok(self.gather(number)),
-            Hearing::Quorum => match self.settling(number, said)? {
+            Hearing::Quorum => match self.settling(alloc, number, said)? {
                 Some(settling) => {
                     settle(&mut self.suites, number, settling);
                     Ok(self.widen_on())
@@ -209,19 +215,24 @@ impl Course {
         ensures ok { IfOk result (λ goes. IsStep means.old (held_by means.old self.old number server said.now) goes self.new means.new) }
         ensures err { OnErr result (IsUntouched means.old self.old self.new means.new) }
     {
-        match self.settling(number, said)? {
+        match self.settling(means.alloc, number, said)? {
             Some(settling) => self.execute(means, News::Quorum(number, settling)),
             None => Ok(self.give_up(Cause::Lost { server })),
         }
     }
 
     /// The quorum that a suite is to have with a reply that completes one.
-    fn settling(&self, number: u64, said: &Reply) -> Result<Option<Settling>, AllocError>
+    fn settling(
+        &self,
+        alloc: Global,
+        number: u64,
+        said: &Reply,
+    ) -> Result<Option<Box<Settling>>, AllocError>
         requires { shows_unused said.now ≡ true }
         ensures { IfOk result (λ settling. SettlesAt (suite_of self.now.suites number) settling said.now) }
     {
         match self.suites.get(&number) {
-            Some(suite) => suite.settling(said),
+            Some(suite) => suite.settling(alloc, said),
             None => Ok(None),
         }
     }
@@ -243,16 +254,21 @@ impl Course {
         let Reply::Given { content, .. } = said else {
             return Ok(self.give_up(Cause::Lost { server }));
         };
-        match self.content_given(number, content)? {
-            Some(news) => self.execute(means, news),
+        match self.fetched(means.alloc, number, content)? {
+            Some(fetched) => self.execute(means, News::Content(fetched)),
             None => Ok(self.give_up(Cause::Lost { server })),
         }
     }
 
-    /// What is learned by the content of a suite; nothing, where the suite had no quorum.
-    fn content_given(&self, number: u64, content: &Content) -> Result<Option<News>, AllocError>
-        ensures value { IfOk result (λ news. news ≡ content_news self.now number content.now) }
-        ensures fits { IfOk result (λ news. IfSome news (λ news. Fits news)) }
+    /// What the cache is to keep with the content of a suite; nothing, where the suite had no quorum.
+    fn fetched(
+        &self,
+        alloc: Global,
+        number: u64,
+        content: &Content,
+    ) -> Result<Option<Box<Fetched>>, AllocError>
+        ensures value { IfOk result (λ one. option_map (λ one. one.value) one ≡ content_kept self.now number content.now) }
+        ensures keepable { IfOk result (λ one. IfSome one (λ one. IsKeepable one.value)) }
     {
         let Some(suite) = self.suites.get(&number) else {
             return Ok(None);
@@ -261,8 +277,8 @@ impl Course {
             return Ok(None);
         };
         let fetched = Fetched::new(&self.task, number, first, content)?;
-        let content = content.clone()?;
-        Ok(Some(News::Content(content, fetched)))
+        let fetched = Box::new(alloc, fetched)?;
+        Ok(Some(fetched))
     }
 
     /// Executes the transaction, once this was learned, and goes on to what follows. An error leaves all as it

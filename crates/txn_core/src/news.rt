@@ -21,9 +21,9 @@ pub(crate) enum News {
     /// Nothing.
     Nothing,
     /// This suite has a quorum.
-    Quorum(u64, Settling),
-    /// A suite has this content. The cache keeps it, too.
-    Content(Content, Fetched),
+    Quorum(u64, Box<Settling>),
+    /// A suite has this content, which the cache is to keep, too.
+    Content(Box<Fetched>),
 }
 
 impl News {
@@ -32,7 +32,7 @@ impl News {
         ensures { option_copied result ≡ kept_by self.now }
     {
         match self {
-            News::Content(_, fetched) => Some(fetched),
+            News::Content(fetched) => Some(fetched),
             _ => None,
         }
     }
@@ -48,14 +48,14 @@ impl News {
                 Some(suite) => suite.first().is_none(),
                 None => true,
             },
-            News::Content(content, fetched) => match suites.get(&fetched.suite) {
-                Some(suite) => suite.takes(content),
+            News::Content(fetched) => match suites.get(&fetched.suite) {
+                Some(suite) => suite.takes(&fetched.content),
                 None => false,
             },
         }
     }
 
-    /// It is set, of its suite and in the cache. Only the cache may want memory: then nothing changes.
+    /// It is set, of its suite and in the cache. Only a content may want memory: then nothing changes.
     pub(crate) fn set(
         self,
         suites: &mut RoomyMap<u64, Suite>,
@@ -70,9 +70,9 @@ impl News {
         match self {
             News::Nothing => {}
             News::Quorum(number, settling) => settle(suites, number, settling),
-            News::Content(content, fetched) => {
-                let number = fetched.suite;
-                fetched.put(cache)?;
+            News::Content(fetched) => {
+                let (number, content) = (fetched.suite, fetched.content.clone()?);
+                Box::into_inner(fetched).put(cache)?;
                 open(suites, number, content);
             }
         }
@@ -81,12 +81,12 @@ impl News {
 }
 
 /// A suite has a quorum from now on.
-pub(crate) fn settle(suites: &mut RoomyMap<u64, Suite>, number: u64, settling: Settling)
-    ensures suites { suites.new.pairs ≡ changed_at (settled_with settling) number (suite_of suites.old.pairs number) suites.old.pairs }
+pub(crate) fn settle(suites: &mut RoomyMap<u64, Suite>, number: u64, settling: Box<Settling>)
+    ensures suites { suites.new.pairs ≡ changed_at (settled_with settling.value) number (suite_of suites.old.pairs number) suites.old.pairs }
     ensures room { suites.new.room ≡ suites.old.room }
 {
     if let Some(suite) = suites.get_mut(&number) {
-        suite.settle(settling);
+        suite.settle(Box::into_inner(settling));
     }
 }
 

@@ -57,8 +57,8 @@ impl<'a> Seen<'a> {
     {
         match self.news {
             News::Quorum(place, settling) if *place == number => suite.sight_settled(settling),
-            News::Content(content, entry) if entry.suite == number => Sight {
-                content: Some(content),
+            News::Content(fetched) if fetched.suite == number => Sight {
+                content: Some(&fetched.content),
                 ..suite.sight()
             },
             _ => suite.sight(),

@@ -137,7 +137,11 @@ impl Suite {
     }
 
     /// The quorum that it is to have with a reply that completes one; none, where a lock is lost.
-    pub(crate) fn settling(&self, reply: &Reply) -> Result<Option<Settling>, AllocError>
+    pub(crate) fn settling(
+        &self,
+        alloc: Global,
+        reply: &Reply,
+    ) -> Result<Option<Box<Settling>>, AllocError>
         requires { shows_unused reply.now ≡ true }
         ensures { IfOk result (λ settling. Settles settling self.now reply.now) }
     {
@@ -145,7 +149,8 @@ impl Suite {
             return Ok(None);
         };
         let first = self.first_after(&last)?;
-        Ok(Some(Settling { last, first }))
+        let settling = Box::new(alloc, Settling { last, first })?;
+        Ok(Some(settling))
     }
 
     /// What the first quorum gives, where there is one once this is told, and was none before.
