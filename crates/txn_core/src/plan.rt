@@ -153,19 +153,19 @@ impl<'a> Execution<'a> {
             return Ok(None);
         }
         let task = self.task;
-        let start = self.start_of(shelf, *number)?;
+        let start = self.start_of(shelf, *number).clone()?;
         let suite = Suite::new(self.alloc, task.t, *number, *mode, start)?;
         Ok(Some(suite))
     }
 
     /// From which prefix a suite is gathered: the site's hint, or that of what was never made.
-    fn start_of(self, shelf: Shelf<'_>, number: u64) -> Result<Prefix, AllocError>
-        ensures { IfOk result (λ start. start ≡ start_from (fixed_at self.entry shelf.entry) self.entry.task.now (spec.entries_on shelf.entry) number) }
+    fn start_of(self, shelf: Shelf<'a>, number: u64) -> &'a Prefix
+        ensures { result.now ≡ start_from (fixed_at self.entry shelf.entry) self.entry.task.now (spec.entries_on shelf.entry) number }
     {
         let task = self.task;
         match shelf.hint(task.site, number) {
-            Some(prefix) => prefix.clone(),
-            None => self.ground.absent().clone(),
+            Some(prefix) => prefix,
+            None => self.ground.absent(),
         }
     }
 }
