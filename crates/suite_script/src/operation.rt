@@ -37,28 +37,18 @@ impl Verb {
     fn of(word: &[u8]) -> Option<Verb>
         ensures { result ≡ verb_in word.now }
     {
-        if word == b"read".as_slice() {
-            Some(Verb::Read)
-        } else if word == b"write".as_slice() {
-            Some(Verb::Write)
-        } else if word == b"list".as_slice() {
-            Some(Verb::List)
-        } else if word == b"file".as_slice() {
-            Some(Verb::File)
-        } else if word == b"folder".as_slice() {
-            Some(Verb::Folder)
-        } else if word == b"drop".as_slice() {
-            Some(Verb::Drop)
-        } else if word == b"getacl".as_slice() {
-            Some(Verb::GetAcl)
-        } else if word == b"setacl".as_slice() {
-            Some(Verb::SetAcl)
-        } else if word == b"getvotes".as_slice() {
-            Some(Verb::GetVotes)
-        } else if word == b"setvotes".as_slice() {
-            Some(Verb::SetVotes)
-        } else {
-            None
+        match word {
+            b"read" => Some(Verb::Read),
+            b"write" => Some(Verb::Write),
+            b"list" => Some(Verb::List),
+            b"file" => Some(Verb::File),
+            b"folder" => Some(Verb::Folder),
+            b"drop" => Some(Verb::Drop),
+            b"getacl" => Some(Verb::GetAcl),
+            b"setacl" => Some(Verb::SetAcl),
+            b"getvotes" => Some(Verb::GetVotes),
+            b"setvotes" => Some(Verb::SetVotes),
+            _ => None,
         }
     }
 }
