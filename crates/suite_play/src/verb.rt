@@ -20,24 +20,16 @@ impl Verb {
     pub(crate) fn of(word: &[u8]) -> Option<Verb>
         ensures { result ≡ verb_in word.now }
     {
-        if word == b"begin".as_slice() {
-            Some(Verb::Begin)
-        } else if word == b"sweep".as_slice() {
-            Some(Verb::Sweep)
-        } else if word == b"step".as_slice() {
-            Some(Verb::Step)
-        } else if word == b"run".as_slice() {
-            Some(Verb::Run)
-        } else if word == b"crash".as_slice() {
-            Some(Verb::Crash)
-        } else if word == b"return".as_slice() {
-            Some(Verb::Return)
-        } else if word == b"forget".as_slice() {
-            Some(Verb::Forget)
-        } else if word == b"audit".as_slice() {
-            Some(Verb::Audit)
-        } else {
-            None
+        match word {
+            b"begin" => Some(Verb::Begin),
+            b"sweep" => Some(Verb::Sweep),
+            b"step" => Some(Verb::Step),
+            b"run" => Some(Verb::Run),
+            b"crash" => Some(Verb::Crash),
+            b"return" => Some(Verb::Return),
+            b"forget" => Some(Verb::Forget),
+            b"audit" => Some(Verb::Audit),
+            _ => None,
         }
     }
 }

@@ -15,14 +15,11 @@ impl Verb {
     pub(crate) fn of(word: &[u8]) -> Option<Verb>
         ensures { result ≡ verb_in word.now }
     {
-        if word == b"do".as_slice() {
-            Some(Verb::Do)
-        } else if word == b"sweep".as_slice() {
-            Some(Verb::Sweep)
-        } else if word == b"together".as_slice() {
-            Some(Verb::Together)
-        } else {
-            None
+        match word {
+            b"do" => Some(Verb::Do),
+            b"sweep" => Some(Verb::Sweep),
+            b"together" => Some(Verb::Together),
+            _ => None,
         }
     }
 }
