@@ -9,13 +9,17 @@ use Rattle.script_text.specs.Numbers.{is_number, number_up_to}
 use Rattle.suite_args.specs.Answering.{Answers, AnswersServe}
 use Rattle.suite_args.specs.CommandLine.{Asked, acl, agents_of, at_least_one, help, max_agents, nothing, plays, serves, topic}
 use Rattle.suite_args.specs.declared.request.Request.TheVariants.{Acl, Help, Plays, Serve}
-use Rattle.suite_args.specs.declared.request.ArgsError.TheVariants.{CommandLine}
+use Rattle.suite_args.specs.declared.request.ArgsError.{ArgsError}
+use Rattle.suite_args.specs.declared.request.ArgsError.TheVariants.{CommandLine, Memory}
 use Rattle.suite_args.specs.declared.script.Script.{Script}
 use Rattle.suite_cli.proofs.Ran.{ran_out}
 use Rattle.suite_cli.proofs.Served.{lacked}
 use Rattle.suite_cli.specs.Names.{names_from}
 use Rattle.suite_cli.specs.Outputs.{acl_output, command_line_fault, script_output_of}
-use Rattle.suite_cli.specs.Runs.{Does, Finishes, Helps, IsUnread, LacksMemory, Refuses, Runs, RunsAcl, Serves, ServesBy, Streams, done}
+use Rattle.suite_cli.specs.Runs.{Does, Finishes, GivesNames, Helps, IsUnread, LacksMemory, Refuses, Runs, RunsAcl, Serves, ServesBy, Streams, done}
+use Rattle.suite_cli.specs.code.Errors.{Told, of_args}
+use Rattle.suite_cli.specs.declared.command_error.CommandError.{CommandError}
+use Rattle.suite_cli.specs.declared.command_error.CommandError.TheVariants as error
 use Rattle.suite_script.specs.Scripts.{no_names}
 
 -- ---- answers to `serve`
@@ -76,7 +80,7 @@ serve_refused : (agents : Option ℕ) (streams : Streams) (status : ℕ) → Ans
 serve_refused (Some number) streams status answers refuses = absurd answers
 serve_refused None streams status answers refuses = refuses
 
-pub refuse_done : (asked : Asked) (streams : Streams) (status : ℕ) → Answers asked (Err CommandLine) → Refuses command_line_fault streams status → Does asked streams status
+refuse_done : (asked : Asked) (streams : Streams) (status : ℕ) → Answers asked (Err CommandLine) → Refuses command_line_fault streams status → Does asked streams status
 refuse_done (plays script) streams status answers refuses = absurd answers
 refuse_done (acl names) streams status answers refuses = absurd answers
 refuse_done (serves text) streams status answers refuses = serve_refused (agents_of text) streams status answers refuses
@@ -113,14 +117,31 @@ help_done help streams status text line answers unread finishes = helped streams
 help_done topic streams status text line answers unread finishes = inl (helped streams status line unread finishes)
 help_done nothing streams status text line answers unread finishes = absurd answers
 
-pub acl_ran_out : (names : Result Tables ℕ) (streams : Streams) (status : ℕ) → IsUnread streams → LacksMemory streams status → RunsAcl names streams status
+acl_ran_out : (names : Result Tables ℕ) (streams : Streams) (status : ℕ) → IsUnread streams → LacksMemory streams status → RunsAcl names streams status
 acl_ran_out (Ok names) streams status unread lacks = ran_out (acl_output names) streams status streams.input lacks
 acl_ran_out (Err place) streams status unread lacks = (unread, inl lacks)
 
-pub lack_done : (asked : Asked) (streams : Streams) (status : ℕ) → IsUnread streams → LacksMemory streams status → Does asked streams status
+lack_done : (asked : Asked) (streams : Streams) (status : ℕ) → IsUnread streams → LacksMemory streams status → Does asked streams status
 lack_done (plays script) streams status unread lacks = ran_out (script_output_of script) streams status streams.input lacks
 lack_done (acl names) streams status unread lacks = acl_ran_out (names_from 1 no_names names) streams status unread lacks
 lack_done (serves text) streams status unread lacks = serve_ran_out (agents_of text) streams status unread lacks
 lack_done help streams status unread lacks = (unread, inr (inl lacks))
 lack_done topic streams status unread lacks = inl (unread, inr (inl lacks))
 lack_done nothing streams status unread lacks = (unread, inl lacks)
+
+-- ---- words that were refused
+
+pub not_asked : (error : ArgsError) (asked : Asked) (streams : Streams) (status : ℕ) → Answers asked (Err error) → IsUnread streams
+    → Told (of_args error) status streams.written streams.written_after streams.failed_writes streams.failed_writes_after → Does asked streams status
+not_asked CommandLine asked streams status answers unread told = refuse_done asked streams status answers (unread, inr told)
+not_asked Memory asked streams status answers unread told = lack_done asked streams status unread told
+
+-- a word of `acl` was
+pub not_named : (error : CommandError) (given : Result Tables ℕ) (streams : Streams) (status : ℕ) → GivesNames (Err error) given → IsUnread streams
+    → Told error status streams.written streams.written_after streams.failed_writes streams.failed_writes_after → RunsAcl given streams status
+not_named (error.BadWord place) given streams status gives unread told = rw gives (unread, elim told [ inl finishes ↦ inr finishes | inr lacks ↦ inl lacks ])
+not_named error.Memory given streams status gives unread told = acl_ran_out given streams status unread told
+not_named error.CommandLine given streams status gives unread told = absurd gives
+not_named (error.Script fault) given streams status gives unread told = absurd gives
+not_named (error.List fault) given streams status gives unread told = absurd gives
+not_named error.Stream given streams status gives unread told = absurd gives

@@ -1,14 +1,42 @@
 -- What a command has done that reads its input.
-use Rattle.std.proofs.Common.{◌≡◌, ℕ, ◌≤◌, List, [], length, Option, Some, None, refl, ◌∙◌, ap, sym, subst, inl, inr}
+use Rattle.std.proofs.Common.{◌≡◌, ℕ, ◌≤◌, List, [], length, Option, Some, None, Result, Ok, Err, refl, ◌∙◌, ap, sym, subst, inl, inr}
 use Rattle.byte_streams.specs.Streams.{Adds, one_more}
 use Rattle.byte_streams.specs.Whole.{Explains, IsWhole}
 use Rattle.byte_streams.specs.declared.reading.ReadError.{ReadError}
 use Rattle.byte_streams.specs.declared.reading.ReadError.TheVariants as read
 use Rattle.suite_script.proofs.Gathering.{adds_both, begun_nothing}
-use Rattle.suite_script.specs.Gathering.{BrokeOff, Wrote}
+use Rattle.suite_script.specs.Faults.{fault_line}
+use Rattle.suite_script.specs.Gathering.{BrokeOff, Plays}
 use Rattle.suite_script.specs.Outputs.{Output, Done, Faulty}
-use Rattle.suite_cli.specs.Outputs.{memory_line}
-use Rattle.suite_cli.specs.Runs.{BreaksOff, Finishes, IsUnwritten, LacksMemory, RunsOn, SaysMemory, Streams, WriteFailed, Writes, done, faulty, max_input, no_memory, no_stream}
+use Rattle.suite_script.specs.declared.play_error.PlayError.{PlayError}
+use Rattle.suite_script.specs.declared.play_error.PlayError.TheVariants as play
+use Rattle.suite_cli.specs.Outputs.{memory_line, text_fault_line}
+use Rattle.suite_cli.specs.Runs.{BreaksOff, GivesList, LacksMemory, RunsOn, SaysMemory, Streams, WriteFailed, Writes, done, faulty, max_input, no_memory, no_stream}
+use Rattle.suite_cli.specs.code.Errors.{ComesTo, TellsLine, Told, of_play, of_read}
+use Rattle.suite_cli.specs.declared.command_error.CommandError.{CommandError}
+use Rattle.suite_cli.specs.declared.command_error.CommandError.TheVariants as error
+
+-- ---- what a command comes to
+
+-- a command that calls another comes to what that comes to
+pub comes_to : {A B : ℕ → Option (List ℕ) → ℕ → Type 0} (result : Result ℕ CommandError) (written : Option (List ℕ)) (failures : ℕ)
+    → ((status : ℕ) (after : Option (List ℕ)) (failures_after : ℕ) → A status after failures_after → B status after failures_after)
+    → ComesTo result written failures A → ComesTo result written failures B
+comes_to (Ok status) written failures each came = each status written failures came
+comes_to (Err error) written failures each came = λ status after failures_after told. each status after failures_after (came status after failures_after told)
+
+-- what is known of the streams, but for the input, which is told apart
+abbrev pub streams_of : (written after : Option (List ℕ)) (reads reads_after writes writes_after : ℕ) → Streams
+streams_of written after reads reads_after writes writes_after = record {
+  input = None;
+  input_after = None;
+  written = written;
+  written_after = after;
+  failed_reads = reads;
+  failed_reads_after = reads_after;
+  failed_writes = writes;
+  failed_writes_after = writes_after;
+}
 
 -- ---- before the input was read
 
@@ -17,12 +45,14 @@ ran_out output streams status None lacks = tt
 ran_out output streams status (Some input) lacks =
     inr (inl (lacks.0, elim lacks.1 [ inl added ↦ inl ([], (begun_nothing (output input), added)) | inr failed ↦ inr failed ]))
 
-pub not_read : (error : ReadError) (output : List ℕ → Output) (streams : Streams) (input : Option (List ℕ)) → IsUnwritten streams → (error ≡ read.Memory → ⊥)
-    → Explains error input max_input streams.failed_reads streams.failed_reads_after → RunsOn output streams no_stream input
-not_read error output streams None unwritten not explains = tt
-not_read read.Failed output streams (Some input) unwritten not explains = inr (inr (refl, inl (unwritten, inl explains)))
-not_read read.TooLong output streams (Some input) unwritten not explains = inr (inr (refl, inl (unwritten, inr explains)))
-not_read read.Memory output streams (Some input) unwritten not explains = absurd (not refl)
+pub not_read : (error : ReadError) (output : List ℕ → Output) (streams : Streams) (status : ℕ) (input : Option (List ℕ))
+    → Explains error input max_input streams.failed_reads streams.failed_reads_after
+    → Told (of_read error) status streams.written streams.written_after streams.failed_writes streams.failed_writes_after → RunsOn output streams status input
+not_read read.Memory output streams status input explains told = ran_out output streams status input told
+not_read read.Failed output streams status None explains told = tt
+not_read read.Failed output streams status (Some input) explains told = inr (inr (told.0, inl (told.1, inl explains)))
+not_read read.TooLong output streams status None explains told = tt
+not_read read.TooLong output streams status (Some input) explains told = inr (inr (told.0, inl (told.1, inr explains)))
 
 -- ---- after it was read
 
@@ -41,28 +71,32 @@ pub write_failed : (output : List ℕ → Output) (streams : Streams) (input : O
 write_failed output streams None failed = tt
 write_failed output streams (Some input) failed = inr (inr (refl, inr failed))
 
-pub writes_done : (output : Output) (before after : Option (List ℕ)) → Wrote output before after → Writes output done before after
-writes_done (Done text) before after wrote = (refl, wrote)
-writes_done (Faulty line) before after wrote = absurd wrote
-
 pub writes_text : (output : Output) (text : List ℕ) (before after : Option (List ℕ)) → output ≡ Done text → Adds before text after → Writes output done before after
 writes_text output text before after is added = rw is (refl, added)
 
 pub writes_fault : (output : Output) (line : List ℕ) (before after : Option (List ℕ)) → output ≡ Faulty line → Adds before line after → Writes output faulty before after
 writes_fault output line before after is added = rw is (refl, added)
 
--- a text was written at the end, and nothing before it
-pub finished : (output : List ℕ → Output) (streams : Streams) (status result : ℕ) (text line : List ℕ) (input : Option (List ℕ)) → IsWhole input max_input text
-    → (Adds streams.written line streams.written_after → Writes (output text) status streams.written streams.written_after)
-    → Finishes line status result streams.written streams.written_after streams.failed_writes streams.failed_writes_after → RunsOn output streams result input
-finished output streams status result text line input whole writes finishes =
-    elim finishes [
-      | inl all ↦ subst (λ (one : ℕ). RunsOn output streams one input) (sym all.0) (all_written output streams status text input whole (writes all.1))
-      | inr failed ↦ subst (λ (one : ℕ). RunsOn output streams one input) (sym failed.0) (write_failed output streams input failed.1)
+-- a fault was told, and nothing was written before
+pub told_fault : (output : List ℕ → Output) (streams : Streams) (status : ℕ) (text line : List ℕ) (input : Option (List ℕ)) → IsWhole input max_input text → output text ≡ Faulty line
+    → TellsLine line faulty status streams.written streams.written_after streams.failed_writes streams.failed_writes_after → RunsOn output streams status input
+told_fault output streams status text line input whole is told =
+    elim told [
+      | inl finishes ↦ elim finishes [
+        | inl all ↦ subst (λ (one : ℕ). RunsOn output streams one input) (sym all.0) (all_written output streams faulty text input whole (writes_fault (output text) line streams.written streams.written_after is all.1))
+        | inr failed ↦ subst (λ (one : ℕ). RunsOn output streams one input) (sym failed.0) (write_failed output streams input failed.1)
+      ]
+      | inr lacks ↦ ran_out output streams status input lacks
     ]
 
+-- a write failed
+pub not_written : (output : List ℕ → Output) (streams : Streams) (status : ℕ) (input now : Option (List ℕ)) (failures : ℕ) → failures ≡ one_more streams.failed_writes
+    → Told error.Stream status now streams.written_after failures streams.failed_writes_after → RunsOn output streams status input
+not_written output streams status input now failures failed told =
+    subst (λ (one : ℕ). RunsOn output streams one input) (sym told.0) (write_failed output streams input (told.1.1 ∙ failed))
+
 -- memory ran out behind the front of an output
-pub broke : (output : List ℕ → Output) (streams : Streams) (status : ℕ) (text : List ℕ) (input now : Option (List ℕ)) (failures : ℕ) → IsWhole input max_input text
+broke : (output : List ℕ → Output) (streams : Streams) (status : ℕ) (text : List ℕ) (input now : Option (List ℕ)) (failures : ℕ) → IsWhole input max_input text
     → BrokeOff (output text) streams.written now → failures ≡ streams.failed_writes → status ≡ no_memory
     → SaysMemory now streams.written_after failures streams.failed_writes_after → RunsOn output streams status input
 broke output streams status text input now failures whole so same is says =
@@ -73,3 +107,23 @@ broke output streams status text input now failures whole so same is says =
         | inr failed ↦ inr (failed ∙ ap one_more same)
       ],
     )
+
+-- a script was not played to its end
+pub not_played : (error : PlayError) (output : List ℕ → Output) (streams : Streams) (status : ℕ) (text : List ℕ) (input now : Option (List ℕ)) (failures : ℕ) → IsWhole input max_input text
+    → Plays (Err error) (output text) streams.written now streams.failed_writes failures
+    → Told (of_play error) status now streams.written_after failures streams.failed_writes_after → RunsOn output streams status input
+not_played (play.Faulty fault) output streams status text input now failures whole plays told =
+    told_fault output streams status text (fault_line fault) input whole plays.0 (rw (plays.1.0, plays.1.1) at told)
+not_played play.WriteFailed output streams status text input now failures whole plays told = not_written output streams status input now failures plays told
+not_played play.Memory output streams status text input now failures whole plays told = broke output streams status text input now failures whole plays.0 plays.1 told.0 told.1
+
+-- there was no list to print
+pub not_listed : (error : CommandError) (output : List ℕ → Output) (streams : Streams) (status : ℕ) (text : List ℕ) (input : Option (List ℕ)) → IsWhole input max_input text
+    → GivesList (Err error) (output text)
+    → Told error status streams.written streams.written_after streams.failed_writes streams.failed_writes_after → RunsOn output streams status input
+not_listed (error.List fault) output streams status text input whole gives told = told_fault output streams status text (text_fault_line fault) input whole gives told
+not_listed error.Memory output streams status text input whole gives told = ran_out output streams status input told
+not_listed error.CommandLine output streams status text input whole gives told = absurd gives
+not_listed (error.BadWord place) output streams status text input whole gives told = absurd gives
+not_listed (error.Script fault) output streams status text input whole gives told = absurd gives
+not_listed error.Stream output streams status text input whole gives told = absurd gives

@@ -5,17 +5,20 @@ use Rattle.byte_streams.specs.Whole.{Explains, IsWhole}
 use Rattle.byte_streams.specs.declared.reading.ReadError.{ReadError}
 use Rattle.byte_streams.specs.declared.reading.ReadError.TheVariants as read
 use Rattle.file_ops.specs.Steps.{ok_map}
-use Rattle.run_certify.specs.declared.fault.CertifyFault.{CertifyFault}
-use Rattle.run_certify.specs.declared.fault.CertifyFault.TheVariants as certify
 use Rattle.suite_script.proofs.Gathering.{adds_both}
 use Rattle.suite_script.specs.Faults.{fault_line}
 use Rattle.suite_script.specs.Gathering as gathering
 use Rattle.suite_script.specs.Gathering.{WroteSoFar}
 use Rattle.suite_script.specs.Outputs.{Done}
 use Rattle.suite_script.specs.declared.fault.ScriptFault.{ScriptFault}
+use Rattle.suite_script.specs.declared.fault.ScriptError.{ScriptError}
+use Rattle.suite_script.specs.declared.fault.ScriptError.TheVariants as script
+use Rattle.suite_script.specs.declared.play_error.PlayError.{PlayError}
 use Rattle.suite_script.specs.declared.play_error.PlayError.TheVariants as play
 use Rattle.suite_cli.specs.Outputs.{certified_line, memory_line}
-use Rattle.suite_cli.specs.Runs.{Concludes, Finishes, IsUnwritten, LacksMemory, Reports, SaysMemory, ServesOn, ServesScript, Streams, Tells, faulty, max_input, no_memory, no_stream}
+use Rattle.suite_cli.specs.Runs.{Concludes, Finishes, LacksMemory, Reports, SaysMemory, ServesOn, ServesScript, Streams, Tells, faulty, max_input, no_memory}
+use Rattle.suite_cli.specs.code.Errors.{Told, of_play, of_read, of_script}
+use Rattle.suite_serve.specs.Readings.{GivesScript}
 use Rattle.suite_serve.specs.Scripts.{Plan, plan_in}
 use Rattle.suite_serve.specs.Served.{Came, IsServed, job_lines}
 use Rattle.suite_serve.specs.code.Kept.{kept_plan}
@@ -51,7 +54,7 @@ reported came status before now after failures failures_now failures_after print
     ]
 
 -- memory ran out among its lines
-pub broken_off : (came : Came) (status : ℕ) (before now after : Option (List ℕ)) (failures failures_now failures_after : ℕ)
+broken_off : (came : Came) (status : ℕ) (before now after : Option (List ℕ)) (failures failures_now failures_after : ℕ)
     → gathering.Prints (Err play.Memory) (job_lines came.ends) [] before now failures failures_now → status ≡ no_memory → SaysMemory now after failures_now failures_after
     → Tells (Done (whole came)) status before after failures failures_after
 broken_off came status before now after failures failures_now failures_after prints is says =
@@ -66,9 +69,19 @@ broken_off came status before now after failures failures_now failures_after pri
       ],
     ))
 
+-- its lines were not written to their end
+pub not_written : (error : PlayError) (plan : Plan) (came : Came) (status : ℕ) (before now after : Option (List ℕ)) (failures failures_now failures_after : ℕ) → IsServed plan came
+    → gathering.Prints (Err error) (job_lines came.ends) [] before now failures failures_now
+    → Told (of_play error) status now after failures_now failures_after → Concludes plan status before after failures failures_after
+not_written (play.Faulty fault) plan came status before now after failures failures_now failures_after served prints told = absurd prints
+not_written play.WriteFailed plan came status before now after failures failures_now failures_after served prints told =
+    concludes plan came status before after failures failures_after served (inr (inr (told.0, told.1.1 ∙ prints)))
+not_written play.Memory plan came status before now after failures failures_now failures_after served prints told =
+    concludes plan came status before after failures failures_after served (broken_off came status before now after failures failures_now failures_after prints told.0 told.1)
+
 -- ---- a script that has a fault
 
-pub told_fault : (fault : ScriptFault) (status : ℕ) (before after : Option (List ℕ)) (failures failures_after : ℕ) → Finishes (fault_line fault) faulty status before after failures failures_after
+told_fault : (fault : ScriptFault) (status : ℕ) (before after : Option (List ℕ)) (failures failures_after : ℕ) → Finishes (fault_line fault) faulty status before after failures failures_after
     → ServesScript (Err fault) status before after failures failures_after
 told_fault fault status before after failures failures_after finishes = elim finishes [ inl all ↦ inl all | inr failed ↦ inr (inr failed) ]
 
@@ -78,12 +91,13 @@ pub lacked : (agents : ℕ) (streams : Streams) (status : ℕ) (input : Option (
 lacked agents streams status None lacks = tt
 lacked agents streams status (Some input) lacks = inr (inl lacks)
 
-pub unread : (agents : ℕ) (error : ReadError) (streams : Streams) (input : Option (List ℕ)) → IsUnwritten streams → (error ≡ read.Memory → ⊥)
-    → Explains error input max_input streams.failed_reads streams.failed_reads_after → ServesOn agents streams no_stream input
-unread agents error streams None unwritten not explains = tt
-unread agents read.Failed streams (Some input) unwritten not explains = inr (inr (refl, inl (unwritten, inl explains)))
-unread agents read.TooLong streams (Some input) unwritten not explains = inr (inr (refl, inl (unwritten, inr explains)))
-unread agents read.Memory streams (Some input) unwritten not explains = absurd (not refl)
+pub unread : (error : ReadError) (agents : ℕ) (streams : Streams) (status : ℕ) (input : Option (List ℕ)) → Explains error input max_input streams.failed_reads streams.failed_reads_after
+    → Told (of_read error) status streams.written streams.written_after streams.failed_writes streams.failed_writes_after → ServesOn agents streams status input
+unread read.Memory agents streams status input explains told = lacked agents streams status input told
+unread read.Failed agents streams status None explains told = tt
+unread read.Failed agents streams status (Some input) explains told = inr (inr (told.0, inl (told.1, inl explains)))
+unread read.TooLong agents streams status None explains told = tt
+unread read.TooLong agents streams status (Some input) explains told = inr (inr (told.0, inl (told.1, inr explains)))
 
 -- ---- after it was read
 
@@ -108,15 +122,19 @@ pub served_plan : (given : Result Plan ScriptFault) (plan : Plan) (status : ℕ)
 served_plan (Ok read) plan status before after failures failures_after is concludes = subst (λ (one : Plan). Concludes one status before after failures failures_after) (sym (same_ok (kept_plan read) plan (Ok (kept_plan read)) refl is)) concludes
 served_plan (Err fault) plan status before after failures failures_after is concludes = absurd (no_ok fault plan (Err fault) refl is)
 
-pub faulty_plan : (given : Result Plan ScriptFault) (fault : ScriptFault) (status : ℕ) (before after : Option (List ℕ)) (failures failures_after : ℕ) → ok_map kept_plan given ≡ Err fault
+faulty_plan : (given : Result Plan ScriptFault) (fault : ScriptFault) (status : ℕ) (before after : Option (List ℕ)) (failures failures_after : ℕ) → ok_map kept_plan given ≡ Err fault
     → Finishes (fault_line fault) faulty status before after failures failures_after → ServesScript given status before after failures failures_after
 faulty_plan (Ok read) fault status before after failures failures_after is finishes = absurd (no_ok fault (kept_plan read) (Ok (kept_plan read)) is refl)
 faulty_plan (Err other) fault status before after failures failures_after is finishes =
     told_fault other status before after failures failures_after (subst (λ (one : ScriptFault). Finishes (fault_line one) faulty status before after failures failures_after) (sym (same_err other fault (Err other) refl is)) finishes)
 
--- ---- where it was no run, or a write failed
-
-pub fault_reported : (plan : Plan) (fault : CertifyFault) (status : ℕ) (before after : Option (List ℕ)) (failures failures_after : ℕ) → Reports (Err fault) status before after failures failures_after
-    → Concludes plan status before after failures failures_after
-fault_reported plan certify.Mismatch status before after failures failures_after reports = inr (inl reports)
-fault_reported plan certify.Memory status before after failures failures_after reports = inr (inr reports)
+-- the script was not read
+pub not_scripted : (error : ScriptError) (agents : ℕ) (streams : Streams) (status : ℕ) (text : List ℕ) (input : Option (List ℕ)) → IsWhole input max_input text
+    → GivesScript (Err error) (ok_map kept_plan (plan_in agents text))
+    → Told (of_script error) status streams.written streams.written_after streams.failed_writes streams.failed_writes_after → ServesOn agents streams status input
+not_scripted (script.Faulty fault) agents streams status text input whole gives told =
+    elim told [
+      | inl finishes ↦ served_input agents streams status text input whole (faulty_plan (plan_in agents text) fault status streams.written streams.written_after streams.failed_writes streams.failed_writes_after gives finishes)
+      | inr lacks ↦ lacked agents streams status input lacks
+    ]
+not_scripted script.Memory agents streams status text input whole gives told = lacked agents streams status input told

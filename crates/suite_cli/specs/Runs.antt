@@ -13,13 +13,11 @@ use Rattle.suite_script.specs.declared.fault.ScriptFault.{ScriptFault}
 use Rattle.suite_serve.specs.Scripts.{Plan, plan_in}
 use Rattle.suite_serve.specs.Served.{Came, IsServed, job_lines}
 use Rattle.suite_serve.specs.code.Kept.{kept_plan}
-use Rattle.suite_cli.specs.Outputs.{acl_output, certified_line, command_line_fault, memory_line, mismatch_line, script_output_of, word_fault_line}
-use Rattle.suite_cli.specs.declared.acl.NamesError.{NamesError}
-use Rattle.suite_cli.specs.declared.acl.NamesError.TheVariants as names
+use Rattle.suite_cli.specs.Outputs.{acl_output, certified_line, command_line_fault, memory_line, mismatch_line, script_output_of, text_fault_line, word_fault_line}
+use Rattle.suite_cli.specs.declared.command_error.CommandError.{CommandError}
+use Rattle.suite_cli.specs.declared.command_error.CommandError.TheVariants as error
 use Rattle.std.specs.declared.alloc.AllocError.{AllocError}
 use Rattle.std.specs.declared.alloc.Global.{Global}
-use Rattle.suite_cli.specs.declared.acl.ListError.{ListError}
-use Rattle.suite_cli.specs.declared.acl.ListError.TheVariants as list
 use Rattle.acl_text.specs.declared.names.NameError.{NameError}
 use Rattle.acl_text.specs.declared.names.NameError.TheVariants as name
 use Rattle.acl_text.specs.Tables.{Tables}
@@ -192,10 +190,11 @@ Does asked.topic streams status = Helps streams status ⊎ Refuses command_line_
 Does asked.nothing streams status = Refuses command_line_fault streams status
 
 -- what the words of `acl` said: names, or the place of a bad one
-abbrev pub GivesNames : Result Tables NamesError → Result Tables ℕ → Type 0
+abbrev pub GivesNames : Result Tables CommandError → Result Tables ℕ → Type 0
 GivesNames (Ok names) given = given ≡ Ok names
-GivesNames (Err (names.BadWord place)) given = given ≡ Err place
-GivesNames (Err names.Memory) given = Unit {0}
+GivesNames (Err (error.BadWord place)) given = given ≡ Err place
+GivesNames (Err error.Memory) given = Unit {0}
+GivesNames (Err other) given = ⊥
 
 abbrev pub GivesName : Result Bool AllocError → Tables → Option Tables → Type 0
 GivesName (Ok true) after given = given ≡ Some after
@@ -209,7 +208,8 @@ is_added (Err name.Memory) = Err alloc_error
 is_added (Err error) = Ok false
 
 -- a list's text was printed anew, or is faulty
-abbrev pub GivesList : Result (Vec ℕ Global) ListError → Output → Type 0
+abbrev pub GivesList : Result (Vec ℕ Global) CommandError → Output → Type 0
 GivesList (Ok text) output = output ≡ Done text.items
-GivesList (Err (list.Faulty line)) output = output ≡ Faulty line.items
-GivesList (Err list.Memory) output = Unit {0}
+GivesList (Err (error.List fault)) output = output ≡ Faulty (text_fault_line fault)
+GivesList (Err error.Memory) output = Unit {0}
+GivesList (Err other) output = ⊥

@@ -1,56 +1,26 @@
 //! The command `acl`: the text of lists, printed anew.
 
-ghost use Rattle.std.specs.Prelude.{◌≡◌, ◌-◌, ◌==◌, map, not, length, option_map, IfOk};
+ghost use Rattle.std.specs.Prelude.{◌≡◌, ◌-◌, ◌==◌, map, not, length, option_map};
 ghost use Rattle.std.specs.List.{suffix_len};
 ghost use Rattle.suite_cli.specs.Names.{given_in, name_in, names_from};
-ghost use Rattle.suite_cli.specs.Outputs.{acl_output, word_fault_line};
+ghost use Rattle.suite_cli.specs.Outputs.{acl_output};
 ghost use Rattle.suite_cli.specs.Runs.{GivesList, GivesName, GivesNames, is_added};
 ghost use Rattle.suite_script.specs.Scripts.{no_names};
 
-use acl_text::{NameError, Names, TextFault, append_acl, read_acl};
-use script_text::{push_number, read_number};
+use crate::command_error::CommandError;
+use acl_text::{NameError, Names, append_acl, read_acl};
+use script_text::read_number;
 use std::alloc::{AllocError, Global};
-use suite_script::push_text_code;
-
-/// Why the words after `acl` give no names.
-#[derive(Clone, Copy, Debug)]
-pub(crate) enum NamesError {
-    /// A word is no name with its number, or its name is taken; by its place from 1.
-    BadWord(u64),
-    /// Memory ran out.
-    Memory,
-}
-
-/// Why there is no list to print.
-#[derive(Drop)]
-pub(crate) enum ListError {
-    /// Its text is faulty, and this line says so.
-    Faulty(Vec<u8>),
-    /// Memory ran out.
-    Memory,
-}
-
-impl From<AllocError> for ListError {
-    ghost use Rattle.suite_cli.specs.declared.acl.ListError.TheVariants.{Memory};
-
-    ghost from_gives = { λ _ e. e ≡ Memory };
-
-    fn from(_error: AllocError) -> ListError {
-        ListError::Memory
-    }
-}
 
 /// The names that some words give, each a word such as `user:lisa=1001`.
-pub(crate) fn read_names(alloc: Global, words: &[&str]) -> Result<Names, NamesError>
+pub(crate) fn read_names(alloc: Global, words: &[&str]) -> Result<Names, CommandError>
     ensures { GivesNames result (names_from 1 no_names (map (λ word. word.now) words.now)) }
 {
     let mut names = Names::new(alloc);
     let mut place = 1;
     for word in words {
-        match add_name(&mut names, word.as_bytes()) {
-            Ok(true) => {}
-            Ok(false) => return Err(NamesError::BadWord(place)),
-            Err(_) => return Err(NamesError::Memory),
+        if !add_name(&mut names, word.as_bytes())? {
+            return Err(CommandError::BadWord(place));
         }
         place += 1;
     }
@@ -111,31 +81,11 @@ fn number_start(text: &[u8]) -> usize
 }
 
 /// The long text of the lists that a text spells.
-pub(crate) fn list_text(alloc: Global, names: &Names, text: &[u8]) -> Result<Vec<u8>, ListError>
+pub(crate) fn list_text(alloc: Global, names: &Names, text: &[u8]) -> Result<Vec<u8>, CommandError>
     ensures { GivesList result (acl_output names.now text.now) }
 {
+    let lists = read_acl(alloc, text, names)?;
     let mut written = Vec::new(alloc);
-    match read_acl(alloc, text, names) {
-        Ok(lists) => {
-            append_acl(&mut written, &lists)?;
-            Ok(written)
-        }
-        Err(TextFault::Memory) => Err(ListError::Memory),
-        Err(fault) => {
-            written.extend_from_slice(b"fault ")?;
-            push_text_code(&mut written, fault)?;
-            written.extend_from_slice(b"\n")?;
-            Err(ListError::Faulty(written))
-        }
-    }
-}
-
-/// The line of a bad name among the words.
-pub(crate) fn word_fault(alloc: Global, place: u64) -> Result<Vec<u8>, AllocError>
-    ensures { IfOk result (λ line. line.items ≡ word_fault_line place) }
-{
-    let mut line = Vec::from_slice(alloc, b"fault word ")?;
-    push_number(&mut line, place)?;
-    line.extend_from_slice(b"\n")?;
-    Ok(line)
+    append_acl(&mut written, &lists)?;
+    Ok(written)
 }

@@ -2,6 +2,7 @@
 #![tactic(auto)]
 
 mod acl;
+mod command_error;
 mod commands;
 mod job;
 mod language;
@@ -9,7 +10,9 @@ mod player;
 mod scripts;
 mod serve;
 mod table;
+mod telling;
 
 pub use byte_streams::{ByteIn, ByteOut};
-pub use commands::{lack_memory, run};
+pub use commands::run;
 pub use serve::report;
+pub use telling::lack_memory;

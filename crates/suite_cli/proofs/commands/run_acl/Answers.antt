@@ -1,60 +1,46 @@
-use Rattle.std.proofs.Common.{◌≡◌, ℕ, List, refl, subst}
-use Rattle.suite_script.specs.Outputs.{Done}
-use Rattle.suite_cli.proofs.Asked.{acl_ran_out}
-use Rattle.suite_cli.proofs.Ran.{finished, ran_out, writes_text}
+use Rattle.std.proofs.Common.{map, refl}
+use Rattle.suite_cli.proofs.Asked.{not_named}
+use Rattle.suite_cli.proofs.Ran.{all_written, not_listed, not_read, not_written, streams_of, writes_text}
+use Rattle.suite_cli.specs.Names.{names_from}
 use Rattle.suite_cli.specs.Outputs.{acl_output}
-use Rattle.suite_cli.specs.Runs.{Finishes, Streams, done}
+use Rattle.suite_cli.specs.Runs.{done}
+use Rattle.suite_cli.specs.code.Errors.{of_read}
+use Rattle.suite_cli.specs.declared.command_error.CommandError.TheVariants.{Stream}
+use Rattle.suite_script.proofs.Gathering.{failed}
+use Rattle.suite_script.specs.Scripts.{no_names}
 use Rattle.suite_cli.proofs.commands.run_acl.Goals as goal
 
-pub returns-in-Err-Memory : goal.returns-in-Err-Memory
-returns-in-Err-Memory g c =
-    acl_ran_out _ _ _ (refl, refl) (c.lack_memory-in-Err-Memory.ensures.status, c.lack_memory-in-Err-Memory.ensures.says)
+pub returns-in_err-names : goal.returns-in_err-names
+returns-in_err-names g c =
+    let error = c.in_err-names.field-0.0 in
+    rw (failed c.from_residual.result error c.from_residual.ensures)
+    (λ status after failures told. not_named error (names_from 1 no_names (map (λ word. word.now) c.args.words.now)) _ status c.in_err-names.ensures (refl, refl) told)
 
-pub returns-in-Err-Memory-read_all : goal.returns-in-Err-Memory-read_all
-returns-in-Err-Memory-read_all g c =
-    let streams : Streams = record {
-      input = g.I.ByteIn.rest c.args.reader.now;
-      input_after = g.I.ByteIn.rest c.read_all.new.stream;
-      written = g.O.ByteOut.written c.args.writer.now;
-      written_after = g.O.ByteOut.written c.lack_memory-in-Err-Memory-read_all.new.writer;
-      failed_reads = g.I.ByteIn.failed_reads c.args.reader.now;
-      failed_reads_after = g.I.ByteIn.failed_reads c.read_all.new.stream;
-      failed_writes = g.O.ByteOut.failed_writes c.args.writer.now;
-      failed_writes_after = g.O.ByteOut.failed_writes c.lack_memory-in-Err-Memory-read_all.new.writer;
-    } in
-    rw c.in-Ok.ensures (ran_out (acl_output c.in-Ok.names) streams c.lack_memory-in-Err-Memory-read_all.result (g.I.ByteIn.rest c.args.reader.now) (c.lack_memory-in-Err-Memory-read_all.ensures.status, c.lack_memory-in-Err-Memory-read_all.ensures.says))
+pub returns-in_err-text : goal.returns-in_err-text
+returns-in_err-text g c =
+    let error = c.in_err-text.field-0.0 in
+    rw (failed c.from_residual-in_err-text.result (of_read error) c.from_residual-in_err-text.ensures, c.in_ok-names.ensures)
+    (λ status after failures told. not_read error (acl_output c.in_ok-names.names) (streams_of _ _ (g.I.ByteIn.failed_reads c.args.reader.now) _ _ _) status _ c.in_err-text.ensures.err told)
+
+pub returns-in_err-list : goal.returns-in_err-list
+returns-in_err-list g c =
+    let error = c.in_err-list.field-0.0 in
+    let gives = rw c.deref.ensures.value at c.in_err-list.ensures in
+    rw (failed c.from_residual-in_err-list.result error c.from_residual-in_err-list.ensures, c.in_ok-names.ensures)
+    (λ status after failures told. not_listed error (acl_output c.in_ok-names.names) (streams_of _ _ (g.I.ByteIn.failed_reads c.args.reader.now) _ _ _) status c.in_ok-text.text.items _ c.in_ok-text.ensures.ok gives told)
+
+pub returns-in_err-write_all : goal.returns-in_err-write_all
+returns-in_err-write_all g c =
+    let now = g.O.ByteOut.written c.write_all.new.stream in
+    let failures = g.O.ByteOut.failed_writes c.write_all.new.stream in
+    rw (failed c.from_residual-in_err-write_all.result Stream c.from_residual-in_err-write_all.ensures, c.in_ok-names.ensures)
+    (λ status after failures_after told. not_written (acl_output c.in_ok-names.names) (streams_of _ _ (g.I.ByteIn.failed_reads c.args.reader.now) _ (g.O.ByteOut.failed_writes c.args.writer.now) _) status _ now failures c.in_err-write_all.ensures.err told)
 
 pub returns : goal.returns
 returns g c =
-    let streams : Streams = record {
-      input = g.I.ByteIn.rest c.args.reader.now;
-      input_after = g.I.ByteIn.rest c.read_all.new.stream;
-      written = g.O.ByteOut.written c.args.writer.now;
-      written_after = g.O.ByteOut.written c.lack_memory-in-Err-Memory-list_text.new.writer;
-      failed_reads = g.I.ByteIn.failed_reads c.args.reader.now;
-      failed_reads_after = g.I.ByteIn.failed_reads c.read_all.new.stream;
-      failed_writes = g.O.ByteOut.failed_writes c.args.writer.now;
-      failed_writes_after = g.O.ByteOut.failed_writes c.lack_memory-in-Err-Memory-list_text.new.writer;
-    } in
-    rw c.in-Ok.ensures (ran_out (acl_output c.in-Ok.names) streams c.lack_memory-in-Err-Memory-list_text.result (g.I.ByteIn.rest c.args.reader.now) (c.lack_memory-in-Err-Memory-list_text.ensures.status, c.lack_memory-in-Err-Memory-list_text.ensures.says))
-
-pub returns-in-Ok-list_text : goal.returns-in-Ok-list_text
-returns-in-Ok-list_text g c =
-    let streams : Streams = record {
-      input = g.I.ByteIn.rest c.args.reader.now;
-      input_after = g.I.ByteIn.rest c.read_all.new.stream;
-      written = g.O.ByteOut.written c.args.writer.now;
-      written_after = g.O.ByteOut.written c.finish-in-Ok-list_text.new.writer;
-      failed_reads = g.I.ByteIn.failed_reads c.args.reader.now;
-      failed_reads_after = g.I.ByteIn.failed_reads c.read_all.new.stream;
-      failed_writes = g.O.ByteOut.failed_writes c.args.writer.now;
-      failed_writes_after = g.O.ByteOut.failed_writes c.finish-in-Ok-list_text.new.writer;
-    } in
-    let names = c.in-Ok.names in
-    let text = c.in-Ok-read_all.text.items in
-    let line = c.in-Ok-list_text.list.items in
-    let status = c.finish-in-Ok-list_text.result in
-    let is : acl_output names text ≡ Done line = subst (λ (one : List ℕ). acl_output names one ≡ Done line) c.deref-2.ensures.value c.in-Ok-list_text.ensures in
-    let ends : Finishes line done status streams.written streams.written_after streams.failed_writes streams.failed_writes_after =
-    subst (λ (one : List ℕ). Finishes one done status streams.written streams.written_after streams.failed_writes streams.failed_writes_after) c.deref-in-Ok-list_text.ensures.value c.finish-in-Ok-list_text.ensures in
-    rw c.in-Ok.ensures (finished (acl_output names) streams done status text line streams.input c.in-Ok-read_all.ensures.ok (λ added. writes_text (acl_output names text) line streams.written streams.written_after is added) ends)
+    let output = acl_output c.in_ok-names.names in
+    let text = c.in_ok-text.text.items in
+    let list = c.in_ok-list.list.items in
+    let is = rw c.deref.ensures.value at c.in_ok-list.ensures in
+    let added = rw c.deref-2.ensures.value at c.in_ok-write_all.ensures.ok in
+    rw c.in_ok-names.ensures (all_written output (streams_of _ _ (g.I.ByteIn.failed_reads c.args.reader.now) _ (g.O.ByteOut.failed_writes c.args.writer.now) _) done text _ c.in_ok-text.ensures.ok (writes_text (output text) list _ _ is added))

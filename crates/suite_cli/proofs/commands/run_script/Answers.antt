@@ -1,38 +1,21 @@
-use Rattle.std.proofs.Common.{ℕ, List, subst}
-use Rattle.suite_cli.proofs.Ran.{broke, ran_out}
+use Rattle.suite_cli.proofs.Ran.{not_played, not_read, streams_of}
 use Rattle.suite_cli.specs.Outputs.{script_output_of}
-use Rattle.suite_cli.specs.Runs.{Streams}
-use Rattle.suite_script.specs.Gathering.{BrokeOff}
+use Rattle.suite_cli.specs.code.Errors.{of_play, of_read}
+use Rattle.suite_script.proofs.Gathering.{failed}
 use Rattle.suite_cli.proofs.commands.run_script.Goals as goal
 
-pub returns-in-Err-Memory : goal.returns-in-Err-Memory
-returns-in-Err-Memory g c =
-    let streams : Streams = record {
-      input = g.I.ByteIn.rest c.args.reader.now;
-      input_after = g.I.ByteIn.rest c.read_all.new.stream;
-      written = g.O.ByteOut.written c.args.writer.now;
-      written_after = g.O.ByteOut.written c.lack_memory.new.writer;
-      failed_reads = g.I.ByteIn.failed_reads c.args.reader.now;
-      failed_reads_after = g.I.ByteIn.failed_reads c.read_all.new.stream;
-      failed_writes = g.O.ByteOut.failed_writes c.args.writer.now;
-      failed_writes_after = g.O.ByteOut.failed_writes c.lack_memory.new.writer;
-    } in
-    ran_out (script_output_of c.args.command) streams c.lack_memory.result (g.I.ByteIn.rest c.args.reader.now) (c.lack_memory.ensures.status, c.lack_memory.ensures.says)
+pub returns-in_err-text : goal.returns-in_err-text
+returns-in_err-text g c =
+    let error = c.in_err-text.field-0.0 in
+    rw (failed c.from_residual.result (of_read error) c.from_residual.ensures)
+    (λ status after failures told. not_read error (script_output_of c.args.command) (streams_of _ _ (g.I.ByteIn.failed_reads c.args.reader.now) _ _ _) status _ c.in_err-text.ensures.err told)
 
-pub returns : goal.returns
-returns g c =
-    let streams : Streams = record {
-      input = g.I.ByteIn.rest c.args.reader.now;
-      input_after = g.I.ByteIn.rest c.read_all.new.stream;
-      written = g.O.ByteOut.written c.args.writer.now;
-      written_after = g.O.ByteOut.written c.lack_memory-in-Err-Memory-play_script.new.writer;
-      failed_reads = g.I.ByteIn.failed_reads c.args.reader.now;
-      failed_reads_after = g.I.ByteIn.failed_reads c.read_all.new.stream;
-      failed_writes = g.O.ByteOut.failed_writes c.args.writer.now;
-      failed_writes_after = g.O.ByteOut.failed_writes c.lack_memory-in-Err-Memory-play_script.new.writer;
-    } in
-    let plays = rw c.in-Err-Memory-play_script.field-0-is at c.in-Err-Memory-play_script.ensures in
+pub returns-in_err-play_script : goal.returns-in_err-play_script
+returns-in_err-play_script g c =
+    let error = c.in_err-play_script.field-0.0 in
     let output = script_output_of c.args.command in
     let now = g.O.ByteOut.written c.play_script.new.writer in
-    let so = subst (λ (text : List ℕ). BrokeOff (output text) streams.written now) c.deref.ensures.value plays.0 in
-    broke output streams c.lack_memory-in-Err-Memory-play_script.result c.in-Ok.text.items (g.I.ByteIn.rest c.args.reader.now) now (g.O.ByteOut.failed_writes c.play_script.new.writer) c.in-Ok.ensures.ok so plays.1 c.lack_memory-in-Err-Memory-play_script.ensures.status c.lack_memory-in-Err-Memory-play_script.ensures.says
+    let failures = g.O.ByteOut.failed_writes c.play_script.new.writer in
+    let plays = rw c.deref.ensures.value at c.in_err-play_script.ensures in
+    rw (failed c.from_residual-in_err-play_script.result (of_play error) c.from_residual-in_err-play_script.ensures)
+    (λ status after failures_after told. not_played error output (streams_of _ _ (g.I.ByteIn.failed_reads c.args.reader.now) _ _ _) status c.in_ok-text.text.items _ now failures c.in_ok-text.ensures.ok plays told)
