@@ -15,7 +15,7 @@ use std::alloc::AllocError;
 use suite_content::Content;
 use weak_cache::WeakCache;
 
-/// What a transaction learned since it was executed last.
+/// What a transaction learned since it was executed last. It stands on the heap, so that it is cheap to move.
 #[derive(Drop)]
 pub(crate) enum News {
     /// Nothing.
