@@ -1,8 +1,8 @@
 -- The servers that pass a test, number by number.
-use Rattle.std.proofs.Common.{◌≡◌, ◌<◌, ◌+◌, ℕ, zero, suc, Bool, true, false, cond, List, [], ◌∷◌, ◌++◌, length, take, set, sym, ap, ◌∙◌, arith}
+use Rattle.std.proofs.Common.{◌≡◌, ◌+◌, ℕ, zero, suc, Bool, true, false, cond, List, [], ◌∷◌, ◌++◌, sym, ap, ◌∙◌, arith}
 use Rattle.std.specs.Prelude.{filter}
 use Rattle.std.proofs.lemmas.List.Elements.{filter-append}
-use Rattle.std.proofs.lemmas.List.{take_more_set, append-nil}
+use Rattle.std.proofs.lemmas.List.{append-nil}
 use Rattle.txn_core.specs.Transactions.{numbers_from}
 
 numbers_last : (start n : ℕ) → numbers_from start (n + 1) ≡ numbers_from start n ++ (start + n) ∷ []
@@ -16,17 +16,10 @@ numbers_last start (suc n) =
 passing_last : (test : ℕ → Bool) (n : ℕ) → filter test (numbers_from 0 (n + 1)) ≡ filter test (numbers_from 0 n) ++ cond (test n) (n ∷ []) []
 passing_last test n = ap (filter test) (numbers_last 0 n ∙ ap (λ k. numbers_from 0 n ++ k ∷ []) (let e : 0 + n ≡ n = omega arith in e)) ∙ filter-append test (numbers_from 0 n) (n ∷ [])
 
-pub one_passes : (test : ℕ → Bool) (n count new_count : ℕ) (servers new : List ℕ) → test n ≡ true → count < length servers → new ≡ set servers count n → new_count ≡ count + 1 → take count servers ≡ filter test (numbers_from 0 n) → take new_count new ≡ filter test (numbers_from 0 (n + 1))
-one_passes test n count new_count servers new passes room is more so_far =
-    ap (λ k. take k new) more
-    ∙ ap (λ l. take (count + 1) l) is
-    ∙ take_more_set servers count n room
-    ∙ ap (λ l. l ++ n ∷ []) so_far
-    ∙ sym (passing_last test n ∙ ap (λ b. filter test (numbers_from 0 n) ++ cond b (n ∷ []) []) passes)
+pub one_passes : (test : ℕ → Bool) (n : ℕ) (before after : List ℕ) → test n ≡ true → after ≡ before ++ n ∷ [] → before ≡ filter test (numbers_from 0 n) → after ≡ filter test (numbers_from 0 (n + 1))
+one_passes test n before after passes is so_far =
+    is ∙ ap (λ l. l ++ n ∷ []) so_far ∙ sym (passing_last test n ∙ ap (λ b. filter test (numbers_from 0 n) ++ cond b (n ∷ []) []) passes)
 
-pub one_fails : (test : ℕ → Bool) (n count new_count : ℕ) (servers new : List ℕ) → test n ≡ false → new ≡ servers → new_count ≡ count → take count servers ≡ filter test (numbers_from 0 n) → take new_count new ≡ filter test (numbers_from 0 (n + 1))
-one_fails test n count new_count servers new fails is same so_far =
-    ap (λ k. take k new) same
-    ∙ ap (λ l. take count l) is
-    ∙ so_far
-    ∙ sym (passing_last test n ∙ ap (λ b. filter test (numbers_from 0 n) ++ cond b (n ∷ []) []) fails ∙ append-nil (filter test (numbers_from 0 n)))
+pub one_fails : (test : ℕ → Bool) (n : ℕ) (before after : List ℕ) → test n ≡ false → after ≡ before → before ≡ filter test (numbers_from 0 n) → after ≡ filter test (numbers_from 0 (n + 1))
+one_fails test n before after fails is so_far =
+    is ∙ so_far ∙ sym (passing_last test n ∙ ap (λ b. filter test (numbers_from 0 n) ++ cond b (n ∷ []) []) fails ∙ append-nil (filter test (numbers_from 0 n)))

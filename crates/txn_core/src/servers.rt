@@ -8,26 +8,25 @@ ghost use Rattle.txn_core.specs.Suites as gathering;
 ghost use Rattle.txn_core.specs.Transactions as course;
 
 use crate::suites::Suite;
+use arrayvec::ArrayVec;
 use std::marker::Model;
 use vote_core::{MAX_SERVERS, ServerSet};
 
 /// The servers that are left to be asked, in their order.
 #[derive(Debug, Drop)]
 pub(crate) struct Servers {
-    servers: [u8; MAX_SERVERS],
+    all: ArrayVec<u8, MAX_SERVERS>,
     asked: usize,
-    count: usize,
 }
 
 impl Model for Servers {
-    ghost use Rattle.std.specs.Prelude.{◌≤◌, ℕ, List, drop, take};
-    ghost use Rattle.vote_core.specs.declared.TheConstants.{MAX_SERVERS};
+    ghost use Rattle.std.specs.Prelude.{◌≤◌, ℕ, List, drop, length};
 
     ghost Value = { List ℕ };
 
-    ghost view = { λ left. drop left.asked (take left.count left.servers) };
+    ghost view = { λ left. drop left.asked left.all.items };
 
-    ghost invariant = { λ left. (left.asked ≤ left.count) × (left.count ≤ MAX_SERVERS) };
+    ghost invariant = { λ left. left.asked ≤ length left.all.items };
 }
 
 impl Servers {
@@ -35,7 +34,7 @@ impl Servers {
     pub(crate) fn first(&self) -> Option<u8>
         ensures { result ≡ slice_get self.now 0 }
     {
-        self.servers[self.asked..self.count].first().copied()
+        self.all.as_slice()[self.asked..].first().copied()
     }
 
     /// That one was asked. Tells whether it was the last.
@@ -50,7 +49,7 @@ impl Servers {
     fn pass(&mut self)
         ensures { self.new ≡ drop 1 self.old }
     {
-        if self.asked < self.count {
+        if self.asked < self.all.len() {
             self.asked += 1;
         }
     }
@@ -61,19 +60,13 @@ pub(crate) fn locked_at(suites: &[(u64, Suite)]) -> Servers
     ensures { result ≡ course.locked_at suites.now }
 {
     let locked = locked_in(suites);
-    let mut servers = [0; MAX_SERVERS];
-    let mut count = 0;
+    let mut all = ArrayVec::new();
     for server in 0..MAX_SERVERS as u8 {
         if locked.contains(server) {
-            servers[count] = server;
-            count += 1;
+            all.push(server);
         }
     }
-    Servers {
-        servers,
-        asked: 0,
-        count,
-    }
+    Servers { all, asked: 0 }
 }
 
 /// The servers that hold a lock on any suite.

@@ -1,4 +1,5 @@
-use Rattle.std.proofs.Common.{◌≡◌, ◌<◌, ap, sym, ◌∙◌, arith, length, length-set}
+use Rattle.std.proofs.Common.{◌≡◌, ◌<◌, ◌+◌, ℕ, [], ◌∷◌, ◌++◌, ap, sym, ◌∙◌, arith, length}
+use Rattle.arrayvec.specs.ArrayVec.{ArrayVec}
 use Rattle.vote_core.specs.Validity.{max_servers}
 use Rattle.txn_core.specs.Suites.{has_locks}
 use Rattle.txn_core.proofs.Numbers.{one_passes, one_fails}
@@ -9,15 +10,14 @@ pub loop-server-preserved : goal.loop-server-preserved
 loop-server-preserved c =
     let small : c.loop-server.server < max_servers = omega (arith, c.loop-server-test.true) in
     let held : has_locks c.args.suites.now c.loop-server.server ≡ c.contains.result = sym (c.locked_in-locked.ensures c.loop-server.server small) ∙ sym c.contains.ensures in
+    let few = c.loop-server.invariant.0 in
     elim c.if-contains.branch [
-      | then-contains w ↦ (
-        omega arith,
-        one_passes _ _ _ _ _ _ (held ∙ w.if-contains.true) (omega arith) w.servers-is w.count-is c.loop-server.invariant.1,
-        ap (λ l. length l) w.servers-is ∙ length-set c.loop-server.servers c.loop-server.count c.loop-server.server ∙ c.loop-server.invariant.2,
-      )
-      | else-contains w ↦ (
-        omega arith,
-        one_fails (has_locks c.args.suites.now) c.loop-server.server _ _ _ _ (held ∙ w.if-contains.false) w.servers-is w.count-is c.loop-server.invariant.1,
-        ap (λ l. length l) w.servers-is ∙ c.loop-server.invariant.2,
-      )
+      | then-contains w ↦
+          let more : length c.if-contains.all.items ≡ length c.loop-server.all.items + 1 = ap (λ (all : ArrayVec ℕ). length all.items) w.all-is ∙ w.push.ensures.len in
+          let is : c.if-contains.all.items ≡ c.loop-server.all.items ++ c.loop-server.server ∷ [] = ap (λ (all : ArrayVec ℕ). all.items) w.all-is ∙ w.push.ensures.items in
+          (omega (arith, few, more), one_passes (has_locks c.args.suites.now) c.loop-server.server c.loop-server.all.items c.if-contains.all.items (held ∙ w.if-contains.true) is c.loop-server.invariant.1)
+      | else-contains w ↦
+          let same : c.if-contains.all.items ≡ c.loop-server.all.items = ap (λ (all : ArrayVec ℕ). all.items) w.all-is in
+          let as_many : length c.if-contains.all.items ≡ length c.loop-server.all.items = ap (λ (all : ArrayVec ℕ). length all.items) w.all-is in
+          (omega (arith, few, as_many), one_fails (has_locks c.args.suites.now) c.loop-server.server c.loop-server.all.items c.if-contains.all.items (held ∙ w.if-contains.false) same c.loop-server.invariant.1)
     ]
