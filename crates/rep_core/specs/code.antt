@@ -5,3 +5,4 @@ pub mod StoreFields
 pub mod ServerFields
 pub mod Equality
 pub mod Changing
+pub mod Filling

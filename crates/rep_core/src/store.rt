@@ -1,6 +1,6 @@
 //! Stored copies and intentions. Nothing else touches them.
 
-ghost use Rattle.std.specs.Prelude.{◌≡◌, ◌++◌, ◌∷◌, ℕ, ◌≤◌, ◌<◌, ◌+◌, ◌==◌, ◌&&◌, not, length, [], is_some, option_map, IfOk, OnOk, OnErr, IsTrue, IfSome, true, false, unwrap_or, None, Some, nat_le, nat_lt, min, count_by};
+ghost use Rattle.std.specs.Prelude.{◌≡◌, ◌++◌, ◌∷◌, ℕ, ◌≤◌, ◌<◌, ◌+◌, ◌==◌, length, [], is_some, option_map, IfOk, OnOk, OnErr, IsTrue, IfSome, true, false, unwrap_or, None, Some, nat_le, nat_lt, min, count_by};
 ghost use Rattle.std.specs.List.{list_any, list_all};
 ghost use Rattle.std.specs.Option.{option_copied};
 ghost use Rattle.std.specs.Ordering.{nat_cmp};
@@ -13,6 +13,7 @@ ghost use Rattle.suite_prefix.specs.TestsExact.{CopyFits};
 ghost use Rattle.vote_core.specs.Quorums.{Configuration};
 ghost use Rattle.suite_prefix.specs.declared.copies.Replica.{Replica};
 ghost use Rattle.suite_prefix.specs.Absent.{absent_copy};
+ghost use Rattle.rep_core.specs.code.Filling.{takes_new};
 ghost use Rattle.rep_core.specs.code.Planning.{planned_of, copies_in, forms_in, in_form_2};
 ghost use Rattle.rep_core.specs.Service.{held, given};
 ghost use Rattle.rep_core.specs.Store as store;
@@ -233,7 +234,7 @@ impl Store {
     /// How many suites have a copy or an intention, and how many parts take another.
     fn suites_with(&self, parts: &[Part]) -> usize
         ensures rising { IsOrdered nat_cmp self.now.store.intentions }
-        ensures count { result ≡ min (store.suites_with self.now.store + count_by (λ part. not (store.is_keep part.take) && not (store.has_copy self.now.store part.suite) && not (is_some (get nat_cmp self.now.store.intentions part.suite))) parts.now) usize.MAX }
+        ensures count { result ≡ min (store.suites_with self.now.store + count_by (takes_new self.now.store) parts.now) usize.MAX }
     {
         let planned = self.intentions.as_slice();
         let without_copy = planned.iter().filter(|pair| !self.has_copy(pair.0)).count();
@@ -246,7 +247,7 @@ impl Store {
 
     /// Whether a part takes a suite of which there is neither a copy nor an intention.
     fn takes_new(&self, part: &Part) -> bool
-        ensures { result ≡ (not (store.is_keep part.now.take) && not (store.has_copy self.now.store part.now.suite) && not (is_some (get nat_cmp self.now.store.intentions part.now.suite))) }
+        ensures { result ≡ takes_new self.now.store part.now }
     {
         !is_keep(&part.take)
             && !self.has_copy(part.suite)

@@ -320,12 +320,7 @@ impl Collect {
     fn keeps_votes(&self, last: Saying<'_>) -> bool
         ensures { let c = self.now.collector in result ≡ true → spec.counted (spec.tell (told_of last.entry) c) ≡ spec.counted c }
     {
-        match last.what {
-            Spoken::Held { prefix, .. } => {
-                self.widening.is_some() || prefix.pver <= self.newest().pver
-            }
-            Spoken::Busy { .. } | Spoken::Down => true,
-        }
+        self.widening.is_some() || newer_in(self.newest(), last).is_none()
     }
 
     /// Puts what is told behind what was told before, and what is due and had then. Only a prefix that is newer

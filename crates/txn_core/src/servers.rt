@@ -1,8 +1,6 @@
 //! Servers that are asked one after the other.
 
-ghost use Rattle.std.specs.Prelude.{◌≡◌, ◌<◌, ◌||◌, ℕ, drop, slice_get};
-ghost use Rattle.std.specs.FinSet.{contains};
-ghost use Rattle.vote_core.specs.declared.TheConstants.{MAX_SERVERS};
+ghost use Rattle.std.specs.Prelude.{◌≡◌, drop, slice_get};
 ghost use Rattle.txn_core.specs.code.Passing.{is_none};
 ghost use Rattle.txn_core.specs.Suites as gathering;
 ghost use Rattle.txn_core.specs.Transactions as course;
@@ -10,7 +8,7 @@ ghost use Rattle.txn_core.specs.Transactions as course;
 use crate::suites::Suite;
 use arrayvec::ArrayVec;
 use std::marker::Model;
-use vote_core::{MAX_SERVERS, ServerSet};
+use vote_core::MAX_SERVERS;
 
 /// The servers that are left to be asked, in their order.
 #[derive(Debug, Drop)]
@@ -59,34 +57,18 @@ impl Servers {
 pub(crate) fn locked_at(suites: &[(u64, Suite)]) -> Servers
     ensures { result ≡ course.locked_at suites.now }
 {
-    let locked = locked_in(suites);
     let mut all = ArrayVec::new();
     for server in 0..MAX_SERVERS as u8 {
-        if locked.contains(server) {
+        if has_locks(suites, server) {
             all.push(server);
         }
     }
     Servers { all, asked: 0 }
 }
 
-/// The servers that hold a lock on any suite.
-fn locked_in(suites: &[(u64, Suite)]) -> ServerSet
-    ensures { (server : ℕ) → server < MAX_SERVERS → contains result server ≡ gathering.has_locks suites.now server }
+/// Whether a server holds a lock on any suite.
+fn has_locks(suites: &[(u64, Suite)], server: u8) -> bool
+    ensures { result ≡ gathering.has_locks suites.now server }
 {
-    let mut locked = ServerSet::empty();
-    for (_, suite) in suites {
-        add_locks(&mut locked, suite);
-    }
-    locked
-}
-
-/// Adds the servers that hold a lock on a suite.
-fn add_locks(locked: &mut ServerSet, suite: &Suite)
-    ensures { (server : ℕ) → server < MAX_SERVERS → contains locked.new server ≡ (contains locked.old server || gathering.holds_lock suite.now server) }
-{
-    for server in 0..MAX_SERVERS as u8 {
-        if suite.holds_lock(server) {
-            locked.insert(server);
-        }
-    }
+    suites.iter().any(|(_, suite)| suite.holds_lock(server))
 }
