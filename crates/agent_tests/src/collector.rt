@@ -13,7 +13,7 @@ use suite_collect::{
     Collect, Hearing, Next, Told, asks_are_few, current_is_a_quorum, nobody_is_asked_twice,
     prefix_and_version_stay, short_has_none_left, widened_is_a_write_quorum,
 };
-use suite_prefix::{LockMode, Prefix, PrefixKind};
+use suite_prefix::{LockMode, Prefix, PrefixKind, SharedPrefix};
 use talks::TALKS;
 use vote_core::{MAX_SERVERS, Votes};
 
@@ -32,15 +32,16 @@ fn votes(rt: &impl Abort, place: &str) -> Votes {
     Votes::new(6, reps, r, w).ok().expect(rt, "votes")
 }
 
-fn prefix(rt: &(impl Abort + AllocGlobal), pver: u64, place: &str) -> Prefix {
-    Prefix {
+fn prefix(rt: &(impl Abort + AllocGlobal), pver: u64, place: &str) -> SharedPrefix {
+    let prefix = Prefix {
         pver,
         kind: PrefixKind::File,
         owner: 1000,
         group: 100,
         acl: lists(rt, 0o644),
         votes: votes(rt, place),
-    }
+    };
+    SharedPrefix::new(rt.alloc(), prefix).expect(rt, "memory")
 }
 
 /// A collector of suite 9 for transaction 7, from version 0 with these votes.

@@ -4,7 +4,7 @@
 mod uses;
 
 use crate::checks::{case, had, holds, number, push, small, tells};
-use crate::fixtures::{content, prefix};
+use crate::fixtures::{content, shared};
 use std::process::Abort;
 use suite_prefix::PrefixKind;
 use weak_cache::{
@@ -23,7 +23,7 @@ fn put(
     assert!(rt; site < MAX_SITES);
     let bytes = vec![in rt.alloc(); 7u8; length].expect(rt, "memory");
     let content = content(rt, &bytes);
-    let prefix = prefix(rt, 1, PrefixKind::File);
+    let prefix = shared(rt, 1, PrefixKind::File);
     cache.put(site, suite, prefix, 1, content).is_ok()
 }
 
@@ -173,7 +173,7 @@ fn a_put_is_seen_before(rt: HostRuntime) {
     let mut cache = small_cache(&rt);
     put_again(&rt, &mut cache, 0, 2, 4);
     put_again(&rt, &mut cache, 1, 1, 4);
-    let prefix = prefix(&rt, 3, PrefixKind::File);
+    let prefix = shared(&rt, 3, PrefixKind::File);
     let content = content(&rt, &[7, 7, 7, 7, 7]);
     let new = NewEntry {
         site: 0,

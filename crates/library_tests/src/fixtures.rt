@@ -4,7 +4,7 @@ use crate::checks::had;
 use acl_core::{Acl, Lists, Mode};
 use std::process::Abort;
 use suite_content::{Content, FileBytes};
-use suite_prefix::{Prefix, PrefixKind, Replica};
+use suite_prefix::{Prefix, PrefixKind, Replica, SharedPrefix};
 use vote_core::{MAX_SERVERS, Votes};
 
 /// A mode of these octal digits.
@@ -54,6 +54,11 @@ pub(crate) fn prefix(rt: &(impl Abort + AllocGlobal), pver: u64, kind: PrefixKin
         acl: lists(rt, "644"),
         votes: votes(rt, "1,1,1/2/2"),
     }
+}
+
+/// Such a prefix, to be shared.
+pub(crate) fn shared(rt: &(impl Abort + AllocGlobal), pver: u64, kind: PrefixKind) -> SharedPrefix {
+    SharedPrefix::new(rt.alloc(), prefix(rt, pver, kind)).expect(rt, "memory")
 }
 
 /// What a file holds.

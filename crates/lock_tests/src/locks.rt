@@ -107,7 +107,7 @@ fn reply_words(
     let stamp = reply.stamp;
     match &reply.value {
         Reply::Held { prefix, dver } => {
-            assert!(rt; *prefix == root(rt, settings));
+            assert!(rt; **prefix == root(rt, settings));
             format!(in rt.alloc(); "{stamp}: Held the root {dver}")
         }
         Reply::Busy { holder, prepared } => {

@@ -10,10 +10,9 @@ use Rattle.suite_prefix.specs.declared.copies.Replica.{Replica}
 use Rattle.suite_prefix.specs.declared.forms.Form.{Form}
 use Rattle.suite_prefix.specs.declared.forms.Form.TheVariants.{Two}
 use Rattle.suite_prefix.specs.Stored.{Kept}
-use Rattle.rep_core.specs.Intentions.{Intention}
-use Rattle.rep_core.specs.Store.{is_keep, with_form}
+use Rattle.rep_core.specs.Store.{with_form}
 use Rattle.rep_core.specs.declared.intention.Planned.{Planned}
-use Rattle.rep_core.specs.code.Planning.{copies_in, forms_in, intention_in, in_form_2, take_in}
+use Rattle.rep_core.specs.code.Planning.{copies_in, forms_in, intention_in, in_form_2}
 use Rattle.rep_core.proofs.Planned.{keeps_nothing}
 
 module _ {V W : Type 0} (f : V → W) where

@@ -10,7 +10,6 @@ use Rattle.suite_prefix.specs.TestsExact.{CopyFits}
 use Rattle.suite_prefix.specs.LockModes.{is_exclusive}
 use Rattle.rep_core.specs.declared.intention.Planned.{Planned}
 use Rattle.rep_core.specs.declared.request.Part.{Part}
-use Rattle.rep_core.specs.declared.request.Take.{Take}
 use Rattle.rep_core.specs.Store.{Store, IsSound, copy_of, copy_in, left_by, is_keep, goes_with, holds_last, is_sound_part}
 use Rattle.rep_core.specs.ValidCopies.{TakeFits}
 use Rattle.rep_core.specs.code.Planning.{planned_of, is_whole, in_form_2}

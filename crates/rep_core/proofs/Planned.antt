@@ -1,5 +1,5 @@
 -- Intentions that are kept as what they leave, seen as intentions.
-use Rattle.std.proofs.Common.{◌≡◌, ℕ, ◌==◌, ◌+◌, ◌≤◌, ◌<◌, Bool, true, false, cond, not, get_or, filter, List, [], ◌∷◌, length, map, Option, Some, None, refl, sym, ap, subst, ◌∙◌, ⊎_elim, ◌⊎◌, inl, inr, arith}
+use Rattle.std.proofs.Common.{◌≡◌, ℕ, ◌==◌, ◌+◌, ◌≤◌, ◌<◌, Bool, true, false, cond, not, get_or, filter, List, [], ◌∷◌, length, Option, Some, None, refl, sym, ap, subst, ◌∙◌, ⊎_elim, ◌⊎◌, inl, inr, arith}
 use Rattle.std.specs.Prelude.{is_some, option_map, count_by, unwrap_or}
 use Rattle.std.specs.List.{fold}
 use Rattle.std.specs.List.Sorted.{IsStrictlySortedBy}
@@ -25,7 +25,7 @@ use Rattle.rep_core.specs.declared.request.Part.{Part}
 use Rattle.rep_core.specs.declared.request.Take.{Take}
 use Rattle.rep_core.specs.declared.request.Take.TheVariants as take
 use Rattle.rep_core.specs.Intentions.{Intention}
-use Rattle.rep_core.specs.Store.{copy_in, left_by, is_keep, with_taken, with_intention, with_intentions}
+use Rattle.rep_core.specs.Store.{copy_in, left_by, is_keep, with_taken, with_intentions}
 use Rattle.rep_core.specs.code.Planning.{intention_in, intentions_in, in_form_2, take_in, is_whole, planned_of, with_all, Leaves}
 
 -- ---- look-ups and edits

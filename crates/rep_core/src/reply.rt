@@ -5,7 +5,7 @@ use file_ops::{Answers, Refusal};
 use std::alloc::AllocError;
 use std::marker::Model;
 use std::sync::ArcSlice;
-use suite_prefix::{Content, Prefix};
+use suite_prefix::{Content, SharedPrefix};
 
 /// How a transaction ended.
 #[derive(Debug, Drop)]
@@ -128,7 +128,7 @@ impl LockList {
 #[derive(Debug, Drop)]
 pub enum Reply {
     /// The lock is held; the prefix there, and the version of the content.
-    Held { prefix: Prefix, dver: u64 },
+    Held { prefix: SharedPrefix, dver: u64 },
     /// Another transaction's lock stands in the way: whose, and whether it is prepared.
     Busy { holder: u64, prepared: bool },
     /// There is no such lock.

@@ -29,7 +29,7 @@ use std::alloc::{AllocError, Global};
 use std::marker::Model;
 use std::mem;
 use suite_content::{Content, Kind};
-use suite_prefix::{Form, Prefix, PrefixKind, Replica, Settings, StoredCopy};
+use suite_prefix::{Form, Prefix, PrefixKind, Replica, Settings, SharedPrefix, StoredCopy};
 use vote_core::Votes;
 
 /// The most suites that a server has a copy or an intention of.
@@ -44,7 +44,7 @@ const ROOT: u64 = 0;
 #[derive(Drop)]
 pub(crate) struct Store {
     alloc: Global,
-    absent: Prefix,
+    absent: SharedPrefix,
     copies: RoomyMap<u64, StoredCopy>,
     intentions: RoomyMap<u64, Planned>,
     pending: Vec<(u64, Planned)>,
@@ -76,7 +76,8 @@ impl Store {
         ensures { IfOk result (λ made. made.store ≡ store.opening_store index settings.now) }
     {
         let copies = opening_copies(alloc, index, settings)?;
-        let absent = Prefix::absent(alloc, *settings.c0())?;
+        let prefix = Prefix::absent(alloc, *settings.c0())?;
+        let absent = SharedPrefix::new(alloc, prefix)?;
         Ok(Store {
             alloc,
             absent,
@@ -456,7 +457,7 @@ fn root_copy(alloc: Global, settings: &Settings) -> Result<Replica, AllocError>
     })
 }
 
-fn tell_held(prefix: &Prefix, dver: u64, reply: &mut Reply) -> Result<(), AllocError>
+fn tell_held(prefix: &SharedPrefix, dver: u64, reply: &mut Reply) -> Result<(), AllocError>
     ensures { OnOk result (reply.new ≡ Reply.Held prefix.now dver) }
 {
     let prefix = prefix.clone()?;

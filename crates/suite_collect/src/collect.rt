@@ -1,6 +1,7 @@
 //! The collector.
 
-ghost use Rattle.std.specs.Prelude.{◌≡◌, ◌<◌, unwrap_or, option_map, is_some, true, IsTrue, IfOk, IfSome, IfErr, OnOk, OnErr};
+ghost use Rattle.std.specs.FinSet.{contains};
+ghost use Rattle.std.specs.Prelude.{◌≡◌, ℕ, ◌<◌, unwrap_or, option_map, is_some, true, IsTrue, IfOk, IfSome, IfErr, OnOk, OnErr};
 ghost use Rattle.std.specs.Option.{option_copied};
 ghost use Rattle.vote_core.specs.Validity.{IsValid};
 ghost use Rattle.suite_collect.specs.code.CollectFields.{tally_of};
@@ -24,7 +25,7 @@ use crate::widening::Widening;
 use rep_core::Reply;
 use std::alloc::AllocError;
 use std::marker::Model;
-use suite_prefix::{LockMode, Prefix};
+use suite_prefix::{LockMode, SharedPrefix};
 use vote_core::{MAX_SERVERS, ServerSet, Votes};
 
 /// What a transaction collects of one suite: locks, until their servers are a quorum under the newest
@@ -34,9 +35,9 @@ pub struct Collect {
     t: u64,
     suite: u64,
     mode: LockMode,
-    start: Prefix,
+    start: SharedPrefix,
     /// The newest prefix seen, where one is newer than the start.
-    newer: Option<Prefix>,
+    newer: Option<SharedPrefix>,
     /// What was told before a widening.
     told: Heard,
     widening: Option<Widening>,
@@ -63,7 +64,7 @@ impl Collect {
 
     /// A collector that was told nothing yet. `start` is any prefix that the suite once had, or that of
     /// what was never made.
-    pub fn new(t: u64, suite: u64, mode: LockMode, start: Prefix) -> Collect
+    pub fn new(t: u64, suite: u64, mode: LockMode, start: SharedPrefix) -> Collect
         ensures { result ≡ record { t = t; suite = suite; collector = spec.collect mode start } }
     {
         let told = Heard::new();
@@ -259,7 +260,7 @@ impl Collect {
     }
 
     /// The newest prefix seen. A widening leaves it as it was.
-    pub fn newest(&self) -> &Prefix
+    pub fn newest(&self) -> &SharedPrefix
         ensures { result.now ≡ newest self.now.collector.start self.now.collector.told }
     {
         newest_of(&self.newer, &self.start)
@@ -270,6 +271,13 @@ impl Collect {
         ensures { result ≡ telling.holds mode (spec.all_told self.now.collector) server }
     {
         self.heard().holds(mode, server)
+    }
+
+    /// The servers that hold a lock for the transaction, in this mode or a stronger one.
+    pub fn holders(&self, mode: LockMode) -> ServerSet
+        ensures { (server : ℕ) → contains result server ≡ telling.holds mode (spec.all_told self.now.collector) server }
+    {
+        self.heard().holders(mode)
     }
 
     /// The first member, in listed order, that showed the version of the content, before a widening.
@@ -409,7 +417,7 @@ impl Collect {
 }
 
 /// The newest prefix.
-fn newest_of<'a>(newer: &'a Option<Prefix>, start: &'a Prefix) -> &'a Prefix
+fn newest_of<'a>(newer: &'a Option<SharedPrefix>, start: &'a SharedPrefix) -> &'a SharedPrefix
     ensures { result.now ≡ unwrap_or newer.now start.now }
 {
     match newer {
@@ -419,14 +427,14 @@ fn newest_of<'a>(newer: &'a Option<Prefix>, start: &'a Prefix) -> &'a Prefix
 }
 
 /// The newer of a prefix and what a server says.
-fn newer_of<'a>(newest: &'a Prefix, last: Saying<'a>) -> &'a Prefix
+fn newer_of<'a>(newest: &'a SharedPrefix, last: Saying<'a>) -> &'a SharedPrefix
     ensures { result.now ≡ telling.newer newest.now (said_of last.entry.what) }
 {
     newer_in(newest, last).unwrap_or(newest)
 }
 
 /// The prefix that a server shows, where it is newer than the newest so far.
-fn newer_in<'a>(newest: &Prefix, last: Saying<'a>) -> Option<&'a Prefix>
+fn newer_in<'a>(newest: &SharedPrefix, last: Saying<'a>) -> Option<&'a SharedPrefix>
     ensures newer { unwrap_or (option_copied result) newest.now ≡ telling.newer newest.now (said_of last.entry.what) }
     ensures held { is_some result ≡ true → is_held (said_of last.entry.what) ≡ true }
 {
@@ -453,7 +461,7 @@ fn add(told: &mut Heard, widening: &mut Option<Widening>, last: Saying<'_>)
 
 /// Keeps the prefix that a server showed, where it is newer than the newest so far.
 #[inline(always)]
-fn show(newer: &mut Option<Prefix>, start: &Prefix, said: Said)
+fn show(newer: &mut Option<SharedPrefix>, start: &SharedPrefix, said: Said)
     ensures { unwrap_or newer.new start.now ≡ telling.newer (unwrap_or newer.old start.now) said }
 {
     let newest = newest_of(newer, start).pver;

@@ -1,6 +1,6 @@
 //! What comes of a reply, and what a quorum gives.
 
-use suite_prefix::Prefix;
+use suite_prefix::SharedPrefix;
 
 /// What comes of a reply to what a collector asked.
 #[derive(Clone, Copy, Debug)]
@@ -19,7 +19,7 @@ pub enum Hearing {
 /// that version.
 #[derive(Debug, Drop)]
 pub struct Quorum<'a> {
-    pub prefix: &'a Prefix,
+    pub prefix: &'a SharedPrefix,
     pub dver: u64,
     pub source: Option<u8>,
 }

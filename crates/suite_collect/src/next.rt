@@ -2,7 +2,7 @@
 
 use arrayvec::ArrayVec;
 use rep_core::Request;
-use suite_prefix::Prefix;
+use suite_prefix::SharedPrefix;
 use vote_core::MAX_SERVERS;
 
 /// Some servers in listed order.
@@ -13,7 +13,7 @@ pub type Members = ArrayVec<u8, MAX_SERVERS>;
 pub enum Next<'a> {
     /// The newest prefix, the version of the content, and the members that are held.
     Current {
-        prefix: &'a Prefix,
+        prefix: &'a SharedPrefix,
         dver: u64,
         members: Members,
     },

@@ -6,13 +6,13 @@ ghost use Rattle.suite_collect.specs.code.Sayings.{said_of, told_of};
 ghost use Rattle.suite_collect.specs.Telling.{is_held};
 
 use std::alloc::AllocError;
-use suite_prefix::{LockMode, Prefix};
+use suite_prefix::{LockMode, SharedPrefix};
 
 /// What a server said when it was asked for a lock.
 #[derive(Debug, Drop)]
 pub enum Said {
     /// The lock is held; the prefix there, and the version of the content.
-    Held { prefix: Prefix, dver: u64 },
+    Held { prefix: SharedPrefix, dver: u64 },
     /// Another transaction holds a lock that is in the way.
     Busy { holder: u64 },
     /// It is down.
@@ -30,7 +30,7 @@ pub struct Told {
 /// What a server says, lent from its reply.
 #[derive(Clone, Copy)]
 pub(crate) enum Spoken<'a> {
-    Held { prefix: &'a Prefix, dver: u64 },
+    Held { prefix: &'a SharedPrefix, dver: u64 },
     Busy { holder: u64 },
     Down,
 }

@@ -14,6 +14,7 @@ use crate::decoding::{content_from, decode};
 use crate::forms::Form;
 use crate::heads::HeadParts;
 use crate::reading::{content_at, form_at};
+use crate::shared::SharedPrefix;
 use crate::writing::{encode_in, put_prefix, room_for_prefix};
 use std::alloc::{AllocError, Global};
 use std::marker::Model;
@@ -31,7 +32,7 @@ pub struct StoredCopy {
 /// asked for.
 #[derive(Drop)]
 struct Read {
-    prefix: Prefix,
+    prefix: SharedPrefix,
     dver: u64,
     content: Option<Content>,
 }
@@ -126,7 +127,7 @@ impl StoredCopy {
     }
 
     /// The prefix, and the version of the content.
-    pub fn head(&self, alloc: Global) -> Result<(Prefix, u64), AllocError>
+    pub fn head(&self, alloc: Global) -> Result<(SharedPrefix, u64), AllocError>
         ensures prefix { IfOk result (λ head. head.0 ≡ self.now.copy.prefix) }
         ensures dver { IfOk result (λ head. head.1 ≡ self.now.copy.dver) }
     {
@@ -231,14 +232,15 @@ impl StoredCopy {
         HeadParts::at(self.as_bytes(), reps).unwrap()
     }
 
-    fn read_head(&self, alloc: Global) -> Result<(Prefix, u64), AllocError>
+    fn read_head(&self, alloc: Global) -> Result<(SharedPrefix, u64), AllocError>
         ensures prefix { IfOk result (λ head. head.0 ≡ self.now.copy.prefix) }
         ensures dver { IfOk result (λ head. head.1 ≡ self.now.copy.dver) }
     {
         let mut reps = [(0, 0); 255];
         let (head, _) = self.parts(&mut reps);
         let prefix = head.prefix(alloc)?;
-        Ok((prefix, head.dver))
+        let shared = SharedPrefix::new(alloc, prefix)?;
+        Ok((shared, head.dver))
     }
 
     fn read_content(&self, alloc: Global) -> Result<(u64, Content), AllocError>

@@ -11,8 +11,7 @@ use Rattle.file_ops.specs.declared.service.Service.{Service}
 use Rattle.file_exec.specs.Reaching.{Reached}
 use Rattle.weak_cache.specs.Entries.{Cache}
 use Rattle.weak_cache.specs.Cache.{Limited}
-use Rattle.std.specs.Prelude.{option_map, IfErr, OnErr, Box}
-use Rattle.std.specs.declared.alloc.Global.{Global}
+use Rattle.std.specs.Prelude.{option_map, IfErr, OnErr}
 use Rattle.std.specs.declared.alloc.AllocError.{AllocError}
 use Rattle.std.proofs.lemmas.Option.{none-some, same_Some}
 use Rattle.suite_collect.specs.declared.hearing.Hearing.TheVariants.{Lost, Asks, Short, Quorum as Complete}
@@ -79,11 +78,11 @@ module _ (before mid : Course) (number server : ℕ) (said : Reply) where
         ∙ ap (gather_by before.task cache more number) short.3
         ∙ ap step_on (sym short.4)) gathers
 
-  pub settled_step : (cache : Cache) (settling : Box Settling Global) (then' : Suites → Step) → IsSettled (heard_at found said) → SettlesAt found (Some settling) said
-      → then' (changed_at (settled_with settling.value) number found before.suites) ≡ step_on cache (λ suite. then' (with_suite number suite before.suites)) (heard_at found said)
+  pub settled_step : (cache : Cache) (settling : Settling) (then' : Suites → Step) → IsSettled (heard_at found said) → SettlesAt found (Some settling) said
+      → then' (changed_at (settled_with settling) number found before.suites) ≡ step_on cache (λ suite. then' (with_suite number suite before.suites)) (heard_at found said)
   settled_step cache settling then' settles by =
       let at = settles_there said settling found settles by in
-      ap (λ it. then' (changed_at (settled_with settling.value) number it before.suites)) at.1 ∙ ap (step_on cache (λ suite. then' (with_suite number suite before.suites))) (sym at.2)
+      ap (λ it. then' (changed_at (settled_with settling) number it before.suites)) at.1 ∙ ap (step_on cache (λ suite. then' (with_suite number suite before.suites))) (sym at.2)
 
   -- ---- how far the transaction came
 
@@ -163,7 +162,7 @@ module _ (means : Means) (course : Course) (number server : ℕ) (said : Reply) 
   abbrev pub settling_step : Step
   settling_step = held (fixed_by means) course means.cache.entries number server said
 
-  pub held_settles : (settling : Box Settling Global) → IsSettled (heard_at (suite_of course.suites number) said) → SettlesAt (suite_of course.suites number) (Some settling) said
+  pub held_settles : (settling : Settling) → IsSettled (heard_at (suite_of course.suites number) said) → SettlesAt (suite_of course.suites number) (Some settling) said
       → execute (fixed_by means) course.task (learned (Quorum number settling) means.cache course.suites) ≡ settling_step
   held_settles settling settles by =
       settled_step course course number server said means.cache.entries settling (λ suites. execute (fixed_by means) course.task (record { suites = suites; cache = means.cache.entries })) settles by
@@ -197,15 +196,15 @@ module _ (before mid : Course) (number server : ℕ) (said : Reply) (cache : Cac
     abbrev pub at_mid : IsSettled (heard_at (suite_of before.suites number) said) × (mid ≡ before) × (is_held said ≡ true)
     at_mid = at_quorum before mid number said (suite_of before.suites number) hears
 
-    settles_mid : (settling : Option (Box Settling Global)) → SettlesAt (suite_of mid.suites number) settling said → SettlesAt (suite_of before.suites number) settling said
+    settles_mid : (settling : Option Settling) → SettlesAt (suite_of mid.suites number) settling said → SettlesAt (suite_of before.suites number) settling said
     settles_mid settling by = subst (λ (course : Course). SettlesAt (suite_of course.suites number) settling said) at_mid.1 by
 
-    pub widened_settles : (settling : Box Settling Global) (then' after : Course) (goes : Goes) → SettlesAt (suite_of mid.suites number) (Some settling) said
-        → then' ≡ record mid { suites = changed_at (settled_with settling.value) number (suite_of mid.suites number) mid.suites }
+    pub widened_settles : (settling : Settling) (then' after : Course) (goes : Goes) → SettlesAt (suite_of mid.suites number) (Some settling) said
+        → then' ≡ record mid { suites = changed_at (settled_with settling) number (suite_of mid.suites number) mid.suites }
         → GoesBy (widen_all then'.task cache then'.suites granted left) goes after cache → GoesBy widened' goes after cache
     widened_settles settling then' after goes by is steps =
         let Goes' : Step → Type 0 = λ step. GoesBy step goes after cache in
-        let settled : Course → Course = λ course. record course { suites = changed_at (settled_with settling.value) number (suite_of course.suites number) course.suites } in
+        let settled : Course → Course = λ course. record course { suites = changed_at (settled_with settling) number (suite_of course.suites number) course.suites } in
         subst Goes'
         (ap (λ (course : Course). widen_all course.task cache course.suites granted left) (is ∙ ap settled at_mid.1)
         ∙ settled_step before mid number server said cache settling widens at_mid.0 (settles_mid (Some settling) by)) steps
@@ -323,23 +322,23 @@ module _ (means : Means) (course : Course) (number server : ℕ) (said : Reply) 
         of None none = refl
 
     -- of one that had one
-    pub content_learned : (fetched : Box Fetched Global) → Some fetched.value ≡ content_kept course number content → executes (Given fetched) ≡ given'
+    pub content_learned : (fetched : Fetched) → Some fetched ≡ content_kept course number content → executes (Given fetched) ≡ given'
     content_learned fetched is = of (suite_of course.suites number) refl is ∙ ap (fetched_by (suite_of course.suites number)) (sym gave)
       where
         keeps : Fetched → Suites → Step
         keeps one suites = execute (fixed_by means) course.task (record { suites = suites; cache = shelved means.cache (Some one) })
 
-        had : (suite : Suite) (first : Option First) → suite_of course.suites number ≡ Some suite → suite.first ≡ first → Some fetched.value ≡ kept_if (Some suite) → executes (Given fetched) ≡ fetched_by (Some suite) (Some content)
+        had : (suite : Suite) (first : Option First) → suite_of course.suites number ≡ Some suite → suite.first ≡ first → Some fetched ≡ kept_if (Some suite) → executes (Given fetched) ≡ fetched_by (Some suite) (Some content)
         had suite (Some first) there was is =
             let all : Suites → Step = keeps (kept_of course.task number content first) in
-            ap (λ one. keeps one (changed_at (with_content one.content) one.suite (suite_of course.suites one.suite) course.suites)) (same_Some fetched.value (kept_of course.task number content first) (is ∙ first_is suite (Some first) was))
+            ap (λ one. keeps one (changed_at (with_content one.content) one.suite (suite_of course.suites one.suite) course.suites)) (same_Some fetched (kept_of course.task number content first) (is ∙ first_is suite (Some first) was))
             ∙ ap (λ found. all (changed_at (with_content content) number found course.suites)) there
             ∙ ap (λ first. keep_content (fixed_by means) course.task means.cache.entries course.suites number suite content first server) (sym was)
-        had suite None there was is = absurd (none-some fetched.value (sym (is ∙ first_is suite None was)))
+        had suite None there was is = absurd (none-some fetched (sym (is ∙ first_is suite None was)))
 
-        of : (found : Option Suite) → suite_of course.suites number ≡ found → Some fetched.value ≡ kept_if found → executes (Given fetched) ≡ fetched_by found (Some content)
+        of : (found : Option Suite) → suite_of course.suites number ≡ found → Some fetched ≡ kept_if found → executes (Given fetched) ≡ fetched_by found (Some content)
         of (Some suite) there is = had suite suite.first there refl is
-        of None there is = absurd (none-some fetched.value (sym is))
+        of None there is = absurd (none-some fetched (sym is))
 
 -- ---- a transaction begins
 

@@ -1,7 +1,6 @@
 -- A suite hears a reply in its place, among the others of its transaction.
 use Rattle.std.proofs.Common.{◌≡◌, ℕ, true, Option, Some, None, Result, Ok, Err, refl, sym, ap, subst, ◌∙◌}
-use Rattle.std.specs.Prelude.{Box, IfOk, OnErr}
-use Rattle.std.specs.declared.alloc.Global.{Global}
+use Rattle.std.specs.Prelude.{IfOk, OnErr}
 use Rattle.std.specs.Ordering.{nat_cmp}
 use Rattle.std.specs.declared.alloc.AllocError.{AllocError}
 use Rattle.std.proofs.lemmas.Cmp.{nat_cmp_total}
@@ -122,8 +121,8 @@ module _ (before after : Course) (number : ℕ) (said : Reply) where
 
 -- the quorum that a suite is to have then
 module _ (said : Reply) where
-  pub settles_there : (settling : Box Settling Global) (found : Option Suite) → IsSettled (heard_at found said) → SettlesAt found (Some settling) said
-      → (suite : Suite) × (found ≡ Some suite) × (heard_at found said ≡ hearing.Settled (settled_with settling.value suite))
+  pub settles_there : (settling : Settling) (found : Option Suite) → IsSettled (heard_at found said) → SettlesAt found (Some settling) said
+      → (suite : Suite) × (found ≡ Some suite) × (heard_at found said ≡ hearing.Settled (settled_with settling suite))
   settles_there settling (Some suite) settles by = (suite, refl, by settles)
   settles_there settling None settles by = cc
 

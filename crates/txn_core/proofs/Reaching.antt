@@ -321,13 +321,13 @@ module _ (service : Service) (reached : Reached) where
 pub reached_learned : (service : Service) (reached : Reached) (task : Task) (suites : Suites) (news : News) → IsOrdered nat_cmp suites → adds news suites ≡ true → IsReachedIn service task suites reached → IsReachedIn service task (learned_suites news suites) reached
 reached_learned service reached task suites Nothing ordered may is = is
 reached_learned service reached task suites (Quorum number settling) ordered may is =
-    reached_settled service reached task suites number settling.value ordered (λ suite there. fresh suite.first (sym (ap is_fresh there) ∙ may)) is
+    reached_settled service reached task suites number settling ordered (λ suite there. fresh suite.first (sym (ap is_fresh there) ∙ may)) is
   where
     fresh : (first : Option First) → not (is_some first) ≡ true → first ≡ None
     fresh None none = refl
     fresh (Some first) none = cc
 reached_learned service reached task suites (Given fetched) ordered may is =
-    reached_given service reached task suites (learned_suites (Given fetched) suites) fetched.value.suite fetched.value.content ordered may refl is
+    reached_given service reached task suites (learned_suites (Given fetched) suites) fetched.suite fetched.content ordered may refl is
 
 -- ---- by an execution
 

@@ -94,13 +94,13 @@ module _ (change : Suite → Suite) (place : ℕ) (suites : Suites) where
 module _ (suites : Suites) where
   pub learned_ordered : (news : News) → IsOrdered nat_cmp suites → IsOrdered nat_cmp (learned_suites news suites)
   learned_ordered Nothing ordered = ordered
-  learned_ordered (Quorum number settling) ordered = changed_ordered (settled_with settling.value) number suites (suite_of suites number) ordered
-  learned_ordered (Given fetched) ordered = changed_ordered (with_content fetched.value.content) fetched.value.suite suites (suite_of suites fetched.value.suite) ordered
+  learned_ordered (Quorum number settling) ordered = changed_ordered (settled_with settling) number suites (suite_of suites number) ordered
+  learned_ordered (Given fetched) ordered = changed_ordered (with_content fetched.content) fetched.suite suites (suite_of suites fetched.suite) ordered
 
   learned_at : (news : News) (number : ℕ) → suite_of (learned_suites news suites) number ≡ option_map (told_of news number) (suite_of suites number)
   learned_at Nothing number = unchanged (λ suite. suite) number suites (suite_of suites number)
-  learned_at (Quorum place settling) number = found_at (settled_with settling.value) place suites number
-  learned_at (Given fetched) number = found_at (with_content fetched.value.content) fetched.value.suite suites number
+  learned_at (Quorum place settling) number = found_at (settled_with settling) place suites number
+  learned_at (Given fetched) number = found_at (with_content fetched.content) fetched.suite suites number
 
   -- it is the same suite by suite
   pub told_learned : (news : News) → IsOrdered nat_cmp suites → told_all news suites ≡ learned_suites news suites

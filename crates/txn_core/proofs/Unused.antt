@@ -159,7 +159,7 @@ pub unused_learned : (news : News) (cache : Limited) → Fits news → HasUnused
 unused_learned Nothing cache fits all = all
 unused_learned (Quorum number settling) cache fits all = all
 unused_learned (Given fetched) cache fits all =
-    let one = fetched.value in
+    let one = fetched in
     unused_put cache.limits (record { site = one.site; suite = one.suite; prefix = one.prefix; dver = one.dver; content = one.content }) cache.entries fits.unused all
 
 pub unused_searched : (site suite dver : ℕ) (cache : Cache) → HasUnused cache → HasUnused (searched site suite dver cache)

@@ -32,7 +32,7 @@ use crate::suites::Suite;
 use crate::task::Task;
 use rep_core::Reply;
 use sorted_map::RoomyMap;
-use std::alloc::{AllocError, Global};
+use std::alloc::AllocError;
 use std::marker::Model;
 use suite_collect::{Coming, Hearing};
 use suite_content::Content;
@@ -126,7 +126,7 @@ impl Course {
             }
             Phase::Widening { number, .. } => {
                 let number = *number;
-                self.on_widened(means.alloc, number, server, said)
+                self.on_widened(number, server, said)
             }
             Phase::Preparing(..) => Ok(self.on_prepared(server, said)),
             Phase::Deciding(_) => self.on_verdict(said),
@@ -158,13 +158,7 @@ impl Course {
     }
 
     /// A suite that is widened hears what a server said.
-    fn on_widened(
-        &mut self,
-        alloc: Global,
-        number: u64,
-        server: u8,
-        said: &Reply,
-    ) -> Result<Goes, AllocError>
+    fn on_widened(&mut self, number: u64, server: u8, said: &Reply) -> Result<Goes, AllocError>
         requires shown { shows_unused said.now ≡ true }
         ensures ok { IfOk result (λ goes. IsWidenedBy self.old number server said.now goes self.new) }
         ensures err { OnErr result (self.new ≡ self.old) }
@@ -174,7 +168,7 @@ impl Course {
             Hearing::Lost => Ok(self.give_up(Cause::Lost { server })),
             Hearing::Asks => Ok(Goes::On),
             Hearing::Short => Ok(self.gather(number)),
-            Hearing::Quorum => match self.settling(alloc, number, said)? {
+            Hearing::Quorum => match self.settling(number, said)? {
                 Some(settling) => {
                     settle(&mut self.suites, number, settling);
                     Ok(self.widen_on())
@@ -215,24 +209,19 @@ impl Course {
         ensures ok { IfOk result (λ goes. IsStep means.old (held_by means.old self.old number server said.now) goes self.new means.new) }
         ensures err { OnErr result (IsUntouched means.old self.old self.new means.new) }
     {
-        match self.settling(means.alloc, number, said)? {
+        match self.settling(number, said)? {
             Some(settling) => self.execute(means, News::Quorum(number, settling)),
             None => Ok(self.give_up(Cause::Lost { server })),
         }
     }
 
     /// The quorum that a suite is to have with a reply that completes one.
-    fn settling(
-        &self,
-        alloc: Global,
-        number: u64,
-        said: &Reply,
-    ) -> Result<Option<Box<Settling>>, AllocError>
+    fn settling(&self, number: u64, said: &Reply) -> Result<Option<Settling>, AllocError>
         requires { shows_unused said.now ≡ true }
         ensures { IfOk result (λ settling. SettlesAt (suite_of self.now.suites number) settling said.now) }
     {
         match self.suites.get(&number) {
-            Some(suite) => suite.settling(alloc, said),
+            Some(suite) => suite.settling(said),
             None => Ok(None),
         }
     }
@@ -254,21 +243,16 @@ impl Course {
         let Reply::Given { content, .. } = said else {
             return Ok(self.give_up(Cause::Lost { server }));
         };
-        match self.fetched(means.alloc, number, content)? {
+        match self.fetched(number, content)? {
             Some(fetched) => self.execute(means, News::Content(fetched)),
             None => Ok(self.give_up(Cause::Lost { server })),
         }
     }
 
     /// What the cache is to keep with the content of a suite; nothing, where the suite had no quorum.
-    fn fetched(
-        &self,
-        alloc: Global,
-        number: u64,
-        content: &Content,
-    ) -> Result<Option<Box<Fetched>>, AllocError>
-        ensures value { IfOk result (λ one. option_map (λ one. one.value) one ≡ content_kept self.now number content.now) }
-        ensures keepable { IfOk result (λ one. IfSome one (λ one. IsKeepable one.value)) }
+    fn fetched(&self, number: u64, content: &Content) -> Result<Option<Fetched>, AllocError>
+        ensures value { IfOk result (λ one. one ≡ content_kept self.now number content.now) }
+        ensures keepable { IfOk result (λ one. IfSome one IsKeepable) }
     {
         let Some(suite) = self.suites.get(&number) else {
             return Ok(None);
@@ -277,7 +261,6 @@ impl Course {
             return Ok(None);
         };
         let fetched = Fetched::new(&self.task, number, first, content)?;
-        let fetched = Box::new(alloc, fetched)?;
         Ok(Some(fetched))
     }
 

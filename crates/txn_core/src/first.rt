@@ -2,13 +2,13 @@
 
 use std::alloc::AllocError;
 use std::marker::Model;
-use suite_prefix::Prefix;
+use suite_prefix::SharedPrefix;
 
 /// What the first quorum of a suite gave: its prefix, the version of its content, and the first server
 /// that showed that version. No version is used up.
 #[derive(Drop)]
 pub(crate) struct First {
-    pub(crate) prefix: Prefix,
+    pub(crate) prefix: SharedPrefix,
     pub(crate) dver: u64,
     pub(crate) source: u8,
 }

@@ -7,14 +7,14 @@ use crate::empty::Empty;
 use file_ops::Service;
 use std::alloc::{AllocError, Global};
 use std::marker::Model;
-use suite_prefix::Prefix;
+use suite_prefix::{Prefix, SharedPrefix};
 
 /// A service, with what each execution in it needs and what never changes: it is made once.
 #[derive(Drop)]
 pub(crate) struct Ground {
     service: Service,
     /// The prefix of what was never made.
-    absent: Prefix,
+    absent: SharedPrefix,
     empty: Empty,
 }
 
@@ -35,7 +35,8 @@ impl Ground {
     pub(crate) fn new(alloc: Global, service: Service) -> Result<Ground, AllocError>
         ensures { IfOk result (λ made. made ≡ service) }
     {
-        let absent = Prefix::absent(alloc, service.c0)?;
+        let prefix = Prefix::absent(alloc, service.c0)?;
+        let absent = SharedPrefix::new(alloc, prefix)?;
         Ok(Ground {
             service,
             absent,
@@ -58,7 +59,7 @@ impl Ground {
     }
 
     /// The prefix of what was never made.
-    pub(crate) fn absent(&self) -> &Prefix
+    pub(crate) fn absent(&self) -> &SharedPrefix
         ensures { result.now ≡ absent_prefix self.now.c0 }
     {
         &self.absent

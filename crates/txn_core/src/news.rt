@@ -15,15 +15,15 @@ use std::alloc::AllocError;
 use suite_content::Content;
 use weak_cache::WeakCache;
 
-/// What a transaction learned since it was executed last. It stands on the heap, so that it is cheap to move.
+/// What a transaction learned since it was executed last.
 #[derive(Drop)]
 pub(crate) enum News {
     /// Nothing.
     Nothing,
     /// This suite has a quorum.
-    Quorum(u64, Box<Settling>),
+    Quorum(u64, Settling),
     /// A suite has this content, which the cache is to keep, too.
-    Content(Box<Fetched>),
+    Content(Fetched),
 }
 
 impl News {
@@ -72,7 +72,7 @@ impl News {
             News::Quorum(number, settling) => settle(suites, number, settling),
             News::Content(fetched) => {
                 let (number, content) = (fetched.suite, fetched.content.clone()?);
-                Box::into_inner(fetched).put(cache)?;
+                fetched.put(cache)?;
                 open(suites, number, content);
             }
         }
@@ -81,12 +81,12 @@ impl News {
 }
 
 /// A suite has a quorum from now on.
-pub(crate) fn settle(suites: &mut RoomyMap<u64, Suite>, number: u64, settling: Box<Settling>)
-    ensures suites { suites.new.pairs ≡ changed_at (settled_with settling.value) number (suite_of suites.old.pairs number) suites.old.pairs }
+pub(crate) fn settle(suites: &mut RoomyMap<u64, Suite>, number: u64, settling: Settling)
+    ensures suites { suites.new.pairs ≡ changed_at (settled_with settling) number (suite_of suites.old.pairs number) suites.old.pairs }
     ensures room { suites.new.room ≡ suites.old.room }
 {
     if let Some(suite) = suites.get_mut(&number) {
-        suite.settle(Box::into_inner(settling));
+        suite.settle(settling);
     }
 }
 

@@ -21,7 +21,7 @@ use crate::suites::Suite;
 use file_exec::{Need, Outcome, Progress, exec_on};
 use std::alloc::AllocError;
 use suite_content::Content;
-use suite_prefix::Prefix;
+use suite_prefix::SharedPrefix;
 
 /// What an execution sets, found before anything is set.
 #[derive(Drop)]
@@ -159,7 +159,7 @@ impl<'a> Execution<'a> {
     }
 
     /// From which prefix a suite is gathered: the site's hint, or that of what was never made.
-    fn start_of(self, shelf: Shelf<'a>, number: u64) -> &'a Prefix
+    fn start_of(self, shelf: Shelf<'a>, number: u64) -> &'a SharedPrefix
         ensures { result.now ≡ start_from (fixed_at self.entry shelf.entry) self.entry.task.now (spec.entries_on shelf.entry) number }
     {
         let task = self.task;

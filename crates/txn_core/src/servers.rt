@@ -1,6 +1,7 @@
 //! Servers that are asked one after the other.
 
-ghost use Rattle.std.specs.Prelude.{◌≡◌, drop, slice_get};
+ghost use Rattle.std.specs.FinSet.{contains};
+ghost use Rattle.std.specs.Prelude.{◌≡◌, ℕ, drop, slice_get};
 ghost use Rattle.txn_core.specs.code.Passing.{is_none};
 ghost use Rattle.txn_core.specs.Suites as gathering;
 ghost use Rattle.txn_core.specs.Transactions as course;
@@ -8,7 +9,7 @@ ghost use Rattle.txn_core.specs.Transactions as course;
 use crate::suites::Suite;
 use arrayvec::ArrayVec;
 use std::marker::Model;
-use vote_core::MAX_SERVERS;
+use vote_core::{MAX_SERVERS, ServerSet};
 
 /// The servers that are left to be asked, in their order.
 #[derive(Debug, Drop)]
@@ -57,18 +58,23 @@ impl Servers {
 pub(crate) fn locked_at(suites: &[(u64, Suite)]) -> Servers
     ensures { result ≡ course.locked_at suites.now }
 {
+    let holders = holders_of(suites);
     let mut all = ArrayVec::new();
     for server in 0..MAX_SERVERS as u8 {
-        if has_locks(suites, server) {
+        if holders.contains(server) {
             all.push(server);
         }
     }
     Servers { all, asked: 0 }
 }
 
-/// Whether a server holds a lock on any suite.
-fn has_locks(suites: &[(u64, Suite)], server: u8) -> bool
-    ensures { result ≡ gathering.has_locks suites.now server }
+/// The servers that hold a lock on any suite.
+fn holders_of(suites: &[(u64, Suite)]) -> ServerSet
+    ensures { (server : ℕ) → contains result server ≡ gathering.has_locks suites.now server }
 {
-    suites.iter().any(|(_, suite)| suite.holds_lock(server))
+    let mut holders = ServerSet::empty();
+    for (_, suite) in suites {
+        holders.unite(&suite.lock_holders());
+    }
+    holders
 }

@@ -11,7 +11,7 @@ use crate::first::First;
 use crate::task::Task;
 use std::alloc::AllocError;
 use suite_content::Content;
-use suite_prefix::Prefix;
+use suite_prefix::SharedPrefix;
 use weak_cache::{NewEntry, WeakCache};
 
 /// A content that was fetched, and with what it is kept.
@@ -19,7 +19,7 @@ use weak_cache::{NewEntry, WeakCache};
 pub(crate) struct Fetched {
     pub(crate) site: u8,
     pub(crate) suite: u64,
-    pub(crate) prefix: Prefix,
+    pub(crate) prefix: SharedPrefix,
     pub(crate) dver: u64,
     pub(crate) content: Content,
 }
@@ -93,7 +93,7 @@ impl<'a> Shelf<'a> {
     }
 
     /// The prefix that a site has of a suite.
-    pub(crate) fn hint(self, site: u8, suite: u64) -> Option<&'a Prefix>
+    pub(crate) fn hint(self, site: u8, suite: u64) -> Option<&'a SharedPrefix>
         ensures { option_copied result ≡ hint (entries_on self.entry) site suite }
     {
         match self.fetched {

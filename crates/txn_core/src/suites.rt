@@ -1,6 +1,7 @@
 //! What a transaction gathered of a suite.
 
-ghost use Rattle.std.specs.Prelude.{◌≡◌, ◌<◌, IfOk, IfErr, IsTrue, OnErr, None, Some, false, true};
+ghost use Rattle.std.specs.FinSet.{contains};
+ghost use Rattle.std.specs.Prelude.{◌≡◌, ℕ, ◌<◌, IfOk, IfErr, IsTrue, OnErr, None, Some, false, true};
 ghost use Rattle.std.specs.Option.{option_copied, option_or};
 ghost use Rattle.rep_core.specs.Fits.{is_held};
 ghost use Rattle.rep_core.specs.Store.{is_used_up};
@@ -20,8 +21,8 @@ use std::alloc::{AllocError, Global};
 use std::marker::Model;
 use suite_collect::{Collect, Coming, Hearing, Told};
 use suite_content::Content;
-use suite_prefix::{LockMode, Prefix, PrefixKind};
-use vote_core::{MAX_SERVERS, Votes};
+use suite_prefix::{LockMode, PrefixKind, SharedPrefix};
+use vote_core::{MAX_SERVERS, ServerSet, Votes};
 
 /// A suite that was asked for. What was gathered of it stands on the heap, so that it is cheap to move.
 #[derive(Drop)]
@@ -58,7 +59,7 @@ impl Suite {
         t: u64,
         number: u64,
         mode: LockMode,
-        start: Prefix,
+        start: SharedPrefix,
     ) -> Result<Suite, AllocError>
         requires { is_used_up start.pver ≡ false }
         ensures { IfOk result (λ suite. suite ≡ record { collector = spec.collect mode start; first = None; mode = LockMode.Shared; content = None }) }
@@ -137,11 +138,7 @@ impl Suite {
     }
 
     /// The quorum that it is to have with a reply that completes one; none, where a lock is lost.
-    pub(crate) fn settling(
-        &self,
-        alloc: Global,
-        reply: &Reply,
-    ) -> Result<Option<Box<Settling>>, AllocError>
+    pub(crate) fn settling(&self, reply: &Reply) -> Result<Option<Settling>, AllocError>
         requires { shows_unused reply.now ≡ true }
         ensures { IfOk result (λ settling. Settles settling self.now reply.now) }
     {
@@ -149,7 +146,7 @@ impl Suite {
             return Ok(None);
         };
         let first = self.first_after(&last)?;
-        let settling = Box::new(alloc, Settling { last, first })?;
+        let settling = Settling { last, first };
         Ok(Some(settling))
     }
 
@@ -210,6 +207,13 @@ impl Suite {
         ensures { result ≡ gathering.holds_lock self.now server }
     {
         self.gathered.collect.holds(LockMode::Shared, server)
+    }
+
+    /// The servers that answered that they hold a lock.
+    pub(crate) fn lock_holders(&self) -> ServerSet
+        ensures { (server : ℕ) → contains result server ≡ gathering.holds_lock self.now server }
+    {
+        self.gathered.collect.holders(LockMode::Shared)
     }
 
     /// Whether a server answered that it holds an exclusive lock.

@@ -1,7 +1,8 @@
 -- What a word's changes do to the set that it stands for.
-use Rattle.std.proofs.Common.{◌≡◌, ℕ, ◌*◌, ◌%◌, ◌^◌, ◌<◌, ◌≤◌, ◌&&◌, ◌||◌, eqb, ltb, bit_or, w32, true, refl, sym, ap, ◌∙◌, inl, inr, arith}
+use Rattle.std.proofs.Common.{◌≡◌, ℕ, ◌*◌, ◌%◌, ◌^◌, ◌<◌, ◌≤◌, Bool, ◌&&◌, ◌||◌, eqb, ltb, max, bit_or, w32, true, false, refl, sym, ap, ◌∙◌, inl, inr, arith}
 use Rattle.std.proofs.lemmas.Bool.{cases_eq, and_right, eq-eqb, ne_eqb, lt-ltb}
-use Rattle.std.proofs.lemmas.Nat.Bits.{bit_at-zero, bit_at_set_same, bit_at_set_other}
+use Rattle.std.proofs.lemmas.Bool.Decides.{nat_tests}
+use Rattle.std.proofs.lemmas.Nat.Bits.{bit_at-lt, bit_at_or, bit_at-zero, bit_at_set_same, bit_at_set_other}
 use Rattle.std.specs.Int.{bit_at}
 use Rattle.std.specs.Ordering.{nat_cmp}
 use Rattle.std.specs.Cmp.{nat_cmp_total, unsigned_tied}
@@ -36,3 +37,21 @@ set_below-bit_or n bits k lt word = set.same_set nat_cmp_total set.nat_cmp-IsAnt
     contains-set_below n (bit_or bits (1 * 2 ^ k % 2 ^ 32)) q
     ∙ with_bit n bits k lt word q
     ∙ sym (contains_inserted (set_below n bits) k q ∙ ap (λ b. eqb q k || b) (contains-set_below n bits q)))
+
+-- a bit is set in the greater of two where it is set in one
+bit_of_either : (a b : ℕ) → a < 2 → b < 2 → eqb (max a b) 1 ≡ (eqb a 1 || eqb b 1)
+bit_of_either a b a_lt b_lt = grind (arith, nat_tests)
+
+-- below n where one of two says so
+below_either : (below one other : Bool) → (below && (one || other)) ≡ ((below && one) || (below && other))
+below_either true one other = refl
+below_either false one other = refl
+
+-- a server is in the set of two words' bits if it is in that of one
+pub contains_united : (n a b q : ℕ) → set.contains (set_below n (bit_or a b)) q ≡ (set.contains (set_below n a) q || set.contains (set_below n b) q)
+contains_united n a b q =
+    contains-set_below n (bit_or a b) q
+    ∙ ap (λ bit. ltb q n && eqb bit 1) (bit_at_or a b q)
+    ∙ ap (λ either. ltb q n && either) (bit_of_either (bit_at a q) (bit_at b q) (bit_at-lt a q) (bit_at-lt b q))
+    ∙ below_either (ltb q n) (eqb (bit_at a q) 1) (eqb (bit_at b q) 1)
+    ∙ sym (λ i. contains-set_below n a q i || contains-set_below n b q i)

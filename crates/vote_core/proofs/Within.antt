@@ -1,9 +1,9 @@
 -- Sets whose servers are all numbered below some number.
-use Rattle.std.proofs.Common.{◌≡◌, ℕ, zero, suc, ◌+◌, ◌*◌, ◌/◌, ◌%◌, ◌^◌, ◌<◌, ◌≤◌, Bool, true, false, cond, ◌||◌, List, [], ◌∷◌, eqb, ltb, refl, sym, ap, subst, ◌∙◌, zero-add, inl, inr, arith}
+use Rattle.std.proofs.Common.{◌≡◌, ℕ, zero, suc, ◌+◌, ◌*◌, ◌/◌, ◌%◌, ◌^◌, ◌<◌, ◌≤◌, Bool, true, cond, ◌||◌, List, [], ◌∷◌, eqb, ltb, refl, sym, ap, subst, ◌∙◌, zero-add, inl, inr, arith}
 use Rattle.std.specs.Bool.{Decides}
 use Rattle.std.specs.List.{list_any, list_all}
 use Rattle.std.specs.Ordering.{nat_cmp, eq_by_cmp}
-use Rattle.std.specs.Cmp.{nat_cmp_total, unsigned_tied}
+use Rattle.std.specs.Cmp.{unsigned_tied}
 use Rattle.std.specs.FinSet.{FinSet, contains, items, contains-items}
 use Rattle.std.proofs.Math.Bool.{or-true}
 use Rattle.std.proofs.lemmas.Bool.{cases_eq, cases_Bool, and_parts, and_from, eq-eqb, ne_eqb, ltb-true, ltb-false, lt-ltb, eqb-true, false≢true}

@@ -85,4 +85,11 @@ impl ServerSet {
     {
         self.bits |= 1 << server;
     }
+
+    /// Adds all servers of another set.
+    pub fn unite(&mut self, other: &ServerSet)
+        ensures members { (server : ℕ) → contains self.new server ≡ (contains self.old server || contains other.now server) }
+    {
+        self.bits |= other.bits;
+    }
 }

@@ -11,7 +11,7 @@ use crate::stock::{Beside, Entries, Stock};
 use std::alloc::{AllocError, Global};
 use std::marker::Model;
 use suite_content::Content;
-use suite_prefix::Prefix;
+use suite_prefix::SharedPrefix;
 
 /// How many sites an agent has at most: their numbers are below it.
 pub const MAX_SITES: u8 = 16;
@@ -31,7 +31,7 @@ pub struct WeakCache {
 pub struct NewEntry<'a> {
     pub site: u8,
     pub suite: u64,
-    pub prefix: &'a Prefix,
+    pub prefix: &'a SharedPrefix,
     pub dver: u64,
     pub content: &'a Content,
 }
@@ -87,7 +87,7 @@ impl WeakCache {
     }
 
     /// The prefix that a site keeps of a suite.
-    pub fn hint(&self, site: u8, suite: u64) -> Option<&Prefix>
+    pub fn hint(&self, site: u8, suite: u64) -> Option<&SharedPrefix>
         ensures { option_copied result ≡ hint self.now.entries site suite }
     {
         self.entries.find(site, suite).map(|entry| entry.prefix())
@@ -131,7 +131,12 @@ impl WeakCache {
 
     /// The prefix that would be found once an entry was put, of a site and suite. It changes nothing and
     /// takes no memory.
-    pub fn hint_beside<'a>(&'a self, new: NewEntry<'a>, site: u8, suite: u64) -> Option<&'a Prefix>
+    pub fn hint_beside<'a>(
+        &'a self,
+        new: NewEntry<'a>,
+        site: u8,
+        suite: u64,
+    ) -> Option<&'a SharedPrefix>
         ensures { option_copied result ≡ hint (put self.now.limits (new_entry new.entry) self.now.entries) site suite }
     {
         if !new.is_of(site, suite) {
@@ -162,7 +167,7 @@ impl WeakCache {
         &mut self,
         site: u8,
         suite: u64,
-        prefix: Prefix,
+        prefix: SharedPrefix,
         dver: u64,
         content: Content,
     ) -> Result<(), AllocError>

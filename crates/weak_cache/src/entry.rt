@@ -9,7 +9,7 @@ ghost use Rattle.weak_cache.specs.Entries.{size_of, is_at, is_of};
 
 use std::marker::Model;
 use suite_content::{Content, Name};
-use suite_prefix::Prefix;
+use suite_prefix::SharedPrefix;
 
 /// The bytes of the number of a folder's names.
 const COUNT_BYTES: usize = 2;
@@ -22,7 +22,7 @@ const NUMBER_BYTES: usize = 9;
 pub(crate) struct SizedEntry {
     pub(crate) site: u8,
     pub(crate) suite: u64,
-    pub(crate) prefix: Prefix,
+    pub(crate) prefix: SharedPrefix,
     pub(crate) dver: u64,
     pub(crate) content: Content,
     pub(crate) size: usize,
@@ -84,7 +84,7 @@ impl SizedEntry {
     }
 
     /// Its prefix.
-    pub(crate) fn prefix(&self) -> &Prefix
+    pub(crate) fn prefix(&self) -> &SharedPrefix
         ensures { result.now ≡ self.now.prefix }
     {
         &self.prefix

@@ -1,6 +1,5 @@
 -- What comes of a reply to what a suite asks.
-use Rattle.std.specs.Prelude.{◌≡◌, ℕ, List, true, Option, Some, None, Box}
-use Rattle.std.specs.declared.alloc.Global.{Global}
+use Rattle.std.specs.Prelude.{◌≡◌, ℕ, List, true, Option, Some, None}
 use Rattle.std.specs.Option.{option_or}
 use Rattle.suite_prefix.specs.declared.copies.Prefix.{Prefix}
 use Rattle.rep_core.specs.Fits.{is_held}
@@ -86,10 +85,10 @@ IsFirstAfter suite last first =
     → option_or suite.first first ≡ (settled prefix dver members (record suite { collector = tell last suite.collector })).first
 
 -- the quorum that a suite is to have with a reply; none, where a lock is lost
-abbrev pub Settles : Option (Box Settling Global) → Suite → Reply → Type 0
-Settles (Some settling) suite said = IsSettled (heard suite said) → heard suite said ≡ Settled (settled_with settling.value suite)
+abbrev pub Settles : Option Settling → Suite → Reply → Type 0
+Settles (Some settling) suite said = IsSettled (heard suite said) → heard suite said ≡ Settled (settled_with settling suite)
 Settles None suite said = heard suite said ≡ Lost
 
-abbrev pub SettlesAt : Option Suite → Option (Box Settling Global) → Reply → Type 0
+abbrev pub SettlesAt : Option Suite → Option Settling → Reply → Type 0
 SettlesAt (Some suite) settling said = Settles settling suite said
 SettlesAt None settling said = settling ≡ None

@@ -15,7 +15,7 @@ use Rattle.txn_core.specs.code.Seeing.{learned_suites, first_at}
 
 -- what the cache is to keep
 abbrev pub kept_by : News → Option Fetched
-kept_by (Given fetched) = Some fetched.value
+kept_by (Given fetched) = Some fetched
 kept_by other = None
 
 -- all that was gathered, once it was set
@@ -31,7 +31,7 @@ is_fresh None = true
 abbrev pub adds : News → Suites → Bool
 adds Nothing suites = true
 adds (Quorum number settling) suites = is_fresh (suite_of suites number)
-adds (Given fetched) suites = takes_in (suite_of suites fetched.value.suite) fetched.value.content
+adds (Given fetched) suites = takes_in (suite_of suites fetched.suite) fetched.content
 
 -- what the cache is to keep is of one of its sites, and its prefix not used up
 pub record IsKeepable (fetched : Fetched) : Type 0 where
@@ -41,7 +41,7 @@ pub record IsKeepable (fetched : Fetched) : Type 0 where
 abbrev pub Fits : News → Type 0
 Fits Nothing = Unit {0}
 Fits (Quorum number settling) = Unit {0}
-Fits (Given fetched) = IsKeepable fetched.value
+Fits (Given fetched) = IsKeepable fetched
 
 -- what is kept with the content of a suite that had a quorum
 abbrev pub content_kept : Course → ℕ → Content → Option Fetched

@@ -27,8 +27,8 @@ with_content content suite = record suite { content = Some content }
 -- the suite of a number, once something was learned
 abbrev pub told_of : News → ℕ → Suite → Suite
 told_of Nothing number suite = suite
-told_of (Quorum place settling) number suite = if place == number then settled_with settling.value suite else suite
-told_of (Given fetched) number suite = if fetched.value.suite == number then with_content fetched.value.content suite else suite
+told_of (Quorum place settling) number suite = if place == number then settled_with settling suite else suite
+told_of (Given fetched) number suite = if fetched.suite == number then with_content fetched.content suite else suite
 
 -- the suites, once it was set
 abbrev pub changed_at : (Suite → Suite) → ℕ → Option Suite → Suites → Suites
@@ -37,8 +37,8 @@ changed_at change number None suites = suites
 
 abbrev pub learned_suites : News → Suites → Suites
 learned_suites Nothing suites = suites
-learned_suites (Quorum number settling) suites = changed_at (settled_with settling.value) number (suite_of suites number) suites
-learned_suites (Given fetched) suites = changed_at (with_content fetched.value.content) fetched.value.suite (suite_of suites fetched.value.suite) suites
+learned_suites (Quorum number settling) suites = changed_at (settled_with settling) number (suite_of suites number) suites
+learned_suites (Given fetched) suites = changed_at (with_content fetched.content) fetched.suite (suite_of suites fetched.suite) suites
 
 abbrev pub seen_in : Seen → Suites
 seen_in seen = learned_suites seen.news.now seen.suites.now.pairs

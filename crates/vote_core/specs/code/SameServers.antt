@@ -1,5 +1,5 @@
 -- When two sets of servers are the same: where each has what the other has.
-use Rattle.std.specs.Prelude.{◌≡◌, ℕ, Bool, ◌&&◌}
+use Rattle.std.specs.Prelude.{◌≡◌, Bool, ◌&&◌}
 use Rattle.std.specs.Bool.{Decides}
 use Rattle.std.specs.Cmp.{IsEquivalence, IsPartialEquivalence, partial_equiv_from_equiv, decided, nat_cmp_total}
 use Rattle.std.specs.Ordering.{nat_cmp}

@@ -2,7 +2,6 @@ use Rattle.std.proofs.Common.{rules, ◌≡◌, subst, sym}
 use Rattle.suite_prefix.specs.Copies.{IsCopy}
 use Rattle.suite_prefix.specs.Copies.{PrefixFits}
 use Rattle.suite_prefix.specs.TestsExact.{CopyFits}
-use Rattle.rep_core.specs.declared.request.Take.{Take}
 use Rattle.rep_core.specs.declared.request.Take.TheVariants as take
 use Rattle.rep_core.specs.Store.{left_by, copy_of}
 use Rattle.rep_core.specs.ValidCopies.{TakeFits}

@@ -7,5 +7,5 @@ pub returns : goal.returns
 returns c =
     let opened : Store = opening_store c.args.index c.args.settings.now in
     let votes : c.in_ok-absent.absent.votes ≡ opened.c0 = search rules in
-    let none : intentions_in c.new.result.pairs ≡ opened.intentions = ap intentions_in c.new.ensures in
+    let none : intentions_in c.new-2.result.pairs ≡ opened.intentions = ap intentions_in c.new-2.ensures in
     λ i. record { c0 = votes i; copies = c.in_ok-copies.ensures.copies i; forms = c.in_ok-copies.ensures.forms i; intentions = none i }

@@ -1,14 +1,13 @@
-use Rattle.std.proofs.Common.{◌≡◌, Bool, true, false, Option, Some, None, refl, sym, ap, ◌∙◌, rules}
-use Rattle.std.specs.Prelude.{is_some, unwrap_or}
+use Rattle.std.proofs.Common.{◌≡◌, true, false, Option, Some, sym, ap, ◌∙◌, rules}
+use Rattle.std.specs.Prelude.{is_some}
 use Rattle.suite_prefix.specs.declared.copies.Prefix.{Prefix}
-use Rattle.suite_collect.specs.declared.collect.Collect.TheInside.{Inside}
 use Rattle.suite_collect.specs.code.CollectFields.{collecting_of, tally_of, IsSummed}
 use Rattle.suite_collect.specs.code.Dues.{tally_in}
 use Rattle.suite_collect.specs.code.Sayings.{told_of}
 use Rattle.suite_collect.specs.Collecting.{Collecting, tell}
 use Rattle.suite_collect.specs.Telling.{newer, newest}
 use Rattle.suite_collect.proofs.Dues.{KeepsNewest, keeps_newest, keeps_shown, keeps_wide, put_added}
-use Rattle.suite_collect.proofs.collect.Collect.put.Goals.{then-is_none+in-Some+in_ok-clone+in-Some+in-Some-self-2, then-is_none+in-Some+in_ok-clone+in-Some+in-None-1, then-is_none+in-Some+in_ok-clone+in-None-1, then-is_none+in_default, else-is_none}
+use Rattle.suite_collect.proofs.collect.Collect.put.Goals.{then-is_none+in-Some+in_ok-clone+in-Some-1, then-is_none+in-Some+in_ok-clone+in-None-1, then-is_none+in_default, else-is_none}
 use Rattle.suite_collect.proofs.collect.Collect.put.Goals as goal
 
 pub invariant_of-self : goal.invariant_of-self
@@ -24,12 +23,7 @@ invariant_of-self c =
     let shown : (prefix : Prefix) → prefix ≡ newer (newest c.args.self.now.collector.start c.args.self.now.collector.told) last.said → prefix ≡ newer (newest was.start was.told) last.said =
     λ prefix is. is ∙ ap (λ newest. newer newest last.said) before in
     elim c.if-is_none.branch [
-      | then-is_none+in-Some+in_ok-clone+in-Some+in-Some-self-2 w ↦
-          let prefix = w.in_ok-clone.field-0 in
-          let narrow : is_some was.widening ≡ false = search rules in
-          let is : prefix ≡ newer (newest c.args.self.now.collector.start c.args.self.now.collector.told) last.said = search rules in
-          put (Some prefix) w.self-inside-is (keeps_shown was prefix last narrow (shown prefix is))
-      | then-is_none+in-Some+in_ok-clone+in-Some+in-None-1 w ↦
+      | then-is_none+in-Some+in_ok-clone+in-Some-1 w ↦
           let prefix = w.in_ok-clone.field-0 in
           let narrow : is_some was.widening ≡ false = search rules in
           let is : prefix ≡ newer (newest c.args.self.now.collector.start c.args.self.now.collector.told) last.said = search rules in

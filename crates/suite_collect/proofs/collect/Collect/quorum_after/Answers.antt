@@ -20,7 +20,7 @@ returns c =
     let prefix : c.newer_of-prefix.result.now ≡ newest now.start (last ∷ now.told) = c.newer_of-prefix.ensures ∙ ap (λ (one : Told). newer c.newest-2.result.now one.said) c.lend-3.ensures ∙ ap (λ prefix. newer prefix last.said) c.newest-2.ensures in
     let held : contains c.holders.result ≡ holds now.mode (last ∷ now.told) = (λ i other. c.holders.ensures other i) ∙ ap (λ mode. holds mode c.add.new.self) mode ∙ ap (holds now.mode) told in
     let members : c.members_of-members-2.result.items ≡ first_members after =
-    c.members_of-members-2.ensures.members ∙ ap (λ (prefix : Prefix). members_of prefix.votes (contains c.holders.result)) prefix ∙ ap (members_of (newest now.start (last ∷ now.told)).votes) held in
+    c.members_of-members-2.ensures.members ∙ ap (λ (prefix : Prefix). members_of prefix.votes (contains c.holders.result)) (c.deref.ensures ∙ prefix) ∙ ap (members_of (newest now.start (last ∷ now.told)).votes) held in
     let asked : c.as_slice-2.result.now ≡ first_members after = c.as_slice-2.ensures.value ∙ members in
     let shown_by : c.as_slice-3.result.now ≡ first_members after = c.as_slice-3.ensures.value ∙ members in
     let dver : c.greatest-dver-2.result ≡ version after =

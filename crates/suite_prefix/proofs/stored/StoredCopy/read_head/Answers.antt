@@ -8,5 +8,5 @@ prefix-requires c = subst IsOfValid (sym c.parts-head.ensures.head) (is_of_valid
 
 pub returns-clause-prefix : goal.returns-clause-prefix
 returns-clause-prefix c =
-    let is : c.in_ok-prefix.prefix ≡ prefix_of c.parts-head.result.0 = search rules in
+    let is : c.in_ok-shared.shared ≡ prefix_of c.parts-head.result.0 = search rules in
     is ∙ ap prefix_of c.parts-head.ensures.head ∙ prefix_again c.args.self.now.copy c.parts-head.ensures.valid

@@ -1,6 +1,5 @@
-use Rattle.std.proofs.Common.{◌≡◌, Some, None, sym, subst, ap, ◌∙◌, rules}
-use Rattle.std.specs.Prelude.{Box, Option, IfSome, IfOk, option_map}
-use Rattle.std.specs.declared.alloc.Global.{Global}
+use Rattle.std.proofs.Common.{◌≡◌, Some, None, sym, subst, ◌∙◌, rules}
+use Rattle.std.specs.Prelude.{Option, IfSome, IfOk}
 use Rattle.txn_core.specs.declared.ending.Cause.TheVariants as cause
 use Rattle.txn_core.specs.declared.shelf.Fetched.{Fetched}
 use Rattle.txn_core.specs.code.Goings.{IsStep}
@@ -8,10 +7,6 @@ use Rattle.txn_core.specs.code.Learning.{IsKeepable}
 use Rattle.txn_core.specs.Transactions.{Step, given_in}
 use Rattle.txn_core.proofs.Handling.{given', up_step, not_given, not_learned, content_learned}
 use Rattle.txn_core.proofs.course.Course.on_given.Goals as goal
-
--- what is kept, where it is
-abbrev kept_in : Option (Box Fetched Global) → Option Fetched
-kept_in found = option_map (λ (one : Box Fetched Global). one.value) found
 
 pub returns-in_default-clause-ok : goal.returns-in_default-clause-ok
 returns-in_default-clause-ok c =
@@ -26,7 +21,7 @@ returns-in-None-clause-ok c =
     let now = c.args.self.now in
     let gave : given_in c.args.said.now ≡ Some c.in-Given.content = search rules in
     up_step means c.requires.unused now (cause.Lost c.args.server) (given' means now c.args.number c.args.server c.args.said.now) c.give_up-in-None.result c.give_up-in-None.new.self
-    (not_learned means now c.args.number c.args.server c.args.said.now c.in-Given.content gave (sym (ap kept_in c.in-None.is) ∙ c.in_ok-fetched.ensures.value)) c.give_up-in-None.ensures
+    (not_learned means now c.args.number c.args.server c.args.said.now c.in-Given.content gave (sym c.in-None.is ∙ c.in_ok-fetched.ensures.value)) c.give_up-in-None.ensures
 
 pub returns-in-Some-clause-ok : goal.returns-in-Some-clause-ok
 returns-in-Some-clause-ok c =
@@ -34,7 +29,7 @@ returns-in-Some-clause-ok c =
     let now = c.args.self.now in
     let gave : given_in c.args.said.now ≡ Some c.in-Given.content = search rules in
     let Goes : Step → Type 0 = λ step. IfOk c.execute.result (λ goes. IsStep means step goes c.execute.new.self c.execute.new.means) in
-    subst Goes (content_learned means now c.args.number c.args.server c.args.said.now c.in-Given.content gave c.in-Some.fetched (sym (ap kept_in c.in-Some.is) ∙ c.in_ok-fetched.ensures.value)) c.execute.ensures.ok
+    subst Goes (content_learned means now c.args.number c.args.server c.args.said.now c.in-Given.content gave c.in-Some.fetched (sym c.in-Some.is ∙ c.in_ok-fetched.ensures.value)) c.execute.ensures.ok
 
 pub execute-requires-clause-fits : goal.execute-requires-clause-fits
-execute-requires-clause-fits c = subst (λ (found : Option (Box Fetched Global)). IfSome found (λ one. IsKeepable one.value)) c.in-Some.is c.in_ok-fetched.ensures.keepable
+execute-requires-clause-fits c = subst (λ (found : Option Fetched). IfSome found IsKeepable) c.in-Some.is c.in_ok-fetched.ensures.keepable

@@ -6,8 +6,7 @@ use Rattle.txn_core.specs.code.Goings.{IsStep, held_by}
 use Rattle.txn_core.specs.code.Hearing.{SettlesAt}
 use Rattle.txn_core.specs.Suites.{suite_of}
 use Rattle.txn_core.specs.Transactions.{Step}
-use Rattle.std.specs.Prelude.{Box, Option}
-use Rattle.std.specs.declared.alloc.Global.{Global}
+use Rattle.std.specs.Prelude.{Option}
 use Rattle.txn_core.proofs.Handling.{held_settles, held_unsettled, up_step}
 use Rattle.txn_core.proofs.course.Course.on_quorum.Goals as goal
 
@@ -15,13 +14,13 @@ pub returns-in-Some-clause-ok : goal.returns-in-Some-clause-ok
 returns-in-Some-clause-ok c =
     let now = c.args.self.now in
     let Goes : Step → Type 0 = λ step. IfOk c.execute.result (λ goes. IsStep c.args.means.now step goes c.execute.new.self c.execute.new.means) in
-    let by = subst (λ (settling : Option (Box Settling Global)). SettlesAt (suite_of now.suites c.args.number) settling c.args.said.now) c.in-Some.is c.in_ok-settling.ensures in
+    let by = subst (λ (settling : Option Settling). SettlesAt (suite_of now.suites c.args.number) settling c.args.said.now) c.in-Some.is c.in_ok-settling.ensures in
     subst Goes (held_settles c.args.means.now now c.args.number c.args.server c.args.said.now c.in-Some.settling c.requires.quorum by) c.execute.ensures.ok
 
 pub returns-in-None-clause-ok : goal.returns-in-None-clause-ok
 returns-in-None-clause-ok c =
     let now = c.args.self.now in
     let means = c.args.means.now in
-    let by = subst (λ (settling : Option (Box Settling Global)). SettlesAt (suite_of now.suites c.args.number) settling c.args.said.now) c.in-None.is c.in_ok-settling.ensures in
+    let by = subst (λ (settling : Option Settling). SettlesAt (suite_of now.suites c.args.number) settling c.args.said.now) c.in-None.is c.in_ok-settling.ensures in
     up_step means c.requires.unused now (cause.Lost c.args.server) (held_by means now c.args.number c.args.server c.args.said.now) c.give_up.result c.give_up.new.self
     (held_unsettled means now c.args.number c.args.server c.args.said.now by) c.give_up.ensures

@@ -2,8 +2,7 @@ use Rattle.std.proofs.Common.{◌≡◌, ◌∷◌, ap, subst, ◌∙◌}
 use Rattle.suite_collect.specs.declared.hearing.Hearing.{Hearing}
 use Rattle.txn_core.specs.code.CourseFields.{phase_of}
 use Rattle.txn_core.specs.code.Hearing.{HearsAt, SettlesAt}
-use Rattle.std.specs.Prelude.{Box, Option}
-use Rattle.std.specs.declared.alloc.Global.{Global}
+use Rattle.std.specs.Prelude.{Option}
 use Rattle.txn_core.specs.declared.settling.Settling.{Settling}
 use Rattle.txn_core.specs.code.Seeing.{changed_at, settled_with}
 use Rattle.txn_core.specs.Doing.{Course, Widening}
@@ -40,9 +39,9 @@ returns-in-Some-clause-ok c = λ left granted cache phase.
     let settling = c.in-Some.settling in
     let Hears : Hearing → Type 0 = λ what. HearsAt (suite_of now.suites number) number what now c.args.said.now mid in
     let hears = subst Hears c.in-Quorum.is c.in_ok-hear.ensures.ok in
-    let by = subst (λ (settling : Option (Box Settling Global)). SettlesAt (suite_of mid.suites number) settling c.args.said.now) c.in-Some.is c.in_ok-settling-in-Quorum.ensures in
+    let by = subst (λ (settling : Option Settling). SettlesAt (suite_of mid.suites number) settling c.args.said.now) c.in-Some.is c.in_ok-settling-in-Quorum.ensures in
     let set : Suites → Course = λ suites. record { task = c.self.inside.task; suites = suites; phase = phase_of c.self.inside.phase } in
-    let settled : Course → Course = λ course. record course { suites = changed_at (settled_with settling.value) number (suite_of course.suites number) course.suites } in
+    let settled : Course → Course = λ course. record course { suites = changed_at (settled_with settling) number (suite_of course.suites number) course.suites } in
     let then' : Course = set c.settle.new.suites.pairs in
     let is : then' ≡ settled mid = ap set c.settle.ensures.suites ∙ ap settled c.self.view_is in
     let at : then'.phase ≡ Widening (number ∷ left) granted =
@@ -56,5 +55,5 @@ returns-in-None-clause-ok c = λ left granted cache phase.
     let number = c.args.number in
     let Hears : Hearing → Type 0 = λ what. HearsAt (suite_of now.suites number) number what now c.args.said.now mid in
     let hears = subst Hears c.in-Quorum.is c.in_ok-hear.ensures.ok in
-    let by = subst (λ (settling : Option (Box Settling Global)). SettlesAt (suite_of mid.suites number) settling c.args.said.now) c.in-None.is c.in_ok-settling-in-Quorum.ensures in
+    let by = subst (λ (settling : Option Settling). SettlesAt (suite_of mid.suites number) settling c.args.said.now) c.in-None.is c.in_ok-settling-in-Quorum.ensures in
     widened_unsettled now mid number c.args.server c.args.said.now cache left granted hears c.give_up-in-None.result c.give_up-in-None.new.self by (c.give_up-in-None.ensures cache)

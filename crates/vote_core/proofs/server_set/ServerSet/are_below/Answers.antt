@@ -1,4 +1,4 @@
-use Rattle.std.proofs.Common.{◌∙◌, sym, ap, arith}
+use Rattle.std.proofs.Common.{◌∙◌, ap, arith}
 use Rattle.std.proofs.lemmas.Bool.{le-leb}
 use Rattle.vote_core.specs.Servers.{are_below}
 use Rattle.vote_core.specs.declared.TheConstants.{MAX_SERVERS}

@@ -1,0 +1,12 @@
+use Rattle.std.proofs.Common.{◌∙◌, ◌||◌}
+use Rattle.std.specs.FinSet.{contains}
+use Rattle.vote_core.specs.declared.TheConstants.{MAX_SERVERS}
+use Rattle.vote_core.proofs.ServerSets.{contains_united}
+use Rattle.vote_core.proofs.server_set.ServerSet.unite.Goals as goal
+
+pub returns : goal.returns
+returns c = record {
+  members = λ server.
+      contains_united MAX_SERVERS c.self.inside.bits c.other.inside.bits server
+      ∙ (λ i. contains (c.self.view_is i) server || contains (c.other.view_is i) server);
+}
