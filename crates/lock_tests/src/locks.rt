@@ -177,7 +177,14 @@ fn asked<R: Abort + AllocGlobal + Wait>(
     server: u8,
     ask: Ask,
 ) -> (Pass, Answer) {
-    asked_by(rt, &OpenGate, servers, pass, server, ask)
+    asked_by(rt, &OpenGate, servers, pass, Question { server, ask })
+}
+
+/// What is asked, and of which server.
+#[derive(Clone, Copy)]
+struct Question {
+    server: u8,
+    ask: Ask,
 }
 
 fn asked_by<R: Abort + AllocGlobal + Wait, G: Gate>(
@@ -185,9 +192,9 @@ fn asked_by<R: Abort + AllocGlobal + Wait, G: Gate>(
     gate: &G,
     servers: &Servers,
     pass: Pass,
-    server: u8,
-    ask: Ask,
+    question: Question,
 ) -> (Pass, Answer) {
+    let Question { server, ask } = question;
     assert!(rt; usize::from(server) < servers.settings().servers());
     let (pass, answer) = servers.ask(rt, gate, pass, server, request(ask));
     if let Err(Miss::Lack(Lack::Memory)) = answer.reply() {
@@ -258,7 +265,17 @@ fn ask_often<R: Abort + AllocGlobal + Wait, G: Gate>(
     let mut pass = pass;
     for _ in 0..100u8 {
         for server in 0..3u8 {
-            pass = asked_by(rt, gate, servers, pass, server, Ask::Locks).0;
+            pass = asked_by(
+                rt,
+                gate,
+                servers,
+                pass,
+                Question {
+                    server,
+                    ask: Ask::Locks,
+                },
+            )
+            .0;
         }
     }
     pass
