@@ -1,0 +1,76 @@
+#!/usr/bin/env python3
+"""Looks whether what the documents name is there.
+
+Of all that README.md and docs/ have in backquotes, these have to be found: a name with an underscore, somewhere in
+crates/, tools/, tests/, bench/ or examples/ (also as that of a file there); `Type::name`, both in one file of some
+crate's src/; and a path that ends in the name of a file, at the top, in docs/ or in a crate. Below a heading that says
+what was tried once nothing has to be there. What is not found is told, and the status is 1. It takes a second, and the
+gate begins with it.
+"""
+import glob, os, re, sys
+
+TOP = os.path.realpath(os.path.join(os.path.dirname(os.path.abspath(__file__)), ".."))
+FOLDERS = ("crates", "tools", "tests", "bench", "examples")
+LEFT_OUT = {"out", "__pycache__"}
+QUOTED = re.compile(r"`([^`]+)`")
+NAME = re.compile(r"\b[a-z][a-z0-9]*(?:_[a-z0-9]+)+\b")
+MEMBER = re.compile(r"([A-Z]\w*)::(\w+)")
+PATH = re.compile(r"(?:[\w.-]+/)+[\w-]+\.(?:rt|antt|py|md|sh|edit|script|txt|csv|svg|c)")
+PAST = "## Tried once"
+
+
+def content(path):
+    with open(path, encoding="utf-8", errors="replace") as file:
+        return file.read()
+
+
+def files():
+    """All files of the repository that documents may speak of."""
+    for folder in FOLDERS:
+        for place, below, found in os.walk(os.path.join(TOP, folder)):
+            below[:] = [name for name in below if name not in LEFT_OUT]
+            yield from (os.path.join(place, name) for name in found)
+
+
+def documents():
+    docs = os.path.join(TOP, "docs")
+    return [os.path.join(TOP, "README.md"), *(os.path.join(docs, name) for name in sorted(os.listdir(docs)) if name.endswith(".md"))]
+
+
+def quoted(path):
+    """What a document has in backquotes, with its line."""
+    for number, line in enumerate(content(path).split("\n"), 1):
+        if line.startswith(PAST):
+            return
+        for text in QUOTED.findall(line):
+            yield number, text
+
+
+def is_there(text, known, members):
+    """Whether what is named is there, so far as it can be told by its form."""
+    if PATH.fullmatch(text):
+        return any(glob.glob(os.path.join(TOP, above, text)) for above in ("", "docs", "crates", "crates/*"))
+    if any(name not in known for name in NAME.findall(text)):
+        return False
+    member = MEMBER.fullmatch(text)
+    return not member or any({member[1], member[2]} <= words for words in members)
+
+
+def main():
+    known, members = set(), []
+    for path in files():
+        words = set(re.findall(r"\w+", content(path)))
+        known |= words | set(re.findall(r"\w+", os.path.relpath(path, TOP)))
+        if "/src/" in path:
+            members.append(words)
+    lost = 0
+    for path in documents():
+        for number, text in quoted(path):
+            if not is_there(text, known, members):
+                lost += 1
+                print(f"{os.path.relpath(path, TOP)}:{number}: there is no `{text}`")
+    return 1 if lost else 0
+
+
+if __name__ == "__main__":
+    sys.exit(main())
