@@ -76,8 +76,9 @@ impl<'a> KnownSuite<'a> {
         self.content.is_some()
     }
 
-    /// Whether its content is not known, and this one is of its row's kind.
-    fn takes(&self, content: &Content) -> bool
+    /// Whether its content is not known, and this one is of its row's kind. To open it with such a content tells
+    /// more, and changes nothing of what was known.
+    pub fn takes(&self, content: &Content) -> bool
         ensures { result ≡ takes (Some self.now) content.now }
     {
         if self.is_opened() {
@@ -184,8 +185,7 @@ impl<'a> Known<'a> {
         }
     }
 
-    /// Whether a suite is held whose content is not known, and a content is of its row's kind. To open it with
-    /// such a content tells more, and changes nothing of what was known.
+    /// Whether a suite is held whose content is not known, and a content is of its row's kind.
     pub fn takes(&self, suite: u64, content: &Content) -> bool
         ensures { result ≡ takes (known_of self.now.suites suite) content.now }
     {
