@@ -195,18 +195,18 @@ fn set_both(
 
 /// Puts other bytes in a file.
 fn write(
-    known: &Known<'_>,
+    transaction: Transaction<'_, '_>,
     log: &mut Log,
-    caller: &Caller,
     names: &[Name],
     bytes: &FileBytes,
     way: &mut Way,
 ) -> Result<Answer, Stop>
-    requires { LeadsTo known.now.suites log.old caller.now names.now way.old }
-    ensures answer { Runs (λ answer. answer) result known.now.suites log.old log.new (bytes_written caller.now names.now bytes.now) }
+    requires { LeadsTo transaction.known.now.suites log.old transaction.caller.now names.now way.old }
+    ensures answer { Runs (λ answer. answer) result transaction.entry.known.now.suites log.old log.new (bytes_written transaction.entry.caller.now names.now bytes.now) }
     ensures kept { OnErr result (log.new ≡ log.old) }
-    ensures way { LeadsTo known.now.suites log.old caller.now names.now way.new }
+    ensures way { LeadsTo transaction.entry.known.now.suites log.old transaction.entry.caller.now names.now way.new }
 {
+    let Transaction { known, caller, .. } = transaction;
     require_fit(bytes)?;
     let place = View { known, log }.reach(caller, names, LockMode::Exclusive, way)?;
     place.permit(caller, Perms::WRITE)?;
@@ -219,18 +219,18 @@ fn write(
 
 /// Gives a file or folder other lists.
 fn set_acl(
-    known: &Known<'_>,
+    transaction: Transaction<'_, '_>,
     log: &mut Log,
-    caller: &Caller,
     names: &[Name],
     acl: &Lists,
     way: &mut Way,
 ) -> Result<Answer, Stop>
-    requires { LeadsTo known.now.suites log.old caller.now names.now way.old }
-    ensures answer { Runs (λ answer. answer) result known.now.suites log.old log.new (list_set caller.now names.now acl.now) }
+    requires { LeadsTo transaction.known.now.suites log.old transaction.caller.now names.now way.old }
+    ensures answer { Runs (λ answer. answer) result transaction.entry.known.now.suites log.old log.new (list_set transaction.entry.caller.now names.now acl.now) }
     ensures kept { OnErr result (log.new ≡ log.old) }
-    ensures way { LeadsTo known.now.suites log.old caller.now names.now way.new }
+    ensures way { LeadsTo transaction.entry.known.now.suites log.old transaction.entry.caller.now names.now way.new }
 {
+    let Transaction { known, caller, .. } = transaction;
     let place = View { known, log }.owned(caller, names, way)?;
     place.require_placed(acl.default.is_some())?;
     let suite = place.suite;
@@ -242,18 +242,18 @@ fn set_acl(
 /// Gives a file or folder other votes. Its content is to be known: whoever gets a vote gets the whole
 /// copy.
 fn set_votes(
-    known: &Known<'_>,
+    transaction: Transaction<'_, '_>,
     log: &mut Log,
-    caller: &Caller,
     names: &[Name],
     given: &Votes,
     way: &mut Way,
 ) -> Result<Answer, Stop>
-    requires { LeadsTo known.now.suites log.old caller.now names.now way.old }
-    ensures answer { Runs (λ answer. answer) result known.now.suites log.old log.new (votes_set known.now.service caller.now names.now given.now) }
+    requires { LeadsTo transaction.known.now.suites log.old transaction.caller.now names.now way.old }
+    ensures answer { Runs (λ answer. answer) result transaction.entry.known.now.suites log.old log.new (votes_set transaction.entry.known.now.service transaction.entry.caller.now names.now given.now) }
     ensures kept { OnErr result (log.new ≡ log.old) }
-    ensures way { LeadsTo known.now.suites log.old caller.now names.now way.new }
+    ensures way { LeadsTo transaction.entry.known.now.suites log.old transaction.entry.caller.now names.now way.new }
 {
+    let Transaction { known, caller, .. } = transaction;
     let service = known.service();
     let votes = service.known_votes(given)?;
     let view = View { known, log };
@@ -360,17 +360,17 @@ fn refuse_used(view: View<'_, '_>, suite: u64) -> Result<(), Stop>
 
 /// Takes a name out of a folder.
 fn drop(
-    known: &Known<'_>,
+    transaction: Transaction<'_, '_>,
     log: &mut Log,
-    caller: &Caller,
     names: &[Name],
     way: &mut Way,
 ) -> Result<Answer, Stop>
-    requires { LeadsTo known.now.suites log.old caller.now (folders_in (last_name names.now)) way.old }
-    ensures answer { Runs (λ answer. answer) result known.now.suites log.old log.new (dropped caller.now names.now) }
+    requires { LeadsTo transaction.known.now.suites log.old transaction.caller.now (folders_in (last_name names.now)) way.old }
+    ensures answer { Runs (λ answer. answer) result transaction.entry.known.now.suites log.old log.new (dropped transaction.entry.caller.now names.now) }
     ensures kept { OnErr result (log.new ≡ log.old) }
-    ensures way { LeadsTo known.now.suites log.old caller.now (folders_in (last_name names.now)) way.new }
+    ensures way { LeadsTo transaction.entry.known.now.suites log.old transaction.entry.caller.now (folders_in (last_name names.now)) way.new }
 {
+    let Transaction { known, caller, .. } = transaction;
     let (name, folders) = last_name(names)?;
     let view = View { known, log };
     let parent = view.parent_of(caller, folders, way)?;
@@ -413,10 +413,10 @@ pub(crate) fn operate(
         Action::List => list(View { known, log }, caller, names, way),
         Action::GetAcl => get_acl(View { known, log }, caller, names, way),
         Action::GetVotes => get_votes(View { known, log }, caller, names, way),
-        Action::Write(bytes) => write(known, log, caller, names, bytes, way),
-        Action::SetAcl(acl) => set_acl(known, log, caller, names, acl, way),
-        Action::SetVotes(votes) => set_votes(known, log, caller, names, votes, way),
-        Action::Drop => drop(known, log, caller, names, way),
+        Action::Write(bytes) => write(transaction, log, names, bytes, way),
+        Action::SetAcl(acl) => set_acl(transaction, log, names, acl, way),
+        Action::SetVotes(votes) => set_votes(transaction, log, names, votes, way),
+        Action::Drop => drop(transaction, log, names, way),
         Action::Make(kind, init, votes) => {
             let new = New {
                 number: made_number(t, at),

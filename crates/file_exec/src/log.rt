@@ -137,7 +137,7 @@ pub(crate) fn seen<'a>(
     seen_after(edits, suite, row)
 }
 
-/// The same, where there may be edits.
+/// The row of a suite after edits, where there may be some.
 fn seen_after<'a>(edits: &'a [(u64, Edit)], suite: u64, row: Option<Seen<'a>>) -> Option<Seen<'a>>
     ensures row { option_map seen_row result ≡ seen edits.now suite (option_map seen_row row.entry) }
     ensures whole { (opened : Bool) → IsWholeIf opened row.entry → IsWholeIf (is_set edits.now suite || opened) result }

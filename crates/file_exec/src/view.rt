@@ -69,7 +69,7 @@ impl<'a> Place<'a> {
         self.guarded().permit(caller, wanted)
     }
 
-    /// The same, of whoever does not own it.
+    /// Refuses a caller that does not own it and has not what it wants of it.
     fn permit_others(self, caller: &Caller, wanted: Perms) -> Result<(), Why>
         ensures { result ≡ permit_others caller.now (seen_place self.entry) wanted }
     {

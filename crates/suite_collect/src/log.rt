@@ -38,7 +38,7 @@ impl<T> Log<T> {
         Log { of: PhantomData }
     }
 
-    /// The same history.
+    /// An equal history.
     pub(crate) fn same(&self) -> Log<T>
         ensures { result.items ≡ self.now.items }
     {

@@ -14,8 +14,8 @@ use Rattle.sorted_map.specs.SortedMap.{IsOrdered}
 use Rattle.file_exec.specs.Known.{Known}
 use Rattle.txn_core.specs.declared.news.News.{News}
 use Rattle.txn_core.specs.declared.news.News.TheVariants.{Nothing, Quorum, Content as Given}
-use Rattle.txn_core.specs.code.Seeing.{settled_with, with_content, told_of, changed_at, learned_suites, sight_of_suite, known_first, known_by}
-use Rattle.txn_core.specs.Suites.{First, Suite, Suites, suite_of, known_if}
+use Rattle.txn_core.specs.code.Seeing.{settled_with, with_content, told_of, changed_at, learned_suites, sight_of_suite, with_known, known_by}
+use Rattle.txn_core.specs.Suites.{First, Suite, Suites, suite_of, known_row, known_if}
 
 -- ---- a suite among those that are seen
 
@@ -126,6 +126,6 @@ module _ (suites : Suites) where
 pub known_seen : (number : ℕ) (suite : Suite) (known : Known) → known_by number (sight_of_suite suite) known ≡ known_if number suite suite.first known
 known_seen number suite known = of suite.first
   where
-    of : (first : Option First) → known_first number (sight_of_suite suite) first known ≡ known_if number suite first known
+    of : (first : Option First) → with_known number (option_map (known_row suite) first) known ≡ known_if number suite first known
     of (Some first) = refl
     of None = refl

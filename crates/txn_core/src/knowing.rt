@@ -35,10 +35,8 @@ fn tell<'a>(
 ) -> Result<(), AllocError>
     ensures { OnOk result (known.new.items ≡ known.old.items ++ known_by number (sight_of sight.entry) []) }
 {
-    let Some(first) = sight.first else {
-        return Ok(());
-    };
-    let told = KnownSuite::new(sight.mode, &first.prefix, sight.content);
-    known.push((number, told))?;
+    if let Some(told) = sight.known() {
+        known.push((number, told))?;
+    }
     Ok(())
 }

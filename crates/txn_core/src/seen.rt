@@ -2,12 +2,13 @@
 
 ghost use Rattle.std.specs.Prelude.{◌≡◌, length, is_some};
 ghost use Rattle.std.specs.Option.{option_copied};
-ghost use Rattle.txn_core.specs.code.Seeing.{first_at, seen_in, sight_of, sight_of_suite, told_of};
+ghost use Rattle.txn_core.specs.code.Seeing.{first_at, known_of_sight, seen_in, sight_of, sight_of_suite, told_of};
 ghost use Rattle.txn_core.specs.Suites.{suite_of};
 
 use crate::first::First;
 use crate::news::News;
 use crate::suites::Suite;
+use file_exec::KnownSuite;
 use sorted_map::RoomyMap;
 use suite_content::Content;
 use suite_prefix::LockMode;
@@ -26,6 +27,16 @@ pub(crate) struct Sight<'a> {
     pub(crate) first: Option<&'a First>,
     pub(crate) mode: LockMode,
     pub(crate) content: Option<&'a Content>,
+}
+
+impl<'a> Sight<'a> {
+    /// What an execution knows of the suite: nothing before its first quorum. It refers to what the suite has.
+    pub(crate) fn known(self) -> Option<KnownSuite<'a>>
+        ensures { result ≡ known_of_sight (sight_of self.entry) }
+    {
+        let first = self.first?;
+        Some(KnownSuite::new(self.mode, &first.prefix, self.content))
+    }
 }
 
 impl<'a> Seen<'a> {

@@ -21,7 +21,7 @@ use std::alloc::{AllocError, Global};
 use std::marker::Model;
 use suite_collect::{Collect, Coming, Hearing, Told};
 use suite_content::Content;
-use suite_prefix::{LockMode, PrefixKind, SharedPrefix};
+use suite_prefix::{LockMode, SharedPrefix};
 use vote_core::{MAX_SERVERS, ServerSet, Votes};
 
 /// A suite that was asked for. What was gathered of it stands on the heap, so that it is cheap to move.
@@ -92,16 +92,9 @@ impl Suite {
     pub(crate) fn takes(&self, content: &Content) -> bool
         ensures { result ≡ takes_in (Some self.now) content.now }
     {
-        if self.gathered.content.is_some() {
-            return false;
-        }
-        let Some(first) = self.first() else {
-            return false;
-        };
-        match first.prefix.kind {
-            PrefixKind::Absent => true,
-            PrefixKind::File => matches!(content, Content::Bytes(_)),
-            PrefixKind::Folder => matches!(content, Content::Names(_)),
+        match self.sight().known() {
+            Some(known) => known.takes(content),
+            None => false,
         }
     }
 

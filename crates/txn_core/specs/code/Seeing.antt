@@ -1,10 +1,11 @@
 -- The suites of a transaction, as they are once something more is known.
-use Rattle.std.specs.Prelude.{ℕ, ◌==◌, ◌∷◌, if◌then◌else◌, is_some, Option, Some, None}
+use Rattle.std.specs.Prelude.{ℕ, ◌==◌, ◌∷◌, if◌then◌else◌, is_some, Option, Some, None, option_map}
 use Rattle.std.specs.Option.{option_copied, option_or}
 use Rattle.suite_content.specs.declared.content.Content.{Content}
 use Rattle.suite_prefix.specs.declared.lock_mode.LockMode.{LockMode}
 use Rattle.suite_collect.specs.Collecting.{tell}
 use Rattle.file_exec.specs.Known.{Known}
+use Rattle.file_exec.specs.KnownSuites.{KnownSuite}
 use Rattle.txn_core.specs.declared.settling.Settling.{Settling}
 use Rattle.txn_core.specs.declared.news.News.{News}
 use Rattle.txn_core.specs.declared.news.News.TheVariants.{Nothing, Quorum, Content as Given}
@@ -60,10 +61,13 @@ abbrev pub first_at : Option Suite → Option First
 first_at (Some suite) = suite.first
 first_at None = None
 
-abbrev pub known_first : ℕ → Sighted → Option First → Known → Known
-known_first number sight (Some first) known =
-    (number, record { mode = sight.mode; row = row_with first.prefix.kind first.prefix sight.content; opened = is_some sight.content }) ∷ known
-known_first number sight None known = known
+-- what an execution knows of it
+abbrev pub known_of_sight : Sighted → Option KnownSuite
+known_of_sight sight = option_map (λ first. record { mode = sight.mode; row = row_with first.prefix.kind first.prefix sight.content; opened = is_some sight.content }) sight.first
+
+abbrev pub with_known : ℕ → Option KnownSuite → Known → Known
+with_known number (Some it) known = (number, it) ∷ known
+with_known number None known = known
 
 abbrev pub known_by : ℕ → Sighted → Known → Known
-known_by number sight known = known_first number sight sight.first known
+known_by number sight known = with_known number (known_of_sight sight) known

@@ -22,4 +22,4 @@ returns-clause-answer c = ruled _ (sym c.in_ok-name.ensures) (goes _ c.in_ok-par
 
 pub returns-in_err-entries-clause-answer : goal.returns-in_err-entries-clause-answer
 returns-in_err-entries-clause-answer c =
-    ruled _ (sym c.in_ok-name.ensures) (goes _ c.in_ok-parent.ensures.parent (ruled _ (sym c.in_ok-number.ensures) (goes _ c.in_ok-refuse_used.ensures (unset (parent_reached c.args.caller.now c.in_ok-name.folders.now c.in_ok-parent.ensures.parent) refl c.from_residual-in_err-entries.ensures))))
+    ruled _ (sym c.in_ok-name.ensures) (goes _ c.in_ok-parent.ensures.parent (ruled _ (sym c.in_ok-number.ensures) (goes _ c.in_ok-refuse_used.ensures (unset (parent_reached c.args.transaction.caller.now c.in_ok-name.folders.now c.in_ok-parent.ensures.parent) refl c.from_residual-in_err-entries.ensures))))

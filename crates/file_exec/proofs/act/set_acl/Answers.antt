@@ -23,7 +23,7 @@ returns-in_err-require_placed-clause-answer c = goes _ c.in_ok-place.ensures.pla
 
 pub returns-in_err-acl-clause-answer : goal.returns-in_err-acl-clause-answer
 returns-in_err-acl-clause-answer c =
-    goes _ c.in_ok-place.ensures.place (ruled _ (placed _ c.args.acl.now c.is_some.ensures c.in_ok-require_placed.ensures) (unset (owns c.args.caller.now c.args.names.now c.in_ok-place.ensures.place) refl c.from_residual-in_err-acl.ensures))
+    goes _ c.in_ok-place.ensures.place (ruled _ (placed _ c.args.acl.now c.is_some.ensures c.in_ok-require_placed.ensures) (unset (owns c.args.transaction.caller.now c.args.names.now c.in_ok-place.ensures.place) refl c.from_residual-in_err-acl.ensures))
 
 pub returns-in_err-set-clause-answer : goal.returns-in_err-set-clause-answer
 returns-in_err-set-clause-answer c =

@@ -25,4 +25,4 @@ returns-clause-answer c = let copied : c.in_ok-bytes.bytes ≡ c.args.bytes.now 
 
 pub returns-in_err-bytes-clause-answer : goal.returns-in_err-bytes-clause-answer
 returns-in_err-bytes-clause-answer c =
-    ruled _ (sym c.in_ok-require_fit.ensures) (goes _ c.in_ok-place.ensures.place (ruled _ (sym c.in_ok-permit.ensures) (ruled _ (sym c.in_ok-require_file.ensures) (unset (reached c.args.caller.now c.args.names.now c.in_ok-place.ensures.place) refl c.from_residual-in_err-bytes.ensures))))
+    ruled _ (sym c.in_ok-require_fit.ensures) (goes _ c.in_ok-place.ensures.place (ruled _ (sym c.in_ok-permit.ensures) (ruled _ (sym c.in_ok-require_file.ensures) (unset (reached c.args.transaction.caller.now c.args.names.now c.in_ok-place.ensures.place) refl c.from_residual-in_err-bytes.ensures))))
