@@ -1,7 +1,9 @@
 //! Files that agent 0 makes, and that all agents write and list.
 
-use crate::crew::{Crew, certified, closed, items, jobs, opened, others, settings, work};
+use crate::certified::certified;
+use crate::crew::{Crew, closed, items, jobs, opened, others, work};
 use crate::ends::ended_so;
+use crate::fixtures::{push, settings};
 use agent_pool::{Pool, Transcripts};
 use rep_core::Reply;
 use server_lock::{Histories, History, OpenGate};
@@ -10,7 +12,7 @@ use std::sync::Wait;
 use std::thread::Threads;
 use suite_prefix::Settings;
 
-const FILES: &str = "file:/f0,file:/f1,file:/f2,file:/f3,file:/f4,file:/f5,file:/f6,file:/f7";
+const FILES: &str = "file /f0,file /f1,file /f2,file /f3,file /f4,file /f5,file /f6,file /f7";
 
 const MADE: [&str; 8] = [
     "0 10 made 1",
@@ -24,7 +26,7 @@ const MADE: [&str; 8] = [
 ];
 
 const USES: &str =
-    "write:/f0,write:/f1,write:/f2,write:/f3,write:/f4,write:/f5,write:/f6,write:/f7,list:/,list:/,list:/,list:/";
+    "write /f0 hi,write /f1 hi,write /f2 hi,write /f3 hi,write /f4 hi,write /f5 hi,write /f6 hi,write /f7 hi,list /,list /,list /,list /";
 
 const USED: [&str; 12] = [
     "8 10 wrote",
@@ -67,7 +69,7 @@ fn files<R: Abort + AllocGlobal + Threads + Wait + Sync>(
         ..
     } = made;
     for player in others {
-        assert!(rt; agents.push(player).is_ok());
+        push(rt, &mut agents, player);
     }
     let used = work(
         rt,
@@ -99,7 +101,7 @@ fn falsified(rt: &(impl Abort + AllocGlobal), told: Histories) -> Histories {
         if server == 1 {
             items.last_mut().expect(rt, "an item").reply = Reply::Lost;
         }
-        assert!(rt; all.push(History::from_vec(items)).is_ok());
+        push(rt, &mut all, History::from_vec(items));
     }
     Histories::from_vec(all)
 }

@@ -4,24 +4,15 @@
 //! What memory was refused to is done again, so that each allocation can be refused in turn. What a test
 //! itself lacks stops it.
 
-mod read;
-
-use self::read::{event, number};
-use crate::fixtures::{settings, settings_with_old};
+use crate::events::event;
+use crate::fixtures::{
+    had, number, opening, push, same, settings, settings_of, small, step, three_votes,
+};
 use run_core::{Event, Outcome, World, runs_go_on, worked_runs};
+use std::alloc::AllocError;
 use std::process::Abort;
 use suite_prefix::{Form, Settings};
 use vote_core::ServerSet;
-
-/// What a call gives, where memory may be refused to it once.
-macro_rules! again {
-    ($rt:expr, $call:expr) => {
-        match $call {
-            Ok(given) => given,
-            Err(_) => $call.ok().expect($rt, "memory"),
-        }
-    };
-}
 
 /// The same events are played in both.
 #[derive(Drop)]
@@ -30,34 +21,23 @@ struct Pair {
     advanced: World,
 }
 
-/// The votes of three servers.
-static VOTES: [(u8, u8); 3] = [(0, 1), (1, 1), (2, 1)];
-
-fn opening(rt: &(impl Abort + AllocGlobal), settings: &Settings) -> World {
-    again!(rt, World::opening(rt.alloc(), settings))
-}
-
 /// Three servers, two of which are a quorum; two agents.
 fn world(rt: &(impl Abort + AllocGlobal)) -> World {
-    opening(rt, &settings(rt, &VOTES, 2))
+    opening(rt, &settings(rt, 2))
 }
 
-fn both(rt: &(impl Abort + AllocGlobal)) -> Pair {
+fn both(rt: &(impl Abort + AllocGlobal), settings: &Settings) -> Pair {
     Pair {
-        stepped: world(rt),
-        advanced: world(rt),
+        stepped: opening(rt, settings),
+        advanced: opening(rt, settings),
     }
-}
-
-fn same(rt: &impl Abort, got: &str, want: &str, about: &str) {
-    assert!(rt; got == want, "{about}: {got}");
 }
 
 /// How a job ended, in words.
 fn words(rt: &(impl Abort + AllocGlobal), outcome: &Outcome) -> String {
     let (agent, count, steps) = (outcome.agent, outcome.count, outcome.steps);
     let made = format!(in rt.alloc(); "{agent}.{count} {steps} {:?}", outcome.ending);
-    made.ok().expect(rt, "memory")
+    had(rt, made)
 }
 
 /// How a job ended, in words; none, if none did.
@@ -68,22 +48,31 @@ fn ending(rt: &(impl Abort + AllocGlobal), outcome: &Option<Outcome>) -> String 
     }
 }
 
-fn step(rt: &(impl Abort + AllocGlobal), world: &mut World, event: &Event) -> String {
-    let done = again!(rt, world.step(event));
-    ending(rt, &done.outcome)
+fn advanced(
+    world: &mut World,
+    event: &Event,
+    ended: &mut Option<Outcome>,
+) -> Result<(), AllocError> {
+    world.advance(event, ended)
 }
 
-fn advance(rt: &(impl Abort + AllocGlobal), world: &mut World, event: &Event) -> String {
+/// How a job ended by an event, if one did.
+fn advance(rt: &impl Abort, world: &mut World, event: &Event) -> Option<Outcome> {
     let mut ended = None;
-    again!(rt, world.advance(event, &mut ended));
-    ending(rt, &ended)
+    again!(rt, advanced(world, event, &mut ended));
+    ended
+}
+
+/// How a job ended by an event, if one did; it is told elsewhere what was served.
+fn outcome(rt: &impl Abort, world: &mut World, event: &Event) -> Option<Outcome> {
+    step(rt, world, event).outcome
 }
 
 /// An event, and how a job ended by it.
 fn happens(rt: &(impl Abort + AllocGlobal), worlds: &mut Pair, line: &str) -> String {
     let event = event(rt, line);
-    let stepped = step(rt, &mut worlds.stepped, &event);
-    let advanced = advance(rt, &mut worlds.advanced, &event);
+    let stepped = ending(rt, &outcome(rt, &mut worlds.stepped, &event));
+    let advanced = ending(rt, &advance(rt, &mut worlds.advanced, &event));
     same(rt, &advanced, &stepped, line);
     stepped
 }
@@ -94,7 +83,7 @@ fn told(rt: &(impl Abort + AllocGlobal), world: &World, word: &str, at: u8) -> S
         "idle" => format!(in rt.alloc(); "{}", world.idle(at)),
         _ => format!(in rt.alloc(); "{}", world.audit(at).len()),
     };
-    text.ok().expect(rt, "memory")
+    had(rt, text)
 }
 
 /// The form of a server's copy of a suite; a dash, if it has none.
@@ -111,15 +100,15 @@ fn forms(rt: &(impl Abort + AllocGlobal), world: &World, suite: u64) -> String {
     let (first, second) = (form(world, 0, suite), form(world, 1, suite));
     let third = form(world, 2, suite);
     let text = format!(in rt.alloc(); "{first} {second} {third}");
-    text.ok().expect(rt, "memory")
+    had(rt, text)
 }
 
 /// What comes of a line: `idle A`, `audit S`, `forms SUITE`, or an event.
 fn play(rt: &(impl Abort + AllocGlobal), worlds: &mut Pair, line: &str) -> String {
     match line.split_once(' ') {
-        Some(("idle", at)) => told(rt, &worlds.stepped, "idle", number(rt, at)),
-        Some(("audit", at)) => told(rt, &worlds.advanced, "audit", number(rt, at)),
-        Some(("forms", suite)) => forms(rt, &worlds.advanced, u64::from(number(rt, suite))),
+        Some(("idle", at)) => told(rt, &worlds.stepped, "idle", small(rt, at)),
+        Some(("audit", at)) => told(rt, &worlds.advanced, "audit", small(rt, at)),
+        Some(("forms", suite)) => forms(rt, &worlds.advanced, number(rt, suite)),
         _ => happens(rt, worlds, line),
     }
 }
@@ -145,7 +134,7 @@ fn plays(rt: &(impl Abort + AllocGlobal), worlds: &mut Pair, text: &str) {
 
 /// Plays the lines of a text on worlds that have just been opened.
 fn run(rt: &(impl Abort + AllocGlobal), text: &str) {
-    plays(rt, &mut both(rt), text);
+    plays(rt, &mut both(rt, &settings(rt, 2)), text);
 }
 
 static DENIED: &str = "
@@ -196,12 +185,12 @@ begin 1 read /a: 10
 step 1: 13 -> 1.0 13 Undecided(HomeDown)
 return 1: 10
 lack 1: 10
-forget 0: 10
+forget 0 0: 10
 begin 7 read /a
 step 7
 crash 7
 return 7
-forget 7
+forget 7 0
 lack 7";
 
 #[test]
@@ -221,9 +210,9 @@ step 0: 2 -> 0.1 7 Undecided(Memory)
 begin 0 write /a ho
 step 0: 8
 lack 0: 2 -> 0.2 10 Answered(Answers { replies: [Wrote] })
-sweep 1 0
+begin 1 sweep 0
 step 1: 3 -> 1.0 3 Swept { broken: 0, finished: 1, left: 0 }
-sweep 1 1
+begin 1 sweep 1
 step 1: 3 -> 1.1 3 Swept { broken: 0, finished: 1, left: 0 }
 begin 0 read /a
 step 0: 11 -> 0.3 11 Answered(Answers { replies: [Read(FileBytes { shared: Some([104, 111]) })] })
@@ -258,7 +247,7 @@ fn eight_files(rt: &(impl Abort + AllocGlobal), worlds: &mut Pair, t: u16) {
     let line = format!(in rt.alloc();
         "begin 0 file /{at}/{t}a; file /{at}/{t}b; file /{at}/{t}c; file /{at}/{t}d; file /{at}/{t}e; file /{at}/{t}f; file /{at}/{t}g; file /{at}/{t}h"
     );
-    happens(rt, worlds, line.ok().expect(rt, "memory").as_str());
+    happens(rt, worlds, &had(rt, line));
     for _ in 0..40 {
         if !happens(rt, worlds, "step 0").is_empty() {
             return;
@@ -270,7 +259,7 @@ fn eight_files(rt: &(impl Abort + AllocGlobal), worlds: &mut Pair, t: u16) {
 /// that it has is written.
 #[test]
 fn a_server_is_full(rt: HostRuntime) {
-    let mut worlds = both(&rt);
+    let mut worlds = both(&rt, &settings(&rt, 2));
     plays(&rt, &mut worlds, FOLDERS);
     for t in 0u16..511 {
         eight_files(&rt, &mut worlds, t);
@@ -293,30 +282,35 @@ crash 2
 return 2
 forms 0 -> 2 2 1";
 
-/// Those servers' world, twice.
-fn old_worlds(rt: &(impl Abort + AllocGlobal)) -> Pair {
+/// Those servers' settings.
+fn old_settings(rt: &(impl Abort + AllocGlobal)) -> Settings {
     let mut old = ServerSet::empty();
     old.insert(0);
     old.insert(2);
-    let settings = settings_with_old(rt, &VOTES, 2, old);
-    Pair {
-        stepped: opening(rt, &settings),
-        advanced: opening(rt, &settings),
-    }
+    settings_of(rt, three_votes(rt), 2, (0, 0), old)
 }
 
 #[test]
 fn old_and_new_copies(rt: HostRuntime) {
-    plays(&rt, &mut old_worlds(&rt), OLD_AND_NEW);
+    plays(&rt, &mut both(&rt, &old_settings(&rt)), OLD_AND_NEW);
 }
 
-/// Plays events, and the others where memory is refused to it once; how many outcomes were handed out.
-fn played(rt: &impl Abort, world: &mut World, events: &[Event]) -> usize {
+/// The outcomes of events; or, where memory is refused, how many were played.
+fn played(world: &mut World, events: &[Event]) -> Result<Vec<Outcome>, usize> {
     match world.play(events) {
-        Ok(outcomes) => outcomes.len(),
-        Err(stopped) => {
-            let left = &events[stopped.done..];
-            world.play(left).ok().expect(rt, "memory").len()
+        Ok(outcomes) => Ok(outcomes),
+        Err(stopped) => Err(stopped.done),
+    }
+}
+
+/// From which place on events were played to the end, and their outcomes: from the first one on, or where memory was
+/// refused once.
+fn plays_on(rt: &impl Abort, world: &mut World, events: &[Event]) -> (usize, Vec<Outcome>) {
+    match played(world, events) {
+        Ok(outcomes) => (0, outcomes),
+        Err(done) => {
+            let left = events.get(done..).expect(rt, "events");
+            (done, had(rt, played(world, left)))
         }
     }
 }
@@ -325,7 +319,7 @@ static AT_ONCE: &str = "
 begin 0 file /a; write /a hi
 lack 0
 lack 0
-forget 0
+forget 0 0
 begin 1 read /a
 step 1
 lack 1";
@@ -335,12 +329,9 @@ fn events_at_once(rt: HostRuntime) {
     runs_go_on();
     worked_runs();
     let mut world = world(&rt);
-    let mut events = Vec::new(rt.alloc());
-    for line in AT_ONCE.lines().skip(1) {
-        events.push(event(&rt, line)).ok().expect(&rt, "memory");
-    }
-    let outcomes = played(&rt, &mut world, &events);
-    assert!(&rt; outcomes <= 1 && world.idle(0));
+    let told = told_by(&rt, AT_ONCE);
+    let (_, outcomes) = plays_on(&rt, &mut world, &told.events);
+    assert!(&rt; outcomes.len() <= 1 && world.idle(0));
 }
 
 /// A writer stops before its deciding step, or behind it; another agent sweeps both servers that hold its locks; then the
@@ -350,9 +341,9 @@ begin 0 file /a; write /a hi
 step 0: 10 -> 0.0 10 Answered(Answers { replies: [Made(1), Wrote] })
 begin 0 write /a no
 step 0: 7
-sweep 1 0
+begin 1 sweep 0
 step 1: 3 -> 1.0 3 Swept { broken: 0, finished: 1, left: 0 }
-sweep 1 1
+begin 1 sweep 1
 step 1: 3 -> 1.1 3 Swept { broken: 0, finished: 1, left: 0 }
 step 0: 3 -> 0.1 10 Undecided(Overruled)
 begin 1 read /a
@@ -363,9 +354,9 @@ begin 0 file /a; write /a hi
 step 0: 10 -> 0.0 10 Answered(Answers { replies: [Made(1), Wrote] })
 begin 0 write /a no
 step 0: 8
-sweep 1 0
+begin 1 sweep 0
 step 1: 3 -> 1.0 3 Swept { broken: 0, finished: 1, left: 0 }
-sweep 1 1
+begin 1 sweep 1
 step 1: 3 -> 1.1 3 Swept { broken: 0, finished: 1, left: 0 }
 step 0: 2 -> 0.1 10 Answered(Answers { replies: [Wrote] })
 begin 1 read /a
@@ -385,11 +376,11 @@ fn told_by(rt: &(impl Abort + AllocGlobal), text: &'static str) -> EventsAndEnds
         let (all, end) = line.split_once(" -> ").unwrap_or((line, ""));
         let (line, times) = all.split_once(": ").unwrap_or((all, "1"));
         for _ in 0..number(rt, times) {
-            events.push(event(rt, line)).ok().expect(rt, "memory");
+            push(rt, &mut events, event(rt, line));
         }
         if !end.is_empty() {
             let last = events.len().wrapping_sub(1);
-            ends.push((last, end)).ok().expect(rt, "memory");
+            push(rt, &mut ends, (last, end));
         }
     }
     EventsAndEnds { events, ends }
@@ -412,14 +403,8 @@ fn ends(rt: &(impl Abort + AllocGlobal), told: &EventsAndEnds, from: usize, outc
 fn plays_at_once(rt: &(impl Abort + AllocGlobal), text: &'static str) {
     let told = told_by(rt, text);
     let mut world = world(rt);
-    match world.play(&told.events) {
-        Ok(outcomes) => ends(rt, &told, 0, &outcomes),
-        Err(stopped) => {
-            let left = &told.events[stopped.done..];
-            let outcomes = world.play(left).ok().expect(rt, "memory");
-            ends(rt, &told, stopped.done, &outcomes);
-        }
-    }
+    let (from, outcomes) = plays_on(rt, &mut world, &told.events);
+    ends(rt, &told, from, &outcomes);
 }
 
 #[test]

@@ -5,14 +5,12 @@ ghost use Rattle.std.specs.Prelude.{◌≡◌, Some};
 ghost use Rattle.headline.specs.Promises.{Promises};
 ghost use Rattle.run_core.specs.Opened.{Opened};
 
-use acl_core::{Acl, Lists, Mode};
+use crate::fixtures::{settings, step};
 use headline::{all_votes_are_valid, opens_a_run, plays_on, promise};
 use run_core::{Event, Outcome, World};
 use std::alloc::Global;
-use std::process::Abort;
 use suite_prefix::Settings;
 use txn_core::{Ending, Job};
-use vote_core::{ServerSet, Votes};
 
 /// A world on which these events were played, unless memory was wanting: it promises what holds of their run.
 fn promised(alloc: Global, settings: &Settings, events: &[Event]) -> Option<World>
@@ -33,16 +31,6 @@ fn promised(alloc: Global, settings: &Settings, events: &[Event]) -> Option<Worl
     Some(world)
 }
 
-/// Three servers with a vote each, two of them a quorum; one agent.
-fn settings(rt: &(impl Abort + AllocGlobal)) -> Settings {
-    let votes = Votes::new(3, &[(0, 1), (1, 1), (2, 1)], 2, 2);
-    let votes = votes.ok().expect(rt, "votes");
-    let mode = Mode::new(0o777).expect(rt, "a mode");
-    let lists = Lists::from(Acl::from_mode(rt.alloc(), mode).expect(rt, "memory"));
-    let settings = Settings::new(3, 1, votes, 1000, 100, lists, 0, 0, 0, ServerSet::empty());
-    settings.ok().expect(rt, "settings")
-}
-
 #[test]
 fn a_world_promises(rt: HostRuntime) {
     let sweep = Job::Sweep { server: 1 };
@@ -54,9 +42,9 @@ fn a_world_promises(rt: HostRuntime) {
         },
         Event::Return { server: 0 },
     ];
-    let settings = settings(&rt);
+    let settings = settings(&rt, 1);
     let mut world = promised(rt.alloc(), &settings, &events).expect(&rt, "memory");
-    let done = world.step(&Event::Step { agent: 0 }).expect(&rt, "memory");
+    let done = step(&rt, &mut world, &Event::Step { agent: 0 });
     let swept = Outcome {
         agent: 0,
         count: 0,

@@ -6,7 +6,7 @@ mod talks;
 
 ghost use Rattle.std.specs.Prelude.{◌<◌};
 
-use crate::fixtures::{lists, number};
+use crate::fixtures::{had, lists, number, same};
 use rep_core::{Reply, Request};
 use std::process::Abort;
 use suite_collect::{
@@ -122,12 +122,11 @@ fn words(rt: &(impl Abort + AllocGlobal), collect: &Collect) -> String {
         Next::Ask { server, request } => format!(in alloc; "{request:?} at {server}"),
         Next::Short { got, needed, busy } => format!(in alloc; "{got} of {needed} busy {busy:?}"),
     };
-    words.expect(rt, "memory")
+    had(rt, words)
 }
 
 fn comes(rt: &(impl Abort + AllocGlobal), collect: &Collect, want: &str, about: &str) {
-    let got = words(rt, collect);
-    assert!(rt; got.as_str() == want, "{about}: {got}");
+    same(rt, &words(rt, collect), want, about);
 }
 
 /// A talk, line by line: what is done, and what comes next.

@@ -5,21 +5,19 @@ ghost use Rattle.txn_core.specs.Agents.{next_of};
 ghost use Rattle.txn_core.specs.Laws.{fits_word};
 ghost use Rattle.txn_core.specs.Standing.{FitsAsked};
 
-use crate::fixtures::{number, settings};
+use crate::fixtures::{had, number, push, same, settings_of, votes};
 use rep_core::{Lock, LockList, Reply, Request, Verdict};
 use std::process::Abort;
 use suite_prefix::LockMode;
 use txn_core::{Agent, Ending, Job, Word};
+use vote_core::ServerSet;
 
 /// What an agent asks, and of which server.
 fn asked(rt: &impl Abort, agent: &Agent) -> (u8, Request)
     ensures { next_of agent.now.fixed agent.now.state ≡ Some result }
 {
-    agent
-        .next()
-        .ok()
-        .expect(rt, "memory")
-        .expect(rt, "a request")
+    let next = agent.next().ok().expect(rt, "memory");
+    next.expect(rt, "a request")
 }
 
 /// What is asked: of which server, of which transaction, and of which suite.
@@ -28,7 +26,7 @@ fn asked_text(rt: &(impl Abort + AllocGlobal), at: u8, request: &Request) -> Str
         Request::Finish { t, .. } => format!(in rt.alloc(); "{at} finish {t}"),
         other => format!(in rt.alloc(); "{at} {other:?}"),
     };
-    text.ok().expect(rt, "memory")
+    had(rt, text)
 }
 
 /// A transaction and a suite; a prepared lock has a mark.
@@ -46,9 +44,9 @@ fn lock(rt: &impl Abort, text: &str) -> Lock {
 fn locks(rt: &(impl Abort + AllocGlobal), text: &str) -> LockList {
     let mut locks = Vec::new(rt.alloc());
     for word in text.split(' ') {
-        locks.push(lock(rt, word)).ok().expect(rt, "memory");
+        push(rt, &mut locks, lock(rt, word));
     }
-    LockList::from_vec(locks).ok().expect(rt, "memory")
+    had(rt, LockList::from_vec(locks))
 }
 
 /// A reply in a word, or locks.
@@ -73,7 +71,7 @@ fn fitting(rt: &impl Abort, request: &Request, reply: Reply) -> Word
 fn told(rt: &impl Abort, agent: &mut Agent, word: &Word) -> Option<Ending>
     requires { FitsAsked (next_of agent.old.fixed agent.old.state) word.now }
 {
-    agent.take(word).ok().expect(rt, "memory")
+    had(rt, agent.take(word))
 }
 
 /// The agent asks this, and is told that.
@@ -85,7 +83,7 @@ fn tells(
 ) -> Option<Ending> {
     let (at, request) = asked(rt, agent);
     let text = asked_text(rt, at, &request);
-    assert!(rt; text.as_str() == wanted, "{wanted}: {text}");
+    same(rt, &text, wanted, wanted);
     let word = fitting(rt, &request, reply(rt, said));
     told(rt, agent, &word)
 }
@@ -98,20 +96,26 @@ static TALK: &str = "
 1 Break { t: 70, suite: 2 } -> done
 0 Resolve { t: 129 } -> down";
 
+/// An agent that has begun a sweep of server 1.
+fn sweeping(rt: &(impl Abort + AllocGlobal)) -> Agent {
+    let one = votes(rt, &[(0, 1)], 1);
+    let settings = settings_of(rt, one, 2, (0, 0), ServerSet::empty());
+    let mut agent = had(rt, Agent::new(rt.alloc(), 0, &settings));
+    had(rt, agent.begin(&Job::Sweep { server: 1 }));
+    agent
+}
+
 /// A list that does not rise, of a transaction with one prepared lock, of one without, and of one whose
 /// home is down.
 #[test]
 fn a_sweep_resolves_what_is_prepared(rt: HostRuntime) {
-    let made = Agent::new(rt.alloc(), 0, &settings(&rt, &[(0, 1)], 1));
-    let mut agent = made.ok().expect(&rt, "memory");
-    let begun = agent.begin(&Job::Sweep { server: 1 });
-    begun.ok().expect(&rt, "memory");
+    let mut agent = sweeping(&rt);
     let mut ended = None;
     for line in TALK.lines().skip(1) {
         let (wanted, said) = line.split_once(" -> ").expect(&rt, "a line");
         ended = tells(&rt, &mut agent, wanted, said);
     }
-    let text = format!(in rt.alloc(); "{ended:?}").expect(&rt, "memory");
+    let text = had(&rt, format!(in rt.alloc(); "{ended:?}"));
     let wanted = "Some(Swept { broken: 2, finished: 1, left: 1 })";
-    assert!(&rt; text.as_str() == wanted, "{text}");
+    same(&rt, &text, wanted, "the end");
 }

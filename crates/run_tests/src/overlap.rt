@@ -1,7 +1,9 @@
 //! Two agents that overlap: a list, and a sweep of server 1.
 
-use crate::crew::{Crew, certified, closed, items, jobs, opened, settings, work};
+use crate::certified::certified;
+use crate::crew::{Crew, closed, items, jobs, opened, work};
 use crate::ends::ended_so;
+use crate::fixtures::settings;
 use agent_pool::{Pool, PoolFault};
 use server_lock::{Gate, OpenGate, Servers};
 use std::process::Abort;
@@ -63,7 +65,7 @@ fn listed_and_swept<R: Abort + AllocGlobal + Threads + Wait + Sync, G: Gate + Sy
         agents,
         passes,
     } = opened(rt, settings);
-    let both = jobs(rt, 0, "list:/,sweep");
+    let both = jobs(rt, 0, "list /,sweep 1");
     match work(rt, gate, &servers, &both, (agents, passes)) {
         Ok(pool) => Some((servers, pool)),
         Err(fault) => {

@@ -1,0 +1,225 @@
+//! Lies about a run, which are found out.
+
+use crate::fixtures::{push, same, settings};
+use crate::town::{Town, adds, count, judged, opened, play};
+use rep_core::{Lack, Reply};
+use run_certify::Entry;
+use server_lock::Item;
+use std::process::Abort;
+use suite_prefix::Settings;
+use txn_core::Job;
+
+/// A list beside a sweep: nine items.
+fn told(rt: &(impl Abort + AllocGlobal), settings: &Settings) -> Town {
+    let mut town = opened(rt, settings);
+    play(
+        rt,
+        &mut town,
+        "begin 0 list /,begin 1 sweep 1,step 0,run 1,run 0",
+    );
+    town
+}
+
+/// This is no run.
+fn found_out(rt: &(impl Abort + AllocGlobal), settings: &Settings, town: Town, about: &str) {
+    same(rt, &judged(rt, settings, town), "Mismatch", about);
+}
+
+/// What a server served.
+fn items_of<'a>(rt: &impl Abort, town: &'a mut Town, server: usize) -> &'a mut Vec<Item> {
+    town.items.get_mut(server).expect(rt, "a server")
+}
+
+/// What an agent put down.
+fn entries_of<'a>(rt: &impl Abort, town: &'a mut Town, agent: usize) -> &'a mut Vec<Entry> {
+    town.entries.get_mut(agent).expect(rt, "an agent")
+}
+
+/// What is said of an item that is not so.
+#[derive(Clone, Copy)]
+enum Lie {
+    Reply,
+    LeftOut,
+    Doubled,
+    Stamp,
+    Agent,
+}
+
+/// Tells a lie of the item at this place of a server; tells whether there is such an item.
+fn tell_lie(
+    rt: &(impl Abort + AllocGlobal),
+    town: &mut Town,
+    lie: Lie,
+    server: usize,
+    place: usize,
+) -> bool {
+    let items = items_of(rt, town, server);
+    if place >= items.len() {
+        return false;
+    }
+    match lie {
+        Lie::LeftOut => drop(items.remove(place)),
+        Lie::Doubled => double(rt, items, place),
+        Lie::Reply => items[place].reply = Reply::Lost,
+        Lie::Stamp => items[place].stamp = items[place].stamp.wrapping_add(1),
+        Lie::Agent => items[place].agent = Some(5),
+    }
+    true
+}
+
+fn copy_of(rt: &impl Abort, item: &Item) -> Item {
+    Item {
+        stamp: item.stamp,
+        agent: item.agent,
+        request: again!(rt, item.request.clone()),
+        reply: again!(rt, item.reply.clone()),
+    }
+}
+
+/// Puts an item there once more, after itself.
+fn double(rt: &impl Abort, items: &mut Vec<Item>, place: usize) {
+    assert!(rt; place < items.len());
+    let copy = copy_of(rt, &items[place]);
+    push(rt, items, copy);
+    let last = items.len().wrapping_sub(1);
+    items.swap(place + 1, last);
+}
+
+/// Tells this lie of each of the nine items, one at a time.
+fn lies(rt: &(impl Abort + AllocGlobal), settings: &Settings, lie: Lie, about: &str) {
+    let mut told_of = 0u8;
+    for server in 0..3usize {
+        for place in 0..9usize {
+            let mut town = told(rt, settings);
+            if tell_lie(rt, &mut town, lie, server, place) {
+                told_of = told_of.saturating_add(1);
+                found_out(rt, settings, town, about);
+            }
+        }
+    }
+    assert!(rt; told_of == 9, "{about}");
+}
+
+#[test]
+fn lies_about_items(rt: HostRuntime) {
+    let settings = settings(&rt, 2);
+    lies(&rt, &settings, Lie::Reply, "another reply");
+    lies(&rt, &settings, Lie::LeftOut, "an item less");
+    lies(&rt, &settings, Lie::Doubled, "an item twice");
+    lies(&rt, &settings, Lie::Stamp, "another stamp");
+    lies(&rt, &settings, Lie::Agent, "another agent");
+}
+
+/// Leaves out what stands at this place of an agent's transcript; tells whether something does.
+fn silent(rt: &impl Abort, town: &mut Town, agent: usize, place: usize) -> bool {
+    let entries = entries_of(rt, town, agent);
+    if place >= entries.len() {
+        return false;
+    }
+    drop(entries.remove(place));
+    true
+}
+
+#[test]
+fn entries_are_left_out(rt: HostRuntime) {
+    let settings = settings(&rt, 2);
+    let mut left_out = 0u8;
+    for agent in 0..2usize {
+        for place in 0..10usize {
+            let mut town = told(&rt, &settings);
+            if silent(&rt, &mut town, agent, place) {
+                left_out = left_out.saturating_add(1);
+                found_out(&rt, &settings, town, "an entry less");
+            }
+        }
+    }
+    assert!(&rt; left_out == 13);
+}
+
+/// Leaves out the last of a list.
+fn pop<T: Drop>(rt: &impl Abort, list: &mut Vec<T>) {
+    assert!(rt; list.pop().is_some());
+}
+
+/// A run that was broken off one step earlier is a run too.
+#[test]
+fn a_last_step_was_not_taken(rt: HostRuntime) {
+    let settings = settings(&rt, 2);
+    let mut town = told(&rt, &settings);
+    pop(&rt, items_of(&rt, &mut town, 1));
+    pop(&rt, entries_of(&rt, &mut town, 0));
+    pop(&rt, entries_of(&rt, &mut town, 0));
+    assert!(&rt; count(&town) == 8);
+    let verdict = judged(&rt, &settings, town);
+    let wanted = "0 by 1000: 1 of 1 answered. ";
+    same(&rt, &verdict, wanted, "a step less");
+}
+
+/// Changes the last entry of an agent, which has to be the end of a job: another number of steps.
+fn miscount(rt: &impl Abort, town: &mut Town, agent: usize) {
+    if let Some(Entry::Ended(outcome)) = entries_of(rt, town, agent).last_mut() {
+        outcome.steps = outcome.steps.wrapping_add(1);
+    }
+}
+
+/// Exchanges the first two items of a server.
+fn exchange(rt: &impl Abort, town: &mut Town, server: usize) {
+    let items = items_of(rt, town, server);
+    assert!(rt; items.len() >= 2);
+    items.swap(0, 1);
+}
+
+/// Tells of an item that the operator asked for it.
+fn operate(rt: &impl Abort, town: &mut Town, server: usize) {
+    if let Some(item) = items_of(rt, town, server).last_mut() {
+        item.agent = None;
+    }
+}
+
+/// Something that an agent did not do.
+fn invented(which: usize) -> Entry {
+    match which {
+        4 => Entry::Asked {
+            server: 0,
+            stamp: 9,
+        },
+        5 => Entry::Forgot { site: 16 },
+        6 => Entry::Lacked {
+            server: 0,
+            lack: Lack::Memory,
+        },
+        _ => Entry::Begun(Job::Sweep { server: 3 }),
+    }
+}
+
+/// Spoils a run in one way of several.
+fn spoil(rt: &impl Abort, town: &mut Town, which: usize) {
+    match which {
+        0 | 1 => miscount(rt, town, which),
+        2 => exchange(rt, town, 0),
+        3 => operate(rt, town, 1),
+        4 | 5 => adds(rt, town, 0, invented(which)),
+        _ => adds(rt, town, 1, invented(which)),
+    }
+}
+
+static SPOILED: [&str; 8] = [
+    "a step more of the list",
+    "a step more of the sweep",
+    "two items exchanged",
+    "an item of the operator",
+    "a request that was not served",
+    "a site that is not there",
+    "memory that sufficed",
+    "a server that is not there",
+];
+
+#[test]
+fn other_lies(rt: HostRuntime) {
+    let settings = settings(&rt, 2);
+    for (which, about) in SPOILED.iter().enumerate() {
+        let mut town = told(&rt, &settings);
+        spoil(&rt, &mut town, which);
+        found_out(&rt, &settings, town, about);
+    }
+}
