@@ -29,13 +29,19 @@ pub(crate) fn close(servers: Servers, passes: Vec<Pass>) -> Result<Histories, Cl
 
 /// Takes the pass of an agent, or of the operator, out.
 pub(crate) fn take(rt: &impl Abort, passes: &mut Vec<Pass>, agent: Option<u8>) -> Pass {
-    for place in 0..passes.len() {
-        if passes[place].agent() == agent {
-            return passes.swap_remove(place);
+    let place = place_of(passes, agent);
+    assert!(rt; place < passes.len(), "a pass");
+    passes.swap_remove(place)
+}
+
+/// The first place of a pass of an agent, or of the operator.
+fn place_of(passes: &[Pass], agent: Option<u8>) -> usize {
+    for (place, pass) in passes.iter().enumerate() {
+        if pass.agent() == agent {
+            return place;
         }
     }
-    let none: Option<Pass> = None;
-    none.expect(rt, "a pass")
+    passes.len()
 }
 
 /// A request, in a word.
@@ -83,7 +89,8 @@ pub(crate) struct Question {
     pub(crate) ask: Ask,
 }
 
-fn ask_once<R: Abort + Wait, G: Gate>(
+/// Asks a server, which has to be there.
+pub(crate) fn ask_once<R: Abort + Wait, G: Gate>(
     rt: &R,
     gate: &G,
     servers: &Servers,
@@ -103,8 +110,12 @@ pub(crate) fn asked<R: Abort + Wait, G: Gate>(
     question: Question,
 ) -> (Pass, Answer) {
     let (pass, answer) = ask_once(rt, gate, servers, pass, question);
-    match answer.reply() {
-        Err(Miss::Lack(Lack::Memory)) => ask_once(rt, gate, servers, pass, question),
-        _ => (pass, answer),
+    if lacks_memory(&answer) {
+        return ask_once(rt, gate, servers, pass, question);
     }
+    (pass, answer)
+}
+
+fn lacks_memory(answer: &Answer) -> bool {
+    matches!(answer.reply(), Err(Miss::Lack(Lack::Memory)))
 }

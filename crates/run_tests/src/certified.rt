@@ -3,6 +3,7 @@
 //! What memory was refused to is called again, so that each allocation can be refused in turn.
 
 use crate::fixtures::push;
+use file_ops::{Answers, Refusal};
 use run_certify::{CertifyFault, Decided, Decision, Entry, Transcript, Transcripts, certify};
 use server_lock::{Histories, History, Item};
 use std::alloc::AllocError;
@@ -88,23 +89,28 @@ fn words(rt: &(impl Abort + AllocGlobal), decisions: &[Decision]) -> String {
     let mut text = String::new(rt.alloc());
     for decision in decisions {
         let one = again!(rt, decision_words(rt, decision));
-        again!(rt, text.reserve(one.len()));
-        assert!(rt; text.push_str(&one).is_ok());
+        append(rt, &mut text, &one);
     }
     text
+}
+
+/// Appends to a text.
+fn append(rt: &impl Abort, text: &mut String, piece: &str) {
+    again!(rt, text.reserve(piece.len()));
+    assert!(rt; text.push_str(piece).is_ok());
+}
+
+/// How many operations were answered, or which one was refused, and how it ended.
+fn answer_words(answer: &Result<Answers, Refusal>) -> (usize, &'static str) {
+    match answer {
+        Ok(answers) => (answers.as_slice().len(), "answered"),
+        Err(refusal) => (usize::from(refusal.op), "refused"),
+    }
 }
 
 fn decision_words(rt: &impl AllocGlobal, decision: &Decision) -> Result<String, AllocError> {
     let (t, uid) = (decision.t, decision.caller.uid());
     let asked = decision.ops.as_slice().len();
-    match &decision.answer {
-        Ok(answers) => {
-            let told = answers.as_slice().len();
-            format!(in rt.alloc(); "{t} by {uid}: {told} of {asked} answered. ")
-        }
-        Err(refusal) => {
-            let op = refusal.op;
-            format!(in rt.alloc(); "{t} by {uid}: {op} of {asked} refused. ")
-        }
-    }
+    let (count, how) = answer_words(&decision.answer);
+    format!(in rt.alloc(); "{t} by {uid}: {count} of {asked} {how}. ")
 }

@@ -4,6 +4,7 @@
 //! nothing comes back, so there a row is run again.
 
 use crate::asking::{close, started};
+use crate::certified::certified;
 use crate::events::job;
 use crate::fixtures::push;
 use agent_pool::{
@@ -77,15 +78,32 @@ pub(crate) fn closed(
 ) -> (Histories, Transcripts) {
     let Pool { agents, passes, .. } = pool;
     let histories = close(servers, passes).ok().expect(rt, "histories");
+    (histories, transcripts(rt, agents))
+}
+
+fn transcripts(rt: &(impl Abort + AllocGlobal), agents: Vec<Player>) -> Transcripts {
     let mut transcripts = Vec::new(rt.alloc());
     for player in agents {
         push(rt, &mut transcripts, player.into_transcript());
     }
-    (histories, Transcripts::from_vec(transcripts))
+    Transcripts::from_vec(transcripts)
+}
+
+/// What is certified of a run that went so far: so many items, and so many decisions.
+pub(crate) fn comes_to(
+    rt: &(impl Abort + AllocGlobal),
+    settings: &Settings,
+    told: &(Histories, Transcripts),
+    count: usize,
+    decisions: usize,
+) {
+    let (histories, transcripts) = told;
+    assert!(rt; items(histories) == count);
+    assert!(rt; certified(rt, settings, histories, transcripts) == Some(decisions));
 }
 
 /// How many items there are.
-pub(crate) fn items(histories: &Histories) -> usize {
+fn items(histories: &Histories) -> usize {
     let mut items = 0usize;
     for history in histories.as_slice() {
         items = items.saturating_add(history.as_slice().len());

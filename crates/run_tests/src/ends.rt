@@ -1,14 +1,15 @@
 //! How jobs end, in words, and jobs that cannot be done.
 
-use crate::asking::{Ask, Question, asked, started, take};
+use crate::asking::{Ask, Question, ask_once, started, take};
 use crate::crew::{Crew, jobs, opened, others, work};
 use crate::fixtures::{had, push, same, settings};
-use agent_pool::{JobOutcome, Pool, PoolFault, ended};
+use agent_pool::{JobOutcome, Player, Pool, PoolFault, ended};
 use file_ops::{Answer, Answers};
 use server_lock::{OpenGate, Pass, Servers};
 use std::alloc::AllocError;
 use std::process::Abort;
 use std::sync::Wait;
+use std::thread::Threads;
 use suite_content::NameList;
 use suite_prefix::Settings;
 use txn_core::Ending;
@@ -53,7 +54,7 @@ pub(crate) fn ended_so(rt: &(impl Abort + AllocGlobal), pool: &Pool, want: &[&st
 /// Asks server 0 and takes the pass back; there has to be a reply.
 fn replied<R: Abort + Wait>(rt: &R, servers: &Servers, pass: Pass, ask: Ask) -> Pass {
     let question = Question { server: 0, ask };
-    let (pass, answer) = asked(rt, &OpenGate, servers, pass, question);
+    let (pass, answer) = ask_once(rt, &OpenGate, servers, pass, question);
     assert!(rt; answer.reply().is_ok());
     pass
 }
@@ -65,20 +66,36 @@ fn foreign(rt: &(impl Abort + AllocGlobal + Wait), settings: &Settings) -> Pass 
     replied(rt, &servers, pass, Ask::Locks)
 }
 
+/// Has a list of the root carried out.
+fn list<R: Abort + AllocGlobal + Threads + Wait + Sync>(
+    rt: &R,
+    servers: &Servers,
+    crew: (Vec<Player>, Vec<Pass>),
+) -> Result<Pool, PoolFault> {
+    work(rt, &OpenGate, servers, &jobs(rt, 0, "list /"), crew)
+}
+
+/// Why agent 0 cannot list the root with these passes.
+fn fault<R: Abort + AllocGlobal + Threads + Wait + Sync>(
+    rt: &R,
+    settings: &Settings,
+    passes: Vec<Pass>,
+) -> Option<PoolFault> {
+    let Crew {
+        servers,
+        mut agents,
+        ..
+    } = opened(rt, settings);
+    let _others = others(rt, &mut agents);
+    list(rt, &servers, (agents, passes)).err()
+}
+
 #[test]
 fn a_pass_of_another_start_is_of_no_use(rt: HostRuntime) {
     let settings = settings(&rt, 2);
     let mut own = Vec::new(rt.alloc());
     push(&rt, &mut own, foreign(&rt, &settings));
-    let Crew {
-        servers,
-        mut agents,
-        ..
-    } = opened(&rt, &settings);
-    let _others = others(&rt, &mut agents);
-    let list = jobs(&rt, 0, "list /");
-    let fault = work(&rt, &OpenGate, &servers, &list, (agents, own));
-    assert!(&rt; fault.err() == Some(PoolFault::Missing(0)));
+    assert!(&rt; fault(&rt, &settings, own) == Some(PoolFault::Missing(0)));
 }
 
 /// Has the operator ask server 0 until its history is as long as one may be.
@@ -99,8 +116,7 @@ fn a_full_server_ends_a_job(rt: HostRuntime) {
     } = opened(&rt, &settings(&rt, 1));
     let operator = take(&rt, &mut passes, None);
     push(&rt, &mut passes, filled(&rt, &servers, operator));
-    let list = jobs(&rt, 0, "list /");
-    let pool = work(&rt, &OpenGate, &servers, &list, (agents, passes));
-    let pool = pool.ok().expect(&rt, "a pool");
+    let pool = list(&rt, &servers, (agents, passes)).ok();
+    let pool = pool.expect(&rt, "a pool");
     ended_so(&rt, &pool, &["0 1 Undecided(Full { server: 0 })"]);
 }

@@ -103,3 +103,12 @@ pub(crate) fn event(rt: &(impl Abort + AllocGlobal), line: &str) -> Event {
         },
     }
 }
+
+/// The events of a text, with commas between them.
+pub(crate) fn events(rt: &(impl Abort + AllocGlobal), text: &str) -> Vec<Event> {
+    let mut events = Vec::new(rt.alloc());
+    for line in text.split(',') {
+        push(rt, &mut events, event(rt, line));
+    }
+    events
+}

@@ -1,16 +1,23 @@
 //! Files that agent 0 makes, and that all agents write and list.
 
 use crate::certified::certified;
-use crate::crew::{Crew, closed, items, jobs, opened, others, work};
+use crate::crew::{Crew, closed, comes_to, jobs, opened, others, work};
 use crate::ends::ended_so;
 use crate::fixtures::{push, settings};
-use agent_pool::{Pool, Transcripts};
+use agent_pool::{Player, Pool, Transcripts};
 use rep_core::Reply;
-use server_lock::{Histories, History, OpenGate};
+use server_lock::{Histories, History, OpenGate, Pass, Servers};
 use std::process::Abort;
 use std::sync::Wait;
 use std::thread::Threads;
 use suite_prefix::Settings;
+
+/// Jobs with the number of the first, and how each is to end.
+struct Round {
+    first: u64,
+    jobs: &'static str,
+    ends: &'static [&'static str],
+}
 
 const FILES: &str = "file /f0,file /f1,file /f2,file /f3,file /f4,file /f5,file /f6,file /f7";
 
@@ -43,6 +50,45 @@ const USED: [&str; 12] = [
     "19 8 list of 8",
 ];
 
+static MAKING: Round = Round {
+    first: 0,
+    jobs: FILES,
+    ends: &MADE,
+};
+
+static USING: Round = Round {
+    first: 8,
+    jobs: USES,
+    ends: &USED,
+};
+
+/// Has jobs carried out, and compares how they ended.
+fn carried_out<R: Abort + AllocGlobal + Threads + Wait + Sync>(
+    rt: &R,
+    servers: &Servers,
+    round: &Round,
+    crew: (Vec<Player>, Vec<Pass>),
+) -> Pool {
+    let jobs = jobs(rt, round.first, round.jobs);
+    let pool = work(rt, &OpenGate, servers, &jobs, crew).ok();
+    let pool = pool.expect(rt, "a pool");
+    ended_so(rt, &pool, round.ends);
+    pool
+}
+
+/// The agents of a pool, and others.
+fn joined(rt: &impl Abort, pool: Pool, others: Vec<Player>) -> (Vec<Player>, Vec<Pass>) {
+    let Pool {
+        mut agents,
+        passes,
+        ..
+    } = pool;
+    for player in others {
+        push(rt, &mut agents, player);
+    }
+    (agents, passes)
+}
+
 /// What servers and agents have done of it.
 fn files<R: Abort + AllocGlobal + Threads + Wait + Sync>(
     rt: &R,
@@ -54,32 +100,8 @@ fn files<R: Abort + AllocGlobal + Threads + Wait + Sync>(
         passes,
     } = opened(rt, settings);
     let others = others(rt, &mut agents);
-    let made = work(
-        rt,
-        &OpenGate,
-        &servers,
-        &jobs(rt, 0, FILES),
-        (agents, passes),
-    );
-    let made = made.ok().expect(rt, "a pool");
-    ended_so(rt, &made, &MADE);
-    let Pool {
-        mut agents,
-        passes,
-        ..
-    } = made;
-    for player in others {
-        push(rt, &mut agents, player);
-    }
-    let used = work(
-        rt,
-        &OpenGate,
-        &servers,
-        &jobs(rt, 8, USES),
-        (agents, passes),
-    );
-    let used = used.ok().expect(rt, "a pool");
-    ended_so(rt, &used, &USED);
+    let made = carried_out(rt, &servers, &MAKING, (agents, passes));
+    let used = carried_out(rt, &servers, &USING, joined(rt, made, others));
     closed(rt, servers, used)
 }
 
@@ -87,21 +109,25 @@ fn files<R: Abort + AllocGlobal + Threads + Wait + Sync>(
 fn files_are_written_by_all(rt: HostRuntime) {
     let settings = settings(&rt, 4);
     for _ in 0..5u8 {
-        let (histories, transcripts) = files(&rt, &settings);
-        assert!(&rt; items(&histories) == 192);
-        assert!(&rt; certified(&rt, &settings, &histories, &transcripts) == Some(20));
+        comes_to(&rt, &settings, &files(&rt, &settings), 192, 20);
     }
+}
+
+/// The same history, but for the reply of the last item.
+fn falsify(rt: &impl Abort, history: History) -> History {
+    let mut items = history.into_vec();
+    items.last_mut().expect(rt, "an item").reply = Reply::Lost;
+    History::from_vec(items)
 }
 
 /// The same histories, but for the reply of the last item of server 1.
 fn falsified(rt: &(impl Abort + AllocGlobal), told: Histories) -> Histories {
     let mut all = Vec::new(rt.alloc());
     for (server, history) in told.into_vec().into_iter().enumerate() {
-        let mut items = history.into_vec();
-        if server == 1 {
-            items.last_mut().expect(rt, "an item").reply = Reply::Lost;
+        match server {
+            1 => push(rt, &mut all, falsify(rt, history)),
+            _ => push(rt, &mut all, history),
         }
-        push(rt, &mut all, History::from_vec(items));
     }
     Histories::from_vec(all)
 }

@@ -4,7 +4,7 @@
 //! lacks stops it.
 
 use acl_core::{Acl, Lists, Mode};
-use run_core::{Done, Event, World};
+use run_core::{Done, Event, Outcome, World};
 use std::alloc::AllocError;
 use std::process::Abort;
 use suite_prefix::Settings;
@@ -41,17 +41,21 @@ pub(crate) fn small(rt: &impl Abort, digits: &str) -> u8 {
 /// The list of a mode.
 pub(crate) fn lists(rt: &(impl Abort + AllocGlobal), bits: u16) -> Lists {
     let mode = Mode::new(bits).expect(rt, "a mode");
-    Lists::from(again!(rt, Acl::from_mode(rt.alloc(), mode)))
+    Lists::from(again!(rt, acl(rt, mode)))
 }
 
-/// These votes of three servers, of which so many are a quorum.
-pub(crate) fn votes(rt: &impl Abort, reps: &[(u8, u8)], quorum: u16) -> Votes {
-    Votes::new(3, reps, quorum, quorum).ok().expect(rt, "votes")
+fn acl(rt: &impl AllocGlobal, mode: Mode) -> Result<Acl, AllocError> {
+    Acl::from_mode(rt.alloc(), mode)
 }
 
-/// One vote each, two of them a quorum.
+/// These votes, of which so many are wanted to read, and to write.
+pub(crate) fn votes(rt: &impl Abort, servers: usize, reps: &[(u8, u8)], r: u16, w: u16) -> Votes {
+    Votes::new(servers, reps, r, w).ok().expect(rt, "votes")
+}
+
+/// One vote each at three servers, two of them a quorum.
 pub(crate) fn three_votes(rt: &impl Abort) -> Votes {
-    votes(rt, &[(0, 1), (1, 1), (2, 1)], 2)
+    votes(rt, 3, &[(0, 1), (1, 1), (2, 1)], 2, 2)
 }
 
 /// Three servers with these votes, of which some open with their root in form 1, and so many agents, with so much room
@@ -93,4 +97,28 @@ pub(crate) fn step(rt: &impl Abort, world: &mut World, event: &Event) -> Done {
 
 fn stepped(world: &mut World, event: &Event) -> Result<Done, AllocError> {
     world.step(event)
+}
+
+/// How a job ended, in words: its agent, its number, its steps, and the end.
+pub(crate) fn words(rt: &(impl Abort + AllocGlobal), outcome: &Outcome) -> String {
+    let (agent, count, steps) = (outcome.agent, outcome.count, outcome.steps);
+    let made = format!(in rt.alloc(); "{agent}.{count} {steps} {:?}", outcome.ending);
+    had(rt, made)
+}
+
+/// How a job ended, in words; none, if none did.
+pub(crate) fn ending(rt: &(impl Abort + AllocGlobal), outcome: &Option<Outcome>) -> String {
+    match outcome {
+        Some(outcome) => words(rt, outcome),
+        None => String::new(rt.alloc()),
+    }
+}
+
+/// How a job ended by an event, in words.
+pub(crate) fn ended_by(
+    rt: &(impl Abort + AllocGlobal),
+    world: &mut World,
+    event: &Event,
+) -> String {
+    ending(rt, &step(rt, world, event).outcome)
 }

@@ -2,7 +2,7 @@
 
 use crate::fixtures::{push, same, settings};
 use crate::town::{Town, adds, count, judged, opened, play};
-use rep_core::{Lack, Reply};
+use rep_core::{Lack, Reply, Request, Stamped};
 use run_certify::Entry;
 use server_lock::Item;
 use std::process::Abort;
@@ -61,18 +61,31 @@ fn tell_lie(
         Lie::LeftOut => drop(items.remove(place)),
         Lie::Doubled => double(rt, items, place),
         Lie::Reply => items[place].reply = Reply::Lost,
-        Lie::Stamp => items[place].stamp = items[place].stamp.wrapping_add(1),
+        Lie::Stamp => falsify(&mut items[place]),
         Lie::Agent => items[place].agent = Some(5),
     }
     true
+}
+
+/// Another stamp.
+fn falsify(item: &mut Item) {
+    item.stamp = item.stamp.wrapping_add(1);
+}
+
+fn request_of(rt: &impl Abort, item: &Item) -> Stamped<Request> {
+    again!(rt, item.request.clone())
+}
+
+fn reply_of(rt: &impl Abort, item: &Item) -> Reply {
+    again!(rt, item.reply.clone())
 }
 
 fn copy_of(rt: &impl Abort, item: &Item) -> Item {
     Item {
         stamp: item.stamp,
         agent: item.agent,
-        request: again!(rt, item.request.clone()),
-        reply: again!(rt, item.reply.clone()),
+        request: request_of(rt, item),
+        reply: reply_of(rt, item),
     }
 }
 
@@ -85,15 +98,29 @@ fn double(rt: &impl Abort, items: &mut Vec<Item>, place: usize) {
     items.swap(place + 1, last);
 }
 
+/// This lie of an item is found out, where there is such an item; tells whether there is.
+fn is_found_out(
+    rt: &(impl Abort + AllocGlobal),
+    settings: &Settings,
+    lie: (Lie, &str),
+    server: usize,
+    place: usize,
+) -> bool {
+    let mut town = told(rt, settings);
+    let is_told = tell_lie(rt, &mut town, lie.0, server, place);
+    if is_told {
+        found_out(rt, settings, town, lie.1);
+    }
+    is_told
+}
+
 /// Tells this lie of each of the nine items, one at a time.
 fn lies(rt: &(impl Abort + AllocGlobal), settings: &Settings, lie: Lie, about: &str) {
     let mut told_of = 0u8;
     for server in 0..3usize {
         for place in 0..9usize {
-            let mut town = told(rt, settings);
-            if tell_lie(rt, &mut town, lie, server, place) {
+            if is_found_out(rt, settings, (lie, about), server, place) {
                 told_of = told_of.saturating_add(1);
-                found_out(rt, settings, town, about);
             }
         }
     }
@@ -120,16 +147,29 @@ fn silent(rt: &impl Abort, town: &mut Town, agent: usize, place: usize) -> bool 
     true
 }
 
+/// That is found out; tells whether something stands there.
+fn is_missed(
+    rt: &(impl Abort + AllocGlobal),
+    settings: &Settings,
+    agent: usize,
+    place: usize,
+) -> bool {
+    let mut town = told(rt, settings);
+    let is_silent = silent(rt, &mut town, agent, place);
+    if is_silent {
+        found_out(rt, settings, town, "an entry less");
+    }
+    is_silent
+}
+
 #[test]
 fn entries_are_left_out(rt: HostRuntime) {
     let settings = settings(&rt, 2);
     let mut left_out = 0u8;
     for agent in 0..2usize {
         for place in 0..10usize {
-            let mut town = told(&rt, &settings);
-            if silent(&rt, &mut town, agent, place) {
+            if is_missed(&rt, &settings, agent, place) {
                 left_out = left_out.saturating_add(1);
-                found_out(&rt, &settings, town, "an entry less");
             }
         }
     }
@@ -141,15 +181,20 @@ fn pop<T: Drop>(rt: &impl Abort, list: &mut Vec<T>) {
     assert!(rt; list.pop().is_some());
 }
 
+/// Leaves out the last step, by which agent 0 asked server 1 and its job ended.
+fn break_off(rt: &impl Abort, town: &mut Town) {
+    pop(rt, items_of(rt, town, 1));
+    pop(rt, entries_of(rt, town, 0));
+    pop(rt, entries_of(rt, town, 0));
+    assert!(rt; count(town) == 8);
+}
+
 /// A run that was broken off one step earlier is a run too.
 #[test]
 fn a_last_step_was_not_taken(rt: HostRuntime) {
     let settings = settings(&rt, 2);
     let mut town = told(&rt, &settings);
-    pop(&rt, items_of(&rt, &mut town, 1));
-    pop(&rt, entries_of(&rt, &mut town, 0));
-    pop(&rt, entries_of(&rt, &mut town, 0));
-    assert!(&rt; count(&town) == 8);
+    break_off(&rt, &mut town);
     let verdict = judged(&rt, &settings, town);
     let wanted = "0 by 1000: 1 of 1 answered. ";
     same(&rt, &verdict, wanted, "a step less");

@@ -3,9 +3,9 @@
 //! What memory was refused to is called again, so that each allocation can be refused in turn.
 
 use crate::asking::{Ask, Question, asked, close, started, take};
-use crate::fixtures::{push, same, settings};
-use rep_core::{Reply, Stamped};
-use server_lock::{Answer, CloseFault, Gate, Histories, OpenGate, Pass, Servers};
+use crate::fixtures::{had, push, same, settings};
+use rep_core::{LockList, Reply, Stamped};
+use server_lock::{Answer, CloseFault, Gate, History, OpenGate, Pass, Servers};
 use std::alloc::AllocError;
 use std::process::Abort;
 use std::sync::Wait;
@@ -25,6 +25,17 @@ fn root(rt: &(impl Abort + AllocGlobal), settings: &Settings) -> Prefix {
     }
 }
 
+/// A prefix is the root's.
+fn is_root(rt: &(impl Abort + AllocGlobal), settings: &Settings, prefix: &Prefix) {
+    let root = root(rt, settings);
+    assert!(rt; *prefix == root);
+}
+
+fn locked_words(rt: &impl AllocGlobal, stamp: u64, locks: &LockList) -> Result<String, AllocError> {
+    let count = locks.as_slice().len();
+    format!(in rt.alloc(); "{stamp}: Locked {count}")
+}
+
 /// A reply, in words; the prefix of a lock that is held has to be the root's.
 fn reply_words(
     rt: &(impl Abort + AllocGlobal),
@@ -34,15 +45,12 @@ fn reply_words(
     let stamp = reply.stamp;
     match &reply.value {
         Reply::Held { prefix, dver } => {
-            assert!(rt; **prefix == root(rt, settings));
+            is_root(rt, settings, prefix);
             format!(in rt.alloc(); "{stamp}: Held the root {dver}")
         }
+        Reply::Locked(locks) => locked_words(rt, stamp, locks),
         Reply::Busy { holder, prepared } => {
             format!(in rt.alloc(); "{stamp}: Busy {holder} {prepared}")
-        }
-        Reply::Locked(locks) => {
-            let count = locks.as_slice().len();
-            format!(in rt.alloc(); "{stamp}: Locked {count}")
         }
         other => format!(in rt.alloc(); "{stamp}: {other:?}"),
     }
@@ -67,17 +75,32 @@ fn words(rt: &(impl Abort + AllocGlobal), servers: &Servers, answer: &Answer) ->
     again!(rt, answer_words(rt, servers, answer))
 }
 
-/// Asks, where no gate holds anybody.
-fn asks<R: Abort + Wait>(
+/// What is answered is this, of the server that was asked.
+fn answered(
+    rt: &(impl Abort + AllocGlobal),
+    servers: &Servers,
+    answer: &Answer,
+    server: u8,
+    want: &str,
+) {
+    same(rt, &words(rt, servers, answer), want, want);
+    assert!(rt; answer.server() == server);
+}
+
+/// Asks, where no gate holds anybody, and compares what is answered.
+fn told<R: Abort + AllocGlobal + Wait>(
     rt: &R,
     servers: &Servers,
     pass: Pass,
     question: Question,
-) -> (Pass, Answer) {
-    asked(rt, &OpenGate, servers, pass, question)
+    want: &str,
+) -> Pass {
+    let (pass, answer) = asked(rt, &OpenGate, servers, pass, question);
+    answered(rt, servers, &answer, question.server, want);
+    pass
 }
 
-/// Asks, and compares what is answered.
+/// Asks, and compares what is answered; an item more is the pass's.
 fn expect_at<R: Abort + AllocGlobal + Wait>(
     rt: &R,
     servers: &Servers,
@@ -88,9 +111,7 @@ fn expect_at<R: Abort + AllocGlobal + Wait>(
     let (server, ask) = (*server, *ask);
     let pass = take(rt, passes, *agent);
     let count = pass.count();
-    let (pass, answer) = asks(rt, servers, pass, Question { server, ask });
-    same(rt, &words(rt, servers, &answer), want, want);
-    assert!(rt; answer.server() == server);
+    let pass = told(rt, servers, pass, Question { server, ask }, want);
     assert!(rt; pass.count() == count.wrapping_add(1));
     push(rt, passes, pass);
 }
@@ -124,11 +145,35 @@ fn run<R: Abort + AllocGlobal + Wait>(rt: &R, servers: &Servers, passes: &mut Ve
     }
 }
 
-fn lengths_are(rt: &impl Abort, histories: &Histories, lengths: &[usize]) {
-    assert!(rt; histories.as_slice().len() == lengths.len());
-    for (history, length) in histories.as_slice().iter().zip(lengths) {
-        assert_eq!(rt; history.as_slice().len(), *length);
+fn length_is(rt: &impl Abort, history: &History, length: usize) {
+    let found = history.as_slice().len();
+    assert!(rt; found == length, "{length} items: {found}");
+}
+
+fn lengths_are(rt: &impl Abort, histories: &[History], lengths: &[usize]) {
+    assert!(rt; histories.len() == lengths.len());
+    for (history, length) in histories.iter().zip(lengths) {
+        length_is(rt, history, *length);
     }
+}
+
+/// The histories of servers have these lengths, once all passes are back.
+fn closes(rt: &impl Abort, servers: Servers, passes: Vec<Pass>, lengths: &[usize]) {
+    let histories = close(servers, passes).ok().expect(rt, "closed");
+    lengths_are(rt, histories.as_slice(), lengths);
+}
+
+/// How many items the pass of an agent, or of the operator, has of that run.
+fn count_of(agent: Option<u8>) -> u64 {
+    match agent {
+        None => 1,
+        Some(0) => 4,
+        Some(_) => 2,
+    }
+}
+
+fn count_is(rt: &impl Abort, pass: &Pass, want: u64) {
+    assert!(rt; pass.count() == want);
 }
 
 #[test]
@@ -136,26 +181,41 @@ fn the_replies_are_the_servers(rt: HostRuntime) {
     let (servers, mut passes) = started(&rt, &settings(&rt, 2));
     run(&rt, &servers, &mut passes);
     for pass in &passes {
-        let count = match pass.agent() {
-            None => 1,
-            Some(0) => 4,
-            Some(_) => 2,
-        };
-        assert!(rt; pass.count() == count);
+        count_is(&rt, pass, count_of(pass.agent()));
     }
-    let histories = close(servers, passes).ok().expect(&rt, "closed");
-    lengths_are(&rt, &histories, &[4, 3, 0]);
+    closes(&rt, servers, passes, &[4, 3, 0]);
 }
 
-/// Asks each of three servers for its locks a hundred times.
+/// What a server is asked for its locks.
+fn locks_of(server: u8) -> Question {
+    Question {
+        server,
+        ask: Ask::Locks,
+    }
+}
+
+fn ask_for_locks<R: Abort + Wait, G: Gate>(
+    rt: &R,
+    gate: &G,
+    servers: &Servers,
+    pass: Pass,
+    server: u8,
+) -> Pass {
+    asked(rt, gate, servers, pass, locks_of(server)).0
+}
+
+/// Asks each of three servers for its locks.
+fn ask_each<R: Abort + Wait, G: Gate>(rt: &R, gate: &G, servers: &Servers, pass: Pass) -> Pass {
+    let pass = ask_for_locks(rt, gate, servers, pass, 0);
+    let pass = ask_for_locks(rt, gate, servers, pass, 1);
+    ask_for_locks(rt, gate, servers, pass, 2)
+}
+
+/// Does so a hundred times.
 fn ask_often<R: Abort + Wait, G: Gate>(rt: &R, gate: &G, servers: &Servers, pass: Pass) -> Pass {
     let mut pass = pass;
-    let ask = Ask::Locks;
     for _ in 0..100u8 {
-        for server in 0..3u8 {
-            let question = Question { server, ask };
-            pass = asked(rt, gate, servers, pass, question).0;
-        }
+        pass = ask_each(rt, gate, servers, pass);
     }
     pass
 }
@@ -190,6 +250,10 @@ impl Gate for Counting {
     }
 }
 
+fn counted(rt: &impl Abort, many: &AtomicU64, want: u64) {
+    assert!(rt; many.load(Ordering::SeqCst) == want);
+}
+
 #[test]
 fn eight_threads_ask(rt: HostRuntime) {
     let (servers, mut passes) = started(&rt, &settings(&rt, 8));
@@ -199,25 +263,25 @@ fn eight_threads_ask(rt: HostRuntime) {
         after: AtomicU64::new(0),
     };
     let mut passes = in_threads(&rt, &gate, &servers, passes);
-    assert!(rt; gate.inside.load(Ordering::SeqCst) == 2400);
-    assert!(rt; gate.after.load(Ordering::SeqCst) == 2400);
+    counted(&rt, &gate.inside, 2400);
+    counted(&rt, &gate.after, 2400);
     for pass in &passes {
-        assert!(rt; pass.count() == 300);
+        count_is(&rt, pass, 300);
     }
     push(&rt, &mut passes, operator);
-    let histories = close(servers, passes).ok().expect(&rt, "closed");
-    lengths_are(&rt, &histories, &[800, 800, 800]);
+    closes(&rt, servers, passes, &[800, 800, 800]);
 }
 
-/// Asks server 0 for its locks, and compares what is answered.
-fn told<R: Abort + AllocGlobal + Wait>(rt: &R, servers: &Servers, pass: Pass, want: &str) -> Pass {
-    let question = Question {
-        server: 0,
-        ask: Ask::Locks,
-    };
-    let (pass, answer) = asks(rt, servers, pass, question);
-    same(rt, &words(rt, servers, &answer), want, want);
-    pass
+/// It made one item, at server 0.
+fn asked_once(rt: &impl Abort, pass: &Pass) {
+    assert!(rt; pass.count() == 1 && pass.stamp() == 1 && pass.front(0) == 1 && pass.front(1) == 0);
+}
+
+/// A pass is used with the servers that it is of, and then with others.
+fn is_stale<R: Abort + AllocGlobal + Wait>(rt: &R, own: &Servers, others: &Servers, pass: Pass) {
+    let pass = told(rt, own, pass, locks_of(0), "1: Locked 0");
+    let pass = told(rt, others, pass, locks_of(0), "Stale 0");
+    asked_once(rt, &pass);
 }
 
 #[test]
@@ -225,10 +289,11 @@ fn a_pass_of_another_start_is_stale(rt: HostRuntime) {
     let settings = settings(&rt, 2);
     let (first, mut passes) = started(&rt, &settings);
     let (second, _others) = started(&rt, &settings);
-    let pass = take(&rt, &mut passes, Some(0));
-    let pass = told(&rt, &first, pass, "1: Locked 0");
-    let pass = told(&rt, &second, pass, "Stale 0");
-    assert!(rt; pass.count() == 1 && pass.stamp() == 1 && pass.front(0) == 1 && pass.front(1) == 0);
+    is_stale(&rt, &first, &second, take(&rt, &mut passes, Some(0)));
+}
+
+fn fault_words(rt: &(impl Abort + AllocGlobal), fault: &CloseFault) -> String {
+    had(rt, format!(in rt.alloc(); "{fault:?}"))
 }
 
 #[test]
@@ -237,5 +302,10 @@ fn a_pass_is_missing(rt: HostRuntime) {
     run(&rt, &servers, &mut passes);
     let _missing = take(&rt, &mut passes, Some(1));
     let fault = close(servers, passes).err().expect(&rt, "a fault");
-    assert_eq!(rt; fault, CloseFault::Count(Some(1)));
+    same(
+        &rt,
+        &fault_words(&rt, &fault),
+        "Count(Some(1))",
+        "the fault",
+    );
 }

@@ -5,12 +5,12 @@ ghost use Rattle.std.specs.Prelude.{◌≡◌, Some};
 ghost use Rattle.headline.specs.Promises.{Promises};
 ghost use Rattle.run_core.specs.Opened.{Opened};
 
-use crate::fixtures::{settings, step};
+use crate::events::events;
+use crate::fixtures::{ended_by, same, settings};
 use headline::{all_votes_are_valid, opens_a_run, plays_on, promise};
-use run_core::{Event, Outcome, World};
+use run_core::{Event, World};
 use std::alloc::Global;
 use suite_prefix::Settings;
-use txn_core::{Ending, Job};
 
 /// A world on which these events were played, unless memory was wanting: it promises what holds of their run.
 fn promised(alloc: Global, settings: &Settings, events: &[Event]) -> Option<World>
@@ -33,27 +33,10 @@ fn promised(alloc: Global, settings: &Settings, events: &[Event]) -> Option<Worl
 
 #[test]
 fn a_world_promises(rt: HostRuntime) {
-    let sweep = Job::Sweep { server: 1 };
-    let events = [
-        Event::Crash { server: 0 },
-        Event::Begin {
-            agent: 0,
-            job: sweep,
-        },
-        Event::Return { server: 0 },
-    ];
     let settings = settings(&rt, 1);
+    let events = events(&rt, "crash 0,begin 0 sweep 1,return 0");
     let mut world = promised(rt.alloc(), &settings, &events).expect(&rt, "memory");
-    let done = step(&rt, &mut world, &Event::Step { agent: 0 });
-    let swept = Outcome {
-        agent: 0,
-        count: 0,
-        steps: 1,
-        ending: Ending::Swept {
-            broken: 0,
-            finished: 0,
-            left: 0,
-        },
-    };
-    assert!(&rt; done.outcome == Some(swept));
+    let ended = ended_by(&rt, &mut world, &Event::Step { agent: 0 });
+    let wanted = "0.0 1 Swept { broken: 0, finished: 0, left: 0 }";
+    same(&rt, &ended, wanted, "a sweep");
 }

@@ -21,14 +21,19 @@ fn runs(rt: &(impl Abort + AllocGlobal), agents: usize, lines: &str, items: usiz
     same(rt, &judged(rt, &settings, town), want, lines);
 }
 
+/// No histories and no transcripts are certified too.
+fn nobody_is_a_run(rt: &(impl Abort + AllocGlobal), settings: &Settings) {
+    let none = histories(rt, Vec::new(rt.alloc()));
+    let nobody = transcripts(rt, Vec::new(rt.alloc()));
+    assert!(rt; certified(rt, settings, &none, &nobody) == Some(0));
+}
+
 #[test]
 fn nothing_is_a_run(rt: HostRuntime) {
     let settings = settings(&rt, 2);
     let town = opened(&rt, &settings);
     same(&rt, &judged(&rt, &settings, town), "", "nothing");
-    let none = histories(&rt, Vec::new(rt.alloc()));
-    let nobody = transcripts(&rt, Vec::new(rt.alloc()));
-    assert!(&rt; certified(&rt, &settings, &none, &nobody) == Some(0));
+    nobody_is_a_run(&rt, &settings);
 }
 
 #[test]
@@ -135,13 +140,34 @@ fn long_run(rt: &(impl Abort + AllocGlobal), settings: &Settings) -> Town {
 fn answered(entries: &[Entry]) -> usize {
     let mut answered = 0usize;
     for entry in entries {
-        if let Entry::Ended(outcome) = entry {
-            if matches!(outcome.ending, Ending::Answered(_) | Ending::Refused(_)) {
-                answered = answered.saturating_add(1);
-            }
+        if is_answered(entry) {
+            answered = answered.saturating_add(1);
         }
     }
     answered
+}
+
+fn is_answered(entry: &Entry) -> bool {
+    match entry {
+        Entry::Ended(outcome) => {
+            matches!(outcome.ending, Ending::Answered(_) | Ending::Refused(_))
+        }
+        _ => false,
+    }
+}
+
+fn all_answered(town: &Town) -> usize {
+    let mut all = 0usize;
+    for entries in &town.entries {
+        all = all.saturating_add(answered(entries));
+    }
+    all
+}
+
+/// So many decisions are certified of a town.
+fn decides(rt: &(impl Abort + AllocGlobal), settings: &Settings, town: Town, want: usize) {
+    let (histories, transcripts) = put_together(rt, town);
+    assert!(rt; certified(rt, settings, &histories, &transcripts) == Some(want));
 }
 
 #[test]
@@ -149,11 +175,7 @@ fn a_thousand_items(rt: HostRuntime) {
     let settings = settings_of(&rt, three_votes(&rt), 4, (4096, 16), ServerSet::empty());
     let town = long_run(&rt, &settings);
     assert!(&rt; count(&town) >= 1000);
-    let mut ended = 0usize;
-    for entries in &town.entries {
-        ended = ended.saturating_add(answered(entries));
-    }
+    let ended = all_answered(&town);
     assert!(&rt; ended > 20);
-    let (histories, transcripts) = put_together(&rt, town);
-    assert!(&rt; certified(&rt, &settings, &histories, &transcripts) == Some(ended));
+    decides(&rt, &settings, town, ended);
 }

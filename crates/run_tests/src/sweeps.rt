@@ -7,6 +7,7 @@ ghost use Rattle.txn_core.specs.Standing.{FitsAsked};
 
 use crate::fixtures::{had, number, push, same, settings_of, votes};
 use rep_core::{Lock, LockList, Reply, Request, Verdict};
+use std::alloc::AllocError;
 use std::process::Abort;
 use suite_prefix::LockMode;
 use txn_core::{Agent, Ending, Job, Word};
@@ -21,12 +22,16 @@ fn asked(rt: &impl Abort, agent: &Agent) -> (u8, Request)
 }
 
 /// What is asked: of which server, of which transaction, and of which suite.
-fn asked_text(rt: &(impl Abort + AllocGlobal), at: u8, request: &Request) -> String {
-    let text = match request {
+fn asked_text(rt: &impl AllocGlobal, at: u8, request: &Request) -> Result<String, AllocError> {
+    match request {
         Request::Finish { t, .. } => format!(in rt.alloc(); "{at} finish {t}"),
         other => format!(in rt.alloc(); "{at} {other:?}"),
-    };
-    had(rt, text)
+    }
+}
+
+/// This is what is asked.
+fn asks(rt: &(impl Abort + AllocGlobal), at: u8, request: &Request, wanted: &str) {
+    same(rt, &had(rt, asked_text(rt, at, request)), wanted, wanted);
 }
 
 /// A transaction and a suite; a prepared lock has a mark.
@@ -82,8 +87,7 @@ fn tells(
     said: &str,
 ) -> Option<Ending> {
     let (at, request) = asked(rt, agent);
-    let text = asked_text(rt, at, &request);
-    same(rt, &text, wanted, wanted);
+    asks(rt, at, &request, wanted);
     let word = fitting(rt, &request, reply(rt, said));
     told(rt, agent, &word)
 }
@@ -98,23 +102,28 @@ static TALK: &str = "
 
 /// An agent that has begun a sweep of server 1.
 fn sweeping(rt: &(impl Abort + AllocGlobal)) -> Agent {
-    let one = votes(rt, &[(0, 1)], 1);
+    let one = votes(rt, 3, &[(0, 1)], 1, 1);
     let settings = settings_of(rt, one, 2, (0, 0), ServerSet::empty());
     let mut agent = had(rt, Agent::new(rt.alloc(), 0, &settings));
     had(rt, agent.begin(&Job::Sweep { server: 1 }));
     agent
 }
 
+/// How the agent's job ends, once it has been told all lines.
+fn end(rt: &(impl Abort + AllocGlobal), agent: &mut Agent) -> Option<Ending> {
+    let mut ended = None;
+    for line in TALK.lines().skip(1) {
+        let (wanted, said) = line.split_once(" -> ").expect(rt, "a line");
+        ended = tells(rt, agent, wanted, said);
+    }
+    ended
+}
+
 /// A list that does not rise, of a transaction with one prepared lock, of one without, and of one whose
 /// home is down.
 #[test]
 fn a_sweep_resolves_what_is_prepared(rt: HostRuntime) {
-    let mut agent = sweeping(&rt);
-    let mut ended = None;
-    for line in TALK.lines().skip(1) {
-        let (wanted, said) = line.split_once(" -> ").expect(&rt, "a line");
-        ended = tells(&rt, &mut agent, wanted, said);
-    }
+    let ended = end(&rt, &mut sweeping(&rt));
     let text = had(&rt, format!(in rt.alloc(); "{ended:?}"));
     let wanted = "Some(Swept { broken: 2, finished: 1, left: 1 })";
     same(&rt, &text, wanted, "the end");

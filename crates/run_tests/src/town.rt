@@ -42,16 +42,21 @@ pub(crate) fn opened(rt: &(impl Abort + AllocGlobal), settings: &Settings) -> To
 /// in turn until neither has one.
 pub(crate) fn play(rt: &(impl Abort + AllocGlobal), town: &mut Town, lines: &str) {
     for line in lines.split(',') {
-        let (word, rest) = line.split_once(' ').unwrap_or((line, ""));
-        let (first, other) = rest.split_once(' ').unwrap_or((rest, rest));
-        match word {
-            "run" | "both" => take_turns(rt, town, small(rt, first), small(rt, other)),
+        match line.split_once(' ') {
+            Some(("run", agent)) => take_turns(rt, town, agent, agent),
+            Some(("both", agents)) => both(rt, town, agents),
             _ => happens(rt, town, event(rt, line)),
         }
     }
 }
 
-fn take_turns(rt: &(impl Abort + AllocGlobal), town: &mut Town, first: u8, second: u8) {
+fn both(rt: &(impl Abort + AllocGlobal), town: &mut Town, agents: &str) {
+    let (first, second) = agents.split_once(' ').expect(rt, "two agents");
+    take_turns(rt, town, first, second);
+}
+
+fn take_turns(rt: &(impl Abort + AllocGlobal), town: &mut Town, first: &str, second: &str) {
+    let (first, second) = (small(rt, first), small(rt, second));
     for turn in 0..200u8 {
         let agent = if turn % 2 == 0 { first } else { second };
         if !town.world.idle(agent) {
@@ -66,9 +71,7 @@ pub(crate) fn happens(rt: &(impl Abort + AllocGlobal), town: &mut Town, event: E
     let server = asked_by(town, agent);
     let Done { served, outcome } = step(rt, &mut town.world, &event);
     let told = stamp_of(&served);
-    if let Some(what) = served {
-        serve(rt, town, agent, what);
-    }
+    keep(rt, town, agent, served);
     put_down(rt, town, agent, entry_of(event, server, told));
     put_down(rt, town, agent, end_of(outcome));
 }
@@ -100,22 +103,23 @@ fn agent_of(event: &Event) -> Option<u8> {
     }
 }
 
-/// Puts down what was served.
-fn serve(rt: &(impl Abort + AllocGlobal), town: &mut Town, agent: Option<u8>, what: Served) {
-    let Served {
-        server,
-        request,
-        reply,
-    } = what;
+/// Puts down what was served, if anything was.
+fn keep(rt: &impl Abort, town: &mut Town, agent: Option<u8>, served: Option<Served>) {
+    if let Some(what) = served {
+        let list = town.items.get_mut(usize::from(what.server));
+        push(rt, list.expect(rt, "a server"), item_of(agent, what));
+    }
+}
+
+fn item_of(agent: Option<u8>, what: Served) -> Item {
+    let Served { request, reply, .. } = what;
     let Stamped { stamp, value } = reply;
-    let list = town.items.get_mut(usize::from(server));
-    let item = Item {
+    Item {
         stamp,
         agent,
         request,
         reply: value,
-    };
-    push(rt, list.expect(rt, "a server"), item);
+    }
 }
 
 /// What its agent puts down of an event, where that asks this server next and was told this stamp.
@@ -147,12 +151,7 @@ fn end_of(outcome: Option<Outcome>) -> Option<Entry> {
 }
 
 /// Puts down what an agent did, where there is one and it did something.
-fn put_down(
-    rt: &(impl Abort + AllocGlobal),
-    town: &mut Town,
-    agent: Option<u8>,
-    entry: Option<Entry>,
-) {
+fn put_down(rt: &impl Abort, town: &mut Town, agent: Option<u8>, entry: Option<Entry>) {
     if let Some(entry) = entry {
         adds(rt, town, agent.expect(rt, "an agent"), entry);
     }

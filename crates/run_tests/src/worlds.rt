@@ -6,7 +6,8 @@
 
 use crate::events::event;
 use crate::fixtures::{
-    had, number, opening, push, same, settings, settings_of, small, step, three_votes,
+    ended_by, ending, had, number, opening, push, same, settings, settings_of, small, three_votes,
+    words,
 };
 use run_core::{Event, Outcome, World, runs_go_on, worked_runs};
 use std::alloc::AllocError;
@@ -33,21 +34,6 @@ fn both(rt: &(impl Abort + AllocGlobal), settings: &Settings) -> Pair {
     }
 }
 
-/// How a job ended, in words.
-fn words(rt: &(impl Abort + AllocGlobal), outcome: &Outcome) -> String {
-    let (agent, count, steps) = (outcome.agent, outcome.count, outcome.steps);
-    let made = format!(in rt.alloc(); "{agent}.{count} {steps} {:?}", outcome.ending);
-    had(rt, made)
-}
-
-/// How a job ended, in words; none, if none did.
-fn ending(rt: &(impl Abort + AllocGlobal), outcome: &Option<Outcome>) -> String {
-    match outcome {
-        Some(outcome) => words(rt, outcome),
-        None => String::new(rt.alloc()),
-    }
-}
-
 fn advanced(
     world: &mut World,
     event: &Event,
@@ -56,23 +42,18 @@ fn advanced(
     world.advance(event, ended)
 }
 
-/// How a job ended by an event, if one did.
-fn advance(rt: &impl Abort, world: &mut World, event: &Event) -> Option<Outcome> {
+/// How a job ended by an event, in words.
+fn advance(rt: &(impl Abort + AllocGlobal), world: &mut World, event: &Event) -> String {
     let mut ended = None;
     again!(rt, advanced(world, event, &mut ended));
-    ended
-}
-
-/// How a job ended by an event, if one did; it is told elsewhere what was served.
-fn outcome(rt: &impl Abort, world: &mut World, event: &Event) -> Option<Outcome> {
-    step(rt, world, event).outcome
+    ending(rt, &ended)
 }
 
 /// An event, and how a job ended by it.
 fn happens(rt: &(impl Abort + AllocGlobal), worlds: &mut Pair, line: &str) -> String {
     let event = event(rt, line);
-    let stepped = ending(rt, &outcome(rt, &mut worlds.stepped, &event));
-    let advanced = ending(rt, &advance(rt, &mut worlds.advanced, &event));
+    let stepped = ended_by(rt, &mut worlds.stepped, &event);
+    let advanced = advance(rt, &mut worlds.advanced, &event);
     same(rt, &advanced, &stepped, line);
     stepped
 }
@@ -113,22 +94,31 @@ fn play(rt: &(impl Abort + AllocGlobal), worlds: &mut Pair, line: &str) -> Strin
     }
 }
 
-/// Plays a line so many times: all but the last end no job.
-fn repeats(rt: &(impl Abort + AllocGlobal), worlds: &mut Pair, line: &str, times: &str) -> String {
-    for _ in 1..number(rt, times) {
-        let quiet = play(rt, worlds, line);
-        same(rt, &quiet, "", line);
-    }
-    play(rt, worlds, line)
+/// Plays a line, of which this comes.
+fn comes(rt: &(impl Abort + AllocGlobal), worlds: &mut Pair, line: &str, want: &str) {
+    same(rt, &play(rt, worlds, line), want, line);
 }
 
-/// Plays the lines of a text. Behind an arrow stands what is to come of a line, behind a colon how often it is played.
+/// A line of a text: behind an arrow stands what is to come of it, and behind a colon how often it is played.
+fn parts(text: &str) -> (&str, &str, &str) {
+    let (line, want) = text.split_once(" -> ").unwrap_or((text, ""));
+    let (line, times) = line.split_once(": ").unwrap_or((line, "1"));
+    (line, times, want)
+}
+
+/// Plays a line so many times: all but the last end no job.
+fn repeats(rt: &(impl Abort + AllocGlobal), worlds: &mut Pair, text: &str) {
+    let (line, times, want) = parts(text);
+    for _ in 1..number(rt, times) {
+        comes(rt, worlds, line, "");
+    }
+    comes(rt, worlds, line, want);
+}
+
+/// Plays the lines of a text.
 fn plays(rt: &(impl Abort + AllocGlobal), worlds: &mut Pair, text: &str) {
     for line in text.lines().skip(1) {
-        let (all, wanted) = line.split_once(" -> ").unwrap_or((line, ""));
-        let (line, times) = all.split_once(": ").unwrap_or((all, "1"));
-        let came = repeats(rt, worlds, line, times);
-        same(rt, &came, wanted, all);
+        repeats(rt, worlds, line);
     }
 }
 
@@ -248,6 +238,11 @@ fn eight_files(rt: &(impl Abort + AllocGlobal), worlds: &mut Pair, t: u16) {
         "begin 0 file /{at}/{t}a; file /{at}/{t}b; file /{at}/{t}c; file /{at}/{t}d; file /{at}/{t}e; file /{at}/{t}f; file /{at}/{t}g; file /{at}/{t}h"
     );
     happens(rt, worlds, &had(rt, line));
+    until_ended(rt, worlds);
+}
+
+/// Agent 0 takes steps until its job has ended; forty at most.
+fn until_ended(rt: &(impl Abort + AllocGlobal), worlds: &mut Pair) {
     for _ in 0..40 {
         if !happens(rt, worlds, "step 0").is_empty() {
             return;
@@ -369,30 +364,46 @@ struct EventsAndEnds {
     ends: Vec<(usize, &'static str)>,
 }
 
-fn told_by(rt: &(impl Abort + AllocGlobal), text: &'static str) -> EventsAndEnds {
-    let mut events = Vec::new(rt.alloc());
-    let mut ends = Vec::new(rt.alloc());
-    for line in text.lines().skip(1) {
-        let (all, end) = line.split_once(" -> ").unwrap_or((line, ""));
-        let (line, times) = all.split_once(": ").unwrap_or((all, "1"));
-        for _ in 0..number(rt, times) {
-            push(rt, &mut events, event(rt, line));
-        }
-        if !end.is_empty() {
-            let last = events.len().wrapping_sub(1);
-            push(rt, &mut ends, (last, end));
-        }
+/// Adds the events of a line, and the end that they bring.
+fn add(rt: &(impl Abort + AllocGlobal), told: &mut EventsAndEnds, text: &'static str) {
+    let (line, times, end) = parts(text);
+    for _ in 0..number(rt, times) {
+        push(rt, &mut told.events, event(rt, line));
     }
-    EventsAndEnds { events, ends }
+    if !end.is_empty() {
+        let last = told.events.len().wrapping_sub(1);
+        push(rt, &mut told.ends, (last, end));
+    }
+}
+
+fn told_by(rt: &(impl Abort + AllocGlobal), text: &'static str) -> EventsAndEnds {
+    let mut told = EventsAndEnds {
+        events: Vec::new(rt.alloc()),
+        ends: Vec::new(rt.alloc()),
+    };
+    for line in text.lines().skip(1) {
+        add(rt, &mut told, line);
+    }
+    told
+}
+
+/// The outcome at this place is there, and is this.
+fn ends_so(rt: &(impl Abort + AllocGlobal), outcomes: &[Outcome], at: usize, want: &str) {
+    let outcome = outcomes.get(at).expect(rt, "an end");
+    same(rt, &words(rt, outcome), want, want);
 }
 
 /// Jobs end as those events say that are played from this place on.
-fn ends(rt: &(impl Abort + AllocGlobal), told: &EventsAndEnds, from: usize, outcomes: &[Outcome]) {
+fn ends(
+    rt: &(impl Abort + AllocGlobal),
+    wanted: &[(usize, &'static str)],
+    from: usize,
+    outcomes: &[Outcome],
+) {
     let mut next = 0usize;
-    for (place, end) in &told.ends {
+    for (place, end) in wanted {
         if *place >= from {
-            assert!(rt; next < outcomes.len());
-            same(rt, &words(rt, &outcomes[next]), end, "an end");
+            ends_so(rt, outcomes, next, end);
             next = next.wrapping_add(1);
         }
     }
@@ -404,7 +415,7 @@ fn plays_at_once(rt: &(impl Abort + AllocGlobal), text: &'static str) {
     let told = told_by(rt, text);
     let mut world = world(rt);
     let (from, outcomes) = plays_on(rt, &mut world, &told.events);
-    ends(rt, &told, from, &outcomes);
+    ends(rt, &told.ends, from, &outcomes);
 }
 
 #[test]
