@@ -109,11 +109,11 @@ pub(crate) fn asked<R: Abort + Wait, G: Gate>(
     pass: Pass,
     question: Question,
 ) -> (Pass, Answer) {
-    let (pass, answer) = ask_once(rt, gate, servers, pass, question);
-    if lacks_memory(&answer) {
-        return ask_once(rt, gate, servers, pass, question);
+    let told = ask_once(rt, gate, servers, pass, question);
+    if lacks_memory(&told.1) {
+        return ask_once(rt, gate, servers, told.0, question);
     }
-    (pass, answer)
+    told
 }
 
 fn lacks_memory(answer: &Answer) -> bool {

@@ -1,6 +1,6 @@
 //! Lies about a run, which are found out.
 
-use crate::fixtures::{push, same, settings};
+use crate::fixtures::{same, settings};
 use crate::town::{Town, adds, count, judged, opened, play};
 use rep_core::{Lack, Reply, Request, Stamped};
 use run_certify::Entry;
@@ -60,16 +60,17 @@ fn tell_lie(
     match lie {
         Lie::LeftOut => drop(items.remove(place)),
         Lie::Doubled => double(rt, items, place),
-        Lie::Reply => items[place].reply = Reply::Lost,
-        Lie::Stamp => falsify(&mut items[place]),
-        Lie::Agent => items[place].agent = Some(5),
+        _ => falsify(&mut items[place], lie),
     }
     true
 }
 
-/// Another stamp.
-fn falsify(item: &mut Item) {
-    item.stamp = item.stamp.wrapping_add(1);
+fn falsify(item: &mut Item, lie: Lie) {
+    match lie {
+        Lie::Reply => item.reply = Reply::Lost,
+        Lie::Agent => item.agent = Some(5),
+        _ => item.stamp = item.stamp.wrapping_add(1),
+    }
 }
 
 fn request_of(rt: &impl Abort, item: &Item) -> Stamped<Request> {
@@ -93,9 +94,8 @@ fn copy_of(rt: &impl Abort, item: &Item) -> Item {
 fn double(rt: &impl Abort, items: &mut Vec<Item>, place: usize) {
     assert!(rt; place < items.len());
     let copy = copy_of(rt, &items[place]);
-    push(rt, items, copy);
-    let last = items.len().wrapping_sub(1);
-    items.swap(place + 1, last);
+    again!(rt, items.reserve(1));
+    assert!(rt; items.insert(place + 1, copy).is_ok());
 }
 
 /// This lie of an item is found out, where there is such an item; tells whether there is.

@@ -95,9 +95,9 @@ fn told<R: Abort + AllocGlobal + Wait>(
     question: Question,
     want: &str,
 ) -> Pass {
-    let (pass, answer) = asked(rt, &OpenGate, servers, pass, question);
-    answered(rt, servers, &answer, question.server, want);
-    pass
+    let told = asked(rt, &OpenGate, servers, pass, question);
+    answered(rt, servers, &told.1, question.server, want);
+    told.0
 }
 
 /// Asks, and compares what is answered; an item more is the pass's.

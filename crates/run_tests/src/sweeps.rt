@@ -17,8 +17,11 @@ use vote_core::ServerSet;
 fn asked(rt: &impl Abort, agent: &Agent) -> (u8, Request)
     ensures { next_of agent.now.fixed agent.now.state ≡ Some result }
 {
-    let next = agent.next().ok().expect(rt, "memory");
-    next.expect(rt, "a request")
+    agent
+        .next()
+        .ok()
+        .expect(rt, "memory")
+        .expect(rt, "a request")
 }
 
 /// What is asked: of which server, of which transaction, and of which suite.
