@@ -98,7 +98,8 @@ pub(crate) fn comes_to(
     decisions: usize,
 ) {
     let (histories, transcripts) = told;
-    assert!(rt; items(histories) == count);
+    let found = items(histories);
+    assert!(rt; found == count, "{count} items: {found}");
     assert!(rt; certified(rt, settings, histories, transcripts) == Some(decisions));
 }
 

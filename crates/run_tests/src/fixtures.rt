@@ -26,6 +26,13 @@ pub(crate) fn push<T: Drop>(rt: &impl Abort, list: &mut Vec<T>, item: T) {
     assert!(rt; list.push(item).is_ok());
 }
 
+/// Puts something into a vector, at a place that it has or at its end.
+pub(crate) fn insert<T: Drop>(rt: &impl Abort, list: &mut Vec<T>, at: usize, item: T) {
+    again!(rt, list.reserve(1));
+    assert!(rt; at <= list.len());
+    assert!(rt; list.insert(at, item).is_ok());
+}
+
 /// A number of a test's text.
 pub(crate) fn number(rt: &impl Abort, digits: &str) -> u64 {
     digits.parse::<u64>().ok().expect(rt, "a number")

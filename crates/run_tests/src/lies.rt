@@ -1,6 +1,6 @@
 //! Lies about a run, which are found out.
 
-use crate::fixtures::{same, settings};
+use crate::fixtures::{insert, same, settings};
 use crate::town::{Town, adds, count, judged, opened, play};
 use rep_core::{Lack, Reply, Request, Stamped};
 use run_certify::Entry;
@@ -92,10 +92,9 @@ fn copy_of(rt: &impl Abort, item: &Item) -> Item {
 
 /// Puts an item there once more, after itself.
 fn double(rt: &impl Abort, items: &mut Vec<Item>, place: usize) {
-    assert!(rt; place < items.len());
-    let copy = copy_of(rt, &items[place]);
-    again!(rt, items.reserve(1));
-    assert!(rt; items.insert(place + 1, copy).is_ok());
+    let item = items.get(place).expect(rt, "an item");
+    let copy = copy_of(rt, item);
+    insert(rt, items, place.wrapping_add(1), copy);
 }
 
 /// This lie of an item is found out, where there is such an item; tells whether there is.
