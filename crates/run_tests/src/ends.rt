@@ -63,7 +63,9 @@ fn replied<R: Abort + Wait>(rt: &R, servers: &Servers, pass: Pass, ask: Ask) -> 
 fn foreign(rt: &(impl Abort + AllocGlobal + Wait), settings: &Settings) -> Pass {
     let (servers, mut passes) = started(rt, settings);
     let pass = take(rt, &mut passes, Some(0));
-    replied(rt, &servers, pass, Ask::Locks)
+    let pass = replied(rt, &servers, pass, Ask::Locks);
+    assert!(rt; pass.agent() == Some(0));
+    pass
 }
 
 /// Has a list of the root carried out.

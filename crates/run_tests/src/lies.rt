@@ -45,27 +45,35 @@ enum Lie {
     Agent,
 }
 
-/// Tells a lie of the item at this place of a server; tells whether there is such an item.
-fn tell_lie(
-    rt: &(impl Abort + AllocGlobal),
-    town: &mut Town,
-    lie: Lie,
-    server: usize,
-    place: usize,
-) -> bool {
-    let items = items_of(rt, town, server);
-    if place >= items.len() {
-        return false;
+/// Leaves out what stands at this place of a list; tells whether something does.
+fn leave_out<T: Drop>(list: &mut Vec<T>, place: usize) -> bool {
+    let is_there = place < list.len();
+    if is_there {
+        drop(list.remove(place));
     }
-    match lie {
-        Lie::LeftOut => drop(items.remove(place)),
-        Lie::Doubled => double(rt, items, place),
-        _ => falsify(&mut items[place], lie),
-    }
-    true
+    is_there
 }
 
-fn falsify(item: &mut Item, lie: Lie) {
+/// Tells a lie of the item at this place of a server; tells whether there is such an item.
+fn tell_lie(rt: &impl Abort, items: &mut Vec<Item>, lie: Lie, place: usize) -> bool {
+    match lie {
+        Lie::LeftOut => leave_out(items, place),
+        Lie::Doubled => double(rt, items, place),
+        _ => falsify(items, lie, place),
+    }
+}
+
+fn falsify(items: &mut Vec<Item>, lie: Lie, place: usize) -> bool {
+    match items.get_mut(place) {
+        Some(item) => {
+            spoil_item(item, lie);
+            true
+        }
+        None => false,
+    }
+}
+
+fn spoil_item(item: &mut Item, lie: Lie) {
     match lie {
         Lie::Reply => item.reply = Reply::Lost,
         Lie::Agent => item.agent = Some(5),
@@ -91,10 +99,13 @@ fn copy_of(rt: &impl Abort, item: &Item) -> Item {
 }
 
 /// Puts an item there once more, after itself.
-fn double(rt: &impl Abort, items: &mut Vec<Item>, place: usize) {
-    let item = items.get(place).expect(rt, "an item");
-    let copy = copy_of(rt, item);
+fn double(rt: &impl Abort, items: &mut Vec<Item>, place: usize) -> bool {
+    let copy = match items.get(place) {
+        Some(item) => copy_of(rt, item),
+        None => return false,
+    };
     insert(rt, items, place.wrapping_add(1), copy);
+    true
 }
 
 /// This lie of an item is found out, where there is such an item; tells whether there is.
@@ -106,7 +117,7 @@ fn is_found_out(
     place: usize,
 ) -> bool {
     let mut town = told(rt, settings);
-    let is_told = tell_lie(rt, &mut town, lie.0, server, place);
+    let is_told = tell_lie(rt, items_of(rt, &mut town, server), lie.0, place);
     if is_told {
         found_out(rt, settings, town, lie.1);
     }
@@ -136,17 +147,7 @@ fn lies_about_items(rt: HostRuntime) {
     lies(&rt, &settings, Lie::Agent, "another agent");
 }
 
-/// Leaves out what stands at this place of an agent's transcript; tells whether something does.
-fn silent(rt: &impl Abort, town: &mut Town, agent: usize, place: usize) -> bool {
-    let entries = entries_of(rt, town, agent);
-    if place >= entries.len() {
-        return false;
-    }
-    drop(entries.remove(place));
-    true
-}
-
-/// That is found out; tells whether something stands there.
+/// It is found out where an entry of an agent is left out; tells whether there is one.
 fn is_missed(
     rt: &(impl Abort + AllocGlobal),
     settings: &Settings,
@@ -154,11 +155,11 @@ fn is_missed(
     place: usize,
 ) -> bool {
     let mut town = told(rt, settings);
-    let is_silent = silent(rt, &mut town, agent, place);
-    if is_silent {
+    let is_there = leave_out(entries_of(rt, &mut town, agent), place);
+    if is_there {
         found_out(rt, settings, town, "an entry less");
     }
-    is_silent
+    is_there
 }
 
 #[test]
@@ -200,22 +201,21 @@ fn a_last_step_was_not_taken(rt: HostRuntime) {
 }
 
 /// Changes the last entry of an agent, which has to be the end of a job: another number of steps.
-fn miscount(rt: &impl Abort, town: &mut Town, agent: usize) {
-    if let Some(Entry::Ended(outcome)) = entries_of(rt, town, agent).last_mut() {
+fn miscount(entries: &mut Vec<Entry>) {
+    if let Some(Entry::Ended(outcome)) = entries.last_mut() {
         outcome.steps = outcome.steps.wrapping_add(1);
     }
 }
 
 /// Exchanges the first two items of a server.
-fn exchange(rt: &impl Abort, town: &mut Town, server: usize) {
-    let items = items_of(rt, town, server);
+fn exchange(rt: &impl Abort, items: &mut Vec<Item>) {
     assert!(rt; items.len() >= 2);
     items.swap(0, 1);
 }
 
-/// Tells of an item that the operator asked for it.
-fn operate(rt: &impl Abort, town: &mut Town, server: usize) {
-    if let Some(item) = items_of(rt, town, server).last_mut() {
+/// Tells of the last item of a server that the operator asked for it.
+fn operate(items: &mut Vec<Item>) {
+    if let Some(item) = items.last_mut() {
         item.agent = None;
     }
 }
@@ -239,9 +239,9 @@ fn invented(which: usize) -> Entry {
 /// Spoils a run in one way of several.
 fn spoil(rt: &impl Abort, town: &mut Town, which: usize) {
     match which {
-        0 | 1 => miscount(rt, town, which),
-        2 => exchange(rt, town, 0),
-        3 => operate(rt, town, 1),
+        0 | 1 => miscount(entries_of(rt, town, which)),
+        2 => exchange(rt, items_of(rt, town, 0)),
+        3 => operate(items_of(rt, town, 1)),
         4 | 5 => adds(rt, town, 0, invented(which)),
         _ => adds(rt, town, 1, invented(which)),
     }
