@@ -173,7 +173,7 @@ fn count_of(agent: Option<u8>) -> u64 {
 }
 
 fn count_is(rt: &impl Abort, pass: &Pass, want: u64) {
-    assert!(rt; pass.count() == want);
+    assert_eq!(rt; pass.count(), want);
 }
 
 #[test]
@@ -251,7 +251,7 @@ impl Gate for Counting {
 }
 
 fn counted(rt: &impl Abort, many: &AtomicU64, want: u64) {
-    assert!(rt; many.load(Ordering::SeqCst) == want);
+    assert_eq!(rt; many.load(Ordering::SeqCst), want);
 }
 
 #[test]
