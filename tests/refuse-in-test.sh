@@ -7,7 +7,7 @@
 # want of memory, or passes where it wants none, and a call that answers otherwise than it should is still told. Prints how
 # many were refused; status 1 where a test stopped for anything else. As
 #
-#     tests/refuse-in-test.sh lock_tests locks::the_replies_are_the_servers
+#     tests/refuse-in-test.sh run_tests locks::the_replies_are_the_servers
 #
 # Without words: all tests that are written for it. TESTS names another built file of tests.
 set -u
@@ -57,10 +57,10 @@ else
     refuse_each library_tests list_text::a_list_is_read_where_memory_was_refused
     refuse_each library_tests table::operations_see_one_another
     refuse_each library_tests server::requests_are_answered_with_their_stamps
-    refuse_each agent_tests worlds::both_sides_of_the_deciding_step
-    refuse_each lock_tests locks::the_replies_are_the_servers
-    refuse_each certify_tests runs::a_list_beside_a_sweep
-    refuse_each pool_tests overlap::an_open_gate_gives_a_run
+    refuse_each run_tests worlds::both_sides_of_the_deciding_step
+    refuse_each run_tests locks::the_replies_are_the_servers
+    refuse_each run_tests runs::a_list_beside_a_sweep
+    refuse_each run_tests overlap::an_open_gate_gives_a_run
     echo "$tests tests, $refused refusals: $passes times a test passed, $stops times it lacked memory itself, $differ differ"
 fi
 [ $differ -eq 0 ]

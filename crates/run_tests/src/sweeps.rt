@@ -5,11 +5,13 @@ ghost use Rattle.txn_core.specs.Agents.{next_of};
 ghost use Rattle.txn_core.specs.Laws.{fits_word};
 ghost use Rattle.txn_core.specs.Standing.{FitsAsked};
 
-use crate::fixtures::{number, settings};
+use crate::fixtures::{had, number, push, same, settings_of, votes};
 use rep_core::{Lock, LockList, Reply, Request, Verdict};
+use std::alloc::AllocError;
 use std::process::Abort;
 use suite_prefix::LockMode;
 use txn_core::{Agent, Ending, Job, Word};
+use vote_core::ServerSet;
 
 /// What an agent asks, and of which server.
 fn asked(rt: &impl Abort, agent: &Agent) -> (u8, Request)
@@ -23,12 +25,16 @@ fn asked(rt: &impl Abort, agent: &Agent) -> (u8, Request)
 }
 
 /// What is asked: of which server, of which transaction, and of which suite.
-fn asked_text(rt: &(impl Abort + AllocGlobal), at: u8, request: &Request) -> String {
-    let text = match request {
+fn asked_text(rt: &impl AllocGlobal, at: u8, request: &Request) -> Result<String, AllocError> {
+    match request {
         Request::Finish { t, .. } => format!(in rt.alloc(); "{at} finish {t}"),
         other => format!(in rt.alloc(); "{at} {other:?}"),
-    };
-    text.ok().expect(rt, "memory")
+    }
+}
+
+/// This is what is asked.
+fn asks(rt: &(impl Abort + AllocGlobal), at: u8, request: &Request, wanted: &str) {
+    same(rt, &had(rt, asked_text(rt, at, request)), wanted, wanted);
 }
 
 /// A transaction and a suite; a prepared lock has a mark.
@@ -46,9 +52,9 @@ fn lock(rt: &impl Abort, text: &str) -> Lock {
 fn locks(rt: &(impl Abort + AllocGlobal), text: &str) -> LockList {
     let mut locks = Vec::new(rt.alloc());
     for word in text.split(' ') {
-        locks.push(lock(rt, word)).ok().expect(rt, "memory");
+        push(rt, &mut locks, lock(rt, word));
     }
-    LockList::from_vec(locks).ok().expect(rt, "memory")
+    had(rt, LockList::from_vec(locks))
 }
 
 /// A reply in a word, or locks.
@@ -73,7 +79,7 @@ fn fitting(rt: &impl Abort, request: &Request, reply: Reply) -> Word
 fn told(rt: &impl Abort, agent: &mut Agent, word: &Word) -> Option<Ending>
     requires { FitsAsked (next_of agent.old.fixed agent.old.state) word.now }
 {
-    agent.take(word).ok().expect(rt, "memory")
+    had(rt, agent.take(word))
 }
 
 /// The agent asks this, and is told that.
@@ -84,8 +90,7 @@ fn tells(
     said: &str,
 ) -> Option<Ending> {
     let (at, request) = asked(rt, agent);
-    let text = asked_text(rt, at, &request);
-    assert!(rt; text.as_str() == wanted, "{wanted}: {text}");
+    asks(rt, at, &request, wanted);
     let word = fitting(rt, &request, reply(rt, said));
     told(rt, agent, &word)
 }
@@ -98,20 +103,31 @@ static TALK: &str = "
 1 Break { t: 70, suite: 2 } -> done
 0 Resolve { t: 129 } -> down";
 
+/// An agent that has begun a sweep of server 1.
+fn sweeping(rt: &(impl Abort + AllocGlobal)) -> Agent {
+    let one = votes(rt, 3, &[(0, 1)], 1, 1);
+    let settings = settings_of(rt, one, 2, (0, 0), ServerSet::empty());
+    let mut agent = had(rt, Agent::new(rt.alloc(), 0, &settings));
+    had(rt, agent.begin(&Job::Sweep { server: 1 }));
+    agent
+}
+
+/// How the agent's job ends, once it has been told all lines.
+fn end(rt: &(impl Abort + AllocGlobal), agent: &mut Agent) -> Option<Ending> {
+    let mut ended = None;
+    for line in TALK.lines().skip(1) {
+        let (wanted, said) = line.split_once(" -> ").expect(rt, "a line");
+        ended = tells(rt, agent, wanted, said);
+    }
+    ended
+}
+
 /// A list that does not rise, of a transaction with one prepared lock, of one without, and of one whose
 /// home is down.
 #[test]
 fn a_sweep_resolves_what_is_prepared(rt: HostRuntime) {
-    let made = Agent::new(rt.alloc(), 0, &settings(&rt, &[(0, 1)], 1));
-    let mut agent = made.ok().expect(&rt, "memory");
-    let begun = agent.begin(&Job::Sweep { server: 1 });
-    begun.ok().expect(&rt, "memory");
-    let mut ended = None;
-    for line in TALK.lines().skip(1) {
-        let (wanted, said) = line.split_once(" -> ").expect(&rt, "a line");
-        ended = tells(&rt, &mut agent, wanted, said);
-    }
-    let text = format!(in rt.alloc(); "{ended:?}").expect(&rt, "memory");
+    let ended = end(&rt, &mut sweeping(&rt));
+    let text = had(&rt, format!(in rt.alloc(); "{ended:?}"));
     let wanted = "Some(Swept { broken: 2, finished: 1, left: 1 })";
-    assert!(&rt; text.as_str() == wanted, "{text}");
+    same(&rt, &text, wanted, "the end");
 }

@@ -6,8 +6,9 @@ mod talks;
 
 ghost use Rattle.std.specs.Prelude.{◌<◌};
 
-use crate::fixtures::{lists, number};
+use crate::fixtures::{self, had, lists, number, same};
 use rep_core::{Reply, Request};
+use std::alloc::AllocError;
 use std::process::Abort;
 use suite_collect::{
     Collect, Hearing, Next, Told, asks_are_few, current_is_a_quorum, nobody_is_asked_twice,
@@ -17,19 +18,28 @@ use suite_prefix::{LockMode, Prefix, PrefixKind, SharedPrefix};
 use talks::TALKS;
 use vote_core::{MAX_SERVERS, Votes};
 
+static HERE: [(u8, u8); 3] = [(0, 1), (1, 1), (2, 1)];
+
+static THERE: [(u8, u8); 3] = [(3, 1), (4, 1), (5, 1)];
+
+static UNEVEN: [(u8, u8); 3] = [(0, 0), (1, 2), (2, 1)];
+
+static PAIR: [(u8, u8); 2] = [(0, 1), (1, 1)];
+
+static SHIFTED: [(u8, u8); 2] = [(1, 1), (2, 2)];
+
 /// Votes by a word: `here` are one each at servers 0, 1 and 2, two to read and two to write; `there` the same at servers
 /// 3, 4 and 5; `uneven` none at server 0, two at server 1, one at server 2, one to read and three to write; `pair` one
 /// each at servers 0 and 1, one to read and two to write; `shifted` one at server 1 and two at server 2, two to read and
 /// two to write.
 fn votes(rt: &impl Abort, place: &str) -> Votes {
-    let (reps, r, w): (&[(u8, u8)], u16, u16) = match place {
-        "here" => (&[(0, 1), (1, 1), (2, 1)], 2, 2),
-        "there" => (&[(3, 1), (4, 1), (5, 1)], 2, 2),
-        "uneven" => (&[(0, 0), (1, 2), (2, 1)], 1, 3),
-        "pair" => (&[(0, 1), (1, 1)], 1, 2),
-        _ => (&[(1, 1), (2, 2)], 2, 2),
-    };
-    Votes::new(6, reps, r, w).ok().expect(rt, "votes")
+    match place {
+        "here" => fixtures::votes(rt, 6, &HERE, 2, 2),
+        "there" => fixtures::votes(rt, 6, &THERE, 2, 2),
+        "uneven" => fixtures::votes(rt, 6, &UNEVEN, 1, 3),
+        "pair" => fixtures::votes(rt, 6, &PAIR, 1, 2),
+        _ => fixtures::votes(rt, 6, &SHIFTED, 2, 2),
+    }
 }
 
 fn prefix(rt: &(impl Abort + AllocGlobal), pver: u64, place: &str) -> SharedPrefix {
@@ -71,19 +81,26 @@ fn reply(rt: &(impl Abort + AllocGlobal), text: &str) -> Reply {
     }
 }
 
+fn hear(rt: &impl Abort, collect: &mut Collect, reply: &Reply) -> Hearing {
+    collect.hear(reply).ok().expect(rt, "memory")
+}
+
 /// What a reply to what is asked next comes to. A lock that gives a quorum is told, too.
-fn heard(rt: &(impl Abort + AllocGlobal), collect: &mut Collect, text: &str) -> &'static str {
-    let reply = reply(rt, text);
-    match collect.hear(&reply).ok().expect(rt, "memory") {
+fn hears(rt: &impl Abort, collect: &mut Collect, reply: &Reply) -> &'static str {
+    match hear(rt, collect, reply) {
         Hearing::Lost => "lost",
         Hearing::Asks => "asks",
         Hearing::Short => "short",
         Hearing::Quorum => {
-            let last = told_by(rt, collect, &reply);
+            let last = told_by(rt, collect, reply);
             collect.tell(last);
             "quorum"
         }
     }
+}
+
+fn heard(rt: &(impl Abort + AllocGlobal), collect: &mut Collect, text: &str) -> &'static str {
+    hears(rt, collect, &reply(rt, text))
 }
 
 /// What is told by a reply that answers what was asked.
@@ -99,46 +116,77 @@ fn act(rt: &(impl Abort + AllocGlobal), collect: &mut Collect, text: &str) {
     match text.split_once(' ') {
         None if text == "raise" => collect.raise(),
         Some(("widen", place)) => collect.widen(&votes(rt, place)),
-        _ => assert!(rt; heard(rt, collect, text) != "lost", "{text}"),
+        _ => goes_on(rt, collect, text),
     }
 }
 
+/// It is told a reply that answers what it asked.
+fn goes_on(rt: &(impl Abort + AllocGlobal), collect: &mut Collect, text: &str) {
+    let heard = heard(rt, collect, text);
+    assert!(rt; heard != "lost", "{text}");
+}
+
+/// What is asked, in words: of a poll the mode alone.
+fn ask_words(rt: &impl AllocGlobal, server: u8, request: &Request) -> Result<String, AllocError> {
+    match request {
+        Request::Poll { mode, .. } => format!(in rt.alloc(); "{mode:?} at {server}"),
+        other => format!(in rt.alloc(); "{other:?} at {server}"),
+    }
+}
+
+/// What is had, in words: the versions of the prefix and of the content, the members, and the first source.
+fn current_words(
+    rt: &impl AllocGlobal,
+    versions: (u64, u64),
+    members: &[u8],
+    source: Option<u8>,
+) -> Result<String, AllocError> {
+    let (pver, dver) = versions;
+    format!(in rt.alloc(); "prefix {pver} content {dver} of {members:?} from {source:?}")
+}
+
 /// What comes next, in words.
-fn words(rt: &(impl Abort + AllocGlobal), collect: &Collect) -> String {
-    let (alloc, source) = (rt.alloc(), collect.source());
-    let words = match collect.next() {
+fn next_words(
+    rt: &impl AllocGlobal,
+    next: &Next<'_>,
+    source: Option<u8>,
+) -> Result<String, AllocError> {
+    match next {
         Next::Current {
             prefix,
             dver,
             members,
-        } => {
-            let (pver, members) = (prefix.pver, members.as_slice());
-            format!(in alloc; "prefix {pver} content {dver} of {members:?} from {source:?}")
+        } => current_words(rt, (prefix.pver, *dver), members.as_slice(), source),
+        Next::Ask { server, request } => ask_words(rt, *server, request),
+        Next::Short { got, needed, busy } => {
+            format!(in rt.alloc(); "{got} of {needed} busy {busy:?}")
         }
-        Next::Ask {
-            server,
-            request: Request::Poll { mode, .. },
-        } => format!(in alloc; "{mode:?} at {server}"),
-        Next::Ask { server, request } => format!(in alloc; "{request:?} at {server}"),
-        Next::Short { got, needed, busy } => format!(in alloc; "{got} of {needed} busy {busy:?}"),
-    };
-    words.expect(rt, "memory")
+    }
+}
+
+fn words(rt: &(impl Abort + AllocGlobal), collect: &Collect) -> String {
+    had(rt, next_words(rt, &collect.next(), collect.source()))
 }
 
 fn comes(rt: &(impl Abort + AllocGlobal), collect: &Collect, want: &str, about: &str) {
-    let got = words(rt, collect);
-    assert!(rt; got.as_str() == want, "{about}: {got}");
+    same(rt, &words(rt, collect), want, about);
 }
 
 /// A talk, line by line: what is done, and what comes next.
 fn talk(rt: &(impl Abort + AllocGlobal), mode: LockMode, text: &str) {
     let mut collect = collector(rt, mode, "here");
     for line in text.lines().skip(1) {
-        let (what, want) = line.split_once(" -> ").expect(rt, "a line");
-        act(rt, &mut collect, what);
-        comes(rt, &collect, want, line);
+        goes(rt, &mut collect, line);
     }
 }
+
+fn goes(rt: &(impl Abort + AllocGlobal), collect: &mut Collect, line: &str) {
+    let (what, want) = line.split_once(" -> ").expect(rt, "a line");
+    act(rt, collect, what);
+    comes(rt, collect, want, line);
+}
+
+// ---- talks
 
 static ONE_DOWN: &str = "
 down -> Shared at 1
@@ -236,42 +284,59 @@ fn all_short_talks_go_as_another_program_says(rt: HostRuntime) {
     }
 }
 
+/// It is told a reply, which comes to this.
+fn said(rt: &(impl Abort + AllocGlobal), collect: &mut Collect, text: &str, want: &str) {
+    same(rt, heard(rt, collect, text), want, text);
+}
+
+/// It holds the lock of server 1 to read, and not to write.
+fn reads_alone(rt: &impl Abort, collect: &Collect) {
+    assert!(rt; collect.holds(LockMode::Shared, 1));
+    assert!(rt; !collect.holds(LockMode::Exclusive, 1));
+}
+
 #[test]
 fn only_some_replies_are_gone_on_with(rt: HostRuntime) {
     let mut collect = collector(&rt, LockMode::Shared, "uneven");
-    assert!(rt; heard(&rt, &mut collect, "lost") == "lost");
-    assert!(rt; heard(&rt, &mut collect, "held 1 uneven 1") == "quorum");
-    assert!(rt; collect.holds(LockMode::Shared, 1));
-    assert!(rt; !collect.holds(LockMode::Exclusive, 1));
-    assert!(rt; heard(&rt, &mut collect, "down") == "lost");
+    said(&rt, &mut collect, "lost", "lost");
+    said(&rt, &mut collect, "held 1 uneven 1", "quorum");
+    reads_alone(&rt, &collect);
+    said(&rt, &mut collect, "down", "lost");
     collect.raise();
-    assert!(rt; heard(&rt, &mut collect, "down") == "lost");
+    said(&rt, &mut collect, "down", "lost");
 }
 
 /// What is told by a lock that gives a quorum.
 fn quorum_of(rt: &impl Abort, collect: &mut Collect, reply: &Reply) -> Told
     ensures { result.server < MAX_SERVERS }
 {
-    let hearing = collect.hear(reply).ok().expect(rt, "memory");
+    let hearing = hear(rt, collect, reply);
     assert!(rt; matches!(hearing, Hearing::Quorum));
     told_by(rt, collect, reply)
+}
+
+/// What a quorum gives before it is told.
+fn gives(rt: &impl Abort, collect: &Collect, last: &Told)
+    requires { last.now.server < MAX_SERVERS }
+{
+    let quorum = collect.quorum_after(last);
+    assert!(rt; quorum.prefix.pver == 2 && quorum.dver == 2 && quorum.source == Some(1));
+}
+
+/// A quorum by this reply is known before it is told.
+fn known(rt: &(impl Abort + AllocGlobal), collect: &mut Collect, reply: &Reply) {
+    let last = quorum_of(rt, collect, reply);
+    comes(rt, collect, "Shared at 1", "a quorum that is not told");
+    gives(rt, collect, &last);
+    collect.tell(last);
 }
 
 /// What a quorum gives is the same before it is told and after it.
 #[test]
 fn a_quorum_is_known_before_it_is_told(rt: HostRuntime) {
     let mut collect = collector(&rt, LockMode::Shared, "here");
-    assert!(rt; heard(&rt, &mut collect, "held 1 here 1") == "asks");
-    let last = quorum_of(&rt, &mut collect, &reply(&rt, "held 2 here 2"));
-    let about = "a quorum that is not told";
-    comes(&rt, &collect, "Shared at 1", about);
-    let quorum = collect.quorum_after(&last);
-    assert!(rt; quorum.prefix.pver == 2 && quorum.dver == 2 && quorum.source == Some(1));
-    collect.tell(last);
-    comes(
-        &rt,
-        &collect,
-        "prefix 2 content 2 of [0, 1] from Some(1)",
-        about,
-    );
+    said(&rt, &mut collect, "held 1 here 1", "asks");
+    known(&rt, &mut collect, &reply(&rt, "held 2 here 2"));
+    let wanted = "prefix 2 content 2 of [0, 1] from Some(1)";
+    comes(&rt, &collect, wanted, "a quorum that is told");
 }

@@ -4,24 +4,16 @@
 //! What memory was refused to is done again, so that each allocation can be refused in turn. What a test
 //! itself lacks stops it.
 
-mod read;
-
-use self::read::{event, number};
-use crate::fixtures::{settings, settings_with_old};
+use crate::events::event;
+use crate::fixtures::{
+    ended_by, ending, had, number, opening, push, same, settings, settings_of, small, three_votes,
+    words,
+};
 use run_core::{Event, Outcome, World, runs_go_on, worked_runs};
+use std::alloc::AllocError;
 use std::process::Abort;
 use suite_prefix::{Form, Settings};
 use vote_core::ServerSet;
-
-/// What a call gives, where memory may be refused to it once.
-macro_rules! again {
-    ($rt:expr, $call:expr) => {
-        match $call {
-            Ok(given) => given,
-            Err(_) => $call.ok().expect($rt, "memory"),
-        }
-    };
-}
 
 /// The same events are played in both.
 #[derive(Drop)]
@@ -30,59 +22,37 @@ struct Pair {
     advanced: World,
 }
 
-/// The votes of three servers.
-static VOTES: [(u8, u8); 3] = [(0, 1), (1, 1), (2, 1)];
-
-fn opening(rt: &(impl Abort + AllocGlobal), settings: &Settings) -> World {
-    again!(rt, World::opening(rt.alloc(), settings))
-}
-
 /// Three servers, two of which are a quorum; two agents.
 fn world(rt: &(impl Abort + AllocGlobal)) -> World {
-    opening(rt, &settings(rt, &VOTES, 2))
+    opening(rt, &settings(rt, 2))
 }
 
-fn both(rt: &(impl Abort + AllocGlobal)) -> Pair {
+fn both(rt: &(impl Abort + AllocGlobal), settings: &Settings) -> Pair {
     Pair {
-        stepped: world(rt),
-        advanced: world(rt),
+        stepped: opening(rt, settings),
+        advanced: opening(rt, settings),
     }
 }
 
-fn same(rt: &impl Abort, got: &str, want: &str, about: &str) {
-    assert!(rt; got == want, "{about}: {got}");
+fn advanced(
+    world: &mut World,
+    event: &Event,
+    ended: &mut Option<Outcome>,
+) -> Result<(), AllocError> {
+    world.advance(event, ended)
 }
 
-/// How a job ended, in words.
-fn words(rt: &(impl Abort + AllocGlobal), outcome: &Outcome) -> String {
-    let (agent, count, steps) = (outcome.agent, outcome.count, outcome.steps);
-    let made = format!(in rt.alloc(); "{agent}.{count} {steps} {:?}", outcome.ending);
-    made.ok().expect(rt, "memory")
-}
-
-/// How a job ended, in words; none, if none did.
-fn ending(rt: &(impl Abort + AllocGlobal), outcome: &Option<Outcome>) -> String {
-    match outcome {
-        Some(outcome) => words(rt, outcome),
-        None => String::new(rt.alloc()),
-    }
-}
-
-fn step(rt: &(impl Abort + AllocGlobal), world: &mut World, event: &Event) -> String {
-    let done = again!(rt, world.step(event));
-    ending(rt, &done.outcome)
-}
-
+/// How a job ended by an event, in words.
 fn advance(rt: &(impl Abort + AllocGlobal), world: &mut World, event: &Event) -> String {
     let mut ended = None;
-    again!(rt, world.advance(event, &mut ended));
+    again!(rt, advanced(world, event, &mut ended));
     ending(rt, &ended)
 }
 
 /// An event, and how a job ended by it.
 fn happens(rt: &(impl Abort + AllocGlobal), worlds: &mut Pair, line: &str) -> String {
     let event = event(rt, line);
-    let stepped = step(rt, &mut worlds.stepped, &event);
+    let stepped = ended_by(rt, &mut worlds.stepped, &event);
     let advanced = advance(rt, &mut worlds.advanced, &event);
     same(rt, &advanced, &stepped, line);
     stepped
@@ -94,7 +64,7 @@ fn told(rt: &(impl Abort + AllocGlobal), world: &World, word: &str, at: u8) -> S
         "idle" => format!(in rt.alloc(); "{}", world.idle(at)),
         _ => format!(in rt.alloc(); "{}", world.audit(at).len()),
     };
-    text.ok().expect(rt, "memory")
+    had(rt, text)
 }
 
 /// The form of a server's copy of a suite; a dash, if it has none.
@@ -111,41 +81,50 @@ fn forms(rt: &(impl Abort + AllocGlobal), world: &World, suite: u64) -> String {
     let (first, second) = (form(world, 0, suite), form(world, 1, suite));
     let third = form(world, 2, suite);
     let text = format!(in rt.alloc(); "{first} {second} {third}");
-    text.ok().expect(rt, "memory")
+    had(rt, text)
 }
 
 /// What comes of a line: `idle A`, `audit S`, `forms SUITE`, or an event.
 fn play(rt: &(impl Abort + AllocGlobal), worlds: &mut Pair, line: &str) -> String {
     match line.split_once(' ') {
-        Some(("idle", at)) => told(rt, &worlds.stepped, "idle", number(rt, at)),
-        Some(("audit", at)) => told(rt, &worlds.advanced, "audit", number(rt, at)),
-        Some(("forms", suite)) => forms(rt, &worlds.advanced, u64::from(number(rt, suite))),
+        Some(("idle", at)) => told(rt, &worlds.stepped, "idle", small(rt, at)),
+        Some(("audit", at)) => told(rt, &worlds.advanced, "audit", small(rt, at)),
+        Some(("forms", suite)) => forms(rt, &worlds.advanced, number(rt, suite)),
         _ => happens(rt, worlds, line),
     }
 }
 
-/// Plays a line so many times: all but the last end no job.
-fn repeats(rt: &(impl Abort + AllocGlobal), worlds: &mut Pair, line: &str, times: &str) -> String {
-    for _ in 1..number(rt, times) {
-        let quiet = play(rt, worlds, line);
-        same(rt, &quiet, "", line);
-    }
-    play(rt, worlds, line)
+/// Plays a line, of which this comes.
+fn comes(rt: &(impl Abort + AllocGlobal), worlds: &mut Pair, line: &str, want: &str) {
+    same(rt, &play(rt, worlds, line), want, line);
 }
 
-/// Plays the lines of a text. Behind an arrow stands what is to come of a line, behind a colon how often it is played.
+/// A line of a text: behind an arrow stands what is to come of it, and behind a colon how often it is played.
+fn parts(text: &str) -> (&str, &str, &str) {
+    let (line, want) = text.split_once(" -> ").unwrap_or((text, ""));
+    let (line, times) = line.split_once(": ").unwrap_or((line, "1"));
+    (line, times, want)
+}
+
+/// Plays a line so many times: all but the last end no job.
+fn repeats(rt: &(impl Abort + AllocGlobal), worlds: &mut Pair, text: &str) {
+    let (line, times, want) = parts(text);
+    for _ in 1..number(rt, times) {
+        comes(rt, worlds, line, "");
+    }
+    comes(rt, worlds, line, want);
+}
+
+/// Plays the lines of a text.
 fn plays(rt: &(impl Abort + AllocGlobal), worlds: &mut Pair, text: &str) {
     for line in text.lines().skip(1) {
-        let (all, wanted) = line.split_once(" -> ").unwrap_or((line, ""));
-        let (line, times) = all.split_once(": ").unwrap_or((all, "1"));
-        let came = repeats(rt, worlds, line, times);
-        same(rt, &came, wanted, all);
+        repeats(rt, worlds, line);
     }
 }
 
 /// Plays the lines of a text on worlds that have just been opened.
 fn run(rt: &(impl Abort + AllocGlobal), text: &str) {
-    plays(rt, &mut both(rt), text);
+    plays(rt, &mut both(rt, &settings(rt, 2)), text);
 }
 
 static DENIED: &str = "
@@ -196,12 +175,12 @@ begin 1 read /a: 10
 step 1: 13 -> 1.0 13 Undecided(HomeDown)
 return 1: 10
 lack 1: 10
-forget 0: 10
+forget 0 0: 10
 begin 7 read /a
 step 7
 crash 7
 return 7
-forget 7
+forget 7 0
 lack 7";
 
 #[test]
@@ -221,9 +200,9 @@ step 0: 2 -> 0.1 7 Undecided(Memory)
 begin 0 write /a ho
 step 0: 8
 lack 0: 2 -> 0.2 10 Answered(Answers { replies: [Wrote] })
-sweep 1 0
+begin 1 sweep 0
 step 1: 3 -> 1.0 3 Swept { broken: 0, finished: 1, left: 0 }
-sweep 1 1
+begin 1 sweep 1
 step 1: 3 -> 1.1 3 Swept { broken: 0, finished: 1, left: 0 }
 begin 0 read /a
 step 0: 11 -> 0.3 11 Answered(Answers { replies: [Read(FileBytes { shared: Some([104, 111]) })] })
@@ -258,7 +237,12 @@ fn eight_files(rt: &(impl Abort + AllocGlobal), worlds: &mut Pair, t: u16) {
     let line = format!(in rt.alloc();
         "begin 0 file /{at}/{t}a; file /{at}/{t}b; file /{at}/{t}c; file /{at}/{t}d; file /{at}/{t}e; file /{at}/{t}f; file /{at}/{t}g; file /{at}/{t}h"
     );
-    happens(rt, worlds, line.ok().expect(rt, "memory").as_str());
+    happens(rt, worlds, &had(rt, line));
+    until_ended(rt, worlds);
+}
+
+/// Agent 0 takes steps until its job has ended; forty at most.
+fn until_ended(rt: &(impl Abort + AllocGlobal), worlds: &mut Pair) {
     for _ in 0..40 {
         if !happens(rt, worlds, "step 0").is_empty() {
             return;
@@ -270,7 +254,7 @@ fn eight_files(rt: &(impl Abort + AllocGlobal), worlds: &mut Pair, t: u16) {
 /// that it has is written.
 #[test]
 fn a_server_is_full(rt: HostRuntime) {
-    let mut worlds = both(&rt);
+    let mut worlds = both(&rt, &settings(&rt, 2));
     plays(&rt, &mut worlds, FOLDERS);
     for t in 0u16..511 {
         eight_files(&rt, &mut worlds, t);
@@ -293,30 +277,35 @@ crash 2
 return 2
 forms 0 -> 2 2 1";
 
-/// Those servers' world, twice.
-fn old_worlds(rt: &(impl Abort + AllocGlobal)) -> Pair {
+/// Those servers' settings.
+fn old_settings(rt: &(impl Abort + AllocGlobal)) -> Settings {
     let mut old = ServerSet::empty();
     old.insert(0);
     old.insert(2);
-    let settings = settings_with_old(rt, &VOTES, 2, old);
-    Pair {
-        stepped: opening(rt, &settings),
-        advanced: opening(rt, &settings),
-    }
+    settings_of(rt, three_votes(rt), 2, (0, 0), old)
 }
 
 #[test]
 fn old_and_new_copies(rt: HostRuntime) {
-    plays(&rt, &mut old_worlds(&rt), OLD_AND_NEW);
+    plays(&rt, &mut both(&rt, &old_settings(&rt)), OLD_AND_NEW);
 }
 
-/// Plays events, and the others where memory is refused to it once; how many outcomes were handed out.
-fn played(rt: &impl Abort, world: &mut World, events: &[Event]) -> usize {
+/// The outcomes of events; or, where memory is refused, how many were played.
+fn played(world: &mut World, events: &[Event]) -> Result<Vec<Outcome>, usize> {
     match world.play(events) {
-        Ok(outcomes) => outcomes.len(),
-        Err(stopped) => {
-            let left = &events[stopped.done..];
-            world.play(left).ok().expect(rt, "memory").len()
+        Ok(outcomes) => Ok(outcomes),
+        Err(stopped) => Err(stopped.done),
+    }
+}
+
+/// From which place on events were played to the end, and their outcomes: from the first one on, or where memory was
+/// refused once.
+fn plays_on(rt: &impl Abort, world: &mut World, events: &[Event]) -> (usize, Vec<Outcome>) {
+    match played(world, events) {
+        Ok(outcomes) => (0, outcomes),
+        Err(done) => {
+            let left = events.get(done..).expect(rt, "events");
+            (done, had(rt, played(world, left)))
         }
     }
 }
@@ -325,7 +314,7 @@ static AT_ONCE: &str = "
 begin 0 file /a; write /a hi
 lack 0
 lack 0
-forget 0
+forget 0 0
 begin 1 read /a
 step 1
 lack 1";
@@ -335,12 +324,9 @@ fn events_at_once(rt: HostRuntime) {
     runs_go_on();
     worked_runs();
     let mut world = world(&rt);
-    let mut events = Vec::new(rt.alloc());
-    for line in AT_ONCE.lines().skip(1) {
-        events.push(event(&rt, line)).ok().expect(&rt, "memory");
-    }
-    let outcomes = played(&rt, &mut world, &events);
-    assert!(&rt; outcomes <= 1 && world.idle(0));
+    let told = told_by(&rt, AT_ONCE);
+    let (_, outcomes) = plays_on(&rt, &mut world, &told.events);
+    assert!(&rt; outcomes.len() <= 1 && world.idle(0));
 }
 
 /// A writer stops before its deciding step, or behind it; another agent sweeps both servers that hold its locks; then the
@@ -350,9 +336,9 @@ begin 0 file /a; write /a hi
 step 0: 10 -> 0.0 10 Answered(Answers { replies: [Made(1), Wrote] })
 begin 0 write /a no
 step 0: 7
-sweep 1 0
+begin 1 sweep 0
 step 1: 3 -> 1.0 3 Swept { broken: 0, finished: 1, left: 0 }
-sweep 1 1
+begin 1 sweep 1
 step 1: 3 -> 1.1 3 Swept { broken: 0, finished: 1, left: 0 }
 step 0: 3 -> 0.1 10 Undecided(Overruled)
 begin 1 read /a
@@ -363,9 +349,9 @@ begin 0 file /a; write /a hi
 step 0: 10 -> 0.0 10 Answered(Answers { replies: [Made(1), Wrote] })
 begin 0 write /a no
 step 0: 8
-sweep 1 0
+begin 1 sweep 0
 step 1: 3 -> 1.0 3 Swept { broken: 0, finished: 1, left: 0 }
-sweep 1 1
+begin 1 sweep 1
 step 1: 3 -> 1.1 3 Swept { broken: 0, finished: 1, left: 0 }
 step 0: 2 -> 0.1 10 Answered(Answers { replies: [Wrote] })
 begin 1 read /a
@@ -378,30 +364,46 @@ struct EventsAndEnds {
     ends: Vec<(usize, &'static str)>,
 }
 
-fn told_by(rt: &(impl Abort + AllocGlobal), text: &'static str) -> EventsAndEnds {
-    let mut events = Vec::new(rt.alloc());
-    let mut ends = Vec::new(rt.alloc());
-    for line in text.lines().skip(1) {
-        let (all, end) = line.split_once(" -> ").unwrap_or((line, ""));
-        let (line, times) = all.split_once(": ").unwrap_or((all, "1"));
-        for _ in 0..number(rt, times) {
-            events.push(event(rt, line)).ok().expect(rt, "memory");
-        }
-        if !end.is_empty() {
-            let last = events.len().wrapping_sub(1);
-            ends.push((last, end)).ok().expect(rt, "memory");
-        }
+/// Adds the events of a line, and the end that they bring.
+fn add(rt: &(impl Abort + AllocGlobal), told: &mut EventsAndEnds, text: &'static str) {
+    let (line, times, end) = parts(text);
+    for _ in 0..number(rt, times) {
+        push(rt, &mut told.events, event(rt, line));
     }
-    EventsAndEnds { events, ends }
+    if !end.is_empty() {
+        let last = told.events.len().wrapping_sub(1);
+        push(rt, &mut told.ends, (last, end));
+    }
+}
+
+fn told_by(rt: &(impl Abort + AllocGlobal), text: &'static str) -> EventsAndEnds {
+    let mut told = EventsAndEnds {
+        events: Vec::new(rt.alloc()),
+        ends: Vec::new(rt.alloc()),
+    };
+    for line in text.lines().skip(1) {
+        add(rt, &mut told, line);
+    }
+    told
+}
+
+/// The outcome at this place is there, and is this.
+fn ends_so(rt: &(impl Abort + AllocGlobal), outcomes: &[Outcome], at: usize, want: &str) {
+    let outcome = outcomes.get(at).expect(rt, "an end");
+    same(rt, &words(rt, outcome), want, want);
 }
 
 /// Jobs end as those events say that are played from this place on.
-fn ends(rt: &(impl Abort + AllocGlobal), told: &EventsAndEnds, from: usize, outcomes: &[Outcome]) {
+fn ends(
+    rt: &(impl Abort + AllocGlobal),
+    wanted: &[(usize, &'static str)],
+    from: usize,
+    outcomes: &[Outcome],
+) {
     let mut next = 0usize;
-    for (place, end) in &told.ends {
+    for (place, end) in wanted {
         if *place >= from {
-            assert!(rt; next < outcomes.len());
-            same(rt, &words(rt, &outcomes[next]), end, "an end");
+            ends_so(rt, outcomes, next, end);
             next = next.wrapping_add(1);
         }
     }
@@ -412,14 +414,8 @@ fn ends(rt: &(impl Abort + AllocGlobal), told: &EventsAndEnds, from: usize, outc
 fn plays_at_once(rt: &(impl Abort + AllocGlobal), text: &'static str) {
     let told = told_by(rt, text);
     let mut world = world(rt);
-    match world.play(&told.events) {
-        Ok(outcomes) => ends(rt, &told, 0, &outcomes),
-        Err(stopped) => {
-            let left = &told.events[stopped.done..];
-            let outcomes = world.play(left).ok().expect(rt, "memory");
-            ends(rt, &told, stopped.done, &outcomes);
-        }
-    }
+    let (from, outcomes) = plays_on(rt, &mut world, &told.events);
+    ends(rt, &told.ends, from, &outcomes);
 }
 
 #[test]

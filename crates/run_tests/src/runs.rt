@@ -1,46 +1,52 @@
 //! Runs, which are certified.
 
-use crate::town::{
-    Town, certified, count, happens, histories, job, judged, opened, play, same, settings,
-    transcripts,
-};
+use crate::certified::{certified, histories, transcripts};
+use crate::events::job;
+use crate::fixtures::{same, settings, settings_of, three_votes};
+use crate::town::{Town, count, happens, judged, opened, play, put_together};
 use rep_core::Lack;
 use run_certify::Entry;
 use run_core::Event;
 use std::process::Abort;
 use suite_prefix::Settings;
 use txn_core::{Ending, Job};
+use vote_core::ServerSet;
 
 /// What a run on three servers comes to, by its lines.
 fn runs(rt: &(impl Abort + AllocGlobal), agents: usize, lines: &str, items: usize, want: &str) {
-    let settings = settings(rt, agents, 0, 0);
+    let settings = settings(rt, agents);
     let mut town = opened(rt, &settings);
     play(rt, &mut town, lines);
     assert!(rt; count(&town) == items);
-    same(rt, &judged(rt, &settings, town), want);
+    same(rt, &judged(rt, &settings, town), want, lines);
+}
+
+/// No histories and no transcripts are certified too.
+fn nobody_is_a_run(rt: &(impl Abort + AllocGlobal), settings: &Settings) {
+    let none = histories(rt, Vec::new(rt.alloc()));
+    let nobody = transcripts(rt, Vec::new(rt.alloc()));
+    assert!(rt; certified(rt, settings, &none, &nobody) == Some(0));
 }
 
 #[test]
 fn nothing_is_a_run(rt: HostRuntime) {
-    let settings = settings(&rt, 2, 0, 0);
+    let settings = settings(&rt, 2);
     let town = opened(&rt, &settings);
-    same(&rt, &judged(&rt, &settings, town), "");
-    let none = histories(&rt, Vec::new(rt.alloc()));
-    let nobody = transcripts(&rt, Vec::new(rt.alloc()));
-    assert!(&rt; certified(&rt, &settings, &none, &nobody) == Some(0));
+    same(&rt, &judged(&rt, &settings, town), "", "nothing");
+    nobody_is_a_run(&rt, &settings);
 }
 
 #[test]
 fn a_list_beside_a_sweep(rt: HostRuntime) {
-    let lines = "begin 0 list:/,sweep 1 1,step 0,run 1,run 0";
+    let lines = "begin 0 list /,begin 1 sweep 1,step 0,run 1,run 0";
     runs(&rt, 2, lines, 9, "0 by 1000: 1 of 1 answered. ");
 }
 
 #[test]
 fn two_read_beside_crashes(rt: HostRuntime) {
     let lines =
-        "begin 0 file:/a write:/a,run 0,begin 0 read:/a,begin 1 read:/a,both 1 0,crash 2,return 2,\
-        sweep 1 1,lack 1,sweep 0 0,run 0,forget 0 3";
+        "begin 0 file /a; write /a hi,run 0,begin 0 read /a,begin 1 read /a,both 1 0,crash 2,return 2,\
+        begin 1 sweep 1,lack 1,begin 0 sweep 0,run 0,forget 0 3";
     let want =
         "0 by 1000: 2 of 2 answered. 1 by 1000: 1 of 1 answered. 64 by 1000: 1 of 1 answered. ";
     runs(&rt, 2, lines, 10 + 22 + 2 + 1, want);
@@ -65,37 +71,37 @@ fn below(seed: &mut u64, limit: u64) -> u8 {
 }
 
 const JOBS: [&str; 8] = [
-    "file:/a",
-    "file:/b write:/b",
-    "write:/a",
-    "read:/a",
-    "list:/",
-    "read:/b write:/b read:/b",
-    "file:/c read:/a",
-    "read:/c",
+    "file /a",
+    "file /b; write /b hi",
+    "write /a hi",
+    "read /a",
+    "list /",
+    "read /b; write /b hi; read /b",
+    "file /c; read /a",
+    "read /c",
 ];
+
+/// A job by its number; a sweep, where there is none.
+fn job_at(rt: &(impl Abort + AllocGlobal), which: u8, seed: &mut u64) -> Job {
+    match JOBS.get(usize::from(which)) {
+        Some(words) => job(rt, words),
+        None => Job::Sweep {
+            server: below(seed, 3),
+        },
+    }
+}
 
 /// What an agent does next: begins a job, or takes a step of the one that it has.
 fn goes_on(rt: &(impl Abort + AllocGlobal), town: &mut Town, seed: &mut u64) {
     let agent = below(seed, 4);
     let which = below(seed, 10);
-    if !town.world.idle(agent) {
-        happens(rt, town, Event::Step { agent });
-        return;
-    }
-    match JOBS.get(usize::from(which)) {
-        Some(words) => begins(rt, town, agent, words),
-        None => {
-            let server = below(seed, 3);
-            let job = Job::Sweep { server };
-            happens(rt, town, Event::Begin { agent, job });
-        }
-    }
-}
-
-fn begins(rt: &(impl Abort + AllocGlobal), town: &mut Town, agent: u8, words: &str) {
-    let job = job(rt, words);
-    happens(rt, town, Event::Begin { agent, job });
+    let event = if town.world.idle(agent) {
+        let job = job_at(rt, which, seed);
+        Event::Begin { agent, job }
+    } else {
+        Event::Step { agent }
+    };
+    happens(rt, town, event);
 }
 
 /// What happens next: of a hundred things a crash, four returns, a cache that is forgotten, two requests that are not
@@ -134,27 +140,42 @@ fn long_run(rt: &(impl Abort + AllocGlobal), settings: &Settings) -> Town {
 fn answered(entries: &[Entry]) -> usize {
     let mut answered = 0usize;
     for entry in entries {
-        if let Entry::Ended(outcome) = entry {
-            if matches!(outcome.ending, Ending::Answered(_) | Ending::Refused(_)) {
-                answered = answered.saturating_add(1);
-            }
+        if is_answered(entry) {
+            answered = answered.saturating_add(1);
         }
     }
     answered
 }
 
+fn is_answered(entry: &Entry) -> bool {
+    match entry {
+        Entry::Ended(outcome) => {
+            matches!(outcome.ending, Ending::Answered(_) | Ending::Refused(_))
+        }
+        _ => false,
+    }
+}
+
+fn all_answered(town: &Town) -> usize {
+    let mut all = 0usize;
+    for entries in &town.entries {
+        all = all.saturating_add(answered(entries));
+    }
+    all
+}
+
+/// So many decisions are certified of a town.
+fn decides(rt: &(impl Abort + AllocGlobal), settings: &Settings, town: Town, want: usize) {
+    let (histories, transcripts) = put_together(rt, town);
+    assert!(rt; certified(rt, settings, &histories, &transcripts) == Some(want));
+}
+
 #[test]
 fn a_thousand_items(rt: HostRuntime) {
-    let settings = settings(&rt, 4, 4096, 16);
+    let settings = settings_of(&rt, three_votes(&rt), 4, (4096, 16), ServerSet::empty());
     let town = long_run(&rt, &settings);
     assert!(&rt; count(&town) >= 1000);
-    let mut ended = 0usize;
-    for entries in &town.entries {
-        ended = ended.saturating_add(answered(entries));
-    }
+    let ended = all_answered(&town);
     assert!(&rt; ended > 20);
-    let Town { items, entries, .. } = town;
-    let histories = histories(&rt, items);
-    let transcripts = transcripts(&rt, entries);
-    assert!(&rt; certified(&rt, &settings, &histories, &transcripts) == Some(ended));
+    decides(&rt, &settings, town, ended);
 }

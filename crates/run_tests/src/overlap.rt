@@ -1,7 +1,9 @@
 //! Two agents that overlap: a list, and a sweep of server 1.
 
-use crate::crew::{Crew, certified, closed, items, jobs, opened, settings, work};
+use crate::certified::certified;
+use crate::crew::{Crew, closed, comes_to, jobs, opened, work};
 use crate::ends::ended_so;
+use crate::fixtures::settings;
 use agent_pool::{Pool, PoolFault};
 use server_lock::{Gate, OpenGate, Servers};
 use std::process::Abort;
@@ -63,7 +65,7 @@ fn listed_and_swept<R: Abort + AllocGlobal + Threads + Wait + Sync, G: Gate + Sy
         agents,
         passes,
     } = opened(rt, settings);
-    let both = jobs(rt, 0, "list:/,sweep");
+    let both = jobs(rt, 0, "list /,sweep 1");
     match work(rt, gate, &servers, &both, (agents, passes)) {
         Ok(pool) => Some((servers, pool)),
         Err(fault) => {
@@ -73,34 +75,47 @@ fn listed_and_swept<R: Abort + AllocGlobal + Threads + Wait + Sync, G: Gate + Sy
     }
 }
 
-#[test]
-fn a_list_overlaps_a_sweep(rt: HostRuntime) {
-    let settings = settings(&rt, 2);
+/// Both meet at the gate.
+fn meet<R: Abort + AllocGlobal + Threads + Wait + Sync>(
+    rt: &R,
+    settings: &Settings,
+) -> (Servers, Pool) {
     let gate = Meeting {
         begun: AtomicU64::new(0),
         taken: AtomicU64::new(0),
         answered: AtomicU64::new(0),
         late: AtomicU64::new(0),
     };
-    let run = listed_and_swept(&rt, &gate, &settings);
-    assert!(&rt; gate.late.load(Ordering::SeqCst) == 0);
-    let (servers, pool) = run.expect(&rt, "a run");
+    let run = listed_and_swept(rt, &gate, settings);
+    assert!(rt; gate.late.load(Ordering::SeqCst) == 0);
+    run.expect(rt, "a run")
+}
+
+#[test]
+fn a_list_overlaps_a_sweep(rt: HostRuntime) {
+    let settings = settings(&rt, 2);
+    let (servers, pool) = meet(&rt, &settings);
     let swept = "1 1 Swept { broken: 0, finished: 0, left: 0 }";
     ended_so(&rt, &pool, &["0 8 list of 0", swept]);
-    let (histories, transcripts) = closed(&rt, servers, pool);
-    assert!(&rt; items(&histories) == 9);
-    assert!(&rt; certified(&rt, &settings, &histories, &transcripts) == Some(1));
+    comes_to(&rt, &settings, &closed(&rt, servers, pool), 9, 1);
+}
+
+/// Both as it comes; once more, where memory was refused.
+fn as_it_comes<R: Abort + AllocGlobal + Threads + Wait + Sync>(
+    rt: &R,
+    settings: &Settings,
+) -> (Servers, Pool) {
+    match listed_and_swept(rt, &OpenGate, settings) {
+        Some(run) => run,
+        None => listed_and_swept(rt, &OpenGate, settings).expect(rt, "a run"),
+    }
 }
 
 /// Whoever comes first, and wherever memory is refused once: what comes back is a run, the second time at the latest.
 #[test]
 fn an_open_gate_gives_a_run(rt: HostRuntime) {
     let settings = settings(&rt, 2);
-    let run = match listed_and_swept(&rt, &OpenGate, &settings) {
-        Some(run) => Some(run),
-        None => listed_and_swept(&rt, &OpenGate, &settings),
-    };
-    let (servers, pool) = run.expect(&rt, "a run");
+    let (servers, pool) = as_it_comes(&rt, &settings);
     let (histories, transcripts) = closed(&rt, servers, pool);
     assert!(&rt; certified(&rt, &settings, &histories, &transcripts).is_some());
 }

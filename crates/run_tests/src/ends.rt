@@ -1,0 +1,124 @@
+//! How jobs end, in words, and jobs that cannot be done.
+
+use crate::asking::{Ask, Question, ask_once, started, take};
+use crate::crew::{Crew, jobs, opened, others, work};
+use crate::fixtures::{had, push, same, settings};
+use agent_pool::{JobOutcome, Player, Pool, PoolFault, ended};
+use file_ops::{Answer, Answers};
+use server_lock::{OpenGate, Pass, Servers};
+use std::alloc::AllocError;
+use std::process::Abort;
+use std::sync::Wait;
+use std::thread::Threads;
+use suite_content::NameList;
+use suite_prefix::Settings;
+use txn_core::Ending;
+
+fn list_words(rt: &(impl Abort + AllocGlobal), names: &NameList) -> Result<String, AllocError> {
+    let count = names.len();
+    format!(in rt.alloc(); "list of {count}")
+}
+
+fn answers_words(rt: &(impl Abort + AllocGlobal), answers: &Answers) -> Result<String, AllocError> {
+    match answers.as_slice().first() {
+        Some(Answer::Made(number)) => format!(in rt.alloc(); "made {number}"),
+        Some(Answer::Wrote) => String::from_str(rt.alloc(), "wrote"),
+        Some(Answer::List(names)) => list_words(rt, names),
+        other => format!(in rt.alloc(); "{other:?}"),
+    }
+}
+
+fn ending_words(rt: &(impl Abort + AllocGlobal), ending: &Ending) -> Result<String, AllocError> {
+    match ending {
+        Ending::Answered(answers) => answers_words(rt, answers),
+        other => format!(in rt.alloc(); "{other:?}"),
+    }
+}
+
+/// A job's number, its steps, and how it ended.
+fn outcome_words(rt: &(impl Abort + AllocGlobal), pool: &Pool, outcome: &JobOutcome) -> String {
+    let told = ended(&pool.agents, outcome).expect(rt, "an end");
+    let words = had(rt, ending_words(rt, &told.ending));
+    let (job, steps) = (outcome.job, told.steps);
+    had(rt, format!(in rt.alloc(); "{job} {steps} {words}"))
+}
+
+/// Compares how the jobs ended, in their order.
+pub(crate) fn ended_so(rt: &(impl Abort + AllocGlobal), pool: &Pool, want: &[&str]) {
+    assert!(rt; pool.outcomes.len() == want.len());
+    for (outcome, want) in pool.outcomes.iter().zip(want) {
+        same(rt, &outcome_words(rt, pool, outcome), want, want);
+    }
+}
+
+/// Asks server 0 and takes the pass back; there has to be a reply.
+fn replied<R: Abort + Wait>(rt: &R, servers: &Servers, pass: Pass, ask: Ask) -> Pass {
+    let question = Question { server: 0, ask };
+    let (pass, answer) = ask_once(rt, &OpenGate, servers, pass, question);
+    assert!(rt; answer.reply().is_ok());
+    pass
+}
+
+/// The pass of agent 0 of another start, with which it asked once.
+fn foreign(rt: &(impl Abort + AllocGlobal + Wait), settings: &Settings) -> Pass {
+    let (servers, mut passes) = started(rt, settings);
+    let pass = take(rt, &mut passes, Some(0));
+    let pass = replied(rt, &servers, pass, Ask::Locks);
+    assert!(rt; pass.agent() == Some(0));
+    pass
+}
+
+/// Has a list of the root carried out.
+fn list<R: Abort + AllocGlobal + Threads + Wait + Sync>(
+    rt: &R,
+    servers: &Servers,
+    crew: (Vec<Player>, Vec<Pass>),
+) -> Result<Pool, PoolFault> {
+    work(rt, &OpenGate, servers, &jobs(rt, 0, "list /"), crew)
+}
+
+/// Why agent 0 cannot list the root with these passes.
+fn fault<R: Abort + AllocGlobal + Threads + Wait + Sync>(
+    rt: &R,
+    settings: &Settings,
+    passes: Vec<Pass>,
+) -> Option<PoolFault> {
+    let Crew {
+        servers,
+        mut agents,
+        ..
+    } = opened(rt, settings);
+    let _others = others(rt, &mut agents);
+    list(rt, &servers, (agents, passes)).err()
+}
+
+#[test]
+fn a_pass_of_another_start_is_of_no_use(rt: HostRuntime) {
+    let settings = settings(&rt, 2);
+    let mut own = Vec::new(rt.alloc());
+    push(&rt, &mut own, foreign(&rt, &settings));
+    assert!(&rt; fault(&rt, &settings, own) == Some(PoolFault::Missing(0)));
+}
+
+/// Has the operator ask server 0 until its history is as long as one may be.
+fn filled<R: Abort + Wait>(rt: &R, servers: &Servers, pass: Pass) -> Pass {
+    let mut pass = pass;
+    for _ in 0..1_000_000u32 {
+        pass = replied(rt, servers, pass, Ask::Return);
+    }
+    pass
+}
+
+#[test]
+fn a_full_server_ends_a_job(rt: HostRuntime) {
+    let Crew {
+        servers,
+        agents,
+        mut passes,
+    } = opened(&rt, &settings(&rt, 1));
+    let operator = take(&rt, &mut passes, None);
+    push(&rt, &mut passes, filled(&rt, &servers, operator));
+    let pool = list(&rt, &servers, (agents, passes)).ok();
+    let pool = pool.expect(&rt, "a pool");
+    ended_so(&rt, &pool, &["0 1 Undecided(Full { server: 0 })"]);
+}

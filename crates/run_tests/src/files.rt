@@ -1,0 +1,141 @@
+//! Files that agent 0 makes, and that all agents write and list.
+
+use crate::certified::certified;
+use crate::crew::{Crew, closed, comes_to, jobs, opened, others, work};
+use crate::ends::ended_so;
+use crate::fixtures::{push, settings};
+use agent_pool::{Player, Pool, Transcripts};
+use rep_core::Reply;
+use server_lock::{Histories, History, OpenGate, Pass, Servers};
+use std::process::Abort;
+use std::sync::Wait;
+use std::thread::Threads;
+use suite_prefix::Settings;
+
+/// Jobs with the number of the first, and how each is to end.
+struct Round {
+    first: u64,
+    jobs: &'static str,
+    ends: &'static [&'static str],
+}
+
+const FILES: &str = "file /f0,file /f1,file /f2,file /f3,file /f4,file /f5,file /f6,file /f7";
+
+const MADE: [&str; 8] = [
+    "0 10 made 1",
+    "1 10 made 513",
+    "2 10 made 1025",
+    "3 10 made 1537",
+    "4 10 made 2049",
+    "5 10 made 2561",
+    "6 10 made 3073",
+    "7 10 made 3585",
+];
+
+const USES: &str =
+    "write /f0 hi,write /f1 hi,write /f2 hi,write /f3 hi,write /f4 hi,write /f5 hi,write /f6 hi,write /f7 hi,list /,list /,list /,list /";
+
+const USED: [&str; 12] = [
+    "8 10 wrote",
+    "9 10 wrote",
+    "10 10 wrote",
+    "11 10 wrote",
+    "12 10 wrote",
+    "13 10 wrote",
+    "14 10 wrote",
+    "15 10 wrote",
+    "16 8 list of 8",
+    "17 8 list of 8",
+    "18 8 list of 8",
+    "19 8 list of 8",
+];
+
+static MAKING: Round = Round {
+    first: 0,
+    jobs: FILES,
+    ends: &MADE,
+};
+
+static USING: Round = Round {
+    first: 8,
+    jobs: USES,
+    ends: &USED,
+};
+
+/// Has jobs carried out, and compares how they ended.
+fn carried_out<R: Abort + AllocGlobal + Threads + Wait + Sync>(
+    rt: &R,
+    servers: &Servers,
+    round: &Round,
+    crew: (Vec<Player>, Vec<Pass>),
+) -> Pool {
+    let jobs = jobs(rt, round.first, round.jobs);
+    let pool = work(rt, &OpenGate, servers, &jobs, crew).ok();
+    let pool = pool.expect(rt, "a pool");
+    ended_so(rt, &pool, round.ends);
+    pool
+}
+
+/// The agents of a pool, and others.
+fn joined(rt: &impl Abort, pool: Pool, others: Vec<Player>) -> (Vec<Player>, Vec<Pass>) {
+    let Pool {
+        mut agents,
+        passes,
+        ..
+    } = pool;
+    for player in others {
+        push(rt, &mut agents, player);
+    }
+    (agents, passes)
+}
+
+/// What servers and agents have done of it.
+fn files<R: Abort + AllocGlobal + Threads + Wait + Sync>(
+    rt: &R,
+    settings: &Settings,
+) -> (Histories, Transcripts) {
+    let Crew {
+        servers,
+        mut agents,
+        passes,
+    } = opened(rt, settings);
+    let others = others(rt, &mut agents);
+    let made = carried_out(rt, &servers, &MAKING, (agents, passes));
+    let used = carried_out(rt, &servers, &USING, joined(rt, made, others));
+    closed(rt, servers, used)
+}
+
+#[test]
+fn files_are_written_by_all(rt: HostRuntime) {
+    let settings = settings(&rt, 4);
+    for _ in 0..5u8 {
+        comes_to(&rt, &settings, &files(&rt, &settings), 192, 20);
+    }
+}
+
+/// The same history, but for the reply of the last item.
+fn falsify(rt: &impl Abort, history: History) -> History {
+    let mut items = history.into_vec();
+    items.last_mut().expect(rt, "an item").reply = Reply::Lost;
+    History::from_vec(items)
+}
+
+/// The same histories, but for the reply of the last item of server 1.
+fn falsified(rt: &(impl Abort + AllocGlobal), told: Histories) -> Histories {
+    let mut all = Vec::new(rt.alloc());
+    for (server, history) in told.into_vec().into_iter().enumerate() {
+        match server {
+            1 => push(rt, &mut all, falsify(rt, history)),
+            _ => push(rt, &mut all, history),
+        }
+    }
+    Histories::from_vec(all)
+}
+
+#[test]
+fn a_falsified_reply_is_found_out(rt: HostRuntime) {
+    let settings = settings(&rt, 4);
+    let (histories, transcripts) = files(&rt, &settings);
+    let histories = falsified(&rt, histories);
+    assert!(&rt; certified(&rt, &settings, &histories, &transcripts).is_none());
+}

@@ -1,0 +1,131 @@
+//! What tests begin with, and what stops them.
+//!
+//! What memory was refused to is called again, so that each allocation can be refused in turn. What a test itself
+//! lacks stops it.
+
+use acl_core::{Acl, Lists, Mode};
+use run_core::{Done, Event, Outcome, World};
+use std::alloc::AllocError;
+use std::process::Abort;
+use suite_prefix::Settings;
+use vote_core::{ServerSet, Votes};
+
+/// Stops the test where two texts differ.
+pub(crate) fn same(rt: &impl Abort, got: &str, want: &str, about: &str) {
+    assert!(rt; got == want, "{about}: {got}");
+}
+
+/// What was made, where memory sufficed for it.
+pub(crate) fn had<T: Drop, E: Drop>(rt: &impl Abort, made: Result<T, E>) -> T {
+    made.ok().expect(rt, "memory")
+}
+
+/// Appends to a vector.
+pub(crate) fn push<T: Drop>(rt: &impl Abort, list: &mut Vec<T>, item: T) {
+    again!(rt, list.reserve(1));
+    assert!(rt; list.push(item).is_ok());
+}
+
+/// Puts something into a vector, at a place that it has or at its end.
+pub(crate) fn insert<T: Drop>(rt: &impl Abort, list: &mut Vec<T>, at: usize, item: T) {
+    again!(rt, list.reserve(1));
+    assert!(rt; at <= list.len());
+    assert!(rt; list.insert(at, item).is_ok());
+}
+
+/// A number of a test's text.
+pub(crate) fn number(rt: &impl Abort, digits: &str) -> u64 {
+    digits.parse::<u64>().ok().expect(rt, "a number")
+}
+
+/// A number below 256.
+pub(crate) fn small(rt: &impl Abort, digits: &str) -> u8 {
+    digits.parse::<u8>().ok().expect(rt, "a number")
+}
+
+// ---- settings
+
+/// The list of a mode.
+pub(crate) fn lists(rt: &(impl Abort + AllocGlobal), bits: u16) -> Lists {
+    let mode = Mode::new(bits).expect(rt, "a mode");
+    Lists::from(again!(rt, acl(rt, mode)))
+}
+
+fn acl(rt: &impl AllocGlobal, mode: Mode) -> Result<Acl, AllocError> {
+    Acl::from_mode(rt.alloc(), mode)
+}
+
+/// These votes, of which so many are wanted to read, and to write.
+pub(crate) fn votes(rt: &impl Abort, servers: usize, reps: &[(u8, u8)], r: u16, w: u16) -> Votes {
+    Votes::new(servers, reps, r, w).ok().expect(rt, "votes")
+}
+
+/// One vote each at three servers, two of them a quorum.
+pub(crate) fn three_votes(rt: &impl Abort) -> Votes {
+    votes(rt, 3, &[(0, 1), (1, 1), (2, 1)], 2, 2)
+}
+
+/// Three servers with these votes, of which some open with their root in form 1, and so many agents, with so much room
+/// and so many places for caches.
+pub(crate) fn settings_of(
+    rt: &(impl Abort + AllocGlobal),
+    votes: Votes,
+    agents: usize,
+    caches: (usize, usize),
+    old: ServerSet,
+) -> Settings {
+    let (room, slots) = caches;
+    let root = lists(rt, 0o777);
+    Settings::new(3, agents, votes, 1000, 100, root, room, room, slots, old)
+        .ok()
+        .expect(rt, "settings")
+}
+
+/// Three servers with a vote each, two of them a quorum; so many agents, without room for caches.
+pub(crate) fn settings(rt: &(impl Abort + AllocGlobal), agents: usize) -> Settings {
+    settings_of(rt, three_votes(rt), agents, (0, 0), ServerSet::empty())
+}
+
+// ---- worlds
+
+/// A world in which nothing happened.
+pub(crate) fn opening(rt: &(impl Abort + AllocGlobal), settings: &Settings) -> World {
+    again!(rt, opened(rt, settings))
+}
+
+fn opened(rt: &impl AllocGlobal, settings: &Settings) -> Result<World, AllocError> {
+    World::opening(rt.alloc(), settings)
+}
+
+/// What comes of an event.
+pub(crate) fn step(rt: &impl Abort, world: &mut World, event: &Event) -> Done {
+    again!(rt, stepped(world, event))
+}
+
+fn stepped(world: &mut World, event: &Event) -> Result<Done, AllocError> {
+    world.step(event)
+}
+
+/// How a job ended, in words: its agent, its number, its steps, and the end.
+pub(crate) fn words(rt: &(impl Abort + AllocGlobal), outcome: &Outcome) -> String {
+    let (agent, count, steps) = (outcome.agent, outcome.count, outcome.steps);
+    let made = format!(in rt.alloc(); "{agent}.{count} {steps} {:?}", outcome.ending);
+    had(rt, made)
+}
+
+/// How a job ended, in words; none, if none did.
+pub(crate) fn ending(rt: &(impl Abort + AllocGlobal), outcome: &Option<Outcome>) -> String {
+    match outcome {
+        Some(outcome) => words(rt, outcome),
+        None => String::new(rt.alloc()),
+    }
+}
+
+/// How a job ended by an event, in words.
+pub(crate) fn ended_by(
+    rt: &(impl Abort + AllocGlobal),
+    world: &mut World,
+    event: &Event,
+) -> String {
+    ending(rt, &step(rt, world, event).outcome)
+}

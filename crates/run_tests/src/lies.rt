@@ -1,0 +1,269 @@
+//! Lies about a run, which are found out.
+
+use crate::fixtures::{insert, same, settings};
+use crate::town::{Town, adds, count, judged, opened, play};
+use rep_core::{Lack, Reply, Request, Stamped};
+use run_certify::Entry;
+use server_lock::Item;
+use std::process::Abort;
+use suite_prefix::Settings;
+use txn_core::Job;
+
+/// A list beside a sweep: nine items.
+fn told(rt: &(impl Abort + AllocGlobal), settings: &Settings) -> Town {
+    let mut town = opened(rt, settings);
+    play(
+        rt,
+        &mut town,
+        "begin 0 list /,begin 1 sweep 1,step 0,run 1,run 0",
+    );
+    town
+}
+
+/// This is no run.
+fn found_out(rt: &(impl Abort + AllocGlobal), settings: &Settings, town: Town, about: &str) {
+    same(rt, &judged(rt, settings, town), "Mismatch", about);
+}
+
+/// What a server served.
+fn items_of<'a>(rt: &impl Abort, town: &'a mut Town, server: usize) -> &'a mut Vec<Item> {
+    town.items.get_mut(server).expect(rt, "a server")
+}
+
+/// What an agent put down.
+fn entries_of<'a>(rt: &impl Abort, town: &'a mut Town, agent: usize) -> &'a mut Vec<Entry> {
+    town.entries.get_mut(agent).expect(rt, "an agent")
+}
+
+/// What is said of an item that is not so.
+#[derive(Clone, Copy)]
+enum Lie {
+    Reply,
+    LeftOut,
+    Doubled,
+    Stamp,
+    Agent,
+}
+
+/// Leaves out what stands at this place of a list; tells whether something does.
+fn leave_out<T: Drop>(list: &mut Vec<T>, place: usize) -> bool {
+    let is_there = place < list.len();
+    if is_there {
+        drop(list.remove(place));
+    }
+    is_there
+}
+
+/// Tells a lie of the item at this place of a server; tells whether there is such an item.
+fn tell_lie(rt: &impl Abort, items: &mut Vec<Item>, lie: Lie, place: usize) -> bool {
+    match lie {
+        Lie::LeftOut => leave_out(items, place),
+        Lie::Doubled => double(rt, items, place),
+        _ => falsify(items, lie, place),
+    }
+}
+
+fn falsify(items: &mut Vec<Item>, lie: Lie, place: usize) -> bool {
+    match items.get_mut(place) {
+        Some(item) => {
+            spoil_item(item, lie);
+            true
+        }
+        None => false,
+    }
+}
+
+fn spoil_item(item: &mut Item, lie: Lie) {
+    match lie {
+        Lie::Reply => item.reply = Reply::Lost,
+        Lie::Agent => item.agent = Some(5),
+        _ => item.stamp = item.stamp.wrapping_add(1),
+    }
+}
+
+fn request_of(rt: &impl Abort, item: &Item) -> Stamped<Request> {
+    again!(rt, item.request.clone())
+}
+
+fn reply_of(rt: &impl Abort, item: &Item) -> Reply {
+    again!(rt, item.reply.clone())
+}
+
+fn copy_of(rt: &impl Abort, item: &Item) -> Item {
+    Item {
+        stamp: item.stamp,
+        agent: item.agent,
+        request: request_of(rt, item),
+        reply: reply_of(rt, item),
+    }
+}
+
+/// Puts an item there once more, after itself.
+fn double(rt: &impl Abort, items: &mut Vec<Item>, place: usize) -> bool {
+    let copy = match items.get(place) {
+        Some(item) => copy_of(rt, item),
+        None => return false,
+    };
+    insert(rt, items, place.wrapping_add(1), copy);
+    true
+}
+
+/// This lie of an item is found out, where there is such an item; tells whether there is.
+fn is_found_out(
+    rt: &(impl Abort + AllocGlobal),
+    settings: &Settings,
+    lie: (Lie, &str),
+    server: usize,
+    place: usize,
+) -> bool {
+    let mut town = told(rt, settings);
+    let is_told = tell_lie(rt, items_of(rt, &mut town, server), lie.0, place);
+    if is_told {
+        found_out(rt, settings, town, lie.1);
+    }
+    is_told
+}
+
+/// Tells this lie of each of the nine items, one at a time.
+fn lies(rt: &(impl Abort + AllocGlobal), settings: &Settings, lie: Lie, about: &str) {
+    let mut told_of = 0u8;
+    for server in 0..3usize {
+        for place in 0..9usize {
+            if is_found_out(rt, settings, (lie, about), server, place) {
+                told_of = told_of.saturating_add(1);
+            }
+        }
+    }
+    assert!(rt; told_of == 9, "{about}");
+}
+
+#[test]
+fn lies_about_items(rt: HostRuntime) {
+    let settings = settings(&rt, 2);
+    lies(&rt, &settings, Lie::Reply, "another reply");
+    lies(&rt, &settings, Lie::LeftOut, "an item less");
+    lies(&rt, &settings, Lie::Doubled, "an item twice");
+    lies(&rt, &settings, Lie::Stamp, "another stamp");
+    lies(&rt, &settings, Lie::Agent, "another agent");
+}
+
+/// It is found out where an entry of an agent is left out; tells whether there is one.
+fn is_missed(
+    rt: &(impl Abort + AllocGlobal),
+    settings: &Settings,
+    agent: usize,
+    place: usize,
+) -> bool {
+    let mut town = told(rt, settings);
+    let is_there = leave_out(entries_of(rt, &mut town, agent), place);
+    if is_there {
+        found_out(rt, settings, town, "an entry less");
+    }
+    is_there
+}
+
+#[test]
+fn entries_are_left_out(rt: HostRuntime) {
+    let settings = settings(&rt, 2);
+    let mut left_out = 0u8;
+    for agent in 0..2usize {
+        for place in 0..10usize {
+            if is_missed(&rt, &settings, agent, place) {
+                left_out = left_out.saturating_add(1);
+            }
+        }
+    }
+    assert!(&rt; left_out == 13);
+}
+
+/// Leaves out the last of a list.
+fn pop<T: Drop>(rt: &impl Abort, list: &mut Vec<T>) {
+    assert!(rt; list.pop().is_some());
+}
+
+/// Leaves out the last step, by which agent 0 asked server 1 and its job ended.
+fn break_off(rt: &impl Abort, town: &mut Town) {
+    pop(rt, items_of(rt, town, 1));
+    pop(rt, entries_of(rt, town, 0));
+    pop(rt, entries_of(rt, town, 0));
+    assert!(rt; count(town) == 8);
+}
+
+/// A run that was broken off one step earlier is a run too.
+#[test]
+fn a_last_step_was_not_taken(rt: HostRuntime) {
+    let settings = settings(&rt, 2);
+    let mut town = told(&rt, &settings);
+    break_off(&rt, &mut town);
+    let verdict = judged(&rt, &settings, town);
+    let wanted = "0 by 1000: 1 of 1 answered. ";
+    same(&rt, &verdict, wanted, "a step less");
+}
+
+/// Changes the last entry of an agent, which has to be the end of a job: another number of steps.
+fn miscount(entries: &mut Vec<Entry>) {
+    if let Some(Entry::Ended(outcome)) = entries.last_mut() {
+        outcome.steps = outcome.steps.wrapping_add(1);
+    }
+}
+
+/// Exchanges the first two items of a server.
+fn exchange(rt: &impl Abort, items: &mut Vec<Item>) {
+    assert!(rt; items.len() >= 2);
+    items.swap(0, 1);
+}
+
+/// Tells of the last item of a server that the operator asked for it.
+fn operate(items: &mut Vec<Item>) {
+    if let Some(item) = items.last_mut() {
+        item.agent = None;
+    }
+}
+
+/// Something that an agent did not do.
+fn invented(which: usize) -> Entry {
+    match which {
+        4 => Entry::Asked {
+            server: 0,
+            stamp: 9,
+        },
+        5 => Entry::Forgot { site: 16 },
+        6 => Entry::Lacked {
+            server: 0,
+            lack: Lack::Memory,
+        },
+        _ => Entry::Begun(Job::Sweep { server: 3 }),
+    }
+}
+
+/// Spoils a run in one way of several.
+fn spoil(rt: &impl Abort, town: &mut Town, which: usize) {
+    match which {
+        0 | 1 => miscount(entries_of(rt, town, which)),
+        2 => exchange(rt, items_of(rt, town, 0)),
+        3 => operate(items_of(rt, town, 1)),
+        4 | 5 => adds(rt, town, 0, invented(which)),
+        _ => adds(rt, town, 1, invented(which)),
+    }
+}
+
+static SPOILED: [&str; 8] = [
+    "a step more of the list",
+    "a step more of the sweep",
+    "two items exchanged",
+    "an item of the operator",
+    "a request that was not served",
+    "a site that is not there",
+    "memory that sufficed",
+    "a server that is not there",
+];
+
+#[test]
+fn other_lies(rt: HostRuntime) {
+    let settings = settings(&rt, 2);
+    for (which, about) in SPOILED.iter().enumerate() {
+        let mut town = told(&rt, &settings);
+        spoil(&rt, &mut town, which);
+        found_out(&rt, &settings, town, about);
+    }
+}
