@@ -71,7 +71,7 @@ acl a -- -x -- -> acl [\"a\", \"-x\", \"--\"]";
 fn reads_command_lines(rt: HostRuntime) {
     for line in LINES.lines().skip(1) {
         let (words, want) = line.split_once(" -> ").expect(&rt, "a case");
-        tells(&rt, &told(&rt, words), want, line);
+        tells(&rt, told(&rt, words), want, line);
     }
 }
 
@@ -117,7 +117,7 @@ fn has_line(rt: &impl Abort, text: &String, end: &str, about: &str) {
 #[test]
 fn tells_how_to_use_it(rt: HostRuntime) {
     for line in "--help|-h|help|--help more".split('|') {
-        tells(&rt, &told(&rt, line), HELP, line);
+        tells(&rt, told(&rt, line), HELP, line);
     }
     for line in PARTS.lines().skip(1) {
         let (words, end) = line.split_once(" -> ").expect(&rt, "a case");
