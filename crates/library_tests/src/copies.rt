@@ -230,7 +230,8 @@ fn names_stand_in_byte_order_and_default_lists_behind_others(rt: HostRuntime) {
     is_spelled(&rt, &folder(&rt), &bytes(&rt, FOLDER));
     let copy = had(&rt, decode(rt.alloc(), &bytes(&rt, DEFAULT)));
     is_spelled_in(&rt, &copy, "89");
-    let default = copy.prefix.acl.default.expect(&rt, "a default list");
+    let default = copy.prefix.acl.default.as_ref();
+    let default = default.expect(&rt, "a default list");
     holds(&rt, default.entries().len() == 5, "its entries");
 }
 
