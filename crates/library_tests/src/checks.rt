@@ -43,9 +43,9 @@ pub(crate) fn printed<T: Display + Drop>(rt: &(impl Abort + AllocGlobal), value:
 }
 
 /// Stops the test where a value is not the same as its clone, or is the same as another.
-pub(crate) fn is_cloned<T: Clone + PartialEq>(rt: &impl Abort, value: T, other: T) {
-    holds(rt, had(rt, value.clone()) == value, "a clone");
-    holds(rt, value != other, "another value");
+pub(crate) fn is_cloned<T: Clone + PartialEq>(rt: &impl Abort, value: T, other: T, about: &str) {
+    holds(rt, had(rt, value.clone()) == value, about);
+    holds(rt, value != other, about);
 }
 
 /// What was made, where it was.

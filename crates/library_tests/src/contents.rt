@@ -99,7 +99,7 @@ fn a_list_has_the_names_alone(rt: HostRuntime) {
         "lengths",
     );
     shows(&rt, (list.len(), list.is_empty()), "(2, false)", "how many");
-    is_cloned(&rt, list, list_of(&rt, "bb=1"));
+    is_cloned(&rt, list, list_of(&rt, "bb=1"), "a list");
 }
 
 /// Puts a name in and takes it out again, where it is new.

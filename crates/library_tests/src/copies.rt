@@ -1,8 +1,7 @@
 //! The worked copy, valid and invalid copies, the largest ones, and settings.
 
 use crate::checks::{
-    add, bytes, case, damaged, debug, had, holds, is_cloned, number, parts, printed, push, shows,
-    tells, with_byte,
+    add, bytes, case, damaged, had, holds, is_cloned, number, parts, push, shows, with_byte,
 };
 use crate::fixtures::{
     content, entries, file, folder_of, judged, lists, long_bytes, many_entries, most_listed,
@@ -12,8 +11,9 @@ use acl_core::{Acl, Lists};
 use std::process::Abort;
 use suite_content::Kind;
 use suite_prefix::{
-    Content, LockMode, Prefix, PrefixKind, Replica, Settings, SettingsFault, decode, encode,
-    faults_tell_apart, fronts_are_short, no_bytes_begin_others, tests_are_exact,
+    Content, CopyFault, DecodeError, LockMode, Prefix, PrefixKind, Replica, Settings,
+    SettingsFault, decode, encode, faults_tell_apart, fronts_are_short, no_bytes_begin_others,
+    tests_are_exact,
 };
 use vote_core::{ServerSet, Votes};
 
@@ -75,19 +75,19 @@ fn the_worked_copy_has_its_63_bytes(rt: HostRuntime) {
 }
 
 /// The fault of bytes, or none: then they are those that the copy is written in.
-fn fault_of(rt: &(impl Abort + AllocGlobal), bytes: &[u8]) -> String {
+fn fault_of(rt: &(impl Abort + AllocGlobal), bytes: &[u8]) -> Option<DecodeError> {
     match decode(rt.alloc(), bytes) {
         Ok(copy) => {
             is_spelled(rt, &copy, bytes);
-            printed(rt, "None")
+            None
         }
-        Err(error) => debug(rt, Some(error)),
+        Err(error) => Some(error),
     }
 }
 
 /// Bytes are read so.
 fn are_read(rt: &(impl Abort + AllocGlobal), bytes: &[u8], want: &str, about: &str) {
-    tells(rt, fault_of(rt, bytes), want, about);
+    shows(rt, fault_of(rt, bytes), want, about);
 }
 
 /// Places of the worked copy with another byte there, and its fault.
@@ -141,30 +141,38 @@ fn damaged_copies_are_refused_by_their_fault(rt: HostRuntime) {
     }
 }
 
-/// Of the worked copy with each byte at each place so many have this fault, or are another copy.
-fn are_counted(rt: &(impl Abort + AllocGlobal), fault: &str, want: &str) {
-    let worked = bytes(rt, WORKED);
-    let mut count = 0u32;
-    for place in 0..63 {
-        for byte in 0..=255 {
-            let told = fault_of(rt, &with_byte(rt, &worked, place, byte));
-            if told.as_str() == fault {
-                count = count.wrapping_add(1);
-            }
-        }
+/// The place of a fault in a count; the first is for copies.
+fn place_of(fault: Option<DecodeError>) -> usize {
+    match fault {
+        None => 0,
+        Some(DecodeError::Fault(CopyFault::Short)) => 1,
+        Some(DecodeError::Fault(CopyFault::BadTag)) => 2,
+        Some(DecodeError::Fault(CopyFault::NotCanonical)) => 3,
+        Some(DecodeError::Fault(CopyFault::Invalid)) => 4,
+        Some(DecodeError::Fault(CopyFault::TrailingBytes)) => 5,
+        Some(DecodeError::Memory) => 6,
     }
-    shows(rt, count, want, fault);
 }
 
-/// All of the 16,128 are one of these.
+/// Counts what bytes are with each byte at a place.
+fn count_at(rt: &(impl Abort + AllocGlobal), bytes: &[u8], place: usize, counts: &mut [u32; 7]) {
+    for byte in 0..=255 {
+        let fault = fault_of(rt, &with_byte(rt, bytes, place, byte));
+        if let Some(count) = counts.get_mut(place_of(fault)) {
+            *count = count.wrapping_add(1);
+        }
+    }
+}
+
 #[test]
 fn with_a_byte_changed_it_is_refused_or_another_copy(rt: HostRuntime) {
-    are_counted(&rt, "None", "6804");
-    are_counted(&rt, "Some(Fault(Short))", "1273");
-    are_counted(&rt, "Some(Fault(BadTag))", "1765");
-    are_counted(&rt, "Some(Fault(NotCanonical))", "3069");
-    are_counted(&rt, "Some(Fault(Invalid))", "3214");
-    are_counted(&rt, "Some(Fault(TrailingBytes))", "3");
+    let worked = bytes(&rt, WORKED);
+    let mut counts = [0u32; 7];
+    for place in 0..63 {
+        count_at(&rt, &worked, place, &mut counts);
+    }
+    let want = "[6804, 1273, 1765, 3069, 3214, 3, 0]";
+    shows(&rt, counts, want, "copies, and each fault");
 }
 
 /// The list of 128 entries: 62 users, 62 groups, and the four others.
@@ -241,7 +249,7 @@ fn a_clone_is_the_same_until_it_is_changed(rt: HostRuntime) {
     holds(&rt, other.prefix == copy.prefix, "its prefix");
     other.prefix.owner = 1001;
     holds(&rt, other.content == copy.content, "its content");
-    is_cloned(&rt, copy, other);
+    is_cloned(&rt, copy, other, "another owner");
 }
 
 /// Whether a prefix and its copy are valid.
@@ -351,5 +359,6 @@ fn settings_are_kept(rt: HostRuntime) {
     shows(&rt, (counts, root, cache), want, "numbers");
     let is_open = *made.root_acl() == lists(&rt, "777");
     holds(&rt, is_open, "the root's lists");
-    is_cloned(&rt, made, had(&rt, settings(&rt, "3 2 | 4096 2048 17")));
+    let other = had(&rt, settings(&rt, "3 2 | 4096 2048 17"));
+    is_cloned(&rt, made, other, "slots");
 }

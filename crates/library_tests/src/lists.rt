@@ -114,7 +114,7 @@ fn a_mode_has_three_entries(rt: HostRuntime) {
     let acl = had(&rt, Acl::from_mode(rt.alloc(), mode(&rt, "751")));
     let same = acl.entries() == list(&rt, "u:7 g:5 o:1").entries();
     holds(&rt, same, "mode 751");
-    is_cloned(&rt, acl, list(&rt, "u:7 g:5 o:2"));
+    is_cloned(&rt, acl, list(&rt, "u:7 g:5 o:2"), "mode 751");
     holds(&rt, Mode::new(0o1000).is_none(), "mode 1000");
 }
 
@@ -140,7 +140,7 @@ fn both(rt: &(impl Abort + AllocGlobal)) -> Lists {
 #[test]
 fn a_folder_has_two_lists(rt: HostRuntime) {
     let access = list(&rt, "u:7 g:5 o:1");
-    is_cloned(&rt, both(&rt), Lists::from(access));
+    is_cloned(&rt, both(&rt), Lists::from(access), "both lists");
     let mut folder = both(&rt);
     let access = had(&rt, folder.access.clone());
     folder.default = None;

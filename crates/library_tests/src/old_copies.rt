@@ -21,12 +21,12 @@ static NEW: &str = "02 00 00 00 00 00 00 00 01 01 00 00 03 e8 00 00 00 64
 00 00 00 00 00 00 00 01 00 00 00 02 68 69";
 
 /// Bytes are the worked copy's in a form.
-fn are_worked(rt: &(impl Abort + AllocGlobal), got: &[u8], form: Form) {
+fn are_worked(rt: &(impl Abort + AllocGlobal), got: &[u8], form: Form, about: &str) {
     let want = match form {
         Form::One => OLD,
         Form::Two => NEW,
     };
-    holds(rt, got == bytes(rt, want).as_slice(), "its bytes");
+    holds(rt, got == bytes(rt, want).as_slice(), about);
 }
 
 #[test]
@@ -34,7 +34,7 @@ fn a_copy_in_form_1_is_read_and_written_in_form_2(rt: HostRuntime) {
     let old = bytes(&rt, OLD);
     holds(&rt, old.len() == 62, "62 bytes");
     let copy = had(&rt, decode(rt.alloc(), &old));
-    are_worked(&rt, &written(&rt, &copy), Form::Two);
+    are_worked(&rt, &written(&rt, &copy), Form::Two, "63 bytes");
     holds(&rt, copy == file(&rt, 1, 1, b"hi"), "the copy");
 }
 
@@ -127,9 +127,9 @@ fn kept(rt: &(impl Abort + AllocGlobal), form: Form) -> StoredCopy {
 }
 
 /// A kept copy is the worked one in a form.
-fn is_worked(rt: &(impl Abort + AllocGlobal), kept: StoredCopy, form: Form) {
-    holds(rt, kept.form() == form, "its form");
-    are_worked(rt, kept.as_bytes(), form);
+fn is_worked(rt: &(impl Abort + AllocGlobal), kept: StoredCopy, form: Form, about: &str) {
+    holds(rt, kept.form() == form, about);
+    are_worked(rt, kept.as_bytes(), form, about);
 }
 
 #[test]
@@ -137,9 +137,9 @@ fn a_kept_copy_stays_in_its_form(rt: HostRuntime) {
     let old = kept(&rt, Form::One);
     let copy = had(&rt, old.copy(rt.alloc()));
     holds(&rt, copy == file(&rt, 1, 1, b"hi"), "the copy");
-    is_worked(&rt, had(&rt, old.clone()), Form::One);
-    is_worked(&rt, old, Form::One);
-    is_worked(&rt, kept(&rt, Form::Two), Form::Two);
+    is_worked(&rt, had(&rt, old.clone()), Form::One, "a clone");
+    is_worked(&rt, old, Form::One, "form 1");
+    is_worked(&rt, kept(&rt, Form::Two), Form::Two, "form 2");
 }
 
 /// Settings of three servers, of which these open with their root in form 1, have this fault, or none. The

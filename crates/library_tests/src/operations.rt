@@ -1,6 +1,6 @@
 //! Callers and operations as scripts have them.
 
-use crate::checks::{had, number};
+use crate::checks::{add, had, number};
 use crate::fixtures::long_bytes;
 use acl_core::Caller;
 use acl_text::Names;
@@ -19,7 +19,9 @@ pub(crate) struct Asked {
 /// One operation, which no script can say.
 fn one(rt: &(impl Abort + AllocGlobal), path: &[u8], action: Action) -> Vec<Op> {
     let path = had(rt, PathText::new(rt.alloc(), path));
-    had(rt, vec![in rt.alloc(); Op { path, action }])
+    let mut ops = Vec::new(rt.alloc());
+    add(rt, &mut ops, Op { path, action });
+    ops
 }
 
 /// Operations with semicolons between them. `''` is a path of no byte, and `fill` a write of so many bytes

@@ -166,7 +166,8 @@ fn replies(rt: &(impl Abort + AllocGlobal), is_voted: bool) -> Answers {
 
 #[test]
 fn replies_are_shared(rt: HostRuntime) {
-    is_cloned(&rt, read(&rt), voted(&rt));
-    is_cloned(&rt, voted(&rt), read(&rt));
-    is_cloned(&rt, replies(&rt, true), replies(&rt, false));
+    is_cloned(&rt, read(&rt), voted(&rt), "a read");
+    is_cloned(&rt, voted(&rt), read(&rt), "votes");
+    let (both, one) = (replies(&rt, true), replies(&rt, false));
+    is_cloned(&rt, both, one, "both");
 }

@@ -74,7 +74,8 @@ fn thirty_two_servers_may_have_255_votes_each(rt: HostRuntime) {
     shows(&rt, quorums, "(1, 8160, 8160)", "the quorums");
     let may_write = (votes.is_write(&all), votes.is_write(&fewer));
     shows(&rt, may_write, "(true, false)", "all, and one is missing");
-    is_cloned(&rt, votes, had(&rt, Votes::new(32, &listed, 2, 8160)));
+    let other = had(&rt, Votes::new(32, &listed, 2, 8160));
+    is_cloned(&rt, votes, other, "the most votes");
     let fault = Votes::new(32, &listed, 1, 8161).err();
     shows(&rt, fault, "Some(ThresholdOutOfRange)", "more than all");
 }

@@ -27,8 +27,9 @@ fn opening(rt: &(impl Abort + AllocGlobal), digits: &str) -> Table {
         prefix: made(rt, PrefixKind::Folder, digits),
         content: Content::empty(rt.alloc(), Kind::Folder),
     };
-    let is_made = true;
-    had(rt, vec![in rt.alloc(); Held { suite, is_made }])
+    let (mut table, is_made) = (Vec::new(rt.alloc()), true);
+    add(rt, &mut table, Held { suite, is_made });
+    table
 }
 
 /// All numbers that a transaction can give are held.
