@@ -18,7 +18,8 @@ fn reads(rt: &(impl Abort + AllocGlobal), line: &str) {
     let (len, limit, failing, _) = parts(given, ' ');
     let text = text(rt, number(rt, len));
     let mut stream = MemoryIn::failing_at(&text, number(rt, failing));
-    let told = match read_all(rt.alloc(), &mut stream, number(rt, limit)) {
+    let limit = number::<u32>(rt, limit) as usize;
+    let told = match read_all(rt.alloc(), &mut stream, limit) {
         Ok(bytes) => Ok(bytes.len()),
         Err(error) => Err(error),
     };
