@@ -37,6 +37,7 @@ static SUITES: &str = "
 4 | folder | 700 | y=1
 5 | folder | 755 |";
 
+/// The service whose suites they are.
 fn service(rt: &impl Abort) -> Service {
     Service {
         servers: MAX_SERVERS,
@@ -245,6 +246,7 @@ fn line(rt: &(impl Abort + AllocGlobal), text: &str) {
     tells(rt, end_words(rt, &outcome), end, text);
 }
 
+/// Plays each line.
 fn play(rt: &(impl Abort + AllocGlobal), text: &str) {
     for it in text.lines().skip(1) {
         line(rt, it);

@@ -114,6 +114,7 @@ fn means(rt: &(impl Abort + AllocGlobal), text: &str, want: &str) {
     }
 }
 
+/// Each text of these cases is read so.
 fn mean(rt: &(impl Abort + AllocGlobal), cases: &str) {
     for line in cases.lines().skip(1) {
         let (text, want) = case(rt, line);

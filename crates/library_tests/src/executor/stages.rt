@@ -119,6 +119,7 @@ fn stage(rt: &(impl Abort + AllocGlobal), mut table: Table, t: u16, text: &str) 
     }
 }
 
+/// Plays each line as the transaction of its number.
 fn play(rt: &(impl Abort + AllocGlobal), digits: &str, text: &str) {
     let mut table = opening(rt, digits);
     let mut t = 0u16;
