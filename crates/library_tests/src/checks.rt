@@ -3,7 +3,9 @@
 //! A helper that stops the test costs its caller nothing, where one that hands a failure up is one more way
 //! out, in which all that lives there is dropped.
 
+use std::fmt::{Debug, Display};
 use std::process::Abort;
+use std::str::FromStr;
 
 /// Stops the test where something does not hold.
 pub(crate) fn holds(rt: &impl Abort, given: bool, about: &str) {
@@ -12,12 +14,38 @@ pub(crate) fn holds(rt: &impl Abort, given: bool, about: &str) {
 
 /// Stops the test where two texts differ.
 pub(crate) fn same(rt: &impl Abort, got: &[u8], want: &str, about: &str) {
-    assert!(rt; got == want.as_bytes(), "{about}");
+    holds(rt, got == want.as_bytes(), about);
 }
 
 /// Stops the test where what was told in words is something else.
-pub(crate) fn tells(rt: &impl Abort, got: &String, want: &str, about: &str) {
+pub(crate) fn tells(rt: &impl Abort, got: String, want: &str, about: &str) {
     assert!(rt; got.as_str() == want, "{about}: {got}");
+}
+
+/// Stops the test where a value is written otherwise.
+pub(crate) fn shows<T: Debug + Drop>(
+    rt: &(impl Abort + AllocGlobal),
+    value: T,
+    want: &str,
+    about: &str,
+) {
+    tells(rt, debug(rt, value), want, about);
+}
+
+/// A value as it is written.
+pub(crate) fn debug<T: Debug + Drop>(rt: &(impl Abort + AllocGlobal), value: T) -> String {
+    had(rt, format!(in rt.alloc(); "{value:?}"))
+}
+
+/// A value as it is printed.
+pub(crate) fn printed<T: Display + Drop>(rt: &(impl Abort + AllocGlobal), value: T) -> String {
+    had(rt, format!(in rt.alloc(); "{value}"))
+}
+
+/// Stops the test where a value is not the same as its clone, or is the same as another.
+pub(crate) fn is_cloned<T: Clone + PartialEq>(rt: &impl Abort, value: T, other: T, about: &str) {
+    holds(rt, had(rt, value.clone()) == value, about);
+    holds(rt, value != other, about);
 }
 
 /// What was made, where it was.
@@ -27,7 +55,12 @@ pub(crate) fn had<T: Drop, E: Drop>(rt: &impl Abort, made: Result<T, E>) -> T {
 
 /// Appends to a text.
 pub(crate) fn push(rt: &impl Abort, text: &mut String, piece: &str) {
-    text.push_str(piece).expect(rt, "memory");
+    had(rt, text.push_str(piece));
+}
+
+/// Appends to a list.
+pub(crate) fn add<T: Drop>(rt: &impl Abort, list: &mut Vec<T>, item: T) {
+    had(rt, list.push(item));
 }
 
 /// The cases of a text: a line each, but for the first, and in each what is given and what is wanted, with
@@ -36,27 +69,49 @@ pub(crate) fn case<'a>(rt: &impl Abort, line: &'a str) -> (&'a str, &'a str) {
     line.split_once(" = ").expect(rt, "a case")
 }
 
-/// A number.
-pub(crate) fn number(rt: &impl Abort, digits: &str) -> u64 {
-    digits.parse::<u64>().ok().expect(rt, "a number")
+/// The first four parts of a text, with nothing blank round them.
+pub(crate) fn parts<'a>(text: &'a str, separator: char) -> (&'a str, &'a str, &'a str, &'a str) {
+    let mut parts = text.split(separator);
+    let first = parts.next().unwrap_or_default().trim();
+    let second = parts.next().unwrap_or_default().trim();
+    let third = parts.next().unwrap_or_default().trim();
+    let fourth = parts.next().unwrap_or_default().trim();
+    (first, second, third, fourth)
 }
 
-/// The number of a user or a group.
-pub(crate) fn id(rt: &impl Abort, digits: &str) -> u32 {
-    digits.parse::<u32>().ok().expect(rt, "a number")
+/// A number of any type.
+pub(crate) fn number<T: FromStr + Drop>(rt: &impl Abort, digits: &str) -> T
+where
+    T::Err: Drop,
+{
+    had(rt, digits.parse::<T>())
 }
 
-/// A number below 256.
-pub(crate) fn small(rt: &impl Abort, digits: &str) -> u8 {
-    digits.parse::<u8>().ok().expect(rt, "a number")
-}
-
-/// Bytes in hexadecimal digits, two each, with spaces between them.
+/// Bytes in hexadecimal digits, with spaces and ends of lines between them.
 pub(crate) fn bytes(rt: &(impl Abort + AllocGlobal), hex: &str) -> Vec<u8> {
     let mut bytes = Vec::new(rt.alloc());
     for pair in hex.split_whitespace() {
-        let byte = u8::from_str_radix(pair, 16).ok().expect(rt, "a byte");
-        assert!(rt; bytes.push(byte).is_ok());
+        add(rt, &mut bytes, had(rt, u8::from_str_radix(pair, 16)));
     }
     bytes
+}
+
+/// Bytes with another one at a place.
+pub(crate) fn with_byte(
+    rt: &(impl Abort + AllocGlobal),
+    bytes: &[u8],
+    place: usize,
+    byte: u8,
+) -> Vec<u8> {
+    let mut bytes = had(rt, Vec::from_slice(rt.alloc(), bytes));
+    if let Some(at) = bytes.get_mut(place) {
+        *at = byte;
+    }
+    bytes
+}
+
+/// The bytes of a text with another byte: the place and the byte, as `0 7`.
+pub(crate) fn damaged(rt: &(impl Abort + AllocGlobal), hex: &str, given: &str) -> Vec<u8> {
+    let (place, byte, _, _) = parts(given, ' ');
+    with_byte(rt, &bytes(rt, hex), number(rt, place), number(rt, byte))
 }

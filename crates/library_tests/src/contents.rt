@@ -3,47 +3,16 @@
 mod uses;
 
 use self::uses::{Row, change_and_back, has, lengths, link, put_and_take, take_and_put, unlink};
-use crate::checks::{had, holds, tells};
+use crate::checks::{had, holds, is_cloned, number, parts, shows};
+use crate::fixtures::{content, file_bytes, folder_of, long_bytes, name};
 use sorted_map::RoomyMap;
 use std::process::Abort;
 use suite_content::{
     Content, FileBytes, FolderNames, Kind, MAX_CONTENT, MAX_NAME, MAX_NAMES, Name, NameList,
 };
 
-fn name(rt: &impl Abort, text: &str) -> Name {
-    Name::new(text.as_bytes()).expect(rt, "a name")
-}
-
-/// Puts a name into a folder.
-fn put(rt: &impl Abort, folder: &mut FolderNames, text: &str, number: u64) {
-    let outcome = folder.insert(name(rt, text), number);
-    assert!(rt; outcome.is_ok());
-}
-
-/// A folder with the names of a text, which are numbered from 1.
-fn folder(rt: &(impl Abort + AllocGlobal), names: &str) -> FolderNames {
-    let mut folder = FolderNames::new(rt.alloc());
-    let mut number = 1u64;
-    for text in names.split(' ') {
-        put(rt, &mut folder, text, number);
-        number = number.wrapping_add(1);
-    }
-    folder
-}
-
-/// The names and numbers of a folder, in words.
-fn same_folder(rt: &(impl Abort + AllocGlobal), folder: &FolderNames, want: &str) {
-    let text = had(rt, format!(in rt.alloc(); "{folder:?}"));
-    tells(rt, &text, want, "a folder");
-}
-
-fn copy_of(rt: &impl Abort, folder: &FolderNames) -> FolderNames {
-    had(rt, folder.clone())
-}
-
-fn list_of(rt: &impl Abort, folder: &FolderNames) -> NameList {
-    had(rt, folder.names())
-}
+/// 65 bytes.
+static TOO_LONG: &str = "xxxxxxxxxxxxxxxxxxxxxxxxxxxxxxxxxxxxxxxxxxxxxxxxxxxxxxxxxxxxxxxxx";
 
 /// These bytes are a name's.
 fn is_name(rt: &impl Abort, text: &str) {
@@ -54,9 +23,6 @@ fn is_name(rt: &impl Abort, text: &str) {
 fn is_no_name(rt: &impl Abort, text: &str) {
     holds(rt, Name::new(text.as_bytes()).is_none(), text);
 }
-
-/// 65 bytes.
-static TOO_LONG: &str = "xxxxxxxxxxxxxxxxxxxxxxxxxxxxxxxxxxxxxxxxxxxxxxxxxxxxxxxxxxxxxxxxx";
 
 #[test]
 fn names_are_1_to_64_portable_bytes(rt: HostRuntime) {
@@ -70,80 +36,70 @@ fn names_are_1_to_64_portable_bytes(rt: HostRuntime) {
     is_no_name(&rt, TOO_LONG);
 }
 
-/// A name has this number in a folder, or none.
-fn numbers(rt: &impl Abort, folder: &FolderNames, text: &str, want: Option<u64>) {
-    holds(rt, folder.get(&name(rt, text)) == want, text);
-}
-
-fn numbers_all(rt: &impl Abort, folder: &FolderNames) {
-    for (name, number) in folder.as_slice() {
-        assert!(rt; folder.get(name) == Some(*number));
-    }
+/// Changes a folder: takes a name out, or gives it a number, as `b=7`, where it had another number or none.
+fn change(rt: &(impl Abort + AllocGlobal), folder: &mut FolderNames, text: &str, want: &str) {
+    let (text, digits, _, _) = parts(text, '=');
+    let name = name(rt, text);
+    let before = match digits {
+        "" => folder.remove(&name),
+        digits => folder.insert(name, number(rt, digits)),
+    };
+    shows(rt, had(rt, before), want, text);
 }
 
 #[test]
 fn names_stand_in_byte_order(rt: HostRuntime) {
-    let mut folder = folder(&rt, "b aa a Z a.b");
-    put(&rt, &mut folder, "b", 6);
-    same_folder(&rt, &folder, "[(Z, 4), (a, 3), (a.b, 5), (aa, 2), (b, 6)]");
-    holds(&rt, folder.len() == 5, "how many");
-    holds(&rt, folder.as_slice().len() == 5, "how many");
-    numbers_all(&rt, &folder);
-    numbers(&rt, &folder, "ab", None);
-    holds(&rt, !folder.is_empty(), "names");
-    holds(&rt, !folder.is_full(), "room");
-}
-
-/// Takes a name out, which has a number.
-fn takes(rt: &impl Abort, folder: &mut FolderNames, text: &str, number: u64) {
-    let taken = had(rt, folder.remove(&name(rt, text)));
-    holds(rt, taken == Some(number), text);
-}
-
-/// Puts a new name in.
-fn adds(rt: &impl Abort, folder: &mut FolderNames, text: &str, number: u64) {
-    let before = had(rt, folder.insert(name(rt, text), number));
-    holds(rt, before.is_none(), text);
+    let mut folder = folder_of(&rt, "b=1 aa=2 a=3 Z=4 a.b=5");
+    change(&rt, &mut folder, "b=6", "Some(1)");
+    let want = "[(Z, 4), (a, 3), (a.b, 5), (aa, 2), (b, 6)]";
+    shows(&rt, &folder, want, "a folder");
+    shows(&rt, folder.as_slice(), want, "its pairs");
+    for (name, number) in folder.as_slice() {
+        holds(&rt, folder.get(name) == Some(*number), "a number");
+    }
+    holds(&rt, folder.get(&name(&rt, "ab")).is_none(), "ab");
+    let told = (folder.len(), folder.is_empty(), folder.is_full());
+    shows(&rt, told, "(5, false, false)", "how many");
 }
 
 #[test]
 fn what_shares_a_folder_keeps_its_names(rt: HostRuntime) {
-    let mut folder = folder(&rt, "a b c");
-    let (list, copy) = (list_of(&rt, &folder), copy_of(&rt, &folder));
-    takes(&rt, &mut folder, "b", 2);
+    let mut folder = folder_of(&rt, "a=1 b=2 c=3");
+    let copy = had(&rt, folder.clone());
+    let list = had(&rt, folder.names());
+    change(&rt, &mut folder, "b", "Some(2)");
     holds(&rt, copy != folder, "a copy");
     holds(&rt, has(&list, &name(&rt, "b")), "a list");
-    adds(&rt, &mut folder, "b", 7);
-    same_folder(&rt, &copy, "[(a, 1), (b, 2), (c, 3)]");
-    same_folder(&rt, &folder, "[(a, 1), (b, 7), (c, 3)]");
+    change(&rt, &mut folder, "b=7", "None");
+    shows(&rt, copy, "[(a, 1), (b, 2), (c, 3)]", "the copy");
+    shows(&rt, folder, "[(a, 1), (b, 7), (c, 3)]", "the folder");
+}
+
+/// The names of a folder.
+fn list_of(rt: &(impl Abort + AllocGlobal), text: &str) -> NameList {
+    had(rt, folder_of(rt, text).names())
 }
 
 /// The names of another folder with other numbers, made of a map.
 fn other_list(rt: &(impl Abort + AllocGlobal)) -> NameList {
     let mut map = RoomyMap::new(rt.alloc());
-    assert!(rt; map.insert(name(rt, "bb"), 8).is_ok());
-    assert!(rt; map.insert(name(rt, "a"), 9).is_ok());
+    had(rt, map.insert(name(rt, "bb"), 8));
+    had(rt, map.insert(name(rt, "a"), 9));
     NameList::from(had(rt, FolderNames::from_map(rt.alloc(), map)))
-}
-
-/// The names of a list have these lengths.
-fn has_lengths(rt: &(impl Abort + AllocGlobal), list: &NameList, want: &[usize]) {
-    let lengths = had(rt, lengths(rt.alloc(), list));
-    assert!(rt; lengths.as_slice() == want);
-}
-
-fn are_same(rt: &impl Abort, list: &NameList, other: &NameList, about: &str) {
-    holds(rt, list == other, about);
 }
 
 #[test]
 fn a_list_has_the_names_alone(rt: HostRuntime) {
-    let list = list_of(&rt, &folder(&rt, "bb a"));
-    are_same(&rt, &list, &other_list(&rt), "the numbers");
-    are_same(&rt, &had(&rt, list.clone()), &list, "a clone");
-    has_lengths(&rt, &list, &[1, 2]);
-    holds(&rt, list.len() == 2, "how many");
-    holds(&rt, !list.is_empty(), "names");
+    let list = list_of(&rt, "bb=1 a=2");
+    holds(&rt, list == other_list(&rt), "the numbers");
+    shows(
+        &rt,
+        had(&rt, lengths(rt.alloc(), &list)),
+        "[1, 2]",
+        "lengths",
+    );
+    shows(&rt, (list.len(), list.is_empty()), "(2, false)", "how many");
+    is_cloned(&rt, list, list_of(&rt, "bb=1"), "a list");
 }
 
 /// Puts a name in and takes it out again, where it is new.
@@ -155,7 +111,7 @@ fn puts_and_takes(rt: &impl Abort, folder: &mut FolderNames, name: Name) {
 
 #[test]
 fn edits_undo_others(rt: HostRuntime) {
-    let mut folder = folder(&rt, "a c");
+    let mut folder = folder_of(&rt, "a=1 c=2");
     let (a, b) = (name(&rt, "a"), name(&rt, "b"));
     puts_and_takes(&rt, &mut folder, b);
     had(&rt, change_and_back(&mut folder, a, 6));
@@ -163,7 +119,7 @@ fn edits_undo_others(rt: HostRuntime) {
     had(&rt, take_and_put(&mut folder, &b));
     had(&rt, link(&mut folder, b, 2));
     had(&rt, unlink(&mut folder, &b));
-    same_folder(&rt, &folder, "[(a, 1), (c, 2)]");
+    shows(&rt, folder, "[(a, 1), (c, 2)]", "the folder");
 }
 
 /// Puts as many names as a folder has at most.
@@ -171,51 +127,35 @@ fn fill(rt: &(impl Abort + AllocGlobal), folder: &mut FolderNames) {
     for number in 0..MAX_NAMES as u64 {
         holds(rt, !folder.is_full(), "room");
         let text = had(rt, format!(in rt.alloc(); "n{number}"));
-        put(rt, folder, text.as_str(), number);
+        had(rt, folder.insert(name(rt, text.as_str()), number));
     }
 }
 
 #[test]
-fn a_folder_is_full_with_1024_names(rt: HostRuntime) {
+fn folders_have_1024_names_and_files_65536_bytes(rt: HostRuntime) {
     let mut folder = FolderNames::new(rt.alloc());
     fill(&rt, &mut folder);
     holds(&rt, folder.is_full(), "no room");
-}
-
-/// A file of so many bytes.
-fn file(rt: &(impl Abort + AllocGlobal), length: usize) -> FileBytes {
-    let bytes = had(rt, [7u8].as_slice().repeat(rt.alloc(), length));
-    had(rt, FileBytes::from_vec(bytes))
-}
-
-#[test]
-fn a_file_has_at_most_65536_bytes(rt: HostRuntime) {
-    let fits = file(&rt, MAX_CONTENT);
+    let fits = long_bytes(&rt, MAX_CONTENT);
     holds(&rt, !fits.is_too_long(), "room");
-    holds(&rt, had(&rt, fits.clone()).len() == 65_536, "a clone");
-    holds(&rt, file(&rt, MAX_CONTENT + 1).is_too_long(), "no room");
+    shows(&rt, had(&rt, fits.clone()).len(), "65536", "a clone");
+    let longer = long_bytes(&rt, MAX_CONTENT + 1);
+    holds(&rt, longer.is_too_long(), "no room");
 }
 
-/// The bytes `hi`.
-fn hi(rt: &(impl Abort + AllocGlobal)) -> FileBytes {
-    had(rt, FileBytes::from_slice(rt.alloc(), b"hi"))
-}
-
-/// A row holds these bytes, and so does a clone of its content.
-fn row_holds(rt: &impl Abort, row: &Row, bytes: FileBytes) {
-    let written = Content::Bytes(bytes);
-    holds(rt, row.holds(&written), "what was written");
-    holds(rt, had(rt, row.content.clone()) == written, "a clone");
+/// A row holds this, and a clone of it is the same.
+fn row_holds(rt: &impl Abort, row: &Row, want: Content) {
+    holds(rt, row.holds(&want), "what was written");
+    holds(rt, had(rt, row.content.clone()) == want, "a clone");
 }
 
 #[test]
 fn a_row_is_written(rt: HostRuntime) {
     let mut row = Row::new(rt.alloc(), 1000, Kind::File);
-    row_holds(&rt, &row, FileBytes::empty());
-    had(&rt, row.write(&hi(&rt)));
-    row_holds(&rt, &row, hi(&rt));
-    holds(&rt, row.content.kind() == Kind::File, "its kind");
+    row_holds(&rt, &row, Content::Bytes(FileBytes::empty()));
+    had(&rt, row.write(&file_bytes(&rt, b"hi")));
+    row_holds(&rt, &row, content(&rt, b"hi"));
     let folder = Content::empty(rt.alloc(), Kind::Folder);
-    holds(&rt, !row.holds(&folder), "a folder");
-    holds(&rt, folder.kind() == Kind::Folder, "its kind");
+    let told = (row.content.kind(), folder.kind(), row.holds(&folder));
+    shows(&rt, told, "(File, Folder, false)", "kinds");
 }

@@ -1,12 +1,15 @@
 //! The worked copy, valid and invalid copies, the largest ones, and settings.
 
-ghost use Rattle.std.specs.Prelude.{◌<◌};
-
-use crate::checks::{bytes, case, had, holds, push, small, tells};
-use crate::fixtures::{content, file, lists, prefix, votes};
-use acl_core::{Acl, Entry, Lists, Tag};
+use crate::checks::{
+    add, bytes, case, damaged, had, holds, is_cloned, number, parts, push, shows, with_byte,
+};
+use crate::fixtures::{
+    content, entries, file, folder_of, judged, lists, long_bytes, many_entries, most_listed,
+    prefix, votes,
+};
+use acl_core::{Acl, Lists};
 use std::process::Abort;
-use suite_content::{FolderNames, Kind, Name};
+use suite_content::Kind;
 use suite_prefix::{
     Content, CopyFault, DecodeError, LockMode, Prefix, PrefixKind, Replica, Settings,
     SettingsFault, decode, encode, faults_tell_apart, fronts_are_short, no_bytes_begin_others,
@@ -35,7 +38,7 @@ static DEFAULT: &str = "02 00 00 00 00 00 00 00 01 02 00 00 03 e8 00 00 00 64
 00 00 00 00 00 00 00 01 00 00";
 
 /// The bytes of a copy, which is valid.
-fn written(rt: &(impl Abort + AllocGlobal), copy: &Replica) -> Vec<u8> {
+pub(crate) fn written(rt: &(impl Abort + AllocGlobal), copy: &Replica) -> Vec<u8> {
     assert!(rt; copy.is_valid());
     had(rt, encode(rt.alloc(), copy))
 }
@@ -43,8 +46,14 @@ fn written(rt: &(impl Abort + AllocGlobal), copy: &Replica) -> Vec<u8> {
 /// A copy is valid, is written in these bytes, and is read from them.
 fn is_spelled(rt: &(impl Abort + AllocGlobal), copy: &Replica, bytes: &[u8]) {
     holds(rt, written(rt, copy).as_slice() == bytes, "the bytes");
-    let read = had(rt, decode(rt.alloc(), bytes));
-    holds(rt, read == *copy, "the copy");
+    holds(rt, had(rt, decode(rt.alloc(), bytes)) == *copy, "the copy");
+}
+
+/// A copy is valid, is written in so many bytes, and is read from them.
+fn is_spelled_in(rt: &(impl Abort + AllocGlobal), copy: &Replica, len: &str) {
+    let bytes = written(rt, copy);
+    shows(rt, bytes.len(), len, "bytes");
+    is_spelled(rt, copy, &bytes);
 }
 
 /// The laws can be called: what the tests of a copy are to the definition, with what it says of this one.
@@ -57,267 +66,196 @@ fn laws(copy: &Replica) {
     fronts_are_short();
 }
 
-/// A copy is valid, is written in so many bytes, and is read from them.
-fn is_spelled_in(rt: &(impl Abort + AllocGlobal), copy: &Replica, len: usize) {
-    let bytes = written(rt, copy);
-    assert!(rt; bytes.len() == len, "{len} bytes");
-    is_spelled(rt, copy, &bytes);
-}
-
 #[test]
 fn the_worked_copy_has_its_63_bytes(rt: HostRuntime) {
     let copy = file(&rt, 1, 1, b"hi");
     is_spelled(&rt, &copy, &bytes(&rt, WORKED));
-    is_spelled_in(&rt, &copy, 63);
+    is_spelled_in(&rt, &copy, "63");
     laws(&copy);
 }
 
-/// The place in a count of what was read: a copy, a fault, or want of memory. A copy is written in
-/// the bytes that it was read from.
-fn outcome_of(rt: &(impl Abort + AllocGlobal), bytes: &[u8]) -> usize
-    ensures { result < 7 }
-{
+/// The fault of bytes, or none: then they are those that the copy is written in.
+fn fault_of(rt: &(impl Abort + AllocGlobal), bytes: &[u8]) -> Option<DecodeError> {
     match decode(rt.alloc(), bytes) {
         Ok(copy) => {
             is_spelled(rt, &copy, bytes);
-            0
+            None
         }
-        Err(DecodeError::Fault(CopyFault::Short)) => 1,
-        Err(DecodeError::Fault(CopyFault::BadTag)) => 2,
-        Err(DecodeError::Fault(CopyFault::NotCanonical)) => 3,
-        Err(DecodeError::Fault(CopyFault::Invalid)) => 4,
-        Err(DecodeError::Fault(CopyFault::TrailingBytes)) => 5,
-        Err(DecodeError::Memory) => 6,
+        Err(error) => Some(error),
     }
 }
-
-/// What may be read, in the order of the count.
-static OUTCOMES: &str = "copy Short BadTag NotCanonical Invalid TrailingBytes memory";
 
 /// Bytes are read so.
-fn are_read(rt: &(impl Abort + AllocGlobal), bytes: &[u8], want: &str) {
-    let outcome = outcome_of(rt, bytes);
-    let told = OUTCOMES.split(' ').nth(outcome).unwrap_or_default();
-    holds(rt, told == want, want);
+fn are_read(rt: &(impl Abort + AllocGlobal), bytes: &[u8], want: &str, about: &str) {
+    shows(rt, fault_of(rt, bytes), want, about);
 }
 
-/// Places of the worked copy with another byte there, and what that makes.
+/// Places of the worked copy with another byte there, and its fault.
 static DAMAGED: &str = "
-0 7 = BadTag
-0 1 = Invalid
-0 3 = BadTag
-9 3 = BadTag
-19 0 = BadTag
-31 7 = BadTag
-29 1 = NotCanonical
-25 1 = NotCanonical
-36 8 = Invalid
-8 0 = Invalid
-56 0 = Invalid
-39 32 = Invalid
-48 0 = Invalid
-61 105 = copy";
-
-/// The worked copy with another byte at a place is read so.
-fn changed(rt: &(impl Abort + AllocGlobal), line: &str) {
-    let (given, want) = case(rt, line);
-    let (place, byte) = given.split_once(' ').expect(rt, "a byte");
-    let mut bytes = bytes(rt, WORKED);
-    let place = usize::from(small(rt, place));
-    if let Some(at) = bytes.get_mut(place) {
-        *at = small(rt, byte);
-    }
-    are_read(rt, &bytes, want);
-}
+0 7 = Some(Fault(BadTag))
+0 1 = Some(Fault(Invalid))
+0 3 = Some(Fault(BadTag))
+9 3 = Some(Fault(BadTag))
+19 0 = Some(Fault(BadTag))
+31 7 = Some(Fault(BadTag))
+29 1 = Some(Fault(NotCanonical))
+25 1 = Some(Fault(NotCanonical))
+36 8 = Some(Fault(Invalid))
+8 0 = Some(Fault(Invalid))
+56 0 = Some(Fault(Invalid))
+39 32 = Some(Fault(Invalid))
+48 0 = Some(Fault(Invalid))
+61 105 = None";
 
 /// Each beginning of bytes is refused, and so are they with more behind them.
-fn no_more_and_no_less(rt: &(impl Abort + AllocGlobal), hex: &str) {
+pub(crate) fn no_more_and_no_less(rt: &(impl Abort + AllocGlobal), hex: &str) {
     let mut bytes = bytes(rt, hex);
     for end in 0..bytes.len() {
-        are_read(rt, bytes.get(..end).unwrap_or_default(), "Short");
+        let front = bytes.get(..end).unwrap_or_default();
+        are_read(rt, front, "Some(Fault(Short))", "a front");
     }
-    assert!(rt; bytes.push(0).is_ok());
-    are_read(rt, &bytes, "TrailingBytes");
+    add(rt, &mut bytes, 0);
+    are_read(rt, &bytes, "Some(Fault(TrailingBytes))", "more");
 }
+
+/// Bytes that are read or refused: a default list of a file, and of a folder one without its last entry, one
+/// out of order, one with another permission, and one that is as it should be.
+static READ: &str = "
+02 00 00 00 00 00 00 00 01 01 00 00 03 e8 00 00 00 64 03 01 00 00 00 00 06 03 00 00 00 00 04 06 00 00 00 00 04 03 01 00 00 00 00 06 03 00 00 00 00 04 06 00 00 00 00 04 03 00 01 01 01 02 01 00 02 00 02 00 00 00 00 00 00 00 01 00 00 00 02 68 69 = Some(Fault(Invalid))
+02 00 00 00 00 00 00 00 01 02 00 00 03 e8 00 00 00 64 03 01 00 00 00 00 06 03 00 00 00 00 04 06 00 00 00 00 04 02 01 00 00 00 00 06 03 00 00 00 00 04 03 00 01 01 01 02 01 00 02 00 02 00 00 00 00 00 00 00 01 00 00 = Some(Fault(Invalid))
+02 00 00 00 00 00 00 00 01 02 00 00 03 e8 00 00 00 64 03 01 00 00 00 00 06 03 00 00 00 00 04 06 00 00 00 00 04 03 03 00 00 00 00 06 01 00 00 00 00 04 06 00 00 00 00 04 03 00 01 01 01 02 01 00 02 00 02 00 00 00 00 00 00 00 01 00 00 = Some(Fault(NotCanonical))
+02 00 00 00 00 00 00 00 01 02 00 00 03 e8 00 00 00 64 03 01 00 00 00 00 06 03 00 00 00 00 04 06 00 00 00 00 04 03 01 00 00 00 00 09 03 00 00 00 00 04 06 00 00 00 00 04 03 00 01 01 01 02 01 00 02 00 02 00 00 00 00 00 00 00 01 00 00 = Some(Fault(Invalid))
+02 00 00 00 00 00 00 00 01 02 00 00 03 e8 00 00 00 64 03 01 00 00 00 00 06 03 00 00 00 00 04 06 00 00 00 00 04 03 01 00 00 00 00 06 03 00 00 00 00 04 06 00 00 00 00 04 03 00 01 01 01 02 01 00 02 00 02 00 00 00 00 00 00 00 01 00 00 = None";
 
 #[test]
 fn damaged_copies_are_refused_by_their_fault(rt: HostRuntime) {
     for line in DAMAGED.lines().skip(1) {
-        changed(&rt, line);
+        let (given, want) = case(&rt, line);
+        are_read(&rt, &damaged(&rt, WORKED, given), want, line);
     }
     no_more_and_no_less(&rt, WORKED);
     no_more_and_no_less(&rt, DEFAULT);
-}
-
-/// Bytes that are read or refused: a default list of a file, and of a folder one without its last entry, one out of order, one with another permission, and one that
-/// is as it should be.
-static READ: &str = "
-02 00 00 00 00 00 00 00 01 01 00 00 03 e8 00 00 00 64 03 01 00 00 00 00 06 03 00 00 00 00 04 06 00 00 00 00 04 03 01 00 00 00 00 06 03 00 00 00 00 04 06 00 00 00 00 04 03 00 01 01 01 02 01 00 02 00 02 00 00 00 00 00 00 00 01 00 00 00 02 68 69 = Invalid
-02 00 00 00 00 00 00 00 01 02 00 00 03 e8 00 00 00 64 03 01 00 00 00 00 06 03 00 00 00 00 04 06 00 00 00 00 04 02 01 00 00 00 00 06 03 00 00 00 00 04 03 00 01 01 01 02 01 00 02 00 02 00 00 00 00 00 00 00 01 00 00 = Invalid
-02 00 00 00 00 00 00 00 01 02 00 00 03 e8 00 00 00 64 03 01 00 00 00 00 06 03 00 00 00 00 04 06 00 00 00 00 04 03 03 00 00 00 00 06 01 00 00 00 00 04 06 00 00 00 00 04 03 00 01 01 01 02 01 00 02 00 02 00 00 00 00 00 00 00 01 00 00 = NotCanonical
-02 00 00 00 00 00 00 00 01 02 00 00 03 e8 00 00 00 64 03 01 00 00 00 00 06 03 00 00 00 00 04 06 00 00 00 00 04 03 01 00 00 00 00 09 03 00 00 00 00 04 06 00 00 00 00 04 03 00 01 01 01 02 01 00 02 00 02 00 00 00 00 00 00 00 01 00 00 = Invalid
-02 00 00 00 00 00 00 00 01 02 00 00 03 e8 00 00 00 64 03 01 00 00 00 00 06 03 00 00 00 00 04 06 00 00 00 00 04 03 01 00 00 00 00 06 03 00 00 00 00 04 06 00 00 00 00 04 03 00 01 01 01 02 01 00 02 00 02 00 00 00 00 00 00 00 01 00 00 = copy";
-
-#[test]
-fn default_lists_are_read_or_refused(rt: HostRuntime) {
     for line in READ.lines().skip(1) {
         let (hex, want) = case(&rt, line);
-        are_read(&rt, &bytes(&rt, hex), want);
+        are_read(&rt, &bytes(&rt, hex), want, line);
     }
 }
 
-/// Counts what the worked copy is with each other byte at a place.
-fn count_at(rt: &(impl Abort + AllocGlobal), place: usize, counts: &mut [u32; 7]) {
+/// The place of a fault in a count; the first is for copies.
+fn place_of(fault: Option<DecodeError>) -> usize {
+    match fault {
+        None => 0,
+        Some(DecodeError::Fault(CopyFault::Short)) => 1,
+        Some(DecodeError::Fault(CopyFault::BadTag)) => 2,
+        Some(DecodeError::Fault(CopyFault::NotCanonical)) => 3,
+        Some(DecodeError::Fault(CopyFault::Invalid)) => 4,
+        Some(DecodeError::Fault(CopyFault::TrailingBytes)) => 5,
+        Some(DecodeError::Memory) => 6,
+    }
+}
+
+/// Counts what bytes are with each byte at a place.
+fn count_at(rt: &(impl Abort + AllocGlobal), bytes: &[u8], place: usize, counts: &mut [u32; 7]) {
     for byte in 0..=255 {
-        let mut bytes = bytes(rt, WORKED);
-        if let Some(at) = bytes.get_mut(place) {
-            *at = byte;
+        let fault = fault_of(rt, &with_byte(rt, bytes, place, byte));
+        if let Some(count) = counts.get_mut(place_of(fault)) {
+            *count = count.wrapping_add(1);
         }
-        let outcome = outcome_of(rt, &bytes);
-        counts[outcome] = counts[outcome].wrapping_add(1);
     }
 }
 
 #[test]
 fn with_a_byte_changed_it_is_refused_or_another_copy(rt: HostRuntime) {
+    let worked = bytes(&rt, WORKED);
     let mut counts = [0u32; 7];
     for place in 0..63 {
-        count_at(&rt, place, &mut counts);
+        count_at(&rt, &worked, place, &mut counts);
     }
-    let told = had(&rt, format!(in rt.alloc(); "{counts:?}"));
-    tells(&rt, &told, "[6804, 1273, 1765, 3069, 3214, 3, 0]", OUTCOMES);
-}
-
-/// Adds an entry.
-fn add(rt: &impl Abort, entries: &mut Vec<Entry>, tag: Tag, digit: u8) {
-    assert!(rt; entries.push(Entry::from_digit(tag, digit % 8)).is_ok());
+    let want = "[6804, 1273, 1765, 3069, 3214, 3, 0]";
+    shows(&rt, counts, want, "copies, and each fault");
 }
 
 /// The list of 128 entries: 62 users, 62 groups, and the four others.
 fn longest_list(rt: &(impl Abort + AllocGlobal)) -> Acl {
-    let mut entries = Vec::new(rt.alloc());
-    add(rt, &mut entries, Tag::UserObj, 6);
-    add(rt, &mut entries, Tag::GroupObj, 4);
-    add(rt, &mut entries, Tag::Mask, 7);
-    add(rt, &mut entries, Tag::Other, 0);
-    for number in 0..62 {
-        add(rt, &mut entries, Tag::User(number), 7);
-        add(rt, &mut entries, Tag::Group(number), 5);
-    }
-    had(rt, Acl::from_vec(entries))
-}
-
-fn put(rt: &impl Abort, names: &mut FolderNames, name: &str, suite: u64) {
-    let name = Name::new(name.as_bytes()).expect(rt, "a name");
-    let before = had(rt, names.insert(name, suite));
-    holds(rt, before.is_none(), "a new name");
+    had(rt, Acl::from_vec(many_entries(rt, 62, 62)))
 }
 
 /// 60 of the bytes of a name.
 static LONG: &str = "nnnnnnnnnnnnnnnnnnnnnnnnnnnnnnnnnnnnnnnnnnnnnnnnnnnnnnnnnnnn";
 
 /// 1,024 names of 64 bytes.
-fn max_names(rt: &(impl Abort + AllocGlobal)) -> FolderNames {
-    let mut names = FolderNames::new(rt.alloc());
+fn max_names(rt: &(impl Abort + AllocGlobal)) -> Content {
+    let mut text = String::new(rt.alloc());
     for number in 1000..2024 {
-        let name = had(rt, format!(in rt.alloc(); "{LONG}{number}"));
-        put(rt, &mut names, name.as_str(), number);
+        let name = format!(in rt.alloc(); "{LONG}{number}={number} ");
+        push(rt, &mut text, had(rt, name).as_str());
     }
-    names
-}
-
-/// 255 votes at each of 32 servers.
-fn max_votes(rt: &(impl Abort + AllocGlobal)) -> Votes {
-    let mut reps = Vec::new(rt.alloc());
-    for server in 0..32u8 {
-        assert!(rt; reps.push((server, 255)).is_ok());
-    }
-    had(rt, Votes::new(32, &reps, 1, 8160))
+    Content::Names(folder_of(rt, text.as_str()))
 }
 
 /// A file of so many bytes.
 fn long_file(rt: &(impl Abort + AllocGlobal), len: usize) -> Replica {
-    let bytes = had(rt, vec![in rt.alloc(); 7u8; len]);
-    file(rt, 1, 1, &bytes)
+    let mut copy = file(rt, 1, 1, b"");
+    copy.content = Content::Bytes(long_bytes(rt, len));
+    copy
 }
 
 #[test]
 fn the_largest_copies_are_read_again(rt: HostRuntime) {
     let mut copy = long_file(&rt, 65_536);
+    is_spelled_in(&rt, &copy, "65597");
     copy.prefix.acl = Lists::from(longest_list(&rt));
-    copy.prefix.votes = max_votes(&rt);
-    is_spelled_in(&rt, &copy, 66_405);
+    copy.prefix.votes = had(&rt, Votes::new(32, &most_listed(&rt), 1, 8160));
+    is_spelled_in(&rt, &copy, "66405");
     copy.prefix.kind = PrefixKind::Folder;
-    copy.content = Content::Names(max_names(&rt));
-    is_spelled_in(&rt, &copy, 75_619);
+    copy.content = max_names(&rt);
+    is_spelled_in(&rt, &copy, "75619");
     copy.prefix.acl.default = Some(longest_list(&rt));
-    is_spelled_in(&rt, &copy, 76_387);
+    is_spelled_in(&rt, &copy, "76387");
+    copy = long_file(&rt, 65_537);
+    holds(&rt, !copy.is_valid(), "65,537 bytes");
 }
 
-#[test]
-fn the_largest_file_is_written(rt: HostRuntime) {
-    is_spelled_in(&rt, &long_file(&rt, 65_536), 65_597);
-    holds(&rt, !long_file(&rt, 65_537).is_valid(), "65,537 bytes");
-}
-
-/// The entries of the folder of the bytes above, out of order.
+/// The list of the folder of the bytes above; its entries are put in out of order.
 fn folder_list(rt: &(impl Abort + AllocGlobal)) -> Acl {
-    let mut entries = Vec::new(rt.alloc());
-    add(rt, &mut entries, Tag::Other, 0);
-    add(rt, &mut entries, Tag::Mask, 4);
-    add(rt, &mut entries, Tag::User(1001), 6);
-    add(rt, &mut entries, Tag::UserObj, 7);
-    add(rt, &mut entries, Tag::GroupObj, 5);
-    had(rt, Acl::from_vec(entries))
+    had(rt, Acl::from_vec(entries(rt, "o:0 m:4 u1001:6 u:7 g:5")))
 }
 
 /// The folder of the bytes above; its names too are put in out of order.
 fn folder(rt: &(impl Abort + AllocGlobal)) -> Replica {
-    let mut names = FolderNames::new(rt.alloc());
-    put(rt, &mut names, "a", 7);
-    put(rt, &mut names, "B", 521);
     let mut prefix = prefix(rt, 256, PrefixKind::Folder);
     prefix.acl = Lists::from(folder_list(rt));
     prefix.votes = votes(rt, "-,-,-,-,-,9/1/9");
     Replica {
         prefix,
         dver: 3,
-        content: Content::Names(names),
+        content: Content::Names(folder_of(rt, "a=7 B=521")),
     }
 }
 
 #[test]
-fn a_folder_has_its_names_in_byte_order(rt: HostRuntime) {
+fn names_stand_in_byte_order_and_default_lists_behind_others(rt: HostRuntime) {
     is_spelled(&rt, &folder(&rt), &bytes(&rt, FOLDER));
-}
-
-#[test]
-fn a_default_list_stands_behind_the_access_list(rt: HostRuntime) {
-    let bytes = bytes(&rt, DEFAULT);
-    let copy = had(&rt, decode(rt.alloc(), &bytes));
-    is_spelled_in(&rt, &copy, 89);
-    let entries = match &copy.prefix.acl.default {
-        Some(default) => default.entries().len(),
-        None => 0,
-    };
-    holds(&rt, entries == 5, "its entries");
+    let copy = had(&rt, decode(rt.alloc(), &bytes(&rt, DEFAULT)));
+    is_spelled_in(&rt, &copy, "89");
+    let default = copy.prefix.acl.default.as_ref();
+    let default = default.expect(&rt, "a default list");
+    holds(&rt, default.entries().len() == 5, "its entries");
 }
 
 #[test]
 fn a_clone_is_the_same_until_it_is_changed(rt: HostRuntime) {
-    let copy = folder(&rt);
-    let mut again = had(&rt, copy.clone());
-    holds(&rt, again == copy, "a clone");
-    holds(&rt, again.prefix == copy.prefix, "its prefix");
-    again.prefix.owner = 1001;
-    holds(&rt, again != copy, "another owner");
-    holds(&rt, again.content == copy.content, "its content");
+    let (copy, mut other) = (folder(&rt), folder(&rt));
+    holds(&rt, other.prefix == copy.prefix, "its prefix");
+    other.prefix.owner = 1001;
+    holds(&rt, other.content == copy.content, "its content");
+    is_cloned(&rt, copy, other, "another owner");
 }
 
 /// Whether a prefix and its copy are valid.
-fn are_valid(rt: &impl Abort, copy: &Replica, prefix_is: bool, copy_is: bool) {
-    holds(rt, copy.prefix.is_valid() == prefix_is, "the prefix");
-    holds(rt, copy.is_valid() == copy_is, "the copy");
+fn are_valid(rt: &(impl Abort + AllocGlobal), copy: &Replica, want: &str, about: &str) {
+    let are = (copy.prefix.is_valid(), copy.is_valid());
+    shows(rt, are, want, about);
 }
 
 /// What was never made, with its content's version.
@@ -332,138 +270,95 @@ fn absent(rt: &(impl Abort + AllocGlobal), dver: u64) -> Replica {
 
 #[test]
 fn what_was_never_made_has_one_form(rt: HostRuntime) {
-    are_valid(&rt, &absent(&rt, 1), true, false);
-    let mut copy = absent(&rt, 0);
-    are_valid(&rt, &copy, true, true);
+    let mut copy = absent(&rt, 1);
+    are_valid(&rt, &copy, "(true, false)", "content");
+    copy.dver = 0;
+    are_valid(&rt, &copy, "(true, true)", "never made");
     copy.prefix.pver = 1;
-    are_valid(&rt, &copy, false, false);
+    are_valid(&rt, &copy, "(false, false)", "a version");
     copy.prefix.kind = PrefixKind::File;
-    are_valid(&rt, &copy, true, true);
+    are_valid(&rt, &copy, "(true, true)", "a file");
     copy.prefix.kind = PrefixKind::Folder;
-    are_valid(&rt, &copy, true, false);
+    are_valid(&rt, &copy, "(true, false)", "a folder");
 }
 
 #[test]
 fn a_default_list_is_a_folders(rt: HostRuntime) {
     let mut copy = file(&rt, 1, 1, b"hi");
     copy.prefix.acl.default = Some(folder_list(&rt));
-    are_valid(&rt, &copy, false, false);
+    are_valid(&rt, &copy, "(false, false)", "a file");
     copy.prefix.kind = PrefixKind::Folder;
-    are_valid(&rt, &copy, true, false);
+    are_valid(&rt, &copy, "(true, false)", "a folder");
     copy.content = Content::empty(rt.alloc(), Kind::Folder);
-    are_valid(&rt, &copy, true, true);
+    are_valid(&rt, &copy, "(true, true)", "its content");
 }
 
 #[test]
 fn kinds_and_modes(rt: HostRuntime) {
-    holds(&rt, PrefixKind::Absent.is_absent(), "never made");
-    holds(&rt, !PrefixKind::Folder.is_absent(), "made");
-    holds(&rt, PrefixKind::Absent.held() == Kind::File, "no bytes");
-    holds(&rt, PrefixKind::Folder.held() == Kind::Folder, "names");
+    let (absent, folder) = (PrefixKind::Absent, PrefixKind::Folder);
+    let are_absent = (absent.is_absent(), folder.is_absent());
+    shows(&rt, are_absent, "(true, false)", "never made");
+    shows(
+        &rt,
+        (absent.held(), folder.held()),
+        "(File, Folder)",
+        "held",
+    );
     let (shared, exclusive) = (LockMode::Shared, LockMode::Exclusive);
-    holds(&rt, exclusive.serves(shared), "more than is wanted");
-    holds(&rt, !shared.serves(exclusive), "less than is wanted");
-    holds(&rt, shared.stronger(exclusive) == exclusive, "stronger");
+    let serve = (exclusive.serves(shared), shared.serves(exclusive));
+    shows(&rt, serve, "(true, false)", "more and less than is wanted");
+    shows(&rt, shared.stronger(exclusive), "Exclusive", "stronger");
 }
 
 /// How many servers and agents, a cache's budget, quota and slots; and the fault, where the opening
 /// votes list servers 0 to 2.
 static GIVEN: &str = "
-3 1 0 0 0 = None
-32 64 268435456 268435456 4096 = None
-0 1 0 0 0 = Some(BadCount)
-33 1 0 0 0 = Some(BadCount)
-3 0 0 0 0 = Some(BadCount)
-2 65 0 0 4097 = Some(BadCount)
-2 1 0 0 0 = Some(UnknownServer)
-2 1 0 0 4097 = Some(UnknownServer)
-3 1 268435457 0 0 = Some(BadCache)
-3 1 0 268435457 0 = Some(BadCache)
-3 1 0 0 4097 = Some(BadCache)";
+3 1 | 0 0 0 = None
+32 64 | 268435456 268435456 4096 = None
+0 1 | 0 0 0 = Some(BadCount)
+33 1 | 0 0 0 = Some(BadCount)
+3 0 | 0 0 0 = Some(BadCount)
+2 65 | 0 0 4097 = Some(BadCount)
+2 1 | 0 0 0 = Some(UnknownServer)
+2 1 | 0 0 4097 = Some(UnknownServer)
+3 1 | 268435457 0 0 = Some(BadCache)
+3 1 | 0 268435457 0 = Some(BadCache)
+3 1 | 0 0 4097 = Some(BadCache)";
 
-/// The numbers of a text.
-fn numbers(rt: &impl Abort, text: &str) -> [usize; 5] {
-    let mut numbers = [0; 5];
-    let mut at = 0;
-    for word in text.split(' ') {
-        if at < 5 {
-            numbers[at] = word.parse::<usize>().ok().expect(rt, "a number");
-            at += 1;
-        }
-    }
-    numbers
-}
-
-/// Settings of these numbers. The root is of user 1000 and group 100, and open to all.
+/// Settings of these numbers. The root is open to all.
 fn settings(rt: &(impl Abort + AllocGlobal), text: &str) -> Result<Settings, SettingsFault> {
-    let [servers, agents, budget, quota, slots] = numbers(rt, text);
-    let (votes, acl) = (votes(rt, "1,1,1/2/2"), lists(rt, "777"));
-    Settings::new(
-        servers,
-        agents,
-        votes,
-        1000,
-        100,
-        acl,
-        budget,
-        quota,
-        slots,
-        ServerSet::empty(),
-    )
-}
-
-/// Settings of these numbers have this fault, or none.
-fn are_judged(rt: &(impl Abort + AllocGlobal), line: &str) {
-    let (text, want) = case(rt, line);
-    let fault = settings(rt, text).err();
-    let told = had(rt, format!(in rt.alloc(); "{fault:?}"));
-    tells(rt, &told, want, line);
+    let (counts, cache, _, _) = parts(text, '|');
+    let (servers, agents, _, _) = parts(counts, ' ');
+    let (budget, quota, slots, _) = parts(cache, ' ');
+    let numbers = [
+        number(rt, servers),
+        number(rt, agents),
+        number(rt, budget),
+        number(rt, quota),
+        number(rt, slots),
+    ];
+    judged(rt, numbers, lists(rt, "777"), ServerSet::empty())
 }
 
 #[test]
 fn settings_are_judged_by_their_first_fault(rt: HostRuntime) {
     for line in GIVEN.lines().skip(1) {
-        are_judged(&rt, line);
+        let (text, want) = case(&rt, line);
+        shows(&rt, settings(&rt, text).err(), want, line);
     }
-}
-
-/// The numbers of settings, in words.
-fn words(rt: &(impl Abort + AllocGlobal), settings: &Settings) -> String {
-    let (servers, agents) = (settings.servers(), settings.agents());
-    let (owner, group) = (settings.root_owner(), settings.root_group());
-    let (budget, quota, slots) = (settings.budget(), settings.quota(), settings.slots());
-    let mut text = had(
-        rt,
-        format!(in rt.alloc(); "{servers} {agents} {owner} {group}"),
-    );
-    let cache = had(rt, format!(in rt.alloc(); " {budget} {quota} {slots}"));
-    push(rt, &mut text, cache.as_str());
-    text
 }
 
 #[test]
 fn settings_are_kept(rt: HostRuntime) {
-    let made = had(&rt, settings(&rt, "3 2 4096 2048 16"));
-    let kept = had(&rt, made.clone());
-    kept.fits();
-    holds(&rt, kept == made, "a clone");
-    tells(
-        &rt,
-        &words(&rt, &kept),
-        "3 2 1000 100 4096 2048 16",
-        "numbers",
-    );
-    holds(
-        &rt,
-        *kept.root_acl() == lists(&rt, "777"),
-        "the root's lists",
-    );
-    holds(&rt, kept.c0().reps().len() == 3, "the opening votes");
-}
-
-#[test]
-fn settings_that_differ_are_not_the_same(rt: HostRuntime) {
-    let made = had(&rt, settings(&rt, "3 2 4096 2048 16"));
-    let other = had(&rt, settings(&rt, "3 2 4096 2048 17"));
-    holds(&rt, made != other, "slots");
+    let made = had(&rt, settings(&rt, "3 2 | 4096 2048 16"));
+    made.fits();
+    let counts = (made.servers(), made.agents(), made.c0().reps().len());
+    let root = (made.root_owner(), made.root_group());
+    let cache = (made.budget(), made.quota(), made.slots());
+    let want = "((3, 2, 3), (1000, 100), (4096, 2048, 16))";
+    shows(&rt, (counts, root, cache), want, "numbers");
+    let is_open = *made.root_acl() == lists(&rt, "777");
+    holds(&rt, is_open, "the root's lists");
+    let other = had(&rt, settings(&rt, "3 2 | 4096 2048 17"));
+    is_cloned(&rt, made, other, "slots");
 }

@@ -6,8 +6,8 @@
 
 ghost use Rattle.file_exec.specs.Reaching.{IsReached};
 
-use crate::checks::{had, holds, number, push, tells};
-use crate::fixtures::{content, lists, prefix, votes};
+use crate::checks::{add, debug, had, holds, number, parts, push, same, shows, tells};
+use crate::fixtures::{content, folder_of, lists, prefix, votes};
 use crate::operations::{Asked, read_asked};
 use crate::outcomes::{answers_words, refusal_words};
 use file_exec::{
@@ -19,9 +19,9 @@ use file_exec::{
 };
 use file_ops::Service;
 use std::process::Abort;
-use suite_content::{Content, FolderNames, Kind, Name};
+use suite_content::{Content, Kind};
 use suite_prefix::{LockMode, Prefix, PrefixKind};
-use vote_core::{MAX_SERVERS, Votes};
+use vote_core::MAX_SERVERS;
 
 mod stages;
 
@@ -30,21 +30,18 @@ mod stages;
 /// The suites that are there: a number, a kind, the digits of its mode, and what it holds. All belong to
 /// user 1000 and group 100.
 static SUITES: &str = "
-0 folder 755 a=1 d=2 s=4 e=5 gone=9
-1 file 644 hi
-2 folder 755 x=3
-3 file 600 deep
-4 folder 700 y=1
-5 folder 755";
+0 | folder | 755 | a=1 d=2 s=4 e=5 gone=9
+1 | file | 644 | hi
+2 | folder | 755 | x=3
+3 | file | 600 | deep
+4 | folder | 700 | y=1
+5 | folder | 755 |";
 
-fn c0(rt: &(impl Abort + AllocGlobal)) -> Votes {
-    votes(rt, "1/1/1")
-}
-
-fn service(rt: &(impl Abort + AllocGlobal)) -> Service {
+/// The service whose suites they are.
+fn service(rt: &impl Abort) -> Service {
     Service {
         servers: MAX_SERVERS,
-        c0: c0(rt),
+        c0: votes(rt, "1/1/1"),
     }
 }
 
@@ -56,41 +53,25 @@ struct Small {
     content: Content,
 }
 
-/// The names of a folder, as `a=1 d=2`.
-fn names(rt: &(impl Abort + AllocGlobal), text: &str) -> Content {
-    let mut names = FolderNames::new(rt.alloc());
-    for word in text.split_whitespace() {
-        let (name, suite) = word.split_once('=').unwrap_or_default();
-        let name = Name::new(name.as_bytes()).expect(rt, "a name");
-        had(rt, names.insert(name, number(rt, suite)));
-    }
-    Content::Names(names)
-}
-
 /// A prefix of the small service.
 fn made(rt: &(impl Abort + AllocGlobal), kind: PrefixKind, digits: &str) -> Prefix {
     let mut prefix = prefix(rt, 1, kind);
     prefix.acl = lists(rt, digits);
-    prefix.votes = c0(rt);
+    prefix.votes = votes(rt, "1/1/1");
     prefix
 }
 
 /// A suite in a line.
 fn read_small(rt: &(impl Abort + AllocGlobal), line: &str) -> Small {
-    let mut words = line.splitn(4, ' ');
-    let number = number(rt, words.next().unwrap_or_default());
-    let is_file = words.next() == Some("file");
-    let digits = words.next().unwrap_or_default();
-    let rest = words.next().unwrap_or_default();
-    let (kind, content) = if is_file {
-        (PrefixKind::File, content(rt, rest.as_bytes()))
-    } else {
-        (PrefixKind::Folder, names(rt, rest))
+    let (digits, kind, list, rest) = parts(line, '|');
+    let number = number(rt, digits);
+    let (kind, content) = match kind {
+        "file" => (PrefixKind::File, content(rt, rest.as_bytes())),
+        _ => (PrefixKind::Folder, Content::Names(folder_of(rt, rest))),
     };
-    let prefix = made(rt, kind, digits);
     Small {
         number,
-        prefix,
+        prefix: made(rt, kind, list),
         content,
     }
 }
@@ -99,13 +80,9 @@ fn read_small(rt: &(impl Abort + AllocGlobal), line: &str) -> Small {
 fn absent(rt: &(impl Abort + AllocGlobal), number: u64) -> Small {
     Small {
         number,
-        prefix: had(rt, Prefix::absent(rt.alloc(), c0(rt))),
+        prefix: had(rt, Prefix::absent(rt.alloc(), votes(rt, "1/1/1"))),
         content: content(rt, b""),
     }
-}
-
-fn add(rt: &impl Abort, suites: &mut Vec<Small>, suite: Small) {
-    assert!(rt; suites.push(suite).is_ok());
 }
 
 /// The suites of the small service, and those that a test can make.
@@ -167,18 +144,18 @@ fn meet<'a>(
 
 /// S, X and C are a suite held shared, held exclusively, and its content.
 fn need_words(rt: &(impl Abort + AllocGlobal), need: Need) -> String {
-    let made = match need {
-        Need::Hold(suite, LockMode::Shared) => format!(in rt.alloc(); "S{suite} "),
-        Need::Hold(suite, LockMode::Exclusive) => format!(in rt.alloc(); "X{suite} "),
-        Need::Know(suite) => format!(in rt.alloc(); "C{suite} "),
+    let (letter, suite) = match need {
+        Need::Hold(suite, LockMode::Shared) => ('S', suite),
+        Need::Hold(suite, LockMode::Exclusive) => ('X', suite),
+        Need::Know(suite) => ('C', suite),
     };
-    had(rt, made)
+    had(rt, format!(in rt.alloc(); "{letter}{suite} "))
 }
 
 /// What is set of a suite.
 fn push_change(rt: &(impl Abort + AllocGlobal), text: &mut String, suite: u64, change: &Change) {
-    let head = had(rt, format!(in rt.alloc(); " + {suite}"));
-    push(rt, text, head.as_str());
+    push(rt, text, " + ");
+    push(rt, text, debug(rt, suite).as_str());
     push(rt, text, if change.made { " made" } else { "" });
     push(rt, text, if change.acl { " acl" } else { "" });
     push(rt, text, if change.votes { " votes" } else { "" });
@@ -198,17 +175,6 @@ fn end_words(rt: &(impl Abort + AllocGlobal), outcome: &Outcome) -> String {
             text
         }
     }
-}
-
-/// The same need, or the same end.
-fn alike(rt: &(impl Abort + AllocGlobal), one: &Outcome, other: &Outcome) {
-    let want = end_words(rt, other);
-    tells(
-        rt,
-        &end_words(rt, one),
-        want.as_str(),
-        "on what came before",
-    );
 }
 
 /// Executes from nothing, and once more where memory was refused.
@@ -244,12 +210,13 @@ fn gone_on(
 /// Executes. What goes on from nothing, and what then goes on from where it came, comes to the same.
 fn executed(rt: &(impl Abort + AllocGlobal), known: &Known<'_>, t: u16, asked: &Asked) -> Outcome {
     let outcome = begun(rt, known, t, asked);
+    let want = end_words(rt, &outcome);
     unbegun_is_reached();
     let mut progress = Progress::new(rt.alloc());
     let first = gone_on(rt, known, t, asked, &mut progress);
-    alike(rt, &first, &outcome);
+    tells(rt, end_words(rt, &first), want.as_str(), "gone on");
     let again = gone_on(rt, known, t, asked, &mut progress);
-    alike(rt, &again, &outcome);
+    tells(rt, end_words(rt, &again), want.as_str(), "gone on again");
     outcome
 }
 
@@ -272,17 +239,14 @@ fn met(rt: &(impl Abort + AllocGlobal), asked: &Asked, needs: &mut String) -> Ou
 
 /// Plays a line: who asks, what, what is needed, and the end, between bars.
 fn line(rt: &(impl Abort + AllocGlobal), text: &str) {
-    let mut parts = text.split('|');
-    let who = parts.next().unwrap_or_default();
-    let what = parts.next().unwrap_or_default();
+    let (who, what, wanted, end) = parts(text, '|');
     let mut needs = String::new(rt.alloc());
     let outcome = met(rt, &read_asked(rt, who, what), &mut needs);
-    let want = parts.next().unwrap_or_default();
-    holds(rt, needs.as_str().trim() == want.trim(), text);
-    let want = parts.next().unwrap_or_default();
-    tells(rt, &end_words(rt, &outcome), want.trim(), text);
+    same(rt, needs.as_str().trim().as_bytes(), wanted, text);
+    tells(rt, end_words(rt, &outcome), end, text);
 }
 
+/// Plays each line.
 fn play(rt: &(impl Abort + AllocGlobal), text: &str) {
     for it in text.lines().skip(1) {
         line(rt, it);
@@ -291,108 +255,99 @@ fn play(rt: &(impl Abort + AllocGlobal), text: &str) {
 
 /// S, X and C are a suite held shared, held exclusively, and its content.
 static ONE_BY_ONE: &str = "
-1000 100 | read '/a' | S0 C0 S1 C1 | read [104, 105]
-1000 100 | read '/d/x' | S0 C0 S2 C2 S3 C3 | read [100, 101, 101, 112]
-1000 100 | list '/' | S0 C0 | list a d e gone s
-1000 100 | list '/d' | S0 C0 S2 C2 | list x
-1000 100 | write '/a' yo | S0 C0 X1 | wrote + 1 content
-1000 100 | write '/a' hi | S0 C0 X1 | wrote + 1 content
-1000 100 | getacl '/a' | S0 C0 S1 | acl user::rw-,group::r--,other::r--
-1000 100 | getvotes '/d' | S0 C0 S2 | votes [(0, 1)]/1/1
-1000 100 | setacl '/a' u::rw,g::r,o::r | S0 C0 X1 | set + 1 acl
-1000 100 | setvotes '/a' 1/1/1 | S0 C0 X1 C1 | set + 1 votes
-1000 100 | file '/b' 600 | X0 C0 X17 | made 17 + 0 content + 17 made acl votes content
-1000 100 | folder '/d/b' 700 | S0 C0 X2 C2 X17 | made 17 + 2 content + 17 made acl votes content
-1000 100 | drop '/a' | X0 C0 S1 | dropped + 0 content
-1000 100 | drop '/e' | X0 C0 S5 C5 | dropped + 0 content
-1000 100 | drop '/gone' | X0 C0 S9 | dropped + 0 content";
-
-#[test]
-fn what_each_operation_asks_for(rt: HostRuntime) {
-    play(&rt, ONE_BY_ONE);
-}
+1000 100 | read /a | S0 C0 S1 C1 | answered read 6869
+1000 100 | read /d/x | S0 C0 S2 C2 S3 C3 | answered read 64656570
+1000 100 | list / | S0 C0 | answered list a,d,e,gone,s
+1000 100 | list /d | S0 C0 S2 C2 | answered list x
+1000 100 | write /a 796f | S0 C0 X1 | answered wrote + 1 content
+1000 100 | write /a 6869 | S0 C0 X1 | answered wrote + 1 content
+1000 100 | getacl /a | S0 C0 S1 | answered acl user::rw-,group::r--,other::r--
+1000 100 | getvotes /d | S0 C0 S2 | answered votes 1/1/1
+1000 100 | setacl /a u::rw,g::r,o::r | S0 C0 X1 | answered set + 1 acl
+1000 100 | setvotes /a 1/1/1 | S0 C0 X1 C1 | answered set + 1 votes
+1000 100 | file /b 600 | X0 C0 X17 | answered made 17 + 0 content + 17 made acl votes content
+1000 100 | folder /d/b 700 | S0 C0 X2 C2 X17 | answered made 17 + 2 content + 17 made acl votes content
+1000 100 | drop /a | X0 C0 S1 | answered dropped + 0 content
+1000 100 | drop /e | X0 C0 S5 C5 | answered dropped + 0 content
+1000 100 | drop /gone | X0 C0 S9 | answered dropped + 0 content";
 
 /// Kind, then the check, and only then the content.
 static REFUSED: &str = "
-1000 100 | read 'a' | | refused BadPath op 1
-1000 100 | drop '/' | | refused BadPath op 1
-1000 100 | read '/n' | S0 C0 | refused NoName op 1
-1000 100 | read '/gone' | S0 C0 S9 | refused NoName op 1
-1000 100 | read '/a/b' | S0 C0 S1 | refused NotFolder op 1
-1000 100 | read '/d' | S0 C0 S2 | refused IsFolder op 1
-1000 100 | list '/a' | S0 C0 S1 | refused NotFolder op 1
-1000 100 | write '/d' yo | S0 C0 X2 | refused IsFolder op 1
-1000 100 | file '/a' 600 | X0 C0 | refused Exists op 1
-1000 100 | file '/a/b' 600 | S0 C0 X1 | refused NotFolder op 1
-1000 100 | drop '/n' | X0 C0 | refused NoName op 1
-1000 100 | drop '/d' | X0 C0 S2 C2 | refused NotEmpty op 1
-2000 300 | read '/s/y' | S0 C0 S4 | denied op 1 suite 4 wants Perms(1) by Other
-2000 300 | read '/d/x' | S0 C0 S2 C2 S3 | denied op 1 suite 3 wants Perms(4) by Other
-2000 300 | getacl '/s' | S0 C0 S4 | denied op 1 suite 4 wants Perms(4) by Other
-2000 300 | write '/a' yo | S0 C0 X1 | denied op 1 suite 1 wants Perms(2) by Other
-2000 300 | setacl '/a' u::rw,g::-,o::- | S0 C0 X1 | denied op 1 suite 1 wants Perms(0) by OwnerRule
-2000 300 | setvotes '/a' 1/1/1 | S0 C0 X1 | denied op 1 suite 1 wants Perms(0) by OwnerRule
-2000 300 | file '/b' 600 | X0 | denied op 1 suite 0 wants Perms(3) by Other
-2000 300 | drop '/a' | X0 | denied op 1 suite 0 wants Perms(3) by Other";
-
-#[test]
-fn what_is_asked_for_before_a_refusal(rt: HostRuntime) {
-    play(&rt, REFUSED);
-}
+1000 100 | read a | | refused F1 op 1
+1000 100 | drop / | | refused F1 op 1
+1000 100 | read /n | S0 C0 | refused F4 op 1
+1000 100 | read /gone | S0 C0 S9 | refused F4 op 1
+1000 100 | read /a/b | S0 C0 S1 | refused F2 op 1
+1000 100 | read /d | S0 C0 S2 | refused F6 op 1
+1000 100 | list /a | S0 C0 S1 | refused F2 op 1
+1000 100 | write /d 796f | S0 C0 X2 | refused F6 op 1
+1000 100 | file /a 600 | X0 C0 | refused F5 op 1
+1000 100 | file /a/b 600 | S0 C0 X1 | refused F2 op 1
+1000 100 | drop /n | X0 C0 | refused F4 op 1
+1000 100 | drop /d | X0 C0 S2 C2 | refused F7 op 1
+2000 300 | read /s/y | S0 C0 S4 | denied op 1 suite 4 wants --x by other::
+2000 300 | read /d/x | S0 C0 S2 C2 S3 | denied op 1 suite 3 wants r-- by other::
+2000 300 | getacl /s | S0 C0 S4 | denied op 1 suite 4 wants r-- by other::
+2000 300 | write /a 796f | S0 C0 X1 | denied op 1 suite 1 wants -w- by other::
+2000 300 | setacl /a u::rw,g::-,o::- | S0 C0 X1 | denied op 1 suite 1 wants --- by owner
+2000 300 | setvotes /a 1/1/1 | S0 C0 X1 | denied op 1 suite 1 wants --- by owner
+2000 300 | file /b 600 | X0 | denied op 1 suite 0 wants -wx by other::
+2000 300 | drop /a | X0 | denied op 1 suite 0 wants -wx by other::";
 
 static IN_TURN: &str = "
-1000 100 | read '/a'; write '/a' yo; read '/a' | S0 C0 S1 C1 X1 | read [104, 105]; wrote; read [121, 111] + 1 content
-1000 100 | write '/a' yo; read '/a' | S0 C0 X1 | wrote; read [121, 111] + 1 content
-1000 100 | write '/a' yo; setacl '/a' u::-,g::-,o::-; setvotes '/a' 1/1/1 | S0 C0 X1 | wrote; set; set + 1 acl votes content
-1000 100 | file '/b' 600; write '/b' yo; read '/b'; drop '/b' | X0 C0 X17 | made 17; wrote; read [121, 111]; dropped + 0 content + 17 made acl votes content
-1000 100 | folder '/b' 700; file '/b/c' 600; list '/b'; list '/' | X0 C0 X17 X18 | made 17; made 18; list c; list a b d e gone s + 0 content + 17 made acl votes content + 18 made acl votes content
-1000 100 | setacl '/a' u::-,g::r,o::r; read '/a' | S0 C0 X1 | denied op 2 suite 1 wants Perms(4) by UserObj
-1000 100 | read '/a'; read '/a'; drop '/a'; read '/a' | S0 C0 S1 C1 X0 | refused NoName op 4
-1000 100 | list '/'; list '/'; list '/'; list '/'; list '/'; list '/'; list '/'; list '/'; list '/' | | refused OpCount op 0";
+1000 100 | read /a ; write /a 796f ; read /a | S0 C0 S1 C1 X1 | answered read 6869; wrote; read 796f + 1 content
+1000 100 | write /a 796f ; read /a | S0 C0 X1 | answered wrote; read 796f + 1 content
+1000 100 | write /a 796f ; setacl /a u::-,g::-,o::- ; setvotes /a 1/1/1 | S0 C0 X1 | answered wrote; set; set + 1 acl votes content
+1000 100 | file /b 600 ; write /b 796f ; read /b ; drop /b | X0 C0 X17 | answered made 17; wrote; read 796f; dropped + 0 content + 17 made acl votes content
+1000 100 | folder /b 700 ; file /b/c 600 ; list /b ; list / | X0 C0 X17 X18 | answered made 17; made 18; list c; list a,b,d,e,gone,s + 0 content + 17 made acl votes content + 18 made acl votes content
+1000 100 | setacl /a u::-,g::r,o::r ; read /a | S0 C0 X1 | denied op 2 suite 1 wants r-- by user::
+1000 100 | read /a ; read /a ; drop /a ; read /a | S0 C0 S1 C1 X0 | refused F4 op 4
+1000 100 | list / ; list / ; list / ; list / ; list / ; list / ; list / ; list / ; list / | | refused F10 op 0";
 
 #[test]
-fn what_operations_see_of_one_another(rt: HostRuntime) {
+fn what_operations_ask_for(rt: HostRuntime) {
+    play(&rt, ONE_BY_ONE);
+    play(&rt, REFUSED);
     play(&rt, IN_TURN);
 }
 
 // ---- what was set, and the laws
 
-/// The row of a suite after what was set: owner, group, how many entries its list has, votes, and how many
-/// bytes it holds.
-fn row_words(rt: &(impl Abort + AllocGlobal), change: &Change) -> String {
+/// The row of a suite after what was set: owner, group, how many entries its list has, the quorums of its
+/// votes, and what it holds.
+fn has_row(rt: &(impl Abort + AllocGlobal), change: &Change, want: &str, about: &str) {
     let row = &change.row;
-    let (owner, group, entries) = (row.owner(), row.group(), row.acl().access.entries().len());
+    let entries = row.acl().access.entries().len();
     let (r, w) = (row.votes().r(), row.votes().w());
-    let held = match row.content() {
-        Content::Bytes(bytes) => bytes.as_slice().len(),
-        Content::Names(_) => 0,
-    };
-    had(
-        rt,
-        format!(in rt.alloc(); "{owner} {group} {entries} {r}/{w} {held}"),
-    )
+    let numbers = (row.owner(), row.group(), entries, r, w);
+    shows(rt, (numbers, row.content()), want, about);
 }
 
 /// A transaction leaves this row of a suite; of one that it sets nothing of it tells nothing.
 fn leaves(rt: &(impl Abort + AllocGlobal), what: &str, suite: u64, want: &str) {
     let mut needs = String::new(rt.alloc());
-    let outcome = met(rt, &read_asked(rt, "1000 100", what), &mut needs);
+    let asked = read_asked(rt, "1000 100", what);
+    let outcome = met(rt, &asked, &mut needs);
     let told = match &outcome {
         Outcome::Done(_, changes) => changes.get(suite),
         _ => None,
     };
     match told {
-        Some(change) => tells(rt, &row_words(rt, change), want, what),
+        Some(change) => has_row(rt, change, want, what),
         None => holds(rt, want.is_empty(), what),
     }
 }
 
+static HI: &str = "((1000, 100, 3, 1, 1), Bytes(FileBytes { shared: Some([104, 105]) }))";
+
+static YOYO: &str =
+    "((1000, 100, 3, 1, 1), Bytes(FileBytes { shared: Some([121, 111, 121, 111]) }))";
+
 #[test]
 fn rows_after(rt: HostRuntime) {
-    leaves(&rt, "setvotes '/a' 1/1/1", 1, "1000 100 3 1/1 2");
-    leaves(&rt, "setvotes '/a' 1/1/1", 2, "");
-    let made = "file '/b' 600; write '/b' yoyo";
-    leaves(&rt, made, 17, "1000 100 3 1/1 4");
+    leaves(&rt, "setvotes /a 1/1/1", 1, HI);
+    leaves(&rt, "setvotes /a 1/1/1", 2, "");
+    leaves(&rt, "file /b 600 ; write /b 796f796f", 17, YOYO);
 }
 
 #[test]

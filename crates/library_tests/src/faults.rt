@@ -1,5 +1,6 @@
 //! What the faults of scripts print.
 
+use crate::checks::{had, printed, tells};
 use acl_core::AclFault;
 use acl_text::TextFault;
 use std::process::Abort;
@@ -7,21 +8,14 @@ use suite_prefix::SettingsFault;
 use suite_script::{LineError, LineFault, PlayError};
 use vote_core::VotesFault;
 
-/// Why a script was not played prints this.
-fn prints(rt: &(impl Abort + AllocGlobal), error: PlayError, want: &str) {
-    let told = format!(in rt.alloc(); "{error}").expect(rt, "memory");
-    assert!(rt; told.as_str() == want, "{want}");
-}
-
 /// A fault of line 3 prints this, in each type of error that it comes in.
 fn at_line_3(rt: &(impl Abort + AllocGlobal), fault: LineFault, want: &str) {
     let of_line = LineError::Faulty(fault);
+    let front = want.strip_prefix("line 3: ").unwrap_or_default();
+    tells(rt, printed(rt, &of_line), front, want);
     let of_script = of_line.at(3);
-    let told = format!(in rt.alloc(); "line 3: {of_line}\n{of_script}").expect(rt, "memory");
-    for line in told.lines() {
-        assert!(rt; line == want, "{want}");
-    }
-    prints(rt, PlayError::from(of_script), want);
+    tells(rt, printed(rt, &of_script), want, want);
+    tells(rt, printed(rt, PlayError::from(of_script)), want, want);
 }
 
 /// What a line of no form prints, and one of the header that is out of its place.
@@ -52,11 +46,7 @@ fn faults_of_lines_are_told(rt: HostRuntime) {
 /// Votes with this fault print this behind what stands before all of them.
 fn at_votes(rt: &(impl Abort + AllocGlobal), fault: VotesFault, want: &str) {
     let told = format!(in rt.alloc(); "line 3: the votes are not valid: {want}");
-    at_line_3(
-        rt,
-        LineFault::Votes(fault),
-        told.expect(rt, "memory").as_str(),
-    );
+    at_line_3(rt, LineFault::Votes(fault), had(rt, told).as_str());
 }
 
 #[test]
@@ -91,6 +81,8 @@ fn faults_of_settings_are_told(rt: HostRuntime) {
 
 #[test]
 fn other_errors_are_told(rt: HostRuntime) {
-    prints(&rt, PlayError::WriteFailed, "a write failed");
-    prints(&rt, PlayError::Memory, "out of memory");
+    let failed = printed(&rt, PlayError::WriteFailed);
+    tells(&rt, failed, "a write failed", "a write failed");
+    let memory = printed(&rt, PlayError::Memory);
+    tells(&rt, memory, "out of memory", "out of memory");
 }

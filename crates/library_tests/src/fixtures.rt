@@ -1,47 +1,85 @@
-//! Lists, votes, prefixes and copies that tests begin with: all of user 1000 and group 100.
+//! Lists, votes, prefixes, copies and settings that tests begin with: all of user 1000 and group 100.
 
-use crate::checks::had;
-use acl_core::{Acl, Lists, Mode};
+use crate::checks::{add, had, number, parts};
+use acl_core::{Acl, Entry, Lists, Mode, Tag};
 use std::process::Abort;
-use suite_content::{Content, FileBytes};
-use suite_prefix::{Prefix, PrefixKind, Replica, SharedPrefix};
-use vote_core::{MAX_SERVERS, Votes};
+use suite_content::{Content, FileBytes, FolderNames, Name};
+use suite_prefix::{Prefix, PrefixKind, Replica, Settings, SettingsFault, SharedPrefix};
+use suite_script::read_votes;
+use vote_core::{MAX_SERVERS, ServerSet, Votes};
 
 /// A mode of these octal digits.
 pub(crate) fn mode(rt: &impl Abort, digits: &str) -> Mode {
-    let bits = u16::from_str_radix(digits, 8).ok().expect(rt, "digits");
+    let bits = had(rt, u16::from_str_radix(digits, 8));
     Mode::new(bits).expect(rt, "a mode")
 }
 
 /// The list of a mode, and no default list.
 pub(crate) fn lists(rt: &(impl Abort + AllocGlobal), digits: &str) -> Lists {
-    let acl = Acl::from_mode(rt.alloc(), mode(rt, digits));
-    Lists::from(had(rt, acl))
+    Lists::from(had(rt, Acl::from_mode(rt.alloc(), mode(rt, digits))))
 }
 
-fn quorum(rt: &impl Abort, digits: &str) -> u16 {
-    digits.parse::<u16>().ok().expect(rt, "a quorum")
+/// A tag in a text: `u`, `g`, `m` and `o` are the single ones, `u1001` a user and `g200` a group.
+fn tag(rt: &impl Abort, word: &str) -> Tag {
+    match word {
+        "u" => Tag::UserObj,
+        "g" => Tag::GroupObj,
+        "m" => Tag::Mask,
+        "o" => Tag::Other,
+        named => match named.strip_prefix('u') {
+            Some(user) => Tag::User(number(rt, user)),
+            None => Tag::Group(number(rt, named.strip_prefix('g').unwrap_or_default())),
+        },
+    }
+}
+
+/// The entries of a text, with spaces between them, as `u1001:6`.
+pub(crate) fn entries(rt: &(impl Abort + AllocGlobal), text: &str) -> Vec<Entry> {
+    let mut entries = Vec::new(rt.alloc());
+    for word in text.split_whitespace() {
+        let (name, digit, _, _) = parts(word, ':');
+        let digit = number::<u8>(rt, digit) % 8;
+        add(rt, &mut entries, Entry::from_digit(tag(rt, name), digit));
+    }
+    entries
+}
+
+/// The four single entries, and so many of users and of groups.
+pub(crate) fn many_entries(rt: &(impl Abort + AllocGlobal), users: u32, groups: u32) -> Vec<Entry> {
+    let mut many = entries(rt, "u:6 g:4 m:7 o:0");
+    for user in 0..users {
+        add(rt, &mut many, Entry::from_digit(Tag::User(user), 7));
+    }
+    for group in 0..groups {
+        add(rt, &mut many, Entry::from_digit(Tag::Group(group), 5));
+    }
+    many
 }
 
 /// Votes of servers that are listed from 0, as `1,1,1/2/2`; a server that is not listed is a hyphen.
-pub(crate) fn votes(rt: &(impl Abort + AllocGlobal), text: &str) -> Votes {
-    let mut parts = text.split('/');
-    let reps = reps(rt, parts.next().unwrap_or_default());
-    let r = quorum(rt, parts.next().unwrap_or_default());
-    let w = quorum(rt, parts.next().unwrap_or_default());
-    had(rt, Votes::new(MAX_SERVERS, &reps, r, w))
+pub(crate) fn votes(rt: &impl Abort, text: &str) -> Votes {
+    had(rt, read_votes(MAX_SERVERS, text.as_bytes()))
 }
 
-fn reps(rt: &(impl Abort + AllocGlobal), text: &str) -> Vec<(u8, u8)> {
-    let mut reps = Vec::new(rt.alloc());
-    let mut server = 0u8;
-    for word in text.split(',') {
-        if let Ok(votes) = word.parse::<u8>() {
-            assert!(rt; reps.push((server, votes)).is_ok());
-        }
-        server = server.wrapping_add(1);
+/// 255 votes at each of 32 servers.
+pub(crate) fn most_listed(rt: &(impl Abort + AllocGlobal)) -> Vec<(u8, u8)> {
+    let mut listed = Vec::new(rt.alloc());
+    for server in 0..32 {
+        add(rt, &mut listed, (server, 255));
     }
-    reps
+    listed
+}
+
+/// The set of these servers.
+pub(crate) fn set_of(rt: &impl Abort, text: &str) -> ServerSet {
+    let mut set = ServerSet::empty();
+    for word in text.split_whitespace() {
+        let server = number::<u8>(rt, word);
+        if usize::from(server) < MAX_SERVERS {
+            set.insert(server);
+        }
+    }
+    set
 }
 
 /// A prefix of this version and kind: the list of mode 644, and a vote each of servers 0 to 2.
@@ -58,12 +96,38 @@ pub(crate) fn prefix(rt: &(impl Abort + AllocGlobal), pver: u64, kind: PrefixKin
 
 /// Such a prefix, to be shared.
 pub(crate) fn shared(rt: &(impl Abort + AllocGlobal), pver: u64, kind: PrefixKind) -> SharedPrefix {
-    SharedPrefix::new(rt.alloc(), prefix(rt, pver, kind)).expect(rt, "memory")
+    had(rt, SharedPrefix::new(rt.alloc(), prefix(rt, pver, kind)))
+}
+
+/// A name.
+pub(crate) fn name(rt: &impl Abort, text: &str) -> Name {
+    Name::new(text.as_bytes()).expect(rt, "a name")
+}
+
+/// The names of a folder and their suites, as `a=1 d=2`.
+pub(crate) fn folder_of(rt: &(impl Abort + AllocGlobal), text: &str) -> FolderNames {
+    let mut names = FolderNames::new(rt.alloc());
+    for word in text.split_whitespace() {
+        let (text, suite, _, _) = parts(word, '=');
+        had(rt, names.insert(name(rt, text), number(rt, suite)));
+    }
+    names
+}
+
+/// These bytes, as a file holds them.
+pub(crate) fn file_bytes(rt: &(impl Abort + AllocGlobal), bytes: &[u8]) -> FileBytes {
+    had(rt, FileBytes::from_slice(rt.alloc(), bytes))
+}
+
+/// So many bytes, as a file holds them.
+pub(crate) fn long_bytes(rt: &(impl Abort + AllocGlobal), length: usize) -> FileBytes {
+    let bytes = had(rt, vec![in rt.alloc(); 7u8; length]);
+    had(rt, FileBytes::from_vec(bytes))
 }
 
 /// What a file holds.
 pub(crate) fn content(rt: &(impl Abort + AllocGlobal), bytes: &[u8]) -> Content {
-    Content::Bytes(had(rt, FileBytes::from_slice(rt.alloc(), bytes)))
+    Content::Bytes(file_bytes(rt, bytes))
 }
 
 /// A file of these versions with these bytes.
@@ -73,4 +137,24 @@ pub(crate) fn file(rt: &(impl Abort + AllocGlobal), pver: u64, dver: u64, bytes:
         dver,
         content: content(rt, bytes),
     }
+}
+
+/// Settings of so many servers, agents, bytes of a cache and of a site of it, and entries, or their first
+/// fault. The root has these lists, and a vote each of servers 0 to 2; some servers have it in form 1.
+pub(crate) fn judged(
+    rt: &impl Abort,
+    [servers, agents, budget, quota, slots]: [usize; 5],
+    acl: Lists,
+    old: ServerSet,
+) -> Result<Settings, SettingsFault> {
+    let votes = votes(rt, "1,1,1/2/2");
+    Settings::new(
+        servers, agents, votes, 1000, 100, acl, budget, quota, slots, old,
+    )
+}
+
+/// Settings of so many servers, with two agents and no caches. The root has the list of a mode.
+pub(crate) fn settings(rt: &(impl Abort + AllocGlobal), servers: usize, digits: &str) -> Settings {
+    let (acl, none) = (lists(rt, digits), ServerSet::empty());
+    had(rt, judged(rt, [servers, 2, 0, 0, 0], acl, none))
 }

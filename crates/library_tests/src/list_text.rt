@@ -1,25 +1,34 @@
 //! Worked examples, and each public call once.
 
-use crate::checks::{case, had, holds, push, same, tells};
+use crate::checks::{case, debug, had, holds, printed, push, same, shows, tells, with_byte};
 use crate::fixtures::{lists, mode};
 use acl_core::{Lists, Perms, Tag};
 use acl_text::{
-    NameError, Names, TextFault, append_acl, append_short, append_tag, permission_text, read_acl,
-    write_acl, write_short,
+    Names, TextFault, append_acl, append_short, append_tag, permission_text, read_acl, write_acl,
+    write_short,
 };
+use std::alloc::AllocError;
 use std::process::Abort;
 
 /// A name of 64 bytes.
-static LONGEST: &str = "nnnnnnnnnnnnnnnnnnnnnnnnnnnnnnnnnnnnnnnnnnnnnnnnnnnnnnnnnnnnnnnn";
+static LONGEST: &[u8] = b"nnnnnnnnnnnnnnnnnnnnnnnnnnnnnnnnnnnnnnnnnnnnnnnnnnnnnnnnnnnnnnnn";
 
 /// The user lisa, the group toolies and one with the longest name.
 fn known(rt: &(impl Abort + AllocGlobal)) -> Names {
     let mut names = Names::new(rt.alloc());
-    holds(rt, names.add_user(b"lisa", 1001).is_ok(), "lisa");
-    holds(rt, names.add_group(b"toolies", 200).is_ok(), "toolies");
-    let longest = names.add_group(LONGEST.as_bytes(), 8);
-    holds(rt, longest.is_ok(), "the longest");
+    had(rt, names.add_user(b"lisa", 1001));
+    had(rt, names.add_group(b"toolies", 200));
+    had(rt, names.add_group(LONGEST, 8));
     names
+}
+
+/// Reads lists, and once more where memory was refused: it is never told otherwise than as want of memory.
+fn read(rt: &(impl Abort + AllocGlobal), text: &[u8]) -> Result<Lists, TextFault> {
+    let names = known(rt);
+    match read_acl(rt.alloc(), text, &names) {
+        Err(TextFault::Memory) => read_acl(rt.alloc(), text, &names),
+        came => came,
+    }
 }
 
 /// Texts, each with its lists or its fault.
@@ -79,31 +88,33 @@ d:u:::r = item 1 is no entry
 d:u:zoe:r = item 1 has an unknown name
 d:u:4294967296:r = item 1 has a number that is too big";
 
-/// The lists that a text spells.
-fn spelled(rt: &(impl Abort + AllocGlobal), text: &[u8]) -> Lists {
-    had(rt, read_acl(rt.alloc(), text, &known(rt)))
+/// Lists are written so, in a text that spells them.
+fn are_written(
+    rt: &(impl Abort + AllocGlobal),
+    lists: Lists,
+    written: Result<Vec<u8>, AllocError>,
+    want: &str,
+) {
+    let written = had(rt, written);
+    same(rt, &written, want, want);
+    holds(rt, had(rt, read(rt, &written)) == lists, want);
 }
 
-/// Lists have this short text, which spells them.
-fn has_short(rt: &(impl Abort + AllocGlobal), lists: &Lists, want: &str) {
-    let written = had(rt, write_short(rt.alloc(), lists));
-    same(rt, &written, want, want);
-    holds(rt, spelled(rt, &written) == *lists, want);
+/// Lists have this short text.
+fn has_short(rt: &(impl Abort + AllocGlobal), lists: Lists, want: &str) {
+    let written = write_short(rt.alloc(), &lists);
+    are_written(rt, lists, written, want);
 }
 
 /// A text spells lists with this short text, or has this fault.
 fn means(rt: &(impl Abort + AllocGlobal), text: &str, want: &str) {
-    match read_acl(rt.alloc(), text.as_bytes(), &known(rt)) {
-        Ok(lists) => has_short(rt, &lists, want),
-        Err(fault) => has_fault(rt, &fault, text, want),
+    match read(rt, text.as_bytes()) {
+        Ok(lists) => has_short(rt, lists, want),
+        Err(fault) => tells(rt, printed(rt, fault), want, text),
     }
 }
 
-fn has_fault(rt: &(impl Abort + AllocGlobal), fault: &TextFault, text: &str, want: &str) {
-    let told = had(rt, format!(in rt.alloc(); "{fault}"));
-    tells(rt, &told, want, text);
-}
-
+/// Each text of these cases is read so.
 fn mean(rt: &(impl Abort + AllocGlobal), cases: &str) {
     for line in cases.lines().skip(1) {
         let (text, want) = case(rt, line);
@@ -111,10 +122,27 @@ fn mean(rt: &(impl Abort + AllocGlobal), cases: &str) {
     }
 }
 
+/// What getfacl writes, and a line as an administrator might change it.
+static GETFACL: &str = "# file: a
+# owner: root
+# group: root
+user::rw-
+user:lisa:rw-\t\t#effective:r--
+group::r--\r
+\tgroup : toolies : r-x # tools, and more
+mask::r--
+other::r--
+
+";
+
+static GETFACL_SHORT: &str =
+    "user::rw-,user:1001:rw-,group::r--,group:200:r-x,mask::r--,other::r--";
+
 #[test]
 fn texts_are_read_or_refused(rt: HostRuntime) {
     mean(&rt, TEXTS);
     mean(&rt, DEFAULTS);
+    means(&rt, GETFACL, GETFACL_SHORT);
 }
 
 /// A list with a mask, and its long text.
@@ -151,215 +179,132 @@ default:mask::-w-
 default:other::r-x
 ";
 
-/// A text spells lists with this long text, which spells them again.
+/// A text spells lists with this long text.
 fn remarks(rt: &(impl Abort + AllocGlobal), text: &str, long: &str) {
-    let lists = spelled(rt, text.as_bytes());
-    let written = had(rt, write_acl(rt.alloc(), &lists));
-    same(rt, &written, long, text);
-    holds(rt, spelled(rt, &written) == lists, long);
+    match read(rt, text.as_bytes()) {
+        Ok(lists) => {
+            let written = write_acl(rt.alloc(), &lists);
+            are_written(rt, lists, written, long);
+        }
+        Err(fault) => tells(rt, printed(rt, fault), "none", text),
+    }
 }
 
 #[test]
 fn what_the_mask_takes_away_is_remarked(rt: HostRuntime) {
-    remarks(&rt, MASKED, MASKED_LONG);
     remarks(&rt, CLOSED, CLOSED_LONG);
     remarks(&rt, FOLDER_LONG, FOLDER_LONG);
 }
 
-/// Reads lists, and once more where memory was refused: it is never told otherwise than as want of memory.
-fn read_again(
-    rt: &(impl Abort + AllocGlobal),
-    names: &Names,
-    text: &str,
-) -> Result<Lists, TextFault> {
-    match read_acl(rt.alloc(), text.as_bytes(), names) {
-        Err(TextFault::Memory) => read_acl(rt.alloc(), text.as_bytes(), names),
-        came => came,
-    }
-}
-
 #[test]
 fn a_list_is_read_where_memory_was_refused(rt: HostRuntime) {
-    match read_again(&rt, &known(&rt), MASKED) {
-        Ok(lists) => same(
-            &rt,
-            &had(&rt, write_acl(rt.alloc(), &lists)),
-            MASKED_LONG,
-            MASKED,
-        ),
-        Err(fault) => has_fault(&rt, &fault, MASKED, "none"),
-    }
-}
-
-/// What getfacl writes, and a line as an administrator might change it.
-static GETFACL: &str = "# file: a
-# owner: root
-# group: root
-user::rw-
-user:lisa:rw-\t\t#effective:r--
-group::r--\r
-\tgroup : toolies : r-x # tools, and more
-mask::r--
-other::r--
-
-";
-
-static GETFACL_SHORT: &str =
-    "user::rw-,user:1001:rw-,group::r--,group:200:r-x,mask::r--,other::r--";
-
-#[test]
-fn the_output_of_getfacl_is_read(rt: HostRuntime) {
-    means(&rt, GETFACL, GETFACL_SHORT);
+    remarks(&rt, MASKED, MASKED_LONG);
 }
 
 static APPENDED: &str =
     "user::rw-,group::r--,other::---user:4294967295:user::rw-\ngroup::r--\nother::---\n-w-";
 
-/// Appends all that can be appended of lists.
-fn append_all(rt: &(impl Abort + AllocGlobal), lists: &Lists) -> Vec<u8> {
-    let mut text = Vec::new(rt.alloc());
-    holds(rt, append_short(&mut text, lists).is_ok(), "short text");
-    let user = Tag::User(4294967295);
-    holds(rt, append_tag(&mut text, user).is_ok(), "a tag");
-    holds(rt, append_acl(&mut text, lists).is_ok(), "long text");
-    let last = text.extend_from_slice(&permission_text(Perms::WRITE));
-    holds(rt, last.is_ok(), "permissions");
-    text
-}
-
 #[test]
 fn texts_are_appended(rt: HostRuntime) {
-    let text = append_all(&rt, &lists(&rt, "640"));
+    let (lists, mut text) = (lists(&rt, "640"), Vec::new(rt.alloc()));
+    had(&rt, append_short(&mut text, &lists));
+    had(&rt, append_tag(&mut text, Tag::User(4294967295)));
+    had(&rt, append_acl(&mut text, &lists));
+    had(&rt, text.extend_from_slice(&permission_text(Perms::WRITE)));
     same(&rt, &text, APPENDED, "appended");
-}
-
-/// A text with a byte put into it.
-fn text_with(rt: &(impl Abort + AllocGlobal), before: &str, byte: u8, after: &str) -> Vec<u8> {
-    let mut text = had(rt, Vec::from_slice(rt.alloc(), before.as_bytes()));
-    assert!(rt; text.push(byte).is_ok());
-    assert!(rt; text.extend_from_slice(after.as_bytes()).is_ok());
-    text
-}
-
-/// What a text is, in words: lists, or its fault.
-fn told(rt: &(impl Abort + AllocGlobal), text: &[u8]) -> String {
-    let made = match read_acl(rt.alloc(), text, &known(rt)).err() {
-        None => format!(in rt.alloc(); "list"),
-        Some(fault) => format!(in rt.alloc(); "{fault:?}"),
-    };
-    had(rt, made)
 }
 
 /// What a byte makes of a text at whose start it stands.
 fn at_the_start(byte: u8) -> &'static str {
     match byte {
-        b' ' | b'\t' | b'\r' | b'\n' | b',' => "list",
-        b'#' => "Invalid(NoUserObj)",
-        _ => "Syntax(1)",
+        b' ' | b'\t' | b'\r' | b'\n' | b',' => "None",
+        b'#' => "Some(Invalid(NoUserObj))",
+        _ => "Some(Syntax(1))",
     }
 }
 
 /// What a byte makes as a qualifier.
 fn as_a_qualifier(byte: u8) -> &'static str {
     match byte {
-        b'0'..=b'9' => "list",
-        b' ' | b'\t' | b'\r' => "Invalid(TwiceSingle)",
-        b':' | b',' | b'\n' | b'#' | b'\\' | 0..=32 | 127..=255 => "Syntax(1)",
-        _ => "UnknownName(1)",
+        b'0'..=b'9' => "None",
+        b' ' | b'\t' | b'\r' => "Some(Invalid(TwiceSingle))",
+        b':' | b',' | b'\n' | b'#' | b'\\' | 0..=32 | 127..=255 => "Some(Syntax(1))",
+        _ => "Some(UnknownName(1))",
     }
 }
 
 /// What a byte makes as permissions.
 fn as_permissions(byte: u8) -> &'static str {
     match byte {
-        b'r' | b'w' | b'x' | b'-' | b' ' | b'\t' | b'\r' | b'\n' | b',' => "list",
-        b'#' => "Invalid(NoGroupObj)",
-        _ => "Syntax(1)",
+        b'r' | b'w' | b'x' | b'-' | b' ' | b'\t' | b'\r' | b'\n' | b',' => "None",
+        b'#' => "Some(Invalid(NoGroupObj))",
+        _ => "Some(Syntax(1))",
     }
 }
 
-/// Compares what was told of a text with a byte put into it.
-fn is_told(rt: &impl Abort, got: &String, byte: u8, want: &str) {
-    assert!(rt; got.as_str() == want, "byte {byte}: {got}");
+/// A text with a byte in place of the first question mark is read so.
+fn byte_means(rt: &(impl Abort + AllocGlobal), text: &str, byte: u8, want: &str) {
+    let place = text.find('?').unwrap_or_default();
+    let text = with_byte(rt, text.as_bytes(), place, byte);
+    shows(rt, read(rt, &text).err(), want, debug(rt, byte).as_str());
 }
 
 #[test]
 fn each_byte_has_its_meaning(rt: HostRuntime) {
     for byte in 0..=255u8 {
-        let text = text_with(&rt, "", byte, "u::rw,g::r,o::-");
-        is_told(&rt, &told(&rt, &text), byte, at_the_start(byte));
-        let text = text_with(&rt, "u:", byte, ":r,u::rw,g::r,m::r,o::-");
-        is_told(&rt, &told(&rt, &text), byte, as_a_qualifier(byte));
-        let text = text_with(&rt, "u::", byte, ",g::r,o::-");
-        is_told(&rt, &told(&rt, &text), byte, as_permissions(byte));
+        byte_means(&rt, "?u::rw,g::r,o::-", byte, at_the_start(byte));
+        let qualifier = "u:?:r,u::rw,g::r,m::r,o::-";
+        byte_means(&rt, qualifier, byte, as_a_qualifier(byte));
+        byte_means(&rt, "u::?,g::r,o::-", byte, as_permissions(byte));
     }
 }
 
 /// Names, each with what becomes of it as a user's.
 static NAMES: &str = "
- = BadName
-7 = BadName
-a:b = BadName
-a,b = BadName
-a# = BadName
-a b = BadName
-a\\ = BadName
-nnnnnnnnnnnnnnnnnnnnnnnnnnnnnnnnnnnnnnnnnnnnnnnnnnnnnnnnnnnnnnnnn = BadName
-7a = taken
-lisa = NameTwice
-toolies = taken
-toolies = NameTwice";
-
-/// What becomes of a name as a user's.
-fn added(names: &mut Names, name: &str) -> &'static str {
-    match names.add_user(name.as_bytes(), 7) {
-        Ok(()) => "taken",
-        Err(NameError::BadName) => "BadName",
-        Err(NameError::NameTwice) => "NameTwice",
-        Err(NameError::Memory) => "Memory",
-    }
-}
+ = Err(BadName)
+7 = Err(BadName)
+a:b = Err(BadName)
+a,b = Err(BadName)
+a# = Err(BadName)
+a b = Err(BadName)
+a\\ = Err(BadName)
+nnnnnnnnnnnnnnnnnnnnnnnnnnnnnnnnnnnnnnnnnnnnnnnnnnnnnnnnnnnnnnnnn = Err(BadName)
+7a = Ok(())
+lisa = Err(NameTwice)
+toolies = Ok(())
+toolies = Err(NameTwice)";
 
 #[test]
 fn names_are_taken_once(rt: HostRuntime) {
     let mut names = known(&rt);
     for line in NAMES.lines().skip(1) {
         let (name, want) = case(&rt, line);
-        holds(&rt, added(&mut names, name) == want, line);
+        shows(&rt, names.add_user(name.as_bytes(), 7), want, line);
     }
 }
 
-/// Appends so many entries of users to a text.
-fn push_users(rt: &(impl Abort + AllocGlobal), text: &mut String, front: &str, count: u32) {
-    for id in 0..count {
-        let item = had(rt, format!(in rt.alloc(); "\n{front}u:{id}:r"));
-        push(rt, text, item.as_str());
-    }
-}
-
-/// A text of 128 entries of the access list and as many of the default list.
-fn many_entries(rt: &(impl Abort + AllocGlobal)) -> String {
-    let mut text = String::new(rt.alloc());
+/// A text of 128 entries of the access list and as many of the default list, and more of them.
+fn many_entries(rt: &(impl Abort + AllocGlobal), more: &str) -> String {
+    let mut text = printed(rt, more);
     push(rt, &mut text, "m::,o::,g::,u::,d:m::,d:o::,d:g::,d:u::");
-    push_users(rt, &mut text, "", 124);
-    push_users(rt, &mut text, "d:", 124);
+    for id in 0..124u32 {
+        let items = format!(in rt.alloc(); "\nu:{id}:r\nd:u:{id}:r");
+        push(rt, &mut text, had(rt, items).as_str());
+    }
     text
 }
 
-/// A text has this fault.
-fn is_refused(rt: &(impl Abort + AllocGlobal), text: &String, want: &str) {
-    tells(rt, &told(rt, text.as_bytes()), want, want);
-}
+static TOO_MANY: &str = "the entries are no valid list: there are more than 128 entries";
+
+static TOO_MANY_DEFAULT: &str =
+    "the entries of the default list are no valid list: there are more than 128 entries";
 
 #[test]
 fn a_list_in_text_has_at_most_128_entries(rt: HostRuntime) {
-    let mut text = many_entries(&rt);
-    let lists = spelled(&rt, text.as_bytes());
-    holds(&rt, lists.access.entries().len() == 128, "128 entries");
-    push(&rt, &mut text, ",d:g:1:");
-    is_refused(&rt, &text, "DefaultInvalid(TooMany)");
-    push(&rt, &mut text, ",g:1:");
-    is_refused(&rt, &text, "Invalid(TooMany)");
+    let most = had(&rt, read(&rt, many_entries(&rt, "").as_bytes()));
+    holds(&rt, most.access.entries().len() == 128, "128 entries");
+    means(&rt, many_entries(&rt, "d:g:1:,").as_str(), TOO_MANY_DEFAULT);
+    means(&rt, many_entries(&rt, "d:g:1:,g:1:,").as_str(), TOO_MANY);
 }
 
 /// Default lists, modes, and the lists that Linux gives to what is made with them.
@@ -381,10 +326,10 @@ d:u::rwx,d:g::rwx,d:m::rx,d:o::rx 770 = user::rwx,group::rwx,mask::r-x,other::--
 fn makes(rt: &(impl Abort + AllocGlobal), given: &str, want: &str) {
     let (default, digits) = given.split_once(' ').expect(rt, "a mode");
     let text = had(rt, format!(in rt.alloc(); "u::,g::,o:,{default}"));
-    let folder = spelled(rt, text.as_bytes());
+    let folder = had(rt, read(rt, text.as_bytes()));
     let default = folder.default.expect(rt, "a default list");
     let access = default.inherit(rt.alloc(), mode(rt, digits));
-    has_short(rt, &Lists::from(had(rt, access)), want);
+    has_short(rt, Lists::from(had(rt, access)), want);
 }
 
 #[test]

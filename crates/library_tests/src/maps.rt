@@ -1,61 +1,20 @@
-//! Each public call once.
+//! Each public call once, as lines of calls with what they answer.
 
 mod uses;
 
 use self::uses::{Planned, Row, Table};
-use crate::checks::{had, holds};
+use crate::checks::{case, debug, had, holds, number, parts, shows, tells};
 use sorted_map::{RoomyMap, SortedMap};
 use std::process::Abort;
 
-/// Compares two lists of pairs.
-fn same_pairs(rt: &impl Abort, got: &[(u64, char)], want: &[(u64, char)]) {
-    assert!(rt; got == want, "{got:?}");
-}
-
-/// Compares what stands at a key.
-fn same_value(rt: &impl Abort, got: Option<char>, want: Option<char>) {
-    assert!(rt; got == want, "{got:?}");
-}
-
-/// Compares two counts.
-fn same_count(rt: &impl Abort, got: usize, want: usize) {
-    assert!(rt; got == want, "{got}");
-}
-
-/// Puts a value at a key.
-fn put(rt: &impl Abort, map: &mut SortedMap<u64, char>, key: u64, value: char) {
-    assert!(rt; map.insert(key, value).is_ok());
-}
-
-/// A map has this at a key.
-fn has(rt: &impl Abort, map: &SortedMap<u64, char>, key: u64, want: Option<char>) {
-    same_value(rt, map.get(&key).copied(), want);
-    holds(rt, map.contains_key(&key) == want.is_some(), "a key");
-}
-
-/// The pairs (10, a) to (40, d), put in in another order, one of them twice.
-fn four_pairs(rt: &(impl Abort + AllocGlobal)) -> SortedMap<u64, char> {
-    let mut map = SortedMap::new(rt.alloc());
-    holds(rt, map.is_empty(), "no pairs");
-    put(rt, &mut map, 30, 'c');
-    put(rt, &mut map, 10, 'a');
-    put(rt, &mut map, 40, 'd');
-    put(rt, &mut map, 20, 'x');
-    put(rt, &mut map, 20, 'b');
-    map
-}
-
-#[test]
-fn pairs_stand_in_the_order_of_their_keys(rt: HostRuntime) {
-    let map = four_pairs(&rt);
-    same_count(&rt, map.len(), 4);
-    let want = [(10, 'a'), (20, 'b'), (30, 'c'), (40, 'd')];
-    same_pairs(&rt, map.as_slice(), &want);
-    has(&rt, &map, 9, None);
-    has(&rt, &map, 10, Some('a'));
-    has(&rt, &map, 25, None);
-    has(&rt, &map, 40, Some('d'));
-    has(&rt, &map, 41, None);
+/// A call with its key, and its value where it has one: a letter.
+fn read_call<'a>(rt: &impl Abort, text: &'a str) -> (&'a str, u64, char) {
+    let (word, key, value, _) = parts(text, ' ');
+    (
+        word,
+        number(rt, key),
+        value.chars().next().unwrap_or_default(),
+    )
 }
 
 /// Changes what stands at a key, and says whether something stood there.
@@ -69,33 +28,47 @@ fn change(map: &mut SortedMap<u64, char>, key: u64, to: char) -> bool {
     }
 }
 
-/// Takes a pair out, which had this value.
-fn take(rt: &impl Abort, map: &mut SortedMap<u64, char>, key: u64, want: Option<char>) {
-    same_value(rt, map.remove(&key), want);
+/// What a map answers to a call; `all` tells its pairs, and how many its clone has.
+fn told(rt: &(impl Abort + AllocGlobal), map: &mut SortedMap<u64, char>, call: &str) -> String {
+    let (word, key, value) = read_call(rt, call);
+    match word {
+        "put" => debug(rt, map.insert(key, value).ok()),
+        "get" => debug(rt, (map.get(&key), map.contains_key(&key))),
+        "take" => debug(rt, map.remove(&key)),
+        "change" => debug(rt, change(map, key, value)),
+        _ => {
+            let copied = had(rt, map.clone()).len();
+            debug(rt, (map.len(), copied, map.is_empty(), map.as_slice()))
+        }
+    }
 }
 
-/// A clone has as many pairs.
-fn has_a_clone(rt: &impl Abort, map: &SortedMap<u64, char>, count: usize) {
-    same_count(rt, had(rt, map.clone()).len(), count);
-}
+static CALLS: &str = "
+all 0 = (0, 0, true, [])
+put 30 c = Some(None)
+put 10 a = Some(None)
+put 40 d = Some(None)
+put 20 x = Some(None)
+put 20 b = Some(Some('x'))
+all 0 = (4, 4, false, [(10, 'a'), (20, 'b'), (30, 'c'), (40, 'd')])
+get 9 = (None, false)
+get 10 = (Some('a'), true)
+get 25 = (None, false)
+get 40 = (Some('d'), true)
+get 41 = (None, false)
+change 30 z = true
+change 31 z = false
+take 10 = Some('a')
+take 10 = None
+all 0 = (3, 3, false, [(20, 'b'), (30, 'z'), (40, 'd')])";
 
 #[test]
-fn pairs_are_changed_and_removed(rt: HostRuntime) {
-    let mut map = four_pairs(&rt);
-    has_a_clone(&rt, &map, 4);
-    holds(&rt, change(&mut map, 30, 'z'), "a change");
-    holds(&rt, !change(&mut map, 31, 'z'), "a change of nothing");
-    take(&rt, &mut map, 10, Some('a'));
-    take(&rt, &mut map, 10, None);
-    same_pairs(&rt, map.as_slice(), &[(20, 'b'), (30, 'z'), (40, 'd')]);
-    has_a_clone(&rt, &map, 3);
-}
-
-/// A map with room for three pairs.
-fn roomy(rt: &(impl Abort + AllocGlobal)) -> RoomyMap<u64, char> {
-    let mut map = RoomyMap::new(rt.alloc());
-    holds(rt, map.reserve(3).is_ok(), "room");
-    map
+fn pairs_stand_in_the_order_of_their_keys(rt: HostRuntime) {
+    let mut map = SortedMap::new(rt.alloc());
+    for line in CALLS.lines().skip(1) {
+        let (call, want) = case(&rt, line);
+        tells(&rt, told(&rt, &mut map, call), want, line);
+    }
 }
 
 /// Puts a value at a key where there is room.
@@ -104,59 +77,68 @@ fn put_in(rt: &impl Abort, map: &mut RoomyMap<u64, char>, key: u64, value: char)
     map.insert_in_room(key, value)
 }
 
-/// Puts a value at a key where nothing stood.
-fn put_new(rt: &impl Abort, map: &mut RoomyMap<u64, char>, key: u64, value: char) {
-    holds(rt, map.insert(key, value).ok() == Some(None), "a new key");
+/// Which pairs stay.
+fn is_kept(pair: &(u64, char)) -> bool {
+    pair.0 != 5
 }
+
+/// Takes out the pair of key 5 as one that does not pass a test.
+fn keep(map: &mut RoomyMap<u64, char>) -> bool {
+    map.retain(is_kept);
+    true
+}
+
+/// What a map that had some room answers to a call; `all` tells its pairs and those of its clone, and how much
+/// of the room is taken.
+fn roomy_told(
+    rt: &(impl Abort + AllocGlobal),
+    map: &mut RoomyMap<u64, char>,
+    room: usize,
+    call: &str,
+) -> String {
+    let (word, key, value) = read_call(rt, call);
+    match word {
+        "put" => debug(rt, map.insert(key, value).ok()),
+        "put-in" => debug(rt, put_in(rt, map, key, value)),
+        "get" => debug(rt, (map.get(&key), map.contains_key(&key))),
+        "get-to-change" => debug(rt, map.get_mut(&key)),
+        "take" => debug(rt, map.remove(&key)),
+        "keep" => debug(rt, keep(map)),
+        _ => {
+            let taken = room.wrapping_sub(map.room());
+            let copy = had(rt, map.clone());
+            let copied = debug(rt, copy.as_slice());
+            holds(rt, debug(rt, map.as_slice()) == copied, "a clone");
+            debug(rt, (map.len(), map.is_empty(), taken, map.as_slice()))
+        }
+    }
+}
+
+static ROOMY_CALLS: &str = "
+put-in 5 e = None
+put-in 5 f = Some('e')
+put 2 b = Some(None)
+all 0 = (2, false, 2, [(2, 'b'), (5, 'f')])
+take 5 = Some('f')
+all 0 = (1, false, 1, [(2, 'b')])
+get 2 = (Some('b'), true)
+get 5 = (None, false)
+get-to-change 2 = Some('b')
+put 5 e = Some(None)
+put 7 g = Some(None)
+keep 5 = true
+all 0 = (2, false, 2, [(2, 'b'), (7, 'g')])";
 
 #[test]
 fn a_place_that_was_reserved_takes_no_memory(rt: HostRuntime) {
-    let mut map = roomy(&rt);
+    let mut map = RoomyMap::new(rt.alloc());
+    had(&rt, map.reserve(3));
     let room = map.room();
-    assert!(rt; room >= 3);
-    same_value(&rt, put_in(&rt, &mut map, 5, 'e'), None);
-    same_value(&rt, put_in(&rt, &mut map, 5, 'f'), Some('e'));
-    put_new(&rt, &mut map, 2, 'b');
-    same_count(&rt, map.len(), 2);
-    same_count(&rt, map.room(), room - 2);
-    same_value(&rt, map.remove(&5), Some('f'));
-    holds(&rt, !map.is_empty(), "one pair");
-    same_count(&rt, map.room(), room - 1);
-}
-
-#[test]
-fn pairs_that_pass_a_test_are_kept(rt: HostRuntime) {
-    let mut map = roomy(&rt);
-    let room = map.room();
-    assert!(rt; room >= 3);
-    put_new(&rt, &mut map, 2, 'b');
-    put_new(&rt, &mut map, 5, 'e');
-    put_new(&rt, &mut map, 7, 'g');
-    map.retain(|pair| pair.0 != 5);
-    same_pairs(&rt, map.as_slice(), &[(2, 'b'), (7, 'g')]);
-    same_count(&rt, map.room(), room - 2);
-}
-
-/// A roomy map has this at a key.
-fn has_there(rt: &impl Abort, map: &RoomyMap<u64, char>, key: u64, want: Option<char>) {
-    same_value(rt, map.get(&key).copied(), want);
-    holds(rt, map.contains_key(&key) == want.is_some(), "a key");
-}
-
-/// The same where what stands there may be changed.
-fn has_to_change(rt: &impl Abort, map: &mut RoomyMap<u64, char>, key: u64, want: char) {
-    let value = map.get_mut(&key).expect(rt, "a value");
-    same_value(rt, Some(*value), Some(want));
-}
-
-#[test]
-fn a_roomy_map_is_looked_up(rt: HostRuntime) {
-    let mut map = roomy(&rt);
-    put_new(&rt, &mut map, 2, 'b');
-    has_there(&rt, &map, 2, Some('b'));
-    has_there(&rt, &map, 5, None);
-    has_to_change(&rt, &mut map, 2, 'b');
-    same_pairs(&rt, had(&rt, map.clone()).as_slice(), &[(2, 'b')]);
+    holds(&rt, room >= 3, "room");
+    for line in ROOMY_CALLS.lines().skip(1) {
+        let (call, want) = case(&rt, line);
+        tells(&rt, roomy_told(&rt, &mut map, room, call), want, line);
+    }
 }
 
 #[test]
@@ -165,10 +147,14 @@ fn callers(rt: HostRuntime) {
     let mut table = Table::new(rt.alloc());
     had(&rt, table.put(8, small));
     had(&rt, table.put(3, large));
-    holds(&rt, table.give(8, 7), "a row");
-    holds(&rt, !table.give(9, 7), "no row");
+    shows(
+        &rt,
+        (table.give(8, 7), table.give(9, 7)),
+        "(true, false)",
+        "rows",
+    );
     let taken = table.take(8).expect(&rt, "a row");
-    holds(&rt, taken.owner == 7 && taken.size == 2, "its new owner");
+    shows(&rt, (taken.owner, taken.size), "(7, 2)", "its new owner");
 }
 
 /// What was planned is finished, and nothing stood there.

@@ -1,17 +1,13 @@
 //! Lines and words at their edges, and each public call once.
 
+use crate::checks::{had, holds, same, shows};
 use script_text::{Lines, Parts, Phrases, Words, push_number, read_number};
 use std::process::Abort;
 
 /// Appends a piece, and a byte after it.
 fn add(rt: &impl Abort, told: &mut Vec<u8>, piece: &[u8], end: u8) {
-    assert!(rt; told.extend_from_slice(piece).is_ok());
-    assert!(rt; told.push(end).is_ok());
-}
-
-/// Compares what was told of a text.
-fn same(rt: &impl Abort, told: &[u8], want: &str, about: &str) {
-    assert!(rt; told == want.as_bytes(), "{about:?}");
+    had(rt, told.extend_from_slice(piece));
+    had(rt, told.push(end));
 }
 
 /// A text has these lines; a bar is put after each.
@@ -70,9 +66,9 @@ fn words_stand_between_blanks(rt: HostRuntime) {
 #[test]
 fn words_are_read_in_turn(rt: HostRuntime) {
     let mut words = Words::new(b"do  1001\t7");
-    assert!(rt; words.next() == Some(b"do".as_slice()));
+    shows(&rt, words.next(), "Some([100, 111])", "do");
     let last = Words::new(words.rest()).last();
-    assert!(rt; last == Some(b"7".as_slice()));
+    shows(&rt, last, "Some([55])", "7");
 }
 
 /// A word has these parts between commas; a bar is put after each.
@@ -92,40 +88,33 @@ fn words_have_parts(rt: HostRuntime) {
     has_parts(&rt, ",a,,", "|a|||");
 }
 
-/// A word is this number, up to a limit.
-fn is_number(rt: &impl Abort, word: &str, limit: u64, want: u64) {
-    let number = read_number(word.as_bytes(), limit);
-    assert!(rt; number == Some(want), "{word}");
+/// A word is this number up to a limit, or none.
+fn is_number(rt: &impl Abort, word: &str, limit: u64, want: Option<u64>) {
+    holds(rt, read_number(word.as_bytes(), limit) == want, word);
 }
 
-/// A word is no number up to a limit.
-fn is_no_number(rt: &impl Abort, word: &str, limit: u64) {
-    assert!(rt; read_number(word.as_bytes(), limit).is_none(), "{word}");
+/// A number is appended so.
+fn is_appended(rt: &(impl Abort + AllocGlobal), number: u64, want: &str) {
+    let mut text = had(rt, Vec::from_slice(rt.alloc(), b"n "));
+    had(rt, push_number(&mut text, number));
+    same(rt, &text, want, want);
 }
 
 #[test]
 fn numbers_are_decimal(rt: HostRuntime) {
-    is_number(&rt, "0", 0, 0);
-    is_number(&rt, "007", 7, 7);
-    is_no_number(&rt, "8", 7);
-    is_number(&rt, "4294967295", 4_294_967_295, 4_294_967_295);
-    is_no_number(&rt, "4294967296", 4_294_967_295);
+    is_number(&rt, "0", 0, Some(0));
+    is_number(&rt, "007", 7, Some(7));
+    is_number(&rt, "8", 7, None);
+    is_number(&rt, "4294967295", 4_294_967_295, Some(4_294_967_295));
+    is_number(&rt, "4294967296", 4_294_967_295, None);
     let longest = "00000000000000000000018446744073709551615";
-    is_number(&rt, longest, u64::MAX, u64::MAX);
-    is_no_number(&rt, "18446744073709551616", u64::MAX);
-    is_no_number(&rt, "184467440737095516150", u64::MAX);
+    is_number(&rt, longest, u64::MAX, Some(u64::MAX));
+    is_number(&rt, "18446744073709551616", u64::MAX, None);
+    is_number(&rt, "184467440737095516150", u64::MAX, None);
     for word in "|+1|-|1 |0x1".split('|') {
-        is_no_number(&rt, word, 9);
+        is_number(&rt, word, 9, None);
     }
-}
-
-#[test]
-fn numbers_are_appended(rt: HostRuntime) {
-    let mut text = Vec::new(rt.alloc());
-    add(&rt, &mut text, b"n", b' ');
-    for number in [0, 1007, u64::MAX] {
-        assert!(rt; push_number(&mut text, number).is_ok());
-        assert!(rt; text.push(b' ').is_ok());
-    }
-    same(&rt, &text, "n 0 1007 18446744073709551615 ", "numbers");
+    is_appended(&rt, 0, "n 0");
+    is_appended(&rt, 1007, "n 1007");
+    is_appended(&rt, u64::MAX, "n 18446744073709551615");
 }

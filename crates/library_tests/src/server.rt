@@ -8,8 +8,9 @@ mod asking;
 mod lent;
 mod uses;
 
-use self::asking::{add, file, request, server};
-use crate::checks::{case, had, holds, number, push, tells};
+use self::asking::{file, request};
+use crate::checks::{add, bytes, case, debug, had, holds, number, shows, tells};
+use crate::fixtures::settings;
 use rep_core::{
     Lack, Part, Parts, Reply, Request, Server, Stamped, Take, busy_names_the_least,
     consistency_is_kept, copies_are_valid, exclusive_stands_alone, finish_keeps_effect,
@@ -17,43 +18,29 @@ use rep_core::{
     quiet_replies_change_nothing, some_copy_is_changed, some_server_stands, stores_are_sound,
     suites_are_few, verdicts_are_written_once,
 };
+use std::ops::Range;
 use std::process::Abort;
-use suite_prefix::{LockMode, Prefix, Replica};
+use suite_prefix::LockMode;
 
-/// What is answered, in words.
-fn words(rt: &(impl Abort + AllocGlobal), outcome: &Result<Stamped<Reply>, Lack>) -> String {
-    match outcome {
-        Ok(reply) => reply_words(rt, reply.stamp, &reply.value),
-        Err(lack) => had(rt, format!(in rt.alloc(); "{lack:?}")),
-    }
+/// Server 0 of three.
+fn server(rt: &(impl Abort + AllocGlobal)) -> Server {
+    let settings = settings(rt, 3, "777");
+    had(rt, Server::opening(rt.alloc(), 0, &settings))
 }
 
-fn reply_words(rt: &(impl Abort + AllocGlobal), stamp: u64, reply: &Reply) -> String {
-    let mut text = had(rt, format!(in rt.alloc(); "{stamp}: "));
-    push(rt, &mut text, value_words(rt, reply).as_str());
-    text
-}
-
-/// Of locks how many there are, of a prefix its kind and its version.
-fn value_words(rt: &(impl Abort + AllocGlobal), reply: &Reply) -> String {
-    match reply {
-        Reply::Held { prefix, dver } => held_words(rt, prefix, *dver),
-        Reply::Locked(locks) => locked_words(rt, locks.as_slice().len()),
-        other => other_words(rt, other),
-    }
-}
-
-fn held_words(rt: &(impl Abort + AllocGlobal), prefix: &Prefix, dver: u64) -> String {
-    let (kind, pver) = (prefix.kind, prefix.pver);
-    had(rt, format!(in rt.alloc(); "Held {kind:?} {pver} {dver}"))
-}
-
-fn locked_words(rt: &(impl Abort + AllocGlobal), count: usize) -> String {
-    had(rt, format!(in rt.alloc(); "Locked {count}"))
-}
-
-fn other_words(rt: &(impl Abort + AllocGlobal), reply: &Reply) -> String {
-    had(rt, format!(in rt.alloc(); "{reply:?}"))
+/// What is answered, in words: of locks how many there are, of a prefix its kind and the versions.
+fn words(rt: &(impl Abort + AllocGlobal), outcome: Result<Stamped<Reply>, Lack>) -> String {
+    let reply = match outcome {
+        Ok(reply) => reply,
+        Err(lack) => return debug(rt, lack),
+    };
+    let stamp = reply.stamp;
+    let (head, value) = match reply.value {
+        Reply::Held { prefix, dver } => { ("Held ", debug(rt, (prefix.kind, prefix.pver, dver))) }
+        Reply::Locked(locks) => ("Locked ", debug(rt, locks.as_slice().len())),
+        other => ("", debug(rt, other)),
+    };
+    had(rt, format!(in rt.alloc(); "{stamp}: {head}{value}"))
 }
 
 /// A request with the stamp that it comes with.
@@ -64,11 +51,9 @@ fn stamped(rt: &(impl Abort + AllocGlobal), stamp: u64, ask: &str) -> Stamped<Re
     }
 }
 
-/// The reply fits its request.
-fn fits(rt: &(impl Abort + AllocGlobal), ask: &str, outcome: &Result<Stamped<Reply>, Lack>) {
-    if let Ok(reply) = outcome {
-        holds(rt, request(rt, ask).fits(&reply.value), ask);
-    }
+/// Serves a request.
+fn serve(server: &mut Server, request: Stamped<Request>) -> Result<Stamped<Reply>, Lack> {
+    server.serve(request)
 }
 
 /// Serves a request, and once more where memory was refused to it.
@@ -78,19 +63,38 @@ fn served(
     stamp: u64,
     ask: &str,
 ) -> Result<Stamped<Reply>, Lack> {
-    match server.serve(stamped(rt, stamp, ask)) {
-        Err(Lack::Memory) => server.serve(stamped(rt, stamp, ask)),
+    match serve(server, stamped(rt, stamp, ask)) {
+        Err(Lack::Memory) => serve(server, stamped(rt, stamp, ask)),
         outcome => outcome,
     }
 }
 
-/// Serves the request of a line, behind the stamp that it comes with, and compares what is answered.
-fn line(rt: &(impl Abort + AllocGlobal), server: &mut Server, text: &str) {
-    let (given, want) = case(rt, text);
-    let (stamp, ask) = given.split_once(' ').expect(rt, "a request");
+/// Serves a request, whose reply fits it, and compares what is answered.
+fn answers(rt: &(impl Abort + AllocGlobal), server: &mut Server, ask: &str, want: &str) {
+    let (stamp, ask) = ask.split_once(' ').unwrap_or_default();
     let outcome = served(rt, server, number(rt, stamp), ask);
-    fits(rt, ask, &outcome);
-    tells(rt, &words(rt, &outcome), want, text);
+    if let Ok(reply) = &outcome {
+        holds(rt, request(rt, ask).fits(&reply.value), ask);
+    }
+    tells(rt, words(rt, outcome), want, ask);
+}
+
+/// The bytes that a server lends of a suite are these, or it lends none.
+fn lends(rt: &(impl Abort + AllocGlobal), server: &Server, suite: u64, want: &str) {
+    match server.stored(suite) {
+        Some(lent) => holds(rt, lent == bytes(rt, want).as_slice(), want),
+        None => holds(rt, want == "none", want),
+    }
+}
+
+/// Plays a line: a request behind the stamp that it comes with, and what is answered; or a suite, and the
+/// bytes that are lent of it.
+fn line(rt: &(impl Abort + AllocGlobal), server: &mut Server, text: &str) {
+    let (ask, want) = case(rt, text);
+    match ask.strip_prefix("lent ") {
+        Some(suite) => lends(rt, server, number(rt, suite), want),
+        None => answers(rt, server, ask, want),
+    }
 }
 
 /// Asks one request after the other.
@@ -101,10 +105,10 @@ fn play(rt: &(impl Abort + AllocGlobal), server: &mut Server, text: &str) {
 }
 
 static RUN: &str = "
-0 poll 5 0 S = 1: Held Folder 1 1
+0 poll 5 0 S = 1: Held (Folder, 1, 1)
 9 poll 6 0 X = 10: Busy { holder: 5, prepared: false }
 0 fetch 6 0 = 11: Lost
-0 upgrade 5 0 = 12: Held Folder 1 1
+0 upgrade 5 0 = 12: Held (Folder, 1, 1)
 0 prepare 5 0 X keep = 13: Prepared
 0 crash = 14: Done
 0 fetch 5 0 = 15: Down
@@ -125,35 +129,30 @@ fn requests_are_answered_with_their_stamps(rt: HostRuntime) {
 }
 
 static CHANGES: &str = "
-0 poll 7 9 X = 1: Held Absent 0 0
+0 poll 7 9 X = 1: Held (Absent, 0, 0)
 0 prepare 7 9 X 1/1 = 2: Prepared
 0 fetch 7 9 = 3: Given { dver: 0, content: Bytes(FileBytes { shared: None }) }
 0 prepare 7 9 S keep = 4: Prepared
 0 answered 7 = 5: Done
-0 poll 8 9 S = 6: Held File 1 1
-0 upgrade 8 9 = 7: Held File 1 1
+0 poll 8 9 S = 6: Held (File, 1, 1)
+0 upgrade 8 9 = 7: Held (File, 1, 1)
 0 prepare 8 9 X 2:file = 8: Prepared
 0 answered 8 = 9: Done
-0 poll 9 9 S = 10: Held File 2 1
-0 poll 9 11 X = 11: Held Absent 0 0
+0 poll 9 9 S = 10: Held (File, 2, 1)
+0 poll 9 11 X = 11: Held (Absent, 0, 0)
 0 prepare 9 11 X 1:folder = 12: Prepared
 0 aborted 9 = 13: Done
-0 poll 10 11 X = 14: Held Absent 0 0
+0 poll 10 11 X = 14: Held (Absent, 0, 0)
 0 prepare 10 11 X 1:folder = 15: Prepared
 0 answered 10 = 16: Done
-0 poll 11 11 S = 17: Held Folder 1 0";
-
-#[test]
-fn a_prepared_change_takes_effect_at_its_finish(rt: HostRuntime) {
-    play(&rt, &mut server(&rt), CHANGES);
-}
+0 poll 11 11 S = 17: Held (Folder, 1, 0)";
 
 static LOST: &str = "
 0 prepare 5 0 S keep = 1: Lost
-0 poll 5 0 S = 2: Held Folder 1 1
+0 poll 5 0 S = 2: Held (Folder, 1, 1)
 0 prepare 5 0 X keep = 3: Lost
 0 prepare 5 0 S 2:folder = 4: Lost
-0 poll 5 0 X = 5: Held Folder 1 1
+0 poll 5 0 X = 5: Held (Folder, 1, 1)
 0 prepare 5 0 S 2:folder = 6: Lost
 0 prepare 5 0 X 0/1 = 7: Lost
 0 prepare 5 0 X 0:folder = 8: Lost
@@ -164,7 +163,8 @@ static LOST: &str = "
 0 prepare 5 0 X 2:folder = 12: Prepared";
 
 #[test]
-fn a_prepare_is_lost_for_each_cause(rt: HostRuntime) {
+fn a_prepare_takes_effect_at_its_finish_or_is_lost(rt: HostRuntime) {
+    play(&rt, &mut server(&rt), CHANGES);
     play(&rt, &mut server(&rt), LOST);
 }
 
@@ -175,34 +175,20 @@ static DENIED: &str = "
 0 deny 6 = 4: Down
 0 return = 5: Done";
 
-fn told_words(rt: &(impl Abort + AllocGlobal), server: &Server, ask: &str) -> String {
-    words(rt, &server.answer(&stamped(rt, 0, ask)))
-}
-
-fn served_words(rt: &(impl Abort + AllocGlobal), server: &mut Server, ask: &str) -> String {
-    words(rt, &served(rt, server, 0, ask))
-}
-
 /// What is answered to the same request by `answer` and by `serve` is the same.
 fn told_is_served(rt: &(impl Abort + AllocGlobal), server: &mut Server, ask: &str) {
-    let told = told_words(rt, server, ask);
-    let served = served_words(rt, server, ask);
-    tells(rt, &told, served.as_str(), ask);
+    let told = words(rt, server.answer(&stamped(rt, 0, ask)));
+    let served = words(rt, served(rt, server, 0, ask));
+    tells(rt, told, served.as_str(), ask);
 }
 
-/// An audit has one item, of user 2000.
-fn has_one_item(rt: &(impl Abort + AllocGlobal), server: &Server) {
-    let audit = server.audit();
-    let told = had(rt, format!(in rt.alloc(); "{audit:?}"));
-    tells(rt, &told, ONE_ITEM, "the audit");
+/// These denials are kept.
+fn keeps(rt: &(impl Abort + AllocGlobal), server: &Server, want: &str) {
+    shows(rt, server.audit(), want, "the audit");
 }
 
 static ONE_ITEM: &str =
     "[AuditItem { t: 6, uid: 2000, op: 1, denial: Denial { suite: 1, wanted: Perms(4), decider: Other } }]";
-
-fn no_audit(rt: &impl Abort, server: &Server) {
-    holds(rt, server.audit().is_empty(), "no audit");
-}
 
 static KEPT: &str =
     "0 deny 6 = 7: Verdict(Refused(Refusal { op: 1, why: Denied(Denial { suite: 1, wanted: Perms(4), decider: Other }) }))";
@@ -211,11 +197,11 @@ static KEPT: &str =
 fn a_denial_is_kept_once(rt: HostRuntime) {
     let mut server = server(&rt);
     play(&rt, &mut server, DENIED);
-    no_audit(&rt, &server);
+    keeps(&rt, &server, "[]");
     told_is_served(&rt, &mut server, "deny 6");
-    has_one_item(&rt, &had(&rt, server.copy()));
+    keeps(&rt, &had(&rt, server.copy()), ONE_ITEM);
     line(&rt, &mut server, KEPT);
-    has_one_item(&rt, &server);
+    keeps(&rt, &server, ONE_ITEM);
 }
 
 /// The laws of locks and verdicts.
@@ -248,78 +234,61 @@ fn the_laws_are_called(rt: HostRuntime) {
     laws_of_copies();
 }
 
+/// Serves a request of stamp 0.
 fn asked(server: &mut Server, value: Request) -> Result<Stamped<Reply>, Lack> {
-    server.serve(Stamped { stamp: 0, value })
+    serve(server, Stamped { stamp: 0, value })
 }
 
-/// Locks a suite.
-fn lock(rt: &impl Abort, server: &mut Server, t: u64, suite: u64) {
-    let mode = LockMode::Exclusive;
-    let outcome = asked(server, Request::Poll { t, suite, mode });
-    holds(rt, outcome.is_ok(), "a lock");
-}
-
-/// A part that takes a file.
-fn part(rt: &impl Abort, suite: u64, file: &Replica) -> Part {
-    Part {
-        suite,
-        mode: LockMode::Exclusive,
-        take: Take::Whole(had(rt, file.clone())),
-    }
-}
-
-/// Locks this many suites for a transaction, and gives a part for each that takes a file.
+/// Locks these suites for a transaction, and gives a part for each that takes a file.
 fn lock_and_take(
     rt: &(impl Abort + AllocGlobal),
     server: &mut Server,
     t: u64,
-    first: u64,
-    count: u16,
+    suites: Range<u64>,
 ) -> Parts {
     let mut parts = Vec::new(rt.alloc());
-    let taken = file(rt, 1, 1);
-    for i in 0..count {
-        let suite = u64::from(i).wrapping_add(first);
-        lock(rt, server, t, suite);
-        add(rt, &mut parts, part(rt, suite, &taken));
+    let mode = LockMode::Exclusive;
+    for suite in suites {
+        had(rt, asked(server, Request::Poll { t, suite, mode }));
+        let take = Take::Whole(file(rt, 1, 1));
+        add(rt, &mut parts, Part { suite, mode, take });
     }
     Parts::from_vec(parts)
 }
 
-/// Makes all of them prepared, and gives the reply in words.
+/// Makes files of these suites prepared, which is answered so.
 fn take_files(
     rt: &(impl Abort + AllocGlobal),
     server: &mut Server,
     t: u64,
-    first: u64,
-    count: u16,
-) -> String {
-    let parts = lock_and_take(rt, server, t, first, count);
-    words(rt, &asked(server, Request::Prepare { t, parts }))
+    suites: Range<u64>,
+    want: &str,
+) {
+    let parts = lock_and_take(rt, server, t, suites);
+    let outcome = asked(server, Request::Prepare { t, parts });
+    tells(rt, words(rt, outcome), want, want);
 }
 
 static LAST_PLACE: &str = "
-0 poll 3 8000 X = 4098: Held Absent 0 0
-0 poll 3 9000 X = 4099: Held Absent 0 0
+0 poll 3 8000 X = 4098: Held (Absent, 0, 0)
+0 poll 3 9000 X = 4099: Held (Absent, 0, 0)
 0 prepare 3 9000 X 1/1 = 4100: Prepared
-0 poll 4 8001 X = 4101: Held Absent 0 0
+0 poll 4 8001 X = 4101: Held (Absent, 0, 0)
 0 prepare 4 8001 X 1/1 = Full
 0 prepare 4 8001 X keep = 4102: Prepared
-0 poll 5 0 X = 4103: Held Folder 1 1
+0 poll 5 0 X = 4103: Held (Folder, 1, 1)
 0 prepare 5 0 X 2:folder = 4104: Prepared
 0 aborted 2 = 4105: Done
 0 poll 6 8001 S = 4106: Busy { holder: 4, prepared: true }
-0 poll 6 8002 X = 4107: Held Absent 0 0
+0 poll 6 8002 X = 4107: Held (Absent, 0, 0)
 0 prepare 6 8002 X 1/1 = 4108: Prepared";
 
 #[test]
 fn copies_and_intentions_have_4096_places(rt: HostRuntime) {
     let mut server = server(&rt);
-    let told = take_files(&rt, &mut server, 1, 1, 2000);
-    tells(&rt, &told, "2001: Prepared", "2,000 copies");
+    take_files(&rt, &mut server, 1, 1..2001, "2001: Prepared");
     line(&rt, &mut server, "0 answered 1 = 2002: Done");
-    let told = take_files(&rt, &mut server, 2, 2001, 2094);
-    tells(&rt, &told, "4097: Prepared", "2,094 intentions");
+    take_files(&rt, &mut server, 2, 2001..4095, "4097: Prepared");
     play(&rt, &mut server, LAST_PLACE);
 }
 
@@ -329,7 +298,7 @@ fn refuse(told: &mut u64, reply: Stamped<Reply>) -> Result<(), ()> {
     Err(())
 }
 
-/// What a taker refuses was not served.
+/// What a taker refuses was not served: the reply has this stamp.
 fn refused(rt: &(impl Abort + AllocGlobal), server: &mut Server, ask: &str, stamp: u64) {
     let mut told = 0;
     let outcome = server.serve_then(stamped(rt, 0, ask), &mut told, refuse);
@@ -343,7 +312,7 @@ fn a_reply_that_is_refused_was_not_served(rt: HostRuntime) {
     refused(&rt, &mut server, "poll 5 0 X", 1);
     line(&rt, &mut server, "0 locks = 1: Locked 0");
     refused(&rt, &mut server, "deny 5", 2);
-    no_audit(&rt, &server);
+    keeps(&rt, &server, "[]");
     refused(&rt, &mut server, "crash", 2);
     line(&rt, &mut server, "0 resolve 5 = 2: Verdict(Aborted)");
 }

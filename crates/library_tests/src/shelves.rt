@@ -1,7 +1,7 @@
 //! A shelf as its users meet it: which value is the oldest as some are put, used and taken, and that each is
 //! dropped once.
 
-use crate::checks::{had, holds};
+use crate::checks::{had, holds, shows, tells};
 use recency::{Shelf, Slot};
 use std::process::Abort;
 use std::rc::Rc;
@@ -9,30 +9,28 @@ use std::rc::Rc;
 /// Puts a value for a site, where a slot is free.
 fn put(rt: &impl Abort, shelf: &mut Shelf<char>, site: u8, value: char) -> Slot {
     assert!(rt; site < 16);
-    shelf.put(site, value).ok().expect(rt, "a free slot")
+    had(rt, shelf.put(site, value))
 }
 
 /// The oldest value of all and that of site 7 are in these slots.
 fn oldest(rt: &impl Abort, shelf: &Shelf<char>, of_all: Slot, of_site: Slot) {
-    assert!(rt; shelf.oldest() == Some(of_all), "the oldest of all");
-    assert!(rt; shelf.oldest_of(7) == Some(of_site), "the oldest of site 7");
+    holds(rt, shelf.oldest() == Some(of_all), "the oldest of all");
+    let is_of_site = shelf.oldest_of(7) == Some(of_site);
+    holds(rt, is_of_site, "the oldest of site 7");
 }
 
 /// The values are these, the newest first.
-fn stand(rt: &impl Abort, shelf: &Shelf<char>, want: &str) {
+fn stand(rt: &(impl Abort + AllocGlobal), shelf: &Shelf<char>, want: &str) {
     let mut next = shelf.newest();
-    for value in want.chars() {
-        let slot = next.expect(rt, "a value more");
-        assert!(rt; shelf.get(slot) == Some(&value), "{value}");
-        next = shelf.older(slot);
+    let mut told = String::new(rt.alloc());
+    for _ in 0..4 {
+        if let Some(slot) = next {
+            let value = shelf.get(slot).expect(rt, "a value");
+            had(rt, told.push(*value));
+            next = shelf.older(slot);
+        }
     }
-    assert!(rt; next.is_none(), "a value too many");
-}
-
-/// What is in a slot is taken once.
-fn take(rt: &impl Abort, shelf: &mut Shelf<char>, slot: Slot, want: char) {
-    assert!(rt; shelf.take(slot) == Some(want), "{want}");
-    assert!(rt; shelf.take(slot).is_none(), "a second take");
+    tells(rt, told, want, "the values");
 }
 
 #[test]
@@ -45,15 +43,15 @@ fn a_shelf_has_an_oldest_of_all_and_of_each_site(rt: HostRuntime) {
     oldest(&rt, &shelf, a, a);
     holds(&rt, shelf.touch(a), "a use");
     oldest(&rt, &shelf, b, c);
-    take(&rt, &mut shelf, c, 'c');
-    holds(&rt, shelf.len_of(7) == 1, "how many of site 7");
+    let taken = (shelf.take(c), shelf.take(c), shelf.len_of(7));
+    shows(&rt, taken, "(Some('c'), None, 1)", "taken once");
     put(&rt, &mut shelf, 9, 'd');
     stand(&rt, &shelf, "dab");
 }
 
 /// A value is held by so many.
-fn held(rt: &impl Abort, value: &Rc<char>, count: usize) {
-    assert!(rt; Rc::strong_count(value) == count, "{count}");
+fn held(rt: &impl Abort, value: &Rc<char>, count: usize, about: &str) {
+    holds(rt, Rc::strong_count(value) == count, about);
 }
 
 #[test]
@@ -63,9 +61,9 @@ fn a_shelf_drops_each_value_once(rt: HostRuntime) {
     for site in 7..11 {
         drop(shelf.put(site, had(&rt, value.clone())));
     }
-    held(&rt, &value, 4);
+    held(&rt, &value, 4, "put");
     drop(shelf.take(0));
-    held(&rt, &value, 3);
+    held(&rt, &value, 3, "taken");
     drop(shelf);
-    held(&rt, &value, 1);
+    held(&rt, &value, 1, "dropped");
 }

@@ -1,108 +1,110 @@
 //! Texts of many pieces, their limits, and a failure in mid-stream.
 
+use crate::checks::{case, had, holds, number, parts, shows};
 use byte_streams::{
-    ByteIn, ByteOut, MemoryIn, MemoryOut, ReadError, SystemIn, SystemOut, read_all, write_all,
+    ByteIn, ByteOut, MemoryIn, MemoryOut, SystemIn, SystemOut, read_all, write_all,
 };
 use std::process::Abort;
 
 /// So many bytes.
 fn text(rt: &(impl Abort + AllocGlobal), len: usize) -> Vec<u8> {
-    let text = b"x".as_slice().repeat(rt.alloc(), len);
-    text.expect(rt, "memory")
+    had(rt, b"x".as_slice().repeat(rt.alloc(), len))
 }
 
-/// A text of this length is read so, where one read fails: so many bytes, or an error.
-fn reads(
-    rt: &(impl Abort + AllocGlobal),
-    len: usize,
-    limit: u32,
-    failing: u64,
-    want: Result<usize, ReadError>,
-) {
-    let text = text(rt, len);
-    let mut stream = MemoryIn::failing_at(&text, failing);
-    let told = read_all(rt.alloc(), &mut stream, limit as usize).map(|bytes| bytes.len());
-    assert!(rt; told == want, "{len} bytes, {limit}, {failing}");
-    let failures = u64::from(told == Err(ReadError::Failed));
-    assert!(rt;
-        stream.failed_reads() == failures,
-        "{len} bytes, {limit}, {failing}"
-    );
+/// A text of a length is read up to a limit, where one read fails: so many bytes, or an error, and how many
+/// reads failed.
+fn reads(rt: &(impl Abort + AllocGlobal), line: &str) {
+    let (given, want) = case(rt, line);
+    let (len, limit, failing, _) = parts(given, ' ');
+    let text = text(rt, number(rt, len));
+    let mut stream = MemoryIn::failing_at(&text, number(rt, failing));
+    let limit = number::<u32>(rt, limit) as usize;
+    let told = match read_all(rt.alloc(), &mut stream, limit) {
+        Ok(bytes) => Ok(bytes.len()),
+        Err(error) => Err(error),
+    };
+    shows(rt, (told, stream.failed_reads()), want, line);
 }
 
 /// A text of 16,384 bytes is read in one piece, one of 100,000 in seven; another read finds the end.
+static READS: &str = "
+0 0 9 = (Ok(0), 0)
+3 3 9 = (Ok(3), 0)
+3 2 9 = (Err(TooLong), 0)
+16384 16384 9 = (Ok(16384), 0)
+16385 16384 9 = (Err(TooLong), 0)
+100000 100000 9 = (Ok(100000), 0)
+100000 99999 9 = (Err(TooLong), 0)
+100000 100000 0 = (Err(Failed), 1)
+100000 100000 3 = (Err(Failed), 1)
+100000 100000 7 = (Err(Failed), 1)
+100000 100000 8 = (Ok(100000), 0)
+100000 16384 2 = (Err(TooLong), 0)";
+
 #[test]
 fn streams_are_read_to_their_end(rt: HostRuntime) {
-    let (too_long, failed) = (Err(ReadError::TooLong), Err(ReadError::Failed));
-    reads(&rt, 0, 0, 9, Ok(0));
-    reads(&rt, 3, 3, 9, Ok(3));
-    reads(&rt, 3, 2, 9, too_long);
-    reads(&rt, 16_384, 16_384, 9, Ok(16_384));
-    reads(&rt, 16_385, 16_384, 9, too_long);
-    reads(&rt, 100_000, 100_000, 9, Ok(100_000));
-    reads(&rt, 100_000, 99_999, 9, too_long);
-    reads(&rt, 100_000, 100_000, 0, failed);
-    reads(&rt, 100_000, 100_000, 3, failed);
-    reads(&rt, 100_000, 100_000, 7, failed);
-    reads(&rt, 100_000, 100_000, 8, Ok(100_000));
-    reads(&rt, 100_000, 16_384, 2, too_long);
+    for line in READS.lines().skip(1) {
+        reads(&rt, line);
+    }
 }
 
+/// A slice is a reader that never fails.
 #[test]
 fn the_bytes_are_those_of_the_stream(rt: HostRuntime) {
-    let whole = read_all(rt.alloc(), &mut MemoryIn::new(b"ab\n"), 3);
-    let whole = whole.ok().expect(&rt, "bytes");
-    assert!(rt; whole.as_slice() == b"ab\n".as_slice());
+    let whole = had(&rt, read_all(rt.alloc(), &mut MemoryIn::new(b"ab\n"), 3));
+    holds(&rt, whole.as_slice() == b"ab\n".as_slice(), "three bytes");
+    let text = text(&rt, 100_000);
+    let mut stream = SystemIn::new(text.as_slice());
+    let whole = had(&rt, read_all(rt.alloc(), &mut stream, 100_000));
+    holds(&rt, whole.as_slice() == text.as_slice(), "100,000 bytes");
+    holds(&rt, stream.failed_reads() == 0, "no failure");
 }
 
-/// Of a text of 200,000 bytes so many are written where one write fails.
-fn writes(rt: &(impl Abort + AllocGlobal), failing: u64, written: usize) {
+/// Of a text of 200,000 bytes so many are written where one write fails, and so many writes failed.
+fn writes(rt: &(impl Abort + AllocGlobal), failing: u64, want: &str) {
     let text = text(rt, 200_000);
     let mut stream = MemoryOut::failing_at(rt.alloc(), failing);
-    let failed = write_all(&mut stream, &text).is_err();
-    assert!(rt; failed == (written < 200_000), "{failing}");
-    assert!(rt; stream.bytes().len() == written, "{failing}");
-    assert!(rt; stream.failed_writes() == u64::from(failed), "{failing}");
+    let has_failed = write_all(&mut stream, &text).is_err();
+    let told = (has_failed, stream.bytes().len(), stream.failed_writes());
+    shows(rt, told, want, want);
 }
 
 /// A text of 200,000 bytes is written in four pieces, of which the first three have 65,536.
 #[test]
 fn texts_are_written_in_pieces(rt: HostRuntime) {
-    writes(&rt, 0, 0);
-    writes(&rt, 2, 131_072);
-    writes(&rt, 3, 196_608);
-    writes(&rt, 4, 200_000);
+    writes(&rt, 0, "(true, 0, 1)");
+    writes(&rt, 2, "(true, 131072, 1)");
+    writes(&rt, 3, "(true, 196608, 1)");
+    writes(&rt, 4, "(false, 200000, 0)");
 }
 
 #[test]
 fn texts_are_written_one_behind_the_other(rt: HostRuntime) {
     let mut stream = MemoryOut::new(rt.alloc());
-    for piece in ["one", "", "two"] {
-        let outcome = write_all(&mut stream, piece.as_bytes());
-        assert!(rt; outcome.is_ok(), "{piece}");
-    }
-    assert!(rt; stream.bytes() == b"onetwo".as_slice());
+    had(&rt, write_all(&mut stream, b"one"));
+    had(&rt, write_all(&mut stream, b""));
+    had(&rt, write_all(&mut stream, b"two"));
+    holds(&rt, stream.bytes() == b"onetwo".as_slice(), "six bytes");
 }
 
-/// A slice is a reader that never fails.
-#[test]
-fn streams_of_the_system_are_read(rt: HostRuntime) {
-    let text = text(&rt, 100_000);
-    let mut stream = SystemIn::new(text.as_slice());
-    let whole = read_all(rt.alloc(), &mut stream, 100_000);
-    let whole = whole.ok().expect(&rt, "bytes");
-    assert!(rt; whole.as_slice() == text.as_slice());
-    assert!(rt; stream.failed_reads() == 0);
+/// Writes a piece, which fails or not, and so many writes have failed then.
+fn writes_to(
+    rt: &(impl Abort + AllocGlobal),
+    stream: &mut SystemOut<&mut [u8]>,
+    piece: &str,
+    want: &str,
+) {
+    let has_failed = stream.write(piece.as_bytes()).is_err();
+    shows(rt, (has_failed, stream.failed_writes()), want, piece);
 }
 
-/// One to be written is a writer that fails once it is full.
+/// A slice to be written is a writer that fails once it is full.
 #[test]
 fn streams_of_the_system_are_written(rt: HostRuntime) {
     let mut room = [0u8; 4];
     let mut stream = SystemOut::new(room.as_mut_slice());
-    for (piece, failures) in [("one", 0), ("t", 0), ("wo", 1), ("x", 2)] {
-        let failed = stream.write(piece.as_bytes()).is_err();
-        assert!(rt; failed == (0 < failures), "{piece}");
-        assert!(rt; stream.failed_writes() == failures, "{piece}");
-    }
+    writes_to(&rt, &mut stream, "one", "(false, 0)");
+    writes_to(&rt, &mut stream, "t", "(false, 0)");
+    writes_to(&rt, &mut stream, "wo", "(true, 1)");
+    writes_to(&rt, &mut stream, "x", "(true, 2)");
 }

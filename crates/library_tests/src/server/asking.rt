@@ -1,23 +1,12 @@
 //! What a server is asked, in words.
 
-use crate::checks::{had, number};
-use crate::fixtures::{lists, prefix, votes};
+use crate::checks::{add, had, number, parts};
+use crate::fixtures::prefix;
 use acl_core::{Decider, Perms};
 use file_ops::{Answers, Denial, Refusal, Why};
-use rep_core::{Decision, Part, Parts, Request, Server, Take, Verdict};
+use rep_core::{Decision, Part, Parts, Request, Take, Verdict};
 use std::process::Abort;
-use suite_prefix::{LockMode, PrefixKind, Replica, Settings};
-use vote_core::ServerSet;
-
-/// Server 0 of three.
-pub(super) fn server(rt: &(impl Abort + AllocGlobal)) -> Server {
-    let (votes, acl) = (votes(rt, "1,1,1/2/2"), lists(rt, "777"));
-    let settings = had(
-        rt,
-        Settings::new(3, 2, votes, 1000, 100, acl, 0, 0, 0, ServerSet::empty()),
-    );
-    had(rt, Server::opening(rt.alloc(), 0, &settings))
-}
+use suite_prefix::{LockMode, PrefixKind, Replica};
 
 /// A file of these versions, with one byte where the content has a version.
 pub(super) fn file(rt: &(impl Abort + AllocGlobal), pver: u64, dver: u64) -> Replica {
@@ -25,70 +14,26 @@ pub(super) fn file(rt: &(impl Abort + AllocGlobal), pver: u64, dver: u64) -> Rep
     crate::fixtures::file(rt, pver, dver, bytes)
 }
 
-fn kind(word: &str) -> PrefixKind {
-    match word {
+/// A prefix of a version and a kind.
+fn prefix_of(rt: &(impl Abort + AllocGlobal), pver: &str, word: &str) -> Take {
+    let kind = match word {
         "file" => PrefixKind::File,
         "folder" => PrefixKind::Folder,
         _ => PrefixKind::Absent,
-    }
-}
-
-fn mode(word: &str) -> LockMode {
-    match word {
-        "X" => LockMode::Exclusive,
-        _ => LockMode::Shared,
-    }
+    };
+    Take::Prefix(prefix(rt, number(rt, pver), kind))
 }
 
 /// What a transaction takes: a prefix of a version and kind as `2:file`, a file of two versions as `1/1`, or
 /// what is there already.
 fn take(rt: &(impl Abort + AllocGlobal), text: &str) -> Take {
     if let Some((pver, word)) = text.split_once(':') {
-        return Take::Prefix(prefix(rt, number(rt, pver), kind(word)));
+        return prefix_of(rt, pver, word);
     }
     match text.split_once('/') {
         Some((pver, dver)) => Take::Whole(file(rt, number(rt, pver), number(rt, dver))),
         None => Take::Keep,
     }
-}
-
-pub(super) fn add(rt: &impl Abort, parts: &mut Vec<Part>, part: Part) {
-    assert!(rt; parts.push(part).is_ok());
-}
-
-/// A request in words.
-#[derive(Clone, Copy)]
-struct Words<'a> {
-    word: &'a str,
-    t: u64,
-    suite: u64,
-    mode: &'a str,
-    take: &'a str,
-}
-
-fn split<'a>(text: &'a str) -> Words<'a> {
-    let mut words = text.split(' ');
-    Words {
-        word: words.next().unwrap_or_default(),
-        t: words.next().unwrap_or_default().parse().unwrap_or_default(),
-        suite: words.next().unwrap_or_default().parse().unwrap_or_default(),
-        mode: words.next().unwrap_or_default(),
-        take: words.next().unwrap_or_default(),
-    }
-}
-
-/// The part of a Prepare, so many times.
-fn parts(rt: &(impl Abort + AllocGlobal), words: Words<'_>, times: u8) -> Parts {
-    let mut parts = Vec::new(rt.alloc());
-    for _ in 0..times {
-        let part = Part {
-            suite: words.suite,
-            mode: mode(words.mode),
-            take: take(rt, words.take),
-        };
-        add(rt, &mut parts, part);
-    }
-    Parts::from_vec(parts)
 }
 
 /// User 2000 is refused at operation 1.
@@ -105,39 +50,55 @@ fn denied() -> Decision {
     Decision::Refused { uid: 2000, refusal }
 }
 
+/// No replies.
 fn no_answers(rt: &(impl Abort + AllocGlobal)) -> Answers {
     had(rt, Answers::from_vec(Vec::new(rt.alloc())))
 }
 
+/// A Prepare of one part, whose last word says what it takes; or of the same part twice.
+fn prepare(
+    rt: &(impl Abort + AllocGlobal),
+    text: &str,
+    t: u64,
+    suite: u64,
+    mode: LockMode,
+) -> Request {
+    let (head, word) = text.rsplit_once(' ').unwrap_or_default();
+    let mut parts = Vec::new(rt.alloc());
+    let times = if head.starts_with("twice") { 2 } else { 1 };
+    for _ in 0..times {
+        let take = take(rt, word);
+        add(rt, &mut parts, Part { suite, mode, take });
+    }
+    Request::Prepare {
+        t,
+        parts: Parts::from_vec(parts),
+    }
+}
+
 /// A request that concerns suites.
-fn of_suite(rt: &(impl Abort + AllocGlobal), words: Words<'_>) -> Request {
-    let (t, suite) = (words.t, words.suite);
-    match words.word {
-        "poll" => Request::Poll {
-            t,
-            suite,
-            mode: mode(words.mode),
-        },
+fn of_suite(rt: &(impl Abort + AllocGlobal), text: &str, t: u64) -> Request {
+    let (word, _, suite, mode) = parts(text, ' ');
+    let suite = number(rt, suite);
+    let mode = match mode {
+        "X" => LockMode::Exclusive,
+        _ => LockMode::Shared,
+    };
+    match word {
+        "poll" => Request::Poll { t, suite, mode },
         "upgrade" => Request::Upgrade { t, suite },
         "fetch" => Request::Fetch { t, suite },
         "break" => Request::Break { t, suite },
-        "twice" => Request::Prepare {
-            t,
-            parts: parts(rt, words, 2),
-        },
-        _ => Request::Prepare {
-            t,
-            parts: parts(rt, words, 1),
-        },
+        _ => prepare(rt, text, t, suite, mode),
     }
 }
 
 /// A request in words: `deny` is a Decide that refuses, `answer` one with no replies, `twice` a Prepare that
 /// lists a suite twice.
 pub(super) fn request(rt: &(impl Abort + AllocGlobal), text: &str) -> Request {
-    let words = split(text);
-    let t = words.t;
-    match words.word {
+    let (word, digits, _, _) = parts(text, ' ');
+    let t = digits.parse::<u64>().unwrap_or_default();
+    match word {
         "answer" => Request::Decide {
             t,
             decision: Decision::Answered(no_answers(rt)),
@@ -158,6 +119,6 @@ pub(super) fn request(rt: &(impl Abort + AllocGlobal), text: &str) -> Request {
         "locks" => Request::Locks,
         "crash" => Request::Crash,
         "return" => Request::Return,
-        _ => of_suite(rt, words),
+        _ => of_suite(rt, text, t),
     }
 }
