@@ -23,6 +23,7 @@
 mod done;
 mod event;
 mod exchange;
+mod keep;
 mod laws;
 mod moves;
 mod opening;

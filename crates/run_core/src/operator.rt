@@ -1,8 +1,8 @@
 //! What the operator asks of servers.
 
-ghost use Rattle.std.specs.Prelude.{◌≡◌, List, slice_get};
+ghost use Rattle.std.specs.Prelude.{◌≡◌};
 ghost use Rattle.run_core.specs.code.Orders.{request_of};
-ghost use Rattle.run_core.specs.Worlds.{Actor, operates};
+ghost use Rattle.run_core.specs.code.Moves.{IsOperated};
 
 use crate::done::{Done, Served};
 use rep_core::{Request, Server, Stamped};
@@ -31,7 +31,7 @@ impl Order {
 
 /// The server of this number is asked.
 pub(crate) fn operate(servers: &mut Vec<Server>, server: u8, order: Order) -> Done
-    ensures { (agents : List Actor) → operates (record { servers = servers.old.items; agents = agents }) server (request_of order) (slice_get servers.old.items server) ≡ record { world = record { servers = servers.new.items; agents = agents }; done = result } }
+    ensures { IsOperated servers.old.items servers.new.items server order result }
 {
     let Some(host) = servers.get_mut(usize::from(server)) else {
         return Done::nothing();

@@ -5,7 +5,7 @@ ghost use Rattle.std.specs.Option.{option_or};
 ghost use Rattle.txn_core.specs.Agents as agents;
 ghost use Rattle.txn_core.specs.Wanting as wanting;
 ghost use Rattle.txn_core.specs.declared.word.Word.TheVariants.{Lacked, Replied};
-ghost use Rattle.run_core.specs.Worlds.{one_more, outcome_of, steps_after};
+ghost use Rattle.run_core.specs.Worlds.{steps_after};
 ghost use Rattle.run_core.specs.code.Seats as seats;
 
 use crate::done::Outcome;
@@ -75,7 +75,7 @@ impl Seat {
         self.agent.next()
     }
 
-    /// The same, where what it asks is put into a place of the caller's.
+    /// Of which server it asks next, and what: that is put into a place of the caller's.
     pub(crate) fn ask(&self, request: &mut Request) -> Result<Option<u8>, AllocError>
         ensures ok { IfOk result (λ server. option_map (λ server. (server, request.new)) server ≡ agents.next_of self.now.fixed self.now.actor.agent) }
         ensures none { IfOk result (λ server. IfNone server (request.new ≡ request.old)) }
@@ -113,7 +113,7 @@ impl Seat {
     ) -> Result<(), AllocError>
         requires asked { option_map (λ asked. asked.0) (agents.next_of self.old.fixed self.old.actor.agent) ≡ Some server }
         requires fits { seats.Fits self.old (Replied reply.now.value) }
-        ensures ended { OnOk result (ended.new ≡ option_or (outcome_of number self.old.actor (agents.take self.old.fixed self.old.actor.agent (Replied reply.now.value)).ending) ended.old) }
+        ensures ended { OnOk result (ended.new ≡ option_or (seats.ending_by number self.old (Replied reply.now.value)) ended.old) }
         ensures state { OnOk result (self.new ≡ seats.after_word self.old reply.now.stamp (Replied reply.now.value)) }
         ensures err { OnErr result ((self.new ≡ self.old) × (ended.new ≡ ended.old)) }
         ensures memory { IfErr result (λ _. IsTrue (wanting.by_taking (agents.next_of self.old.fixed self.old.actor.agent) (Replied reply.now.value))) }
@@ -126,31 +126,11 @@ impl Seat {
         Ok(())
     }
 
-    /// Takes a reply of the server that it asks, and hands it back.
-    pub(crate) fn hear(
-        &mut self,
-        number: u8,
-        server: u8,
-        reply: Stamped<Reply>,
-    ) -> Result<Heard, AllocError>
-        requires asked { option_map (λ asked. asked.0) (agents.next_of self.old.fixed self.old.actor.agent) ≡ Some server }
-        requires fits { seats.Fits self.old (Replied reply.value) }
-        ensures reply { IfOk result (λ heard. heard.reply ≡ reply) }
-        ensures outcome { IfOk result (λ heard. heard.outcome ≡ outcome_of number self.old.actor (agents.take self.old.fixed self.old.actor.agent (Replied reply.value)).ending) }
-        ensures state { OnOk result (self.new ≡ seats.after_word self.old reply.stamp (Replied reply.value)) }
-        ensures err { OnErr result (self.new ≡ self.old) }
-        ensures memory { IfErr result (λ _. IsTrue (wanting.by_taking (agents.next_of self.old.fixed self.old.actor.agent) (Replied reply.value))) }
-    {
-        let mut outcome = None;
-        self.take_reply(number, server, &reply, &mut outcome)?;
-        Ok(Heard { reply, outcome })
-    }
-
     /// Its request was not served: it is told so, which takes no memory, and keeps its stamp. How its job
     /// ended is put into a place of the caller's, which else keeps what it has.
     pub(crate) fn lack(&mut self, number: u8, lack: Lack, ended: &mut Option<Outcome>)
         requires { seats.Fits self.old (Lacked lack) }
-        ensures ended { ended.new ≡ option_or (outcome_of number self.old.actor (agents.take self.old.fixed self.old.actor.agent (Lacked lack)).ending) ended.old }
+        ensures ended { ended.new ≡ option_or (seats.ending_by number self.old (Lacked lack)) ended.old }
         ensures state { self.new ≡ seats.after_word self.old self.old.actor.stamp (Lacked lack) }
     {
         let count = self.agent.count().saturating_sub(1);
@@ -168,7 +148,7 @@ impl Seat {
         ending: Option<Ending>,
         ended: &mut Option<Outcome>,
     )
-        ensures ended { ended.new ≡ option_or (option_map (λ ending. record { agent = agent; count = count; steps = one_more self.old.actor.steps; ending = ending }) ending) ended.old }
+        ensures ended { ended.new ≡ option_or (option_map (seats.ended_with agent count self.old.actor.steps) ending) ended.old }
         ensures state { self.new ≡ record self.old { actor = record self.old.actor { steps = steps_after self.old.actor.steps ending } } }
     {
         match ending {
@@ -179,7 +159,7 @@ impl Seat {
 
     /// Its job ended, with a step more.
     fn end(&mut self, agent: u8, count: u64, ending: Ending, ended: &mut Option<Outcome>)
-        ensures ended { ended.new ≡ Some (record { agent = agent; count = count; steps = one_more self.old.actor.steps; ending = ending }) }
+        ensures ended { ended.new ≡ Some (seats.ended_with agent count self.old.actor.steps ending) }
         ensures state { self.new ≡ record self.old { actor = record self.old.actor { steps = 0 } } }
     {
         let steps = self.steps.saturating_add(1);
@@ -192,11 +172,4 @@ impl Seat {
         };
         *ended = Some(outcome);
     }
-}
-
-/// A reply that was taken, with how the job ended, if it did.
-#[derive(Drop)]
-pub(crate) struct Heard {
-    pub(crate) reply: Stamped<Reply>,
-    pub(crate) outcome: Option<Outcome>,
 }

@@ -11,6 +11,7 @@ ghost use Rattle.run_core.specs.Worlds as worlds;
 
 use crate::done::{Done, Outcome};
 use crate::event::Event;
+use crate::keep::Nothing;
 use crate::moves;
 use crate::opening::{seats_of, servers_of};
 use crate::operator::{Order, operate};
@@ -83,7 +84,7 @@ impl World {
                 moves::begin(&mut self.seats, *agent, job)?;
                 Ok(Done::nothing())
             }
-            Event::Step { agent } => moves::ask(&mut self.servers, &mut self.seats, *agent),
+            Event::Step { agent } => moves::step(&mut self.servers, &mut self.seats, *agent),
             Event::Crash { server } => Ok(operate(&mut self.servers, *server, Order::Crash)),
             Event::Return { server } => Ok(operate(&mut self.servers, *server, Order::Return)),
             Event::Forget { agent, site } => {
@@ -106,7 +107,8 @@ impl World {
     {
         match event {
             Event::Step { agent } => {
-                moves::advance(&mut self.servers, &mut self.seats, *agent, ended)
+                moves::ask::<Nothing>(&mut self.servers, &mut self.seats, *agent, ended)?;
+                Ok(())
             }
             _ => self.happen(event, ended),
         }

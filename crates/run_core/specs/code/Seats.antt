@@ -2,12 +2,14 @@
 use Rattle.std.specs.Prelude.{◌≡◌, ℕ, zero, suc, ◌+◌, List, [], ◌∷◌, All, map, slice_set, Option, Some, None}
 use Rattle.suite_prefix.specs.SettingsRules.{Opening}
 use Rattle.rep_core.specs.State.{State}
+use Rattle.txn_core.specs.declared.ending.Ending.{Ending}
 use Rattle.txn_core.specs.declared.word.Word.{Word}
 use Rattle.txn_core.specs.Doing.{Fixed}
 use Rattle.txn_core.specs.Agents as agents
 use Rattle.txn_core.specs.Agents.{Agent, fixed_of, next_of, take}
 use Rattle.txn_core.specs.Standing.{FitsAsked}
-use Rattle.run_core.specs.Worlds.{Actor, World, moved}
+use Rattle.run_core.specs.declared.done.Outcome.{Outcome}
+use Rattle.run_core.specs.Worlds.{Actor, World, moved, one_more, outcome_of}
 
 -- an agent in a world, with what never changes
 pub record Seated : Type 0 where
@@ -27,6 +29,14 @@ Fits seat word = FitsAsked (next_of seat.fixed seat.actor.agent) word
 -- it took a word, and has this stamp from then on
 abbrev pub after_word : Seated → ℕ → Word → Seated
 after_word seat stamp word = record seat { actor = moved seat.actor stamp (take seat.fixed seat.actor.agent word) }
+
+-- how its job ends with a word, if it does
+abbrev pub ending_by : ℕ → Seated → Word → Option Outcome
+ending_by number seat word = outcome_of number seat.actor (take seat.fixed seat.actor.agent word).ending
+
+-- how a job ended that took so many steps before its last
+abbrev pub ended_with : ℕ → ℕ → ℕ → Ending → Outcome
+ended_with number count steps ending = record { agent = number; count = count; steps = one_more steps; ending = ending }
 
 -- ---- all agents of a world
 

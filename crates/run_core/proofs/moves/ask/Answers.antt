@@ -1,65 +1,82 @@
-use Rattle.std.proofs.Common.{refl, sym, ◌∙◌, vec_len}
+use Rattle.std.proofs.Common.{refl, vec_len}
 use Rattle.std.proofs.lemmas.Option.{slice_get_read}
-use Rattle.std.proofs.lemmas.Result.{IfOk-weaker, IfErr-weaker}
+use Rattle.std.proofs.lemmas.Result.{IfErr-weaker, IfOk-weaker}
+use Rattle.rep_core.specs.Wanting.{by_request}
 use Rattle.run_core.specs.code.Seats.{world_of}
-use Rattle.run_core.proofs.Moving.{ask_nothing, ask_nowhere, ask_there}
+use Rattle.run_core.proofs.Moving.{comes_there, comes_to_nothing, ask_nothing, ask_nowhere, asks_nobody, asks_somebody, of_exchange}
 use Rattle.run_core.proofs.Operating.{none_there}
-use Rattle.run_core.proofs.Wanting.{held, steps_there, asking_wants, exchange_wants}
+use Rattle.run_core.proofs.Wanting.{held, steps_there, asking_wants, exchange_wants, or_later}
 use Rattle.run_core.proofs.moves.ask.Goals as goal
 
 pub returns-in_default-2-clause-ok : goal.returns-in_default-2-clause-ok
-returns-in_default-2-clause-ok c =
+returns-in_default-2-clause-ok g c =
     let item = c.in-Some.ensures.item in
     let found = slice_get_read _ _ _ _ refl item.3.0 item.1 in
     let there = rw c.from.ensures at found in
-    let next = c.in_ok-asked.ensures.ok in
-    λ fixed all. rw (c.from.ensures, c.nothing-in_default-2.ensures)
-    (ask_nothing fixed c.args.servers.now.items c.args.seats.now.items c.args.number c.in-Some.seat.now all there (sym next ∙ c.in_default-2.is))
+    let next = asks_nobody c.in_ok-server.field-0 c.ask.new.request _ c.in_ok-server.ensures.ok c.in_default-2.is in
+    λ fixed all. rw c.from.ensures
+    (comes_to_nothing _ _ _ c.args.ended.now (ask_nothing fixed c.args.servers.now.items c.args.seats.now.items c.args.number c.in-Some.seat.now all there next))
 
 pub returns-in_default-get_mut-clause-ok : goal.returns-in_default-get_mut-clause-ok
-returns-in_default-get_mut-clause-ok c =
+returns-in_default-get_mut-clause-ok g c =
     let item = c.in-Some.ensures.item in
     let found = slice_get_read _ _ _ _ refl item.3.0 item.1 in
     let there = rw c.from.ensures at found in
-    let next = c.in_ok-asked.ensures.ok in
+    let next = asks_somebody c.in_ok-server.field-0 c.ask.new.request _ c.in-Some-2.server c.in_ok-server.ensures.ok c.in-Some-2.is in
     let left = c.in_default-get_mut.ensures in
     let none = none_there c.args.servers.now.items (vec_len c.args.servers.now) c.from-2.result c.args.servers.now.ok.0 left.variant.1 in
     let nowhere = rw c.from-2.ensures at none in
-    λ fixed all. rw (c.from.ensures, c.nothing-in_default-get_mut.ensures)
-    (ask_nowhere fixed c.args.servers.now.items c.args.seats.now.items c.args.number c.in-Some.seat.now c.in-Some-2.asked.0 c.in-Some-2.asked.1 all there (sym next ∙ c.in-Some-2.is) nowhere)
+    λ fixed all. rw c.from.ensures
+    (comes_to_nothing _ _ _ c.args.ended.now
+    (ask_nowhere fixed c.args.servers.now.items c.args.seats.now.items c.args.number c.in-Some.seat.now c.in-Some-2.server c.ask.new.request all there next nowhere))
+
+pub exchange-requires-clause-asks : goal.exchange-requires-clause-asks
+exchange-requires-clause-asks g c = asks_somebody c.in_ok-server.field-0 c.ask.new.request _ c.in-Some-2.server c.in_ok-server.ensures.ok c.in-Some-2.is
 
 pub returns-clause-ok : goal.returns-clause-ok
-returns-clause-ok c =
+returns-clause-ok g c =
     let item = c.in-Some.ensures.item in
     let found = slice_get_read _ _ _ _ refl item.3.0 item.1 in
     let there = rw c.from.ensures at found in
-    let next = c.in_ok-asked.ensures.ok in
+    let next = asks_somebody c.in_ok-server.field-0 c.ask.new.request _ c.in-Some-2.server c.in_ok-server.ensures.ok c.in-Some-2.is in
     let host_item = c.in-Some-get_mut.ensures.item in
     let host_found = slice_get_read _ _ _ _ refl host_item.3.0 host_item.1 in
     let host_there = rw c.from-2.ensures at host_found in
     IfOk-weaker c.exchange.result _ _
-    (λ done left fixed all. rw (c.from.ensures, c.from-2.ensures)
-    (ask_there fixed c.args.servers.now.items c.args.seats.now.items c.args.number c.in-Some-2.asked.0 c.in-Some.seat.now c.exchange.new.seat c.in-Some-get_mut.host.now c.exchange.new.host c.in-Some-2.asked.1 done
-    all there (sym next ∙ c.in-Some-2.is) host_there left))
+    (λ kept left fixed all. rw (c.from.ensures, c.from-2.ensures)
+    (comes_there _ fixed c.args.servers.now.items c.args.seats.now.items c.in-Some.seat.now c.exchange.new.seat c.in-Some-get_mut.host.now c.exchange.new.host _
+    c.args.ended.now c.exchange.new.ended kept all there next host_there left))
     c.exchange.ensures.ok
 
-pub returns-in_err-asked-clause-memory : goal.returns-in_err-asked-clause-memory
-returns-in_err-asked-clause-memory c =
+pub returns-clause-of : goal.returns-clause-of
+returns-clause-of g c =
+    let item = c.in-Some.ensures.item in
+    let found = slice_get_read _ _ _ _ refl item.3.0 item.1 in
+    let there = rw c.from.ensures at found in
+    λ fixed all. rw c.from.ensures
+    (of_exchange _ fixed c.args.seats.now.items c.args.number c.in-Some.seat.now c.exchange.new.seat c.in-Some-get_mut.host.now c.exchange.new.host _
+    c.args.ended.now c.exchange.new.ended c.exchange.result all there c.exchange.ensures.ok c.exchange.ensures.err)
+
+pub returns-in_err-server-clause-memory : goal.returns-in_err-server-clause-memory
+returns-in_err-server-clause-memory g c =
     let item = c.in-Some.ensures.item in
     let found = slice_get_read _ _ _ _ refl item.3.0 item.1 in
     let there = rw c.from.ensures at found in
     held c.from_residual.result
-    (λ fixed all. (steps_there fixed c.args.servers.now.items c.args.seats.now.items c.args.number c.in-Some.seat.now _ all there refl (asking_wants (world_of c.args.servers.now.items c.args.seats.now.items) c.in-Some.seat.now.actor _ c.in_err-asked.ensures.memory)))
+    (λ fixed all. (steps_there fixed c.args.servers.now.items c.args.seats.now.items c.args.number c.in-Some.seat.now _ all there refl (asking_wants (world_of c.args.servers.now.items c.args.seats.now.items) c.in-Some.seat.now.actor _ c.in_err-server.ensures.memory)))
 
 pub returns-clause-memory : goal.returns-clause-memory
-returns-clause-memory c =
+returns-clause-memory g c =
     let item = c.in-Some.ensures.item in
     let found = slice_get_read _ _ _ _ refl item.3.0 item.1 in
     let there = rw c.from.ensures at found in
-    let next = c.in_ok-asked.ensures.ok in
+    let next = asks_somebody c.in_ok-server.field-0 c.ask.new.request _ c.in-Some-2.server c.in_ok-server.ensures.ok c.in-Some-2.is in
     let host_item = c.in-Some-get_mut.ensures.item in
     let host_found = slice_get_read _ _ _ _ refl host_item.3.0 host_item.1 in
     let host_there = rw c.from-2.ensures at host_found in
     IfErr-weaker c.exchange.result _ _
-    (λ _ wants fixed all. steps_there fixed c.args.servers.now.items c.args.seats.now.items c.args.number c.in-Some.seat.now _ all there (sym next ∙ c.in-Some-2.is) (exchange_wants c.args.servers.now.items c.args.seats.now.items c.in-Some.seat.now.actor c.in-Some-2.asked.0 c.in-Some-2.asked.1 c.in-Some-get_mut.host.now host_there wants))
+    (λ _ wants fixed all.
+    let asking = rw c.stamp.ensures at wants in
+    steps_there fixed c.args.servers.now.items c.args.seats.now.items c.args.number c.in-Some.seat.now _ all there next
+    (exchange_wants c.args.servers.now.items c.args.seats.now.items c.in-Some.seat.now.actor c.in-Some-2.server c.ask.new.request c.in-Some-get_mut.host.now host_there (or_later (by_request c.ask.new.request) _ asking)))
     c.exchange.ensures.memory

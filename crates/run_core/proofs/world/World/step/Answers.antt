@@ -5,7 +5,7 @@ use Rattle.run_core.proofs.Wanting.{held}
 use Rattle.run_core.proofs.world.World.step.Goals as goal
 
 pub invariant_of-self-in-Step : goal.invariant_of-self-in-Step
-invariant_of-self-in-Step c = c.ask.ensures.of (fixed_of c.self.inside.settings) c.self.invariant
+invariant_of-self-in-Step c = c.step.ensures.of (fixed_of c.self.inside.settings) c.self.invariant
 
 pub invariant_of-self-in-Forget : goal.invariant_of-self-in-Forget
 invariant_of-self-in-Forget c =
@@ -32,4 +32,4 @@ returns-in_err-begin-in-Begin-clause-memory c =
 pub returns-in-Step-clause-memory : goal.returns-in-Step-clause-memory
 returns-in-Step-clause-memory c =
     rw (← c.self.view_is, c.in-Step.is)
-    (IfErr-weaker c.ask.result _ _ (λ _ wants. wants (fixed_of c.self.inside.settings) c.self.invariant) c.ask.ensures.memory)
+    (IfErr-weaker c.step.result _ _ (λ _ wants. wants (fixed_of c.self.inside.settings) c.self.invariant) c.step.ensures.memory)
