@@ -145,7 +145,7 @@ module _ (given : Opening) (events : List happening.Event) (kept : AllKeepSides 
 
 -- ---- a run goes on
 
-history_more : (given : Opening) (z : ℕ) (w : World) (world : worlds.World) (events later : List happening.Event)
+pub history_more : (given : Opening) (z : ℕ) (w : World) (world : worlds.World) (events later : List happening.Event)
     → history_from given z w world (events ++ later) ≡ history_from given z w world events ++ history_from given z (machine_from given z w world events) (runs.after (fixed_of given) world events) later
 history_more given z w world [] later = refl
 history_more given z w world (event ∷ events) later =
@@ -153,7 +153,7 @@ history_more given z w world (event ∷ events) later =
     ap (λ rest. events_of given z w world event ++ rest) (history_more given z (moved given z w world event) next events later)
     ∙ sym (append_assoc (events_of given z w world event) (history_from given z (moved given z w world event) next events) (history_from given z (machine_from given z (moved given z w world event) next events) (runs.after (fixed_of given) next events) later))
 
-obeys_later : (start : Beginning) (w : World) (first later : List Event) → Obeys start w (first ++ later) → Obeys start (run start w first) later
+pub obeys_later : (start : Beginning) (w : World) (first later : List Event) → Obeys start w (first ++ later) → Obeys start (run start w first) later
 obeys_later start w [] later obeys = obeys
 obeys_later start w (event ∷ first) later obeys = obeys_later start (happens start w event) first later obeys.1
 

@@ -3,6 +3,7 @@ pub mod Asking
 pub mod Records
 pub mod Standing
 pub mod Places
+pub mod Lengths
 pub mod Servers
 pub mod Agents
 pub mod Past
