@@ -45,7 +45,7 @@ Told = collections.namedtuple("Told", "needed total lost sets more blocked ends_
 
 def told(word, servers, up):
     """What the tool tells of a read and of a write."""
-    text = "\n".join(votes.told(votes.votes_of(word, servers), fractions.Fraction(up), up)) + "\n"
+    text = "\n".join(votes.told_of_word(word, servers, up)) + "\n"
     found = {}
     for kinds, needed, total, lost, sets, blocked, ends_u5 in SECTION.findall(text):
         least, _, more = sets.partition(" and ")
@@ -283,6 +283,7 @@ MOVE = "begin 0 1000 100 0 setvotes /a -,1,1,1/1/3\n"
 LEFT = [
     (OPENING.format(2), "1,1,1/2/2"),
     (OPENING.format(2) + MOVE + "run 0\ncrash 1\ncrash 2\ncrash 3\n", "-,1,1,1/1/3"),
+    (OPENING.format(2) + "crash 0\n" + MOVE + "run 0\nreturn 0\n", "-,1,1,1/1/3"),
     (OPENING.format(2) + MOVE + "step 0 12\ncrash 0\n", "1,1,1/2/2"),
     (OPENING.format(2) + MOVE + "step 0 13\ncrash 0\ncrash 1\n", "-,1,1,1/1/3"),
     (OPENING.format(64) + MOVE + "step 0 14", "-,1,1,1/1/3"),
@@ -301,7 +302,7 @@ def check_scripts(_, __):
         own = "votes 1,1,1/2/2 of /=suite 0" + (", /a=suite 1\n" if word == "1,1,1/2/2" else "\n")
         apart = "" if word == "1,1,1/2/2" else f"votes {word} of /a=suite 1\n"
         for text in filter(None, (own, apart)):
-            lines = "\n".join(votes.told(votes.votes_of(text.split()[1], 4), fractions.Fraction("0.99"), "0.99"))
+            lines = "\n".join(votes.told(votes.votes_of(text.split()[1], 4), "0.99"))
             if done.returncode != 0 or text + lines not in done.stdout:
                 wrong.append(f"{script!r} leaves /a with {word}; told with status {done.returncode}:\n{done.stdout}")
     return len(LEFT), wrong

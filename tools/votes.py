@@ -113,10 +113,10 @@ class LeastSets:
         """How many there are: of each set, the last in falling order of votes is the one that is least to be spared."""
         ways, total = collections.Counter({0: 1}), 0
         for share in sorted((share for _, share in self.voters), reverse=True):
-            total += sum(number for votes, number in ways.items() if votes + share >= self.votes)
-            for votes, number in list(ways.items()):
+            total += sum(sets for votes, sets in ways.items() if votes + share >= self.votes)
+            for votes, sets in list(ways.items()):
                 if votes + share < self.votes:
-                    ways[votes + share] += number
+                    ways[votes + share] += sets
         return total
 
     def __iter__(self):
@@ -165,15 +165,15 @@ def listed(first, words, count):
     return textwrap.fill(" ".join(words) + rest, 110, initial_indent=first, subsequent_indent=" " * len(first), break_long_words=False, break_on_hyphens=False)
 
 
-def told_of(what, votes, needed, up):
+def told_of(kind, shares, needed, up):
     """The lines about a read or a write, which collects so many votes."""
-    total = sum(votes.shares)
-    blocking = LeastSets(votes.shares, total - needed + 1)
+    total = sum(shares)
+    blocking = LeastSets(shares, total - needed + 1)
     least = list(itertools.islice(blocking, TOLD))
-    blocked, home_down = chances(votes.shares, needed, up)
+    blocked, home_down = chances(shares, needed, up)
     may_be_lost = len(least[0]) - 1
     return [
-        f"{what}: {needed} of {total} votes",
+        f"{kind}: {needed} of {total} votes",
         f"    may be lost   {f'any {may_be_lost}' if may_be_lost else 'none'}",
         listed("    stopped by    ", [f"{{{','.join(map(str, servers))}}}" for servers in least], blocking.count()),
         f"    blocked       {chance_text(blocked)}",
@@ -181,19 +181,23 @@ def told_of(what, votes, needed, up):
     ]
 
 
-def told(votes, up, up_text):
-    """The lines about votes."""
+def told(votes, up):
+    """The lines about votes, where this is written for the chance that a server is up."""
     by_share = collections.defaultdict(list)
     for server, share in enumerate(votes.shares):
         by_share[share].append(str(server))
-    lines = [f"{len(votes.shares)} server{'s' * (len(votes.shares) > 1)}, each up with chance {up_text}"]
+    lines = [f"{len(votes.shares)} server{'s' * (len(votes.shares) > 1)}, each up with chance {up}"]
     for share in sorted(by_share, reverse=True):
         servers = by_share[share]
         have = f"{share} vote{'s' * (share > 1)}" if share else "no vote"
         lines.append(listed(f"    {have:<13} ", [f"server{'s' * (len(servers) > 1)}", *servers], 0))
-    if votes.r == votes.w:
-        return lines + told_of("read and write", votes, votes.r, up)
-    return lines + told_of("read", votes, votes.r, up) + told_of("write", votes, votes.w, up)
+    kinds = [("read and write", votes.r)] if votes.r == votes.w else [("read", votes.r), ("write", votes.w)]
+    return lines + [line for kind, needed in kinds for line in told_of(kind, votes.shares, needed, fractions.Fraction(up))]
+
+
+def told_of_word(word, servers=None, up="0.99"):
+    """All that is told of votes as a word writes them down."""
+    return [*told(votes_of(word, servers), up), ABOUT]
 
 
 def swept(script, servers):
@@ -246,23 +250,22 @@ def asked(words):
 
 def main():
     given = asked(sys.argv[1:])
-    up = fractions.Fraction(given.up)
     if given.script:
         with open(given.script, "rb") as file:
             servers, suites = left_by(file.read())
         for word, names in suites.items():
             print(listed("", [f"votes {word} of", *(f"{name}," for name in names[:TOLD])], len(names) + 1).rstrip(","))
-            print("\n".join(told(votes_of(word, servers), up, given.up)) + "\n")
+            print("\n".join(told(votes_of(word, servers), given.up)) + "\n")
         print(ABOUT)
         return 0
     try:
         if given.servers is not None and not 1 <= given.servers <= MOST_SERVERS:
             raise Fault("G1")
-        lines = told(votes_of(given.votes, given.servers), up, given.up)
+        lines = told_of_word(given.votes, given.servers, given.up)
     except Fault as fault:
         print(f"fault {fault}\n\n{explain.explained(str(fault))}")
         return 3
-    print("\n".join([*lines, ABOUT]))
+    print("\n".join(lines))
     return 0
 
 
