@@ -291,21 +291,29 @@ LEFT = [
 ]
 
 
+def told_of_script(script):
+    """What the tool tells of a script, and its status."""
+    with tempfile.NamedTemporaryFile("w", suffix=".script", newline="") as file:
+        file.write(script)
+        file.flush()
+        return subprocess.run([sys.executable, os.path.join(trace.TOOLS, "votes.py"), "--script", file.name], stdout=subprocess.PIPE, stderr=subprocess.DEVNULL, text=True)
+
+
 def check_scripts(_, __):
-    """Scripts: which votes are told of which files, and for how many servers."""
+    """Scripts: which votes are told of which files, and for how many servers; and that a fault is told as `play` tells it."""
     wrong = []
+    faulty = told_of_script(OPENING.format(2) + MOVE.replace("1/3", "1/2"))
+    if (faulty.returncode, faulty.stdout) != (3, "fault line 8: V6\n"):
+        wrong.append(f"a faulty script is told with status {faulty.returncode}: {faulty.stdout}")
     for script, word in LEFT:
-        with tempfile.NamedTemporaryFile("w", suffix=".script", newline="") as file:
-            file.write(script)
-            file.flush()
-            done = subprocess.run([sys.executable, os.path.join(trace.TOOLS, "votes.py"), "--script", file.name], stdout=subprocess.PIPE, stderr=subprocess.DEVNULL, text=True)
+        done = told_of_script(script)
         own = "votes 1,1,1/2/2 of /=suite 0" + (", /a=suite 1\n" if word == "1,1,1/2/2" else "\n")
         apart = "" if word == "1,1,1/2/2" else f"votes {word} of /a=suite 1\n"
         for text in filter(None, (own, apart)):
             lines = "\n".join(votes.told(votes.votes_of(text.split()[1], 4), "0.99"))
             if done.returncode != 0 or text + lines not in done.stdout:
                 wrong.append(f"{script!r} leaves /a with {word}; told with status {done.returncode}:\n{done.stdout}")
-    return len(LEFT), wrong
+    return len(LEFT) + 1, wrong
 
 
 def main():

@@ -14,7 +14,7 @@ Of a read and of a write:
     may be lost   so many servers, whichever they are, may be down: the others have the votes
     stopped by    the least sets of servers whose loss leaves too few votes (without one of a set the votes are up again),
                   the smallest first, up to twenty of them
-    blocked       the chance that too few votes are up
+    blocked       the chance that too few votes are up, exact and told in two digits
     U5 at first   of the cases in which the votes are up, those in which the home of the transaction is down, so that it
                   ends U5: over jobs in a row each of the N servers is the home equally often, so this is the mean share of
                   servers that are down. Begun again it has the next server as its home
@@ -54,9 +54,10 @@ class Fault(Exception):
 
 def number(word, most):
     """The number that a word writes down."""
-    if not re.fullmatch("[0-9]+", word) or len(word.lstrip("0")) > len(str(most)) or int(word.lstrip("0") or 0) > most:
+    digits = word.lstrip("0") or "0"
+    if not re.fullmatch("[0-9]+", word) or len(digits) > len(str(most)) or int(digits) > most:
         raise Fault("S1")
-    return int(word.lstrip("0") or 0)
+    return int(digits)
 
 
 def votes_of(word, servers):
