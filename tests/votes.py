@@ -36,25 +36,34 @@ import trace
 import votes
 
 HEADER = "agents 1\nvotes {}/1/{}\nroot 1000 100 777\ncache 0 0 0\n"
-SECTION = re.compile(r"(read|write|read and write): (\d+) of (\d+) votes\n    may be lost +(.*)\n    stopped by +([^:]*)\n    blocked +(.*)\n    U5 at first +(.*)\n")
+SECTION = re.compile(r"(read|write|read and write): \d+ of \d+ votes\n    may be lost +(.*)\n    stopped by +([^:]*)\n    blocked +(.*)\n    U5 at first +(.*)\n")
 CHANCES = ["0.99", "0.9", "0.5", "0.995"]
 # How many files a script has: the folder with their names is looked at on each path.
 FILES = 40
-Told = collections.namedtuple("Told", "needed total lost sets more blocked ends_u5")
+Told = collections.namedtuple("Told", "lost sets more blocked ends_u5")
+# How a try ended: of which file, whether a read or a write, with which servers down, its home perhaps among them; the
+# word behind `undecided`, or `answered`, and what stands behind it; and the number of the file.
+End = collections.namedtuple("End", "place kind down home_is_down how rest suite")
 
 
 def told(word, servers, up):
     """What the tool tells of a read and of a write."""
     text = "\n".join(votes.told_of_word(word, servers, up)) + "\n"
     found = {}
-    for kinds, needed, total, lost, sets, blocked, ends_u5 in SECTION.findall(text):
+    for kinds, lost, sets, blocked, ends_u5 in SECTION.findall(text):
         least, _, more = sets.partition(" and ")
         least = [tuple(map(int, one.split(","))) for one in re.findall(r"\{([\d,]+)\}", least)]
         lost = 0 if lost == "none" else int(lost.removeprefix("any "))
+        more = int(more.split()[0].replace(",", "")) if more else 0
         for kind in kinds.split(" and "):
-            more_sets = int(more.split()[0].replace(",", "")) if more else 0
-            found[kind] = Told(int(needed), int(total), lost, least, more_sets, blocked, ends_u5)
+            found[kind] = Told(lost, least, more, blocked, ends_u5)
     return found
+
+
+def parts_of(word):
+    """The votes of each server, and how many a read and a write collect."""
+    fields, r, w = word.split("/")
+    return [0 if field == "-" else int(field) for field in fields.split(",")], {"read": int(r), "write": int(w)}
 
 
 class Play:
@@ -82,7 +91,7 @@ class Play:
         self.begin(f"read /{place}" if kind == "read" else f"write /{place} 00")
 
     def answers(self, program):
-        """Each try with how it ended: the word behind `undecided`, or `answered`."""
+        """How each try ended."""
         done = subprocess.run([program, "play"], input="".join(self.lines), stdout=subprocess.PIPE, stderr=subprocess.DEVNULL, text=True)
         lines = done.stdout.splitlines()
         if done.returncode != 0 or len(lines) != self.count or not all(" answered made " in line for line in lines[: len(self.words)]):
@@ -90,16 +99,16 @@ class Play:
         suites = [line.split()[-1] for line in lines[: len(self.words)]]
         for one, line in zip(self.tries, lines[len(self.words):]):
             how = line.split()[2:]
-            yield one, how[1] if how[0] == "undecided" else how[0], " ".join(how[2:]), suites[one[0]]
+            yield End(*one, how[1] if how[0] == "undecided" else how[0], " ".join(how[2:]), suites[one[0]])
 
 
-def bad_end(servers, shares, needed, one, how, rest, suite):
+def is_odd(end, servers, word):
     """Whether a try ended in a way that no rule allows: U1 names the file, with the votes that are up, or the folder where all are down."""
-    _, _, down, home_is_down = one
-    if how == "U1":
-        got = sum(share for server, share in enumerate(shares) if server not in down)
-        return rest != ("suite 0 got 0 of 1" if len(down) == servers else f"suite {suite} got {got} of {needed}")
-    return how != ("U5" if home_is_down else "answered")
+    if end.how == "U1":
+        shares, needed = parts_of(word)
+        got = sum(share for server, share in enumerate(shares) if server not in end.down)
+        return end.rest != ("suite 0 got 0 of 1" if len(end.down) == servers else f"suite {end.suite} got {got} of {needed[end.kind]}")
+    return end.how != ("U5" if end.home_is_down else "answered")
 
 
 def chance_text(chance):
@@ -121,7 +130,7 @@ def found_anew(servers, ends, up):
     weight = {down: up ** (servers - len(down)) * (1 - up) ** len(down) for down in blocked}
     never = sum(weight[down] for down in blocked if blocked[down])
     ends_u5 = sum(weight[down] * fractions.Fraction(hows.count("U5"), len(hows)) for down, hows in ends.items()) / (1 - never)
-    return lost, [servers for _, servers in least], chance_text(never), chance_text(ends_u5)
+    return Told(lost, [some for _, some in least[:20]], max(0, len(least) - 20), chance_text(never), chance_text(ends_u5))
 
 
 def every_loss(program, servers, words, dice):
@@ -135,18 +144,15 @@ def every_loss(program, servers, words, dice):
                     play.tried(place, kind)
     up = dice.choice(CHANCES)
     tells = [told(word, servers, up) for word in words]
-    shares = [[0 if field == "-" else int(field) for field in word.split("/")[0].split(",")] for word in words]
     ends = collections.defaultdict(lambda: collections.defaultdict(list))
-    for one, how, rest, suite in play.answers(program):
-        place, kind, down, _ = one
-        ends[place, kind][down].append(how)
-        if bad_end(servers, shares[place], int(words[place].split("/")[1 if kind == "read" else 2]), one, how, rest, suite):
-            wrong.append(f"{words[place]}: {kind} with {sorted(down)} down ends {how} {rest}")
+    for end in play.answers(program):
+        ends[end.place, end.kind][end.down].append(end.how)
+        if is_odd(end, servers, words[end.place]):
+            wrong.append(f"{words[end.place]}: {end}")
     for (place, kind), hows in ends.items():
-        lost, least, never, ends_u5 = found_anew(servers, hows, fractions.Fraction(up))
-        tell = tells[place][kind]
-        if (tell.lost, tell.sets, tell.more, tell.blocked, tell.ends_u5) != (lost, least[:20], max(0, len(least) - 20), never, ends_u5):
-            wrong.append(f"{words[place]} of {servers} servers, {kind}: told {tell}, found {lost} {least} {never} {ends_u5}")
+        found = found_anew(servers, hows, fractions.Fraction(up))
+        if tells[place][kind] != found:
+            wrong.append(f"{words[place]} of {servers} servers, {kind}: told {tells[place][kind]}, found {found}")
     return len(play.tries), wrong
 
 
@@ -166,9 +172,9 @@ def told_losses(program, servers, word, dice):
                 if is_last:
                     break
     wrong = []
-    for (one, how, rest, _), is_blocked in zip(play.answers(program), wanted):
-        if (how == "U1") != is_blocked or not is_blocked and how != ("U5" if one[3] else "answered"):
-            wrong.append(f"{word} of {servers} servers: {one[1]} with {sorted(one[2])} down ends {how} {rest}")
+    for end, is_blocked in zip(play.answers(program), wanted):
+        if (end.how == "U1") != is_blocked or is_odd(end, servers, word):
+            wrong.append(f"{word} of {servers} servers: {end}")
     return len(play.tries), wrong
 
 
