@@ -47,8 +47,8 @@ End = collections.namedtuple("End", "place kind down home_is_down how rest suite
 
 
 def told(word, servers, up):
-    """What the tool tells of a read and of a write."""
-    text = "\n".join(votes.told_of_word(word, servers, up)) + "\n"
+    """What the tool tells of a read and of a write. How many servers there are it is told where the word says less."""
+    text = "\n".join(votes.told_of_word(word, servers if word.count(",") + 1 < servers else None, up)) + "\n"
     found = {}
     for kinds, lost, sets, blocked, ends_u5 in SECTION.findall(text):
         least, _, more = sets.partition(" and ")
@@ -184,17 +184,17 @@ def thresholds(total):
 
 
 def all_words(servers):
-    """All valid votes where each server is not listed or has up to two votes."""
+    """All valid votes where each server is not listed or has up to two votes; those behind the last that is listed are not said."""
     for fields in itertools.product(["-", "0", "1", "2"], repeat=servers):
         total = sum(int(field) for field in fields if field != "-")
-        yield from (f"{','.join(fields)}/{r}/{w}" for r, w in thresholds(total))
+        yield from (f"{','.join(fields).rstrip(',-')}/{r}/{w}" for r, w in thresholds(total))
 
 
 def random_word(servers, dice):
-    """Valid votes of so many servers, of which some may have none."""
+    """Valid votes of so many servers, of which some may have none, and the last may not be said."""
     most = dice.choice([1, 2, 3, 9, 255])
-    fields = [dice.choice(["-", "0", *[str(dice.randint(1, most))] * 5]) for _ in range(servers)]
-    fields[dice.randrange(servers)] = str(dice.randint(1, most))
+    fields = [dice.choice(["-", "0", *[str(dice.randint(1, most))] * 5]) for _ in range(servers - dice.choice([0, 0, 0, servers // 3]))]
+    fields[dice.randrange(len(fields))] = str(dice.randint(1, most))
     total = sum(int(field) for field in fields if field != "-")
     w = dice.randint(total // 2 + 1, total)
     return f"{','.join(fields)}/{dice.randint(total - w + 1, total)}/{w}"
@@ -203,7 +203,7 @@ def random_word(servers, dice):
 def check_gifford(_, __):
     """The blocking probabilities of the paper's three examples, where each server is up with chance 0.99."""
     wanted = {"1,0,0/1/1": ("1.0e-2", "1.0e-2"), "2,1,1/2/3": ("2.0e-4", "1.0e-2"), "1,1,1/1/3": ("1.0e-6", "3.0e-2")}
-    found = {word: tuple(told(word, None, "0.99")[kind].blocked for kind in ("read", "write")) for word in wanted}
+    found = {word: tuple(told(word, 3, "0.99")[kind].blocked for kind in ("read", "write")) for word in wanted}
     return len(wanted), [f"{word}: blocks {found[word]}, and not {wanted[word]}" for word in wanted if found[word] != wanted[word]]
 
 
