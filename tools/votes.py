@@ -4,7 +4,8 @@
 
 Tells which servers a file or folder with these votes may lose, and how often it is blocked. VOTES is written as in
 scripts: `1,1,1/2/2` is a vote each of servers 0, 1 and 2, and two votes that a read and a write collect. With --script
-it tells this of every file and folder that a script of `play` leaves, with the votes that are in effect at its end.
+it tells this of every file and folder that a script of `play` leaves, dropped or not, with the votes that are in effect
+at its end.
 
     --servers N   how many servers there are; else as many as VOTES has fields
     --up P        the chance that a server is up, each by itself; else 0.99
@@ -163,7 +164,9 @@ def chance_text(chance):
 def listed(first, words, count):
     """Words behind a first one in lines, and how many more there are."""
     rest = f" and {count - len(words):,} more" if count > len(words) else ""
-    return textwrap.fill(" ".join(words) + rest, 110, initial_indent=first, subsequent_indent=" " * len(first), break_long_words=False, break_on_hyphens=False)
+    text = " ".join(word.replace(" ", "\0") for word in words) + rest
+    lines = textwrap.fill(text, 110, initial_indent=first, subsequent_indent=" " * len(first), break_long_words=False, break_on_hyphens=False)
+    return lines.replace("\0", " ")
 
 
 def told_of(kind, shares, needed, up):
@@ -229,6 +232,16 @@ def left_by(script):
     return servers, suites
 
 
+def told_of_script(script, up):
+    """All that is told of what a script leaves."""
+    servers, suites = left_by(script)
+    lines = []
+    for word, names in suites.items():
+        lines.append(listed("", [f"votes {word} of", *(f"{name}," for name in names[:TOLD])], len(names) + 1).rstrip(","))
+        lines += [*told(votes_of(word, servers), up), ""]
+    return [*lines, ABOUT]
+
+
 def asked(words):
     """The words of the command line. A word of votes may begin with a hyphen, as that of no option does."""
     read = argparse.ArgumentParser(prog="./suites votes", add_help=False, usage=__doc__.split("\n\n")[0].replace("\n", "\n       "))
@@ -242,7 +255,7 @@ def asked(words):
     if given.help:
         print(__doc__.strip())
         sys.exit(0)
-    if (given.votes is None) == (given.script is None) or given.script and given.servers is not None:
+    if (given.votes is None) == (given.script is None) or None not in (given.script, given.servers):
         read.error("either VOTES are named, or --script FILE")
     if not re.fullmatch(r"[01]?(\.[0-9]{1,12})?", given.up) or not 0 < fractions.Fraction(given.up or "0") <= 1:
         read.error("--up is a number above 0 and at most 1, as 0.99")
@@ -251,13 +264,10 @@ def asked(words):
 
 def main():
     given = asked(sys.argv[1:])
-    if given.script:
+    if given.script is not None:
         with open(given.script, "rb") as file:
-            servers, suites = left_by(file.read())
-        for word, names in suites.items():
-            print(listed("", [f"votes {word} of", *(f"{name}," for name in names[:TOLD])], len(names) + 1).rstrip(","))
-            print("\n".join(told(votes_of(word, servers), given.up)) + "\n")
-        print(ABOUT)
+            lines = told_of_script(file.read(), given.up)
+        sys.stdout.buffer.write("".join(f"{line}\n" for line in lines).encode("latin1"))
         return 0
     try:
         if given.servers is not None and not 1 <= given.servers <= MOST_SERVERS:
