@@ -200,11 +200,24 @@ def random_word(servers, dice):
     return f"{','.join(fields)}/{dice.randint(total - w + 1, total)}/{w}"
 
 
-def check_gifford(_, __):
-    """The blocking probabilities of the paper's three examples, where each server is up with chance 0.99."""
-    wanted = {"1,0,0/1/1": ("1.0e-2", "1.0e-2"), "2,1,1/2/3": ("2.0e-4", "1.0e-2"), "1,1,1/1/3": ("1.0e-6", "3.0e-2")}
-    found = {word: tuple(told(word, 3, "0.99")[kind].blocked for kind in ("read", "write")) for word in wanted}
-    return len(wanted), [f"{word}: blocks {found[word]}, and not {wanted[word]}" for word in wanted if found[word] != wanted[word]]
+def run_tool(words):
+    """The tool, with these words, as a user runs it."""
+    return subprocess.run([os.path.join(played.TOP, "suites"), "votes", *words], stdout=subprocess.PIPE, stderr=subprocess.DEVNULL, text=True)
+
+
+def check_examples(_, __):
+    """The blocking probabilities of the paper's three examples, where each server is up with chance 0.99; and the words of the command line."""
+    gifford = {"1,0,0/1/1": ("1.0e-2", "1.0e-2"), "2,1,1/2/3": ("2.0e-4", "1.0e-2"), "1,1,1/1/3": ("1.0e-6", "3.0e-2")}
+    found = {word: tuple(told(word, 3, "0.99")[kind].blocked for kind in ("read", "write")) for word in gifford}
+    wrong = [f"{word}: blocks {found[word]}, and not {gifford[word]}" for word in gifford if found[word] != gifford[word]]
+    lines = {("2,1,1/2/3",): (None, "0.99"), ("--up", "0.9", "-,2,1,1/2/3", "--servers", "6"): (6, "0.9")}
+    for words, (servers, up) in lines.items():
+        word = next(word for word in words if "/" in word)
+        if run_tool(words).stdout.splitlines() != votes.told_of_word(word, servers, up):
+            wrong.append(f"{' '.join(words)}: told other than {word} of {servers} servers, each up with chance {up}")
+    statuses = {("1/1/1", "--up", bad): 2 for bad in ("0", "1.01", "x", "")} | {(): 2, ("--script", "x", "1/1/1"): 2, ("--script", "x", "--servers", "1"): 2, ("--help",): 0}
+    wrong += [f"{' '.join(words)}: not status {status}" for words, status in statuses.items() if run_tool(words).returncode != status]
+    return len(gifford) + len(lines) + len(statuses), wrong
 
 
 def check_losses(given, dice):
@@ -226,7 +239,8 @@ def check_losses(given, dice):
 # Words and their codes by the rules of scripts; `N:` before one says how many servers there are.
 FAULTS = {
     "": "S1", "1": "S1", "1/1": "S1", "1/1/1/1": "S1", "/1/1": "S1", "1,/1/1": "S1", "1,,1/1/2": "S1", "1/+1/1": "S1", "1/1/x": "S1", "-1/1/1": "S1",
-    "300,1/0/0": "S1", "1/65536/1": "S1", "1/1/99999999999999999999": "S1", "1 /1/1": "S1", "\u0661/1/1": "S1", ",".join("1" * 33) + "/17/17": "S1", "--,1/1/1": "S1",
+    "300,1/0/0": "S1", "256/200/200": "S1", "1/65536/1": "S1", "1/1/65536": "S1", "1/1/99999999999999999999": "S1", "1 /1/1": "S1", "\u0661/1/1": "S1",
+    ",".join("1" * 33) + "/17/17": "S1", "--,1/1/1": "S1",
     "-/1/1": "V1", "-,-/0/0": "V1", "2:1,1,1/9/9": "V2", "3:-,-,-,0/1/1": "V2", "0,0/1/1": "V4", "0/0/0": "V4", "1,1,1/0/3": "V5", "1,1,1/2/4": "V5",
     "1,1,1/65535/1": "V5", "1,1,1/1/2": "V6", "1,1,1,1/2/2": "V6", "1,1,1,1/3/2": "V7", "0:1/1/1": "G1", "33:1/1/1": "G1",
 }
@@ -236,7 +250,7 @@ SOUND = ["1/1/1", "0255/00000000000000000000255/255", "2:1,-,-/1/1", "32:1/1/1",
 def code_told(word, servers):
     """The code that the tool tells, by its command line, where it explains it; nothing where it tells of votes."""
     words = [*(["--servers", servers] if servers else []), *(["--", word] if word.startswith("--") else [word])]
-    done = subprocess.run([os.path.join(played.TOP, "suites"), "votes", *words], stdout=subprocess.PIPE, stderr=subprocess.DEVNULL, text=True)
+    done = run_tool(words)
     if done.returncode == 0:
         return ""
     code = done.stdout.split("\n")[0].removeprefix("fault ")
@@ -330,7 +344,7 @@ def main():
     given = read.parse_args()
     given.program = played.program([given.program] if given.program else [])
     dice, is_wrong = random.Random(given.seed), False
-    for what, check in (("examples", check_gifford), ("tries of play", check_losses), ("words", check_faults), ("scripts", check_scripts)):
+    for what, check in (("examples", check_examples), ("tries of play", check_losses), ("words", check_faults), ("scripts", check_scripts)):
         count, wrong = check(given, dice)
         print(f"{count} {what}, {len(wrong)} differ")
         print("".join(f"  {line}\n" for line in wrong[:10]), end="", flush=True)
