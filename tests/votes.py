@@ -21,6 +21,7 @@ import argparse
 import collections
 import fractions
 import itertools
+import math
 import os
 import random
 import re
@@ -51,7 +52,7 @@ def told(word, servers, up):
     text = "\n".join(votes.told_of_word(word, servers if word.count(",") + 1 < servers else None, up)) + "\n"
     found = {}
     for kinds, lost, sets, blocked, ends_u5 in SECTION.findall(text):
-        least, _, more = sets.partition(" and ")
+        least, _, more = " ".join(sets.split()).partition(" and ")
         least = [tuple(map(int, one.split(","))) for one in re.findall(r"\{([\d,]+)\}", least)]
         lost = 0 if lost == "none" else int(lost.removeprefix("any "))
         more = int(more.split()[0].replace(",", "")) if more else 0
@@ -210,6 +211,9 @@ def check_examples(_, __):
     gifford = {"1,0,0/1/1": ("1.0e-2", "1.0e-2"), "2,1,1/2/3": ("2.0e-4", "1.0e-2"), "1,1,1/1/3": ("1.0e-6", "3.0e-2")}
     found = {word: tuple(told(word, 3, "0.99")[kind].blocked for kind in ("read", "write")) for word in gifford}
     wrong = [f"{word}: blocks {found[word]}, and not {gifford[word]}" for word in gifford if found[word] != gifford[word]]
+    many = told(",".join("1" * 32) + "/16/17", 32, "0.99")
+    if (many["read"].more, many["write"].more) != (math.comb(32, 17) - 20, math.comb(32, 16) - 20):
+        wrong.append(f"of 32 servers with a vote each: told that there are {many['read'].more} and {many['write'].more} more sets")
     lines = {("2,1,1/2/3",): (None, "0.99"), ("--up", "0.9", "-,2,1,1/2/3", "--servers", "6"): (6, "0.9")}
     for words, (servers, up) in lines.items():
         word = next(word for word in words if "/" in word)
@@ -217,7 +221,7 @@ def check_examples(_, __):
             wrong.append(f"{' '.join(words)}: told other than {word} of {servers} servers, each up with chance {up}")
     statuses = {("1/1/1", "--up", bad): 2 for bad in ("0", "1.01", "x", "")} | {(): 2, ("--script", "x", "1/1/1"): 2, ("--script", "x", "--servers", "1"): 2, ("--help",): 0}
     wrong += [f"{' '.join(words)}: not status {status}" for words, status in statuses.items() if run_tool(words).returncode != status]
-    return len(gifford) + len(lines) + len(statuses), wrong
+    return len(gifford) + 1 + len(lines) + len(statuses), wrong
 
 
 def check_losses(given, dice):
@@ -225,6 +229,7 @@ def check_losses(given, dice):
     tried, wrong = 0, []
     words = [(servers, list(all_words(servers))) for servers in range(1, 6 if given.all else 4)]
     words += [(servers, [random_word(servers, dice) for _ in range(count)]) for servers, count in ((4, 80), (5, 80), (6, 16), (7, 8), (8, 4))]
+    words.append((7, ["1,1,1,1,1,1,1/4/4", "2,1,1,1,1,1,1/4/5"]))
     for servers, some in words:
         for place in range(0, len(some), FILES):
             count, found = every_loss(given.program, servers, some[place : place + FILES], dice)
