@@ -1,9 +1,9 @@
 #!/usr/bin/env python3
 """tests/checked-build.py [PROGRAM]
 
-Plays all rows of crates/rows/stdin through a program, and prints each that it answers otherwise. The program is the
-checked build (out/suites; `./suites --help` makes it where nothing is proved) or the one that is named. A row of exit status 2
-is played once more over an input that cannot be read. Status 1 where a row differs.
+Plays all rows of crates/rows/stdin through a program, and prints each that it answers otherwise. The program is the one
+that `./suites` runs (a checked build where nothing is proved), or the one that is named. A row of exit status 2 is
+played once more over an input that cannot be read. Status 1 where a row differs.
 """
 import os
 import subprocess

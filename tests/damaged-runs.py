@@ -1,8 +1,9 @@
 #!/usr/bin/env python3
 """tests/damaged-runs.py [PROGRAM]
 
-Runs every file of examples/ as it is played by its row, and the rows of transactions and sweeps, but damaged. The program is the checked build (out/suites;
-`./suites --help` makes it where nothing is proved) or the one that is named. Status 1 where an answer differs.
+Runs every file of examples/ as it is played by its row, and the rows of transactions and sweeps, but damaged. The program
+is the one that `./suites` runs (a checked build where nothing is proved), or the one that is named. Status 1 where an
+answer differs.
 
 cut:    the input without the lines that say nothing, cut at each byte: status 0, and for `table` and `play`, where it is cut
         at the end of a line, a beginning of the full output; or status 3 with one line that tells a fault.

@@ -1,8 +1,8 @@
 #!/usr/bin/env python3
 """tests/long-and-many.py [PROGRAM [RUNS]]
 
-Runs of `serve` that are too long for a row. The program is the checked build (out/suites; `./suites --help` makes it
-where nothing is proved) or the one that is named. Prints counts, seconds and memory; status 1 where something differs.
+Runs of `serve` that are too long for a row. The program is the one that `./suites` runs (a checked build where nothing
+is proved), or the one that is named. Prints counts, seconds and memory; status 1 where something differs.
 
 many:   100,000 jobs by 64 agents on 16 servers: files made, written, read, given lists and dropped in 96 folders, sweeps
         of servers at work, and a server that is filled with suites. Chance decides how most jobs end; looked at is that

@@ -1,6 +1,7 @@
 """The program that a test plays, and the rows of crates/rows/stdin."""
 import os
 import re
+import subprocess
 import sys
 
 TOP = os.path.realpath(os.path.join(os.path.dirname(os.path.abspath(__file__)), ".."))
@@ -9,10 +10,14 @@ MARKS = {b"r": b"\r", b"t": b"\t", b"\\": b"\\"}
 
 
 def program(words):
-    """The program that the words of a test name first, or the checked build; ends the test where it is not there."""
-    path = os.path.abspath(words[0] if words else os.path.join(TOP, "out", "suites"))
+    """The program that the words of a test name first, or the one that `./suites` runs, which is built where there is none; ends the test without it."""
+    if words:
+        path = os.path.abspath(words[0])
+    else:
+        chosen = subprocess.run([sys.executable, os.path.join(TOP, "tools", "choose.py")], stdin=subprocess.DEVNULL, stdout=subprocess.PIPE, text=True)
+        path = os.path.join(TOP, chosen.stdout.split()[-1]) if chosen.returncode == 0 else ""
     if not os.path.exists(path):
-        sys.exit(f"{path} is not there: run ./suites --help first, which makes the checked build where nothing is proved")
+        sys.exit(f"there is no program to be played{': ' + path if path else ''}")
     return path
 
 

@@ -1,8 +1,8 @@
 #!/usr/bin/env python3
 """tests/votes.py [--all] [--seed SEED] [PROGRAM]
 
-Compares what `./suites votes` tells with what `play` answers. The program is the checked build (out/suites; `./suites
---help` makes it where nothing is proved) or the one that is named.
+Compares what `./suites votes` tells with what `play` answers. The program is the one that `./suites` runs (a checked build
+where nothing is proved), or the one that is named.
 
 - The three examples of Gifford's paper have the chances that stand there.
 - Of votes of up to eight servers every set of servers falls down, and a file with these votes is read and written as often
@@ -15,7 +15,7 @@ Compares what `./suites votes` tells with what `play` answers. The program is th
 
 Votes of up to three servers are tried all, where a server is not listed or has up to two votes; others are chosen by
 chance, with SEED. With --all those of up to five servers are tried all. Status 1 where something differs. It takes half
-a minute, and with --all some five. It is no part of the gate.
+a minute, and with --all some five. `./suites --test` runs it.
 """
 import argparse
 import collections

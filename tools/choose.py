@@ -5,11 +5,14 @@
 proof, with its checks at run time, which is done here where it is wanting. `trial`: the kit gives no such build, so
 `rt try` is run each time. The choice is kept in out/choice.sh with all files that it was made from, so that
 `./suites` makes it again only where one of them has changed. With the word --is-fresh: status 0 where the proved
-program is that of these sources, and their proofs are those that proved it.
+program is that of these sources, and their proofs are those that proved it. With --version: tells the version, the
+commit, the kit, and the kind of build that would run; builds nothing.
 """
 import json
 import os
+import re
 import shlex
+import subprocess
 import sys
 
 import console
@@ -24,6 +27,7 @@ PROGRAMS = {
     "trial": "tools/trial.py",
 }
 STOPPED = "stopped; there is no checked build yet"
+CHANGES = os.path.join(sources.TOP, "CHANGELOG.md")
 
 
 def path_of(kind):
@@ -112,7 +116,35 @@ def build():
         keep_record(kind, now, kit)
 
 
+def commit():
+    """The commit of these sources, and whether they differ from it; nothing where that is not known."""
+    if not os.path.exists(os.path.join(sources.TOP, ".git")):
+        return ""
+    words = ["git", "-C", sources.TOP, "describe", "--always", "--abbrev=12", "--exclude=*", "--dirty= with changes"]
+    try:
+        return subprocess.run(words, stdin=subprocess.DEVNULL, capture_output=True, text=True).stdout.strip()
+    except FileNotFoundError:
+        return ""
+
+
+def version():
+    """What there is to tell of this version, a line each."""
+    with open(CHANGES, encoding="utf-8") as file:
+        yield f"suites {re.search('^## (.*)', file.read(), re.M)[1]}"
+    named = commit()
+    if named:
+        yield f"commit {named}"
+    kit = sources.Kit()
+    is_there = "which is on the path" if sources.KIT_LOGIC in kit.name.split() else "which is not on the path"
+    yield f"kit logic {sources.KIT_LOGIC}, {is_there}"
+    kind = any(map(os.path.exists, map(record_path, PROGRAMS))) and fresh_kind(sources.Sources(), kit)
+    yield f"build {kind}, {PROGRAMS[kind]}" if kind else "build none yet; what plays a script makes a checked one first, in some two minutes"
+
+
 def main():
+    if sys.argv[1:] == ["--version"]:
+        print("\n".join(version()))
+        return 0
     if sys.argv[1:] == ["--is-fresh"]:
         return 0 if is_fresh("proved", sources.Sources(), sources.Kit(), True) else 1
     kind = choose()

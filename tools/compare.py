@@ -7,7 +7,7 @@ their decisions (as `./suites trace` shows them), and compares the answers of bo
 denial with its entry, and the servers' audits. Numbers of what was made differ, since they come of the number of the
 transaction, and are mapped. A transaction whose agent stopped after it was decided has no answer in `play`: of it is
 compared whether it was answered or refused. With --seeds it does so for scripts of tools/scenario.py. Status 1 where
-something differs.
+something differs, or a script cannot be played.
 """
 import argparse
 import collections
@@ -152,6 +152,9 @@ def main():
     read.add_argument("--from", type=int, default=0, dest="first")
     read.add_argument("--lines", type=int, default=120)
     given = read.parse_args()
+    if not given.scripts and not given.seeds:
+        print(__doc__.partition("\n\n")[0], file=sys.stderr)
+        return 2
     scripts = [(name, open(name, encoding="latin1").read()) for name in given.scripts]
     seeds = range(given.first, given.first + given.seeds)
     total, wrong = collections.Counter(), 0

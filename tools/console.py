@@ -24,6 +24,12 @@ class Teller:
     def seconds(self):
         return int(time.monotonic() - self.begun)
 
+    def clear(self):
+        """Takes the line that changes off the terminal."""
+        if self.changes:
+            sys.stderr.write("\r\033[K")
+            sys.stderr.flush()
+
     def say(self, text, stays=True):
         text = f"suites: {text}"
         if self.changes:

@@ -2,10 +2,11 @@
 """Looks whether all that README.md and examples/ show is played by the gate.
 
 Each file of examples/ has to be the input of a row of crates/rows/stdin; each script, command and output that
-README.md shows has to be that of a row, and an output that of the script or the command before it. The picture and
-what is shown of `./suites trace` have to be those of the trace which the program of crates/trace is to print of the
-same script (its stdin and stdout), and what is shown of `./suites votes` what tools/votes.py tells. What differs is
-told, and the status is 1. The rows themselves are played by the program of crates/rows.
+README.md shows has to be that of a row, and an output that of the script or the command before it. Each text of help/
+but that of the tools has to be what a row of help prints. The picture and what is shown of `./suites trace` have to be
+those of the trace which the program of crates/trace is to print of the same script (its stdin and stdout). What differs
+is told, and the status is 1. The rows themselves are played by the program of crates/rows, and commands of tools, with
+what README.md shows of them, by tests/typed.py.
 """
 import os, re, sys
 
@@ -13,6 +14,9 @@ import draw, sources, trace, votes
 
 TOP = os.path.join(os.path.dirname(os.path.abspath(__file__)), "..")
 PICTURE, STORY = "docs/revocation.svg", "examples/play/revocation.script"
+HELP, OF_TOOLS = "help", "tools.txt"
+# The commands of which no row can tell the output.
+TOOLS = re.compile(rb"\$ \./suites (?:explain|trace|draw|votes|--version)\b")
 MARKS = {b"r": b"\r", b"t": b"\t", b"\\": b"\\"}
 
 
@@ -84,6 +88,16 @@ def traced(block):
     return None
 
 
+def texts_of_help(played):
+    """What is wrong with the texts of help/: each is what a row prints."""
+    printed = {words: text for words, given, text in played if not given}
+    words_of = {"suites": "--help", "help": "help help"}
+    for name in sorted(os.listdir(os.path.join(TOP, HELP))):
+        words = words_of.get(name[:-4], f"{name[:-4]} --help")
+        if name != OF_TOOLS and content(os.path.join(HELP, name)) != printed.get(words):
+            yield f"{HELP}/{name} is not what the row of '{words}' prints"
+
+
 def told_of_votes(block):
     """What `./suites votes` tells, where a block shows that."""
     match = re.fullmatch(r"\$ \./suites votes (\S+)", block[0].decode())
@@ -93,7 +107,8 @@ def told_of_votes(block):
 
 
 def main():
-    played, wrong = rows(), []
+    played = rows()
+    wrong = list(texts_of_help(played))
     inputs = {given for _, given, _ in played}
     for folder, _, names in sorted(os.walk(os.path.join(TOP, "examples"))):
         for name in sorted(os.path.relpath(os.path.join(folder, name), TOP) for name in names):
@@ -110,7 +125,7 @@ def main():
                 if not those:
                     wrong.append(f"README.md:{number}: no row has the words '{words}' and the input {name}")
             text = b"\n".join(block[1:]) + b"\n" if block[0].startswith(b"$ ") else b""
-            if text and text not in outputs:
+            if text and text not in outputs and (outputs or not TOOLS.match(block[0])):
                 wrong.append(f"README.md:{number}: this output is that of no row")
         elif text in outputs:
             outputs = set()
