@@ -1,7 +1,6 @@
 #!/usr/bin/env python3
-"""Looks with tools/shown.py whether all that README and examples/ show is played, with tools/named.py whether what the
-documents name is there, and with tools/wrong_bodies.py whether the texts of all wrong bodies apply, and then runs
-`rt ci`, the gate; tells before its last line how long it took and what each step cost.
+"""Runs all tests that want no proof (tools/test.py, `./suites --test`), and where they pass `rt ci`, the gate; tells
+before its last line how long that took and what each step cost.
 
 What passes and what fails is rt's alone: its output and its status are handed on as they are. The environment
 variable SUITES_GATE_TIMES names a file that is to keep the times (tools/gate_times.py makes a table of it), and
@@ -13,7 +12,6 @@ sys.dont_write_bytecode = True
 import gate_times
 
 TOOLS = os.path.dirname(os.path.abspath(__file__))
-FIRST = (["shown.py"], ["named.py"], ["wrong_bodies.py", "--check"])
 # The most memory that nearly any check was seen to take, in bytes, and how much of what is free may be taken.
 LANE, SHARE = 2_800_000_000, 0.95
 # Where a control group sets a limit of memory and what it holds of that, and a quota of processor time.
@@ -87,9 +85,8 @@ def tell(times, begun, number):
 
 
 def main():
-    for words in FIRST:
-        if subprocess.run([sys.executable, os.path.join(TOOLS, words[0]), *words[1:]]).returncode != 0:
-            return 1
+    if subprocess.run([sys.executable, os.path.join(TOOLS, "test.py")], stdin=subprocess.DEVNULL).returncode != 0:
+        return 1
     begun, number = time.monotonic(), lanes()
     given = {**os.environ, **({"RT_JOBS": str(number)} if number else {})}
     gate = subprocess.Popen(["rt", "ci"], env=given, stdout=subprocess.PIPE, stderr=subprocess.STDOUT, errors="replace")

@@ -233,16 +233,21 @@ fn tells_each_stream_that_fails(rt: HostRuntime) {
     tells_failures_of(&rt, "--version", "", 2, "fault command line\n", 0);
 }
 
-/// Comments of this length give this status and output.
+/// A comment of 16 MiB, 256 times 65,536 bytes, and these bytes behind it, give this status and output.
 fn reads_comment(
     rt: &(impl Abort + AllocGlobal + Threads + Wait + Sync),
     word: &str,
-    length: usize,
+    more: &[u8],
     status: u8,
     output: &str,
 ) {
-    let bytes = b"#".as_slice().repeat(rt.alloc(), length);
-    let bytes = bytes.expect(rt, "memory");
+    let piece = b"#".as_slice().repeat(rt.alloc(), 65_536);
+    let piece = piece.expect(rt, "memory");
+    let mut bytes = Vec::new(rt.alloc());
+    for _ in 0..256u64 {
+        add(rt, &mut bytes, &piece);
+    }
+    add(rt, &mut bytes, more);
     let writer = MemoryOut::new(rt.alloc());
     let (given, writer) = played(rt, &[word], MemoryIn::new(&bytes), writer);
     holds(rt, given == status, word, u64::from(given));
@@ -251,10 +256,10 @@ fn reads_comment(
 
 #[test]
 fn reads_no_more_than_16_mib(rt: HostRuntime) {
-    reads_comment(&rt, "table", 16_777_216, 3, "fault line 2: S2\n");
-    reads_comment(&rt, "table", 16_777_217, 6, "");
-    reads_comment(&rt, "play", 16_777_216, 3, "fault line 2: S2\n");
-    reads_comment(&rt, "play", 16_777_217, 6, "");
-    reads_comment(&rt, "acl", 16_777_216, 3, "fault A1\n");
-    reads_comment(&rt, "acl", 16_777_217, 6, "");
+    reads_comment(&rt, "table", b"", 3, "fault line 2: S2\n");
+    reads_comment(&rt, "table", b"#", 6, "");
+    reads_comment(&rt, "play", b"", 3, "fault line 2: S2\n");
+    reads_comment(&rt, "play", b"#", 6, "");
+    reads_comment(&rt, "acl", b"", 3, "fault A1\n");
+    reads_comment(&rt, "acl", b"#", 6, "");
 }

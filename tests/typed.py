@@ -1,0 +1,71 @@
+#!/usr/bin/env python3
+"""tests/typed.py
+
+Types each command line that README.md and docs/FAULTS.md show, behind a `$` or of `./suites`, in blocks and in lines of
+text, at the top of the repository. Each has to end with status 0, and to print what is shown below it. Left out are those with a word to
+be filled in, as `./suites explain CODE`, those that take an hour or are the tests themselves, and `--is-fresh`, whose
+status is that of the build. Prints each that differs; status 1 where one does.
+"""
+import os
+import re
+import subprocess
+import sys
+
+import played
+
+sys.path.insert(0, os.path.join(played.TOP, "tools"))
+import shown
+
+DOCUMENTS = ("README.md", "docs/FAULTS.md")
+COMMAND = re.compile(r"\$ (.*)|(?:\./suites |\.ci/run\b).*")
+# In a line of text a command alone, as `./suites trace`, names it.
+SPAN = re.compile(r"`(\./suites (?!\w+`)[^`]+)`")
+# A word to be filled in, as CODE or N, and what may be left out or goes on.
+FILLED_IN = re.compile(r"(?<![\w/])(?:[A-Z]{2,}|[A-Z])(?!\w)|\[|\.\.\.|< \.\.")
+LEFT_OUT = ("./suites --prove", "./suites --test", "./suites --is-fresh", ".ci/run")
+
+
+def of_block(number, block):
+    """The commands of a block, each with its line, and what is shown below it where it begins with a `$`."""
+    found = []
+    for place, line in enumerate(line.decode() for line in block):
+        command = COMMAND.match(line)
+        if command:
+            found.append((number + place, command[1] or line, [] if command[1] else None))
+        elif found and found[-1][2] is not None:
+            found[-1][2].append(line + "\n")
+    return [(place, command, None if lines is None else "".join(lines)) for place, command, lines in found]
+
+
+def commands(document):
+    """All commands that a document shows, with their lines and what is to be printed, where that is shown."""
+    text = shown.content(document)
+    for number, block in shown.blocks(text):
+        yield from of_block(number, block)
+    for number, line in enumerate(text.decode().split("\n"), 1):
+        if not line.startswith("    "):
+            yield from ((number, command, None) for command in SPAN.findall(line))
+
+
+def is_typed(command):
+    return not command.startswith(LEFT_OUT) and not FILLED_IN.search(re.sub(r"#.*", "", command))
+
+
+def main():
+    count = wrong = 0
+    for document in DOCUMENTS:
+        for number, command, wanted in commands(document):
+            if not is_typed(command):
+                continue
+            done = subprocess.run(["sh", "-c", command], cwd=played.TOP, stdin=subprocess.DEVNULL, stdout=subprocess.PIPE, stderr=subprocess.PIPE)
+            printed = done.stdout.decode("latin1")
+            count += 1
+            if done.returncode != 0 or wanted not in (None, printed):
+                wrong += 1
+                print(f"{document}:{number}: {command} ends with {done.returncode} and prints\n{printed}{done.stderr.decode('latin1')}")
+    print(f"{count} command lines, {wrong} differ")
+    return 1 if wrong else 0
+
+
+if __name__ == "__main__":
+    sys.exit(main())

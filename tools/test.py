@@ -1,0 +1,145 @@
+#!/usr/bin/env python3
+"""./suites --test
+
+Runs all tests that want no proof, side by side: the rows of crates/rows/stdin through the program that `./suites` runs
+(which it first makes, where there is none), the tests of libraries, runs and commands without their proofs (`rt try`),
+the examples of docs/FAULTS.md, the command lines that README.md and docs/FAULTS.md show, what `./suites votes` tells,
+random scripts of `play` against the plain table, and the checks of documents. Prints a line for each part as it ends,
+of a part that fails also what it printed, and last how many passed and failed. Status 1 where one failed. The gate
+(.ci/run) begins with it.
+"""
+import os
+import re
+import resource
+import sys
+import tempfile
+import time
+
+import console
+import gate
+import sources
+
+STOPPED = "stopped; nothing is kept of tests"
+# The memory that a part was seen to take, in bytes, and the most seconds that it may last.
+BYTES_A_PART, LIMIT = 2_500_000_000, 3600
+# A test may take so many seconds beside other work: one reads 16 MiB six times, with all checks.
+TRY = ["rt", "try", "--test", "--seconds", "900"]
+# How parts tell what passed and failed: all and those that differ, or both as rt has it.
+COUNTS = (
+    (re.compile(r"^(\d+) .*, (\d+) differ", re.M), lambda all_of_them, wrong: (all_of_them - wrong, wrong)),
+    (re.compile(r"^test result: .*?(\d+) passed; (\d+) failed", re.M), lambda passed, failed: (passed, failed)),
+)
+
+
+class Part:
+    """A part of the tests: its title, its command, and the titles of the parts that have to pass before it."""
+
+    def __init__(self, title, words, after=(), folder=".", program="suites"):
+        self.title, self.words, self.after = title, words, after
+        self.folder, self.program = os.path.join(sources.TOP, folder), program
+        self.counts = self.process = self.log = self.begun = None
+        self.text = ""
+
+    def start(self):
+        self.log, self.begun = tempfile.TemporaryFile(), time.monotonic()
+        self.process = console.start(self.words, self.folder, self.log, env={**os.environ, "SUITES_PROGRAM": self.program})
+
+    def has_ended(self):
+        """Whether it has ended; counts what passed and failed."""
+        late = time.monotonic() - self.begun > LIMIT
+        if self.process.poll() is None and not late:
+            return False
+        console.stop(self.process)
+        self.log.seek(0)
+        self.text = self.log.read().decode("utf-8", "replace")
+        found = [told(*map(int, match.groups())) for pattern, told in COUNTS for match in pattern.finditer(self.text)]
+        passed, failed = map(sum, zip(*found)) if found else (int(self.process.returncode == 0), 0)
+        self.counts = passed, max(failed, int(self.process.returncode != 0 or late))
+        return True
+
+    def lines(self):
+        """What is told of it, once it has ended or cannot be run."""
+        if not self.process:
+            return f"{self.title}: not run, since a part that it stands on failed"
+        passed, failed = self.counts
+        line = f"{self.title}: {passed} passed, {failed} failed, {time.monotonic() - self.begun:.0f} s"
+        return f"{line}\n{console.tail(self.text, 60)}status {self.process.returncode}" if failed else line
+
+
+def tool(path, *words):
+    return [sys.executable, os.path.join(sources.TOP, path), *words]
+
+
+def tried(crate):
+    return {"words": TRY, "folder": os.path.join("crates", crate)}
+
+
+PROGRAM, TRACE = "the program", "the program of trace"
+# What takes longest stands first, but for what tells at once that something is wrong.
+PARTS = (
+    Part("what README shows", tool("tools/shown.py")),
+    Part("what documents name", tool("tools/named.py")),
+    Part("texts of wrong bodies", tool("tools/wrong_bodies.py", "--check")),
+    Part("words that need no build", tool("tests/wrapper.py")),
+    Part("tests of runs", **tried("run_tests")),
+    Part("tests of libraries", **tried("library_tests")),
+    Part(PROGRAM, tool("tools/choose.py")),
+    Part(TRACE, tool("tools/choose.py"), program="trace"),
+    Part("tests of commands", **tried("command_tests")),
+    Part("rows", tool("tests/checked-build.py"), [PROGRAM]),
+    Part("examples of FAULTS", tool("tests/explained.py"), [PROGRAM]),
+    Part("command lines of documents", tool("tests/typed.py"), [PROGRAM, TRACE]),
+    Part("what votes tells", tool("tests/votes.py"), [PROGRAM, TRACE]),
+    Part("random scripts", tool("tools/compare.py", "--seeds", "200"), [PROGRAM, TRACE]),
+)
+
+
+def lanes():
+    """How many parts run side by side."""
+    return max(1, min(gate.processors(), gate.free() // BYTES_A_PART))
+
+
+def play_all(parts, number, teller):
+    """Plays the parts, so many at once, and tells of each; one that stands on a part that failed has failed with it."""
+    left, running = list(parts), []
+    try:
+        while left or running:
+            counts = {part.title: part.counts for part in parts if part.counts}
+            vain = [part for part in left if any(counts.get(title, (0, 0))[1] for title in part.after)]
+            for part in vain:
+                part.counts = 0, 1
+            ready = [part for part in left if part not in vain and all(title in counts for title in part.after)]
+            begun = ready[: number - len(running)]
+            for part in begun:
+                part.start()
+                running.append(part)
+            left = [part for part in left if part not in [*vain, *begun]]
+            time.sleep(0.1)
+            ended = [part for part in running if part.has_ended()]
+            running = [part for part in running if part not in ended]
+            for part in [*vain, *ended]:
+                teller.clear()
+                print(part.lines(), flush=True)
+            teller.say(f"{len(parts) - len(left) - len(running)} of {len(parts)} parts done, {teller.seconds()} s", False)
+    finally:
+        for part in running:
+            console.stop(part.process)
+
+
+def main():
+    if len(sys.argv) > 1:
+        raise console.Stop("--test takes no other word")
+    sources.Kit().wanted()
+    sources.make_folder()
+    teller, number = console.Teller(), lanes()
+    print(f"{len(PARTS)} parts, {number} at once", flush=True)
+    play_all(PARTS, number, teller)
+    passed, failed = (sum(part.counts[place] for part in PARTS) for place in (0, 1))
+    spent = resource.getrusage(resource.RUSAGE_CHILDREN)
+    teller.say(f"took {teller.seconds()} s, and {spent.ru_utime + spent.ru_stime:.0f} s of processor time")
+    print(f"{passed} passed, {failed} failed")
+    return 1 if failed else 0
+
+
+if __name__ == "__main__":
+    console.run(main, STOPPED)
