@@ -4,8 +4,9 @@
 Of all that README.md and docs/ have in backquotes, these have to be found: a name with an underscore, somewhere in
 crates/, tools/, tests/, bench/ or examples/ (also as that of a file there); `Type::name`, both in one file of some
 crate's src/; and a path that ends in the name of a file, at the top, in docs/ or in a crate. Below a heading that says
-what was tried once nothing has to be there. What is not found is told, and the status is 1. It takes a second, and the
-gate begins with it.
+what was tried once nothing has to be there. A heading that is named behind a document, as README.md, "Scripts", has to
+stand there, and so has one that a link goes to. What is not found is told, and the status is 1. It takes a second, and
+the gate begins with it.
 """
 import glob, os, re, sys
 
@@ -17,6 +18,9 @@ NAME = re.compile(r"\b[a-z][a-z0-9]*(?:_[a-z0-9]+)+\b")
 MEMBER = re.compile(r"([A-Z]\w*)::(\w+)")
 PATH = re.compile(r"(?:[\w.-]+/)+[\w-]+\.(?:rt|antt|py|md|sh|edit|script|txt|csv|svg|c)")
 PAST = "## Tried once"
+# A document and headings of it, as `docs/HEADLINE.md`, "What is claimed" and "How to try to break it"; a link to a heading.
+REFERENCE = re.compile(r'([\w/-]+\.md)`?, ("[^"]+"(?:(?: and|,) "[^"]+")*)')
+LINK = re.compile(r"\]\(([\w./-]*)#([\w-]+)\)")
 
 
 def content(path):
@@ -56,6 +60,28 @@ def is_there(text, known, members):
     return not member or any({member[1], member[2]} <= words for words in members)
 
 
+def headings(path):
+    """The headings of a document; none where it is not there."""
+    return [line.lstrip("# ") for line in content(path).split("\n") if line.startswith("#")] if os.path.exists(path) else []
+
+
+def anchor(heading):
+    """A heading as a link names it."""
+    return re.sub(r"[^\w -]", "", heading.lower()).replace(" ", "-")
+
+
+def headings_named(path):
+    """The headings that a document names, each with its line and whether it is there."""
+    for number, line in enumerate(content(path).split("\n"), 1):
+        for other, named in REFERENCE.findall(line):
+            places = [os.path.join(above, other) for above in (TOP, os.path.join(TOP, "docs"))]
+            there = [heading for place in places for heading in headings(place)]
+            yield from ((number, f'{other}, "{title}"', title in there) for title in re.findall('"([^"]+)"', named))
+        for other, title in LINK.findall(line):
+            there = headings(os.path.join(os.path.dirname(path), other) if other else path)
+            yield number, f"{other}#{title}", title in map(anchor, there)
+
+
 def main():
     known, members = set(), []
     for path in files():
@@ -69,6 +95,10 @@ def main():
             if not is_there(text, known, members):
                 lost += 1
                 print(f"{os.path.relpath(path, TOP)}:{number}: there is no `{text}`")
+        for number, named, is_known in headings_named(path):
+            if not is_known:
+                lost += 1
+                print(f"{os.path.relpath(path, TOP)}:{number}: there is no heading {named}")
     return 1 if lost else 0
 
 
