@@ -23,7 +23,7 @@ STOPPED = "stopped; nothing is kept of tests"
 # The memory that a part was seen to take, in bytes, and the most seconds that it may last.
 BYTES_A_PART, LIMIT = 2_500_000_000, 3600
 # A test may take so many seconds beside other work: one reads 16 MiB six times, with all checks.
-TRY = ["rt", "try", "--test", "--seconds", "900"]
+TRY = ["rt", "try", "--test", "--seconds", "3000"]
 # How parts tell what passed and failed: all and those that differ, or both as rt has it.
 COUNTS = (
     (re.compile(r"^(\d+) .*, (\d+) differ", re.M), lambda all_of_them, wrong: (all_of_them - wrong, wrong)),
