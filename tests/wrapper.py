@@ -23,8 +23,9 @@ LEFT_OUT = ("out", "__pycache__", "specs", "proofs", "must-fail", "wrong")
 # What `./suites` itself uses besides python3, git and rt.
 USED = ("sh", "cat", "find", "sleep", "readlink", "env")
 NO_PYTHON = "is not on the path\n"
-# The most seconds of processor time of an answer; a build takes a minute and more.
-AT_ONCE = 1.0
+# The most seconds of processor time of an answer, which takes some tenths of one; a build takes a minute and more, and
+# beside much other work all takes several times as long.
+AT_ONCE = 5.0
 # The seconds after which nothing more is taken to come.
 QUIET = 5
 # Reads its input, says how much that was, and ends with the status that its last word tells.
