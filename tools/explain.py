@@ -1,26 +1,45 @@
 #!/usr/bin/env python3
-"""./suites explain CODE
+"""./suites explain [--of COMMAND] LINE [FILE]
 
-Prints what docs/FAULTS.md says of a code, or of a line as the program printed it:
+Prints what docs/FAULTS.md says of a code, or of a line as the program printed it; and where the line tells a fault, and the
+script or the list is named in which it is, the very line or item and what is wrong with it:
 
     ./suites explain S1
-    ./suites explain 'fault line 3: S2'
+    ./suites explain 'fault line 3: S2' SCRIPT
+    ./suites explain 'fault A9 item 2' LIST
     ./suites explain '1.2 9 denied op 1 suite 1 wants r-- by other::'
     ./suites explain 'status 6'
+
+Which command a script is of is told by its lines, or by --of play, --of serve or --of table. A script of - is standard input.
 """
+import argparse
 import os
 import re
 import sys
 import textwrap
 
 import console
+import faulty
+import grammar
 
 PAGE = os.path.join(os.path.dirname(os.path.dirname(os.path.abspath(__file__))), "docs", "FAULTS.md")
 CODE = re.compile(r"\b([SAVNGFUsavngfu](?:1[0-3]|[1-9]))\b")
 SPAN = r"`([^`]*)`"
-# The lines of an example, and the last line that it prints.
-EXAMPLE = re.compile(rf"({SPAN}(?:, {SPAN})*) prints {SPAN}")
+# The lines of an example, the last line that it prints, and what is told of that.
+EXAMPLE = re.compile(rf"({SPAN}(?:, {SPAN})*) prints {SPAN}(?: \({SPAN}\))?")
 STATUS = re.compile(r"(?:status |exit )?(\d)$")
+FAULT = re.compile(r"fault (?:line (\d+): )?([SAVNG]\d+(?: A\d+)?(?: item \d+)?)(?: (.+))?$")
+# What begins the line of an outcome: an agent and its job, or a job, and how many requests it took; or a transaction.
+FRONT = re.compile(r"(?:(\d+)\.(\d+) (\d+)|(\d+) (\d+)|(\d+)) (?=answered|denied|refused|undecided|swept)")
+# The number of what was made, or of a transaction.
+NUMBERED = re.compile(r"\b(?:(made) ([1-9]\d*)|(?:holder|t) (\d+))\b")
+TRACED = re.compile(r"> |= server|nothing happens|\d+ -> s\d+|t \d+ suite|\S*suite \d+ \w+ prefix")
+ENTRY = re.compile(r"(?:default:)?(?:user|group|mask|other):\d*:[r-][w-][x-]")
+REPLIES = ("made", "wrote", "read", "list", "dropped", "acl", "votes", "set")
+# The part of the page about a line that begins with a word, where it is not called by that word.
+PARTS = {**dict.fromkeys(REPLIES, "answered"), "t": "audit", "denied": "F3"}
+WHOLE = ("answered", "swept", "audit", "refused", "undecided", "certified", "mismatch", "trace", "transaction")
+FAULTS = ("fault command line", "fault memory", "fault word")
 
 
 def page():
@@ -44,17 +63,37 @@ def page():
 
 
 def codes_in(text):
-    """The codes that a text tells of, the whole fault before its parts."""
-    text = " ".join(text.split())
-    if re.search(r"\bdenied\b", text):
-        return ["F3"]
-    for words in ("fault command line", "fault memory", "fault word", "certified", "mismatch"):
-        if text.startswith(words):
-            return [words]
-    status = STATUS.match(text)
+    """The parts of the page about a text, the whole before its parts, and about numbers in it."""
+    status, front = STATUS.match(text), FRONT.match(text)
     if status:
         return [f"status {status[1]}"]
-    return [found.upper() for found in CODE.findall(text)]
+    if TRACED.match(text) or ENTRY.match(text):
+        return ["trace" if TRACED.match(text) else "entry"]
+    rest = text[front.end() :] if front else text
+    first = rest.partition(" ")[0]
+    found = [PARTS.get(first, first)] if first in (*PARTS, *WHOLE) else [words for words in FAULTS if rest.startswith(words)]
+    if first in ("refused", "undecided") or not found:
+        found += [code.upper() for code in CODE.findall(rest)]
+    return found + (["transaction"] if NUMBERED.search(rest) else [])
+
+
+def worked_out(text):
+    """What the numbers of a line say, one by one."""
+    front = FRONT.match(text)
+    told = []
+    if front and front[1]:
+        told.append(f"Job {front[2]} of agent {front[1]}, both counted from 0; it took {front[3]} requests.")
+    elif front and front[4]:
+        told.append(f"Job {front[4]} of the script, counted from 0; it took {front[5]} requests.")
+    elif front:
+        told.append(f"Transaction {front[6]} of the script, counted from 0.")
+    for made, suite, t in NUMBERED.findall(text):
+        if made:
+            t, place = divmod(int(suite) - 1, 8)
+            told.append(f"{suite} = 8 * {t} + {place + 1}: made by operation {place + 1} of transaction {t}.")
+        if not (front and front[6]):
+            told.append(f"{t} = 64 * {int(t) // 64} + {int(t) % 64}: in play and serve transaction {t} is job {int(t) // 64} of agent {int(t) % 64}.")
+    return list(dict.fromkeys(told))
 
 
 def filled(text, first="", after=""):
@@ -69,36 +108,87 @@ def shown(line):
     for found in EXAMPLE.finditer(line):
         told.append(filled(line[place : found.start()].strip(), first, "    "))
         told += [f"        {given}" for given in re.findall(SPAN, found[1])]
-        told += ["    prints", f"        {found[4]}"]
+        told += ["    prints", f"        {found[4]}", *([filled(found[5] + ".", "    ", "    ")] if found[5] else [])]
         place, first = found.end(), "    "
     rest = line[place:].strip().lstrip(".,; ")
-    return "\n".join(told + ([filled(rest, first, "    ")] if rest else []))
+    return "\n".join([part for part in told if part.strip(" -")] + ([filled(rest, first, "    ")] if rest else []))
+
+
+def about(lines, text):
+    """The lines of a part, and of those that tell of a word each only those whose word is in the text, where there are some."""
+    words = set(re.findall(r"[a-z=]+", text))
+    kept = [line for line in lines if not line.startswith("- `") or words & set(re.findall(r"[a-z=]+", re.search(SPAN, line)[1])[:1])]
+    return kept if any(line.startswith("- ") for line in kept) else lines
 
 
 def explained(text):
-    """What the page says of the codes in a text, or nothing."""
+    """What the page says of a text, or nothing."""
+    text = " ".join(text.split())
     parts = {code: (group, more, lines) for group, more, code, lines in page()}
     told = []
     for code in codes_in(text):
         if code in parts:
             group, more, lines = parts[code]
-            told += [f"{code} ({group[0].lower() + group[1:]})", "", *map(shown, "\n".join(lines).strip().split("\n")), "", *([shown(more), ""] if more else [])]
-    return "\n".join(told).rstrip()
+            lines = about(lines, text) if code in ("answered", "trace") else lines
+            told += [f"{code} ({group[0].lower() + group[1:]})", "", *map(shown, "\n".join(lines).strip().split("\n")), ""]
+            told += [shown(more), ""] if more else []
+    worked = worked_out(text) if told else []
+    return "\n".join([*worked, *([""] if worked else []), *told]).rstrip()
 
 
-def main():
-    text = " ".join(sys.argv[1:])
-    if not text or text in ("--help", "-h"):
-        print(__doc__.strip())
-        return 0 if text else 2
+def meaning(code):
+    """What a code means, in a few sentences: the first lines of its part of the page."""
+    lines = next((lines for _, _, found, lines in page() if found == code), [])
+    return filled(next((line for line in lines if line), ""), f"{code}: ") if lines else ""
+
+
+def of_file(fault, path, language):
+    """The line of a script or the item of a list that has a fault, what is wrong with it, and what the code means."""
+    if path == "-":
+        text = sys.stdin.buffer.read()
+    else:
+        with open(path, "rb") as file:
+            text = file.read()
+    name, text, code = "standard input" if path == "-" else path, text.decode("latin1"), fault[2]
+    told, is_found = faulty.of_script(name, text, int(fault[1]), code, language) if fault[1] else faulty.of_list(name, text, code)
+    told = [line if line.startswith("    ") else filled(line) for line in told]
+    meant = [meaning(part) for part in CODE.findall(code)]
+    last = [] if is_found else ["", "What is wrong with it is not found here: is it the file that was read?"]
+    return "\n".join([*told, "", *meant, *last, "", f"./suites explain {code.split()[0]} tells more."]).strip()
+
+
+def asked(words):
+    """The words of the command line: a command, and the text with what follows it."""
+    read = argparse.ArgumentParser(prog="./suites explain", add_help=False)
+    read.add_argument("--of", choices=list(grammar.LANGUAGES))
+    read.add_argument("-h", "--help", action="store_true")
+    read.add_argument("text", nargs="*")
+    return read.parse_args(words)
+
+
+def answer(words):
+    """What is printed for the words of the command line."""
+    given = asked(words)
+    text = " ".join(given.text)
+    if given.help or not text:
+        return __doc__.strip()
+    fault = FAULT.match(text)
+    if fault and fault[3]:
+        return of_file(fault, fault[3], given.of)
     told = explained(text)
     if not told:
         raise console.Stop(f"nothing that the program prints is called so: {text} (docs/FAULTS.md has all codes)")
-    line = re.match(r"fault line (\d+):", text)
-    if line:
-        print(f"Line {line[1]} of the script, counted from 1 with empty lines and comments:\n")
-    print(told)
-    return 0
+    if fault and fault[1]:
+        line = f"Line {fault[1]} of the script, counted from 1 with empty lines and comments."
+        told = f"{filled(f'{line} With the name of the script behind it this command shows what is wrong there.')}\n\n{told}"
+    return told
+
+
+def main():
+    # a script may have bytes that this terminal cannot show
+    sys.stdout.reconfigure(errors="backslashreplace")
+    print(answer(sys.argv[1:]))
+    return 0 if sys.argv[1:] else 2
 
 
 if __name__ == "__main__":
