@@ -15,6 +15,8 @@ import contextlib
 import functools
 import os
 import re
+import shlex
+import shutil
 import subprocess
 import sys
 import tempfile
@@ -24,6 +26,7 @@ import console
 
 TOOLS = os.path.dirname(os.path.abspath(__file__))
 TOP = os.path.dirname(TOOLS)
+CHOICE = os.path.join(TOP, "out", "trace-choice.sh")
 REQUEST = re.compile(r"  (\d+) -> s(\d+)  (.*?) +: (.*)")
 OUTCOME = re.compile(r"(\d+)\.(\d+) (\d+) (.*)")
 SUITE = re.compile(r"\bsuite (\d+)\b")
@@ -46,13 +49,29 @@ EXPLAINED = {
 ENV = {**os.environ, "SUITES_PROGRAM": "trace"}
 
 
+def kept_choice():
+    """The kind and the path of the program that was chosen last, where all stands that it was chosen from (`./suites` looks
+    so at the other one): choosing takes longer than playing a story."""
+    with contextlib.suppress(OSError, ValueError, KeyError), open(CHOICE, encoding="utf-8") as file:
+        kept = dict(word.split("=", 1) for word in shlex.split(file.read()))
+        names = [*kept["files"].split("\n"), kept["program"]]
+        is_same_kit = os.environ.get("PATH") == kept["searched"] or shutil.which("rt") == kept["rt"]
+        written = os.fstat(file.fileno()).st_mtime_ns
+        if is_same_kit and all(os.stat(os.path.join(TOP, name)).st_ctime_ns <= written for name in names):
+            return kept["kind"], kept["program"]
+    return None
+
+
 @functools.cache
 def program():
     """The program `trace`: the proved one where it is that of the sources, else a checked build."""
-    chosen = subprocess.run([sys.executable, os.path.join(TOOLS, "choose.py")], env=ENV, stdin=subprocess.DEVNULL, stdout=subprocess.PIPE, text=True)
-    if chosen.returncode != 0:
-        sys.exit(chosen.returncode)
-    kind, path = chosen.stdout.split()
+    choice = kept_choice()
+    if not choice:
+        chosen = subprocess.run([sys.executable, os.path.join(TOOLS, "choose.py")], env=ENV, stdin=subprocess.DEVNULL, stdout=subprocess.PIPE, text=True)
+        if chosen.returncode != 0:
+            sys.exit(chosen.returncode)
+        choice = chosen.stdout.split()
+    kind, path = choice
     if kind == "checked":
         console.Teller().say("checked build of trace, not proved yet; ./suites --prove trace proves and builds it")
     return os.path.join(TOP, path)
@@ -136,6 +155,13 @@ class Run:
         if sys.stderr.isatty() and self.process.returncode in EXPLAINED:
             console.Teller().say(EXPLAINED[self.process.returncode])
         sys.exit(self.process.returncode)
+
+    def play(self):
+        """Waits until the script is played to its end. Answers the paths that were met, by the numbers of what has them."""
+        found = Paths()
+        for place in self.pieces():
+            found.learn(self.text(*place))
+        return found.known
 
     def __iter__(self):
         """All lines, once the program has played the script to its end."""
@@ -344,12 +370,12 @@ def with_paths(lines, known):
     return WithPaths(known).tell(lines)
 
 
-def asked(words, text, more=()):
-    """The words of the command line, with these more that ask for no or one number; help is this text."""
+def asked(words, text, more=None):
+    """The words of the command line, with some more, as argparse has them; help is this text."""
     read = argparse.ArgumentParser(prog=text.split(" [")[0], add_help=False)
     read.add_argument("--agent", type=int)
     read.add_argument("--suite")
-    for word, how in more:
+    for word, how in (more or {}).items():
         read.add_argument(word, **how)
     read.add_argument("-h", "--help", action="store_true")
     given = read.parse_args(words)
@@ -430,11 +456,8 @@ def write_all(run, out):
 
 def write_part(run, out, agent, suite):
     """Writes what is about an agent and a suite, once the script is played."""
-    found = Paths()
-    for place in run.pieces():
-        found.learn(run.text(*place))
-    suite = number_of(suite, found.known)
-    for line in with_paths(behind(narrowed(run, agent, suite)), found.known):
+    known = run.play()
+    for line in with_paths(behind(narrowed(run, agent, number_of(suite, known))), known):
         run.progress.make_way()
         out.write(f"{line}\n".encode("latin1"))
 
