@@ -41,9 +41,8 @@ TIPS = """<defs>
 <marker id="a" markerWidth="7" markerHeight="6" refX="7" refY="3" orient="auto"><path d="M0 0L7 3L0 6z" fill="#345"/></marker>
 <marker id="b" markerWidth="7" markerHeight="6" refX="7" refY="3" orient="auto"><path d="M0 0L7 3L0 6z" fill="#888"/></marker>
 </defs>"""
-# What happens: a request that is served, a job that ends, and a line of the script that is shown itself.
-ASKED, ENDED, SAID = "asked", "ended", "said"
-BEFORE = "begun before, "
+# What happens: a request that is served, a job that ends, a line of the script that is shown itself, and one before all of them.
+ASKED, ENDED, SAID, STANDS = "asked", "ended", "said", "stands"
 
 
 def short(words, known, agent):
@@ -163,7 +162,7 @@ def happenings(lines):
         shown = head_of(words)
         if shown:
             is_idle = any(line.startswith("  nothing") for line in block)
-            yield SAID, shown[0], (words[0], shown[1] + (" (nothing happens: it has a job)" if is_idle else ""))
+            yield SAID, shown[0], ("nothing" if is_idle else words[0], shown[1] + (" (nothing happens: it has a job)" if is_idle else ""))
         for line in block:
             if trace.is_request(line):
                 yield ASKED, f"agent {line[2 : line.index(' ', 2)]}", line
@@ -187,10 +186,10 @@ class Choice:
         """Keeps which servers are down, and which jobs are under way."""
         if kind == ENDED or kind == SAID and what[0] == "return":
             self.before.pop(name, None)
-        elif kind == SAID and what[0] in ("begin", "sweep") and "(nothing happens" not in what[1]:
-            self.before[name] = kind, name, (what[0], BEFORE + what[1])
+        elif kind == SAID and what[0] in trace.BEGIN:
+            self.before[name] = STANDS, name, (what[0], f"begun before, {what[1]}")
         elif kind == SAID and what[0] == "crash":
-            self.before[name] = kind, name, what
+            self.before[name] = STANDS, name, (what[0], "is down")
 
     def of(self, found):
         for kind, name, what in found:
@@ -220,7 +219,7 @@ def columns(items):
     asked = [trace.REQUEST.match(what) for kind, _, what in items if kind == ASKED]
     agents, servers = {int(found[1]) for found in asked}, {int(found[2]) for found in asked}
     for kind, name, what in items:
-        if kind == SAID and not what[1].startswith(BEFORE):
+        if kind == SAID:
             (servers if name.startswith("server") else agents).add(int(name.split()[1]))
     return agents, servers
 
