@@ -23,6 +23,7 @@ import xml.etree.ElementTree as etree
 import played
 
 sys.path.insert(0, os.path.join(played.TOP, "tools"))
+import draw
 import scenario
 import trace
 
@@ -176,12 +177,13 @@ def named(judge, name, script, picture, lines):
         elif words and words[0] in ("begin", "sweep", "forget"):
             acting.add(f"agent {words[1]}")
     judge.holds(set(shown[0] if shown else ()) == acting, name, "named are", shown[:1], "and not", sorted(acting))
-    everybody = {f"agent {number}" for number in range(count_in(script, "agents"))} | {f"server {number}" for number in range(count_in(script, "servers"))}
-    judge.holds(set(drawn(script, "--all").places.values()) == everybody, name, "--all leaves some out")
 
 
-def count_in(script, word):
-    return int(re.search(rf"^{word} (\d+)", script, re.M)[1])
+def everybody(judge):
+    for name, script in SCRIPTS.items():
+        counts = [(word, int(re.search(rf"^{word}s (\d+)", script, re.M)[1])) for word in ("agent", "server")]
+        wanted = {f"{word} {number}" for word, count in counts for number in range(count)}
+        judge.holds(set(drawn(script, "--all").places.values()) == wanted, name, "--all leaves some out")
 
 
 def chosen(judge):
@@ -297,13 +299,15 @@ def main():
     program, judge = played.program(sys.argv[1:]), Judge()
     cut = 0
     for name, script in scripts():
-        picture, lines = drawn(script, "--anyway"), trace.traced(script.encode())
+        lines = trace.traced(script.encode())
+        picture = Picture(draw.picture_of(lines))
         whole(judge, name, picture)
         named(judge, name, script, picture, lines)
         told(judge, name, script, lines)
         judge.holds(len(picture.requests()) == sum("->" in line for line in lines if line.startswith("  ")), name, "requests that are drawn")
         cut += sum(text.is_cut for text in picture.texts)
     judge.holds(cut > 0, "no label was cut")
+    everybody(judge)
     chosen(judge)
     stands(judge)
     about(judge, program)
