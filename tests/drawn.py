@@ -55,6 +55,7 @@ SCRIPTS = {
                       "sweep 2 1\nrun 2", "return 4", begun(2, "drop " + LONG), begun(2, " ; ".join(["read /a"] * 9)), begun(2, "read /a")),
     "twenty": script_of(20, 6, ",".join(["1"] * 9 + ["-"] * 10 + ["1"]) + "/6/6", begun(0, "file /a 666 ; write /a 00"), begun(5, f"file {LONG} 600"), "crash 12",
                         begun(3, "read /a")),
+    "late": script_of(3, 2, "1,1,1/2/2", "begin 0 1000 100 0 file /late 666\nstep 0 5", "begin 1 1000 100 0 read /none\nstep 1 1", "run 0", "run 1"),
     "alone": script_of(3, 3, "1/1/1", "forget 2 0"),
     "still": script_of(3, 3, "1/1/1"),
 }
@@ -245,11 +246,11 @@ def many(judge, program):
     judge.holds(len(drawn(script, "--from", str(total - 4)).requests()) == 5, "--from of many")
 
 
-def written(script, size):
-    """What is written of a trace that is read in pieces of this size."""
+def written(script, size, agent):
+    """What is written of a trace, or of what is about an agent, where it is read in pieces of this size."""
     trace.PIECE, out = size, io.BytesIO()
     with trace.Run(script.encode()) as playing:
-        trace.write_all(playing, out)
+        trace.write_all(playing, out, agent)
     return out.getvalue().decode("latin1")
 
 
@@ -257,10 +258,19 @@ def told(judge, name, script, lines):
     known = trace.paths(lines)
     whole = "".join(f"{line}\n" for line in trace.with_paths(trace.behind(lines), known))
     for size in (97, 4096, 4 << 20):
-        judge.holds(written(script, size) == whole, name, "told in pieces of", size)
+        judge.holds(written(script, size, None) == whole, name, "told in pieces of", size)
+    judge.holds(written(script, 97, 1) == trace.shown(lines, 1), name, "told of an agent in pieces")
     verbs = ("begin", "sweep", "step", "run", "crash", "return", "forget", "audit")
     given = [line for line in script.splitlines() if line.startswith(verbs)]
     judge.holds([line[2:] for line in whole.splitlines() if line.startswith("> ")] == given, name, "lines of the script")
+
+
+def unordered(judge):
+    """A folder's names may be told before its own is."""
+    lines = [f"  0 -> s0  t 0 fetch suite {suite} : given, content 1 names {names}" for suite, names in ((9, "f=17 g=25"), (17, "h=33"), (0, "a=1 d=9"))]
+    wanted = {0: "/", 1: "/a", 9: "/d", 17: "/d/f", 25: "/d/g", 33: "/d/f/h"}
+    for told in (lines, lines[::-1], ["\n".join(lines)]):
+        judge.holds(trace.paths(told) == wanted, "paths", trace.paths(told))
 
 
 SLOW = "import sys; sys.path.insert(0, 'tools'); sys.argv[0] = 'draw'; import {0} as tool, trace; trace.PATIENCE = trace.AGAIN = 0; trace.PIECE = 999; tool.main()"
@@ -307,6 +317,7 @@ def main():
         judge.holds(len(picture.requests()) == sum("->" in line for line in lines if line.startswith("  ")), name, "requests that are drawn")
         cut += sum(text.is_cut for text in picture.texts)
     judge.holds(cut > 0, "no label was cut")
+    unordered(judge)
     everybody(judge)
     chosen(judge)
     stands(judge)

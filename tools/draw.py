@@ -244,13 +244,17 @@ def drawn(items, known, agents, servers):
     return picture.told()
 
 
-def picture_of(lines, given=None, known=None, everybody=(0, 0)):
-    """The picture of a trace as the program prints it, or of a part of it, with all of so many agents and servers."""
-    given, known = given or asked([]), known or trace.paths(lines)
+def picture_of(lines, words=()):
+    """The picture of a trace as the program prints it, or of the part that these words ask for."""
+    return picture([trace.text_of(lines)], trace.paths(lines), asked(words), (0, 0))
+
+
+def picture(pieces, known, given, everybody):
+    """The picture of a trace in pieces, or of the part that is asked for, with all of so many agents and servers."""
     if given.first > given.last:
         raise console.Stop("--from is to be no more than --to")
     choice = Choice(given.first, given.last)
-    found = happenings(trace.narrowed(lines, given.agent, trace.number_of(given.suite, known)))
+    found = happenings(trace.narrowed(pieces, given.agent, trace.number_of(given.suite, known)))
     items, count = gathered(found, choice, sys.maxsize if given.anyway else MOST)
     if given.first > max(1, choice.count):
         raise console.Stop(f"there are {choice.count:,} requests, and no more to begin with at {given.first:,}")
@@ -281,7 +285,7 @@ def main():
     with trace.Run(script) as run:
         known = run.play()
         everybody = [int(found[1]) if given.all and found else 0 for found in counts]
-        text = picture_of(run, given, known, everybody)
+        text = picture(run, known, given, everybody)
         run.progress.make_way()
         sys.stdout.buffer.write(text.encode())
     return 0

@@ -30,6 +30,8 @@ CHOICE = os.path.join(TOP, "out", "trace-choice.sh")
 REQUEST = re.compile(r"  (\d+) -> s(\d+)  (.*?) +: (.*)")
 OUTCOME = re.compile(r"(\d+)\.(\d+) (\d+) (.*)")
 SUITE = re.compile(r"\bsuite (\d+)\b")
+OF_TRANSACTION = re.compile(r"  t (\d+) ")
+BETWEEN = re.compile(r"\n(?=[>=] )")
 COPY = re.compile(r"    suite (\d+) (\w+) prefix (\d+) content (\d+) votes (\S+)")
 NAMES = re.compile(r"suite (\d+)\b[^;:]*(?:: given, content \d+)? names((?: \S+=\d+)+)")
 OF_SERVERS, BEGIN, STEP = ("crash", "return"), ("begin", "sweep"), ("step", "run")
@@ -107,7 +109,7 @@ class Run:
     """The program `trace`, which plays a script, and what it prints, which is kept in a file."""
 
     def __init__(self, script):
-        self.printed, self.size, self.progress = tempfile.TemporaryFile(), 0, Progress()
+        self.printed, self.size, self.places, self.progress = tempfile.TemporaryFile(), 0, [], Progress()
         self.count = max(1, script.count(b"\n"))
         with tempfile.TemporaryFile() as given:
             given.write(script)
@@ -121,7 +123,8 @@ class Run:
         self.progress.end()
         console.stop(self.process)
 
-    def text(self, begin, end):
+    def text(self, place):
+        begin, end = place
         return os.pread(self.printed.fileno(), end - begin, begin).decode("latin1")
 
     def pieces(self):
@@ -133,7 +136,8 @@ class Run:
             piece = os.pread(self.printed.fileno(), PIECE, self.size)
             cut = piece.rfind(b"\n> ") + 1
             if cut:
-                yield begin, self.size + cut
+                self.places.append((begin, self.size + cut))
+                yield self.places[-1]
                 begin = self.size + cut
             self.size += len(piece)
             played += piece.count(b"\n> ")
@@ -144,8 +148,9 @@ class Run:
                 with contextlib.suppress(subprocess.TimeoutExpired):
                     self.process.wait(PAUSE)
         if self.process.returncode != 0:
-            self.give_up(self.text(begin, self.size))
-        yield begin, self.size
+            self.give_up(self.text((begin, self.size)))
+        self.places.append((begin, self.size))
+        yield self.places[-1]
 
     def give_up(self, text):
         """Ends the tool as the program has ended, with what it printed last."""
@@ -160,23 +165,20 @@ class Run:
         """Waits until the script is played to its end. Answers the paths that were met, by the numbers of what has them."""
         found = Paths()
         for place in self.pieces():
-            found.learn(self.text(*place))
+            found.learn(self.text(place))
         return found.known
 
     def __iter__(self):
-        """All lines, once the program has played the script to its end."""
-        at, rest = 0, ""
-        while at < self.size:
-            *lines, rest = (rest + self.text(at, min(self.size, at + PIECE))).split("\n")
-            at += PIECE
-            yield from lines
-            self.progress.say(f"the script is played, {100 * min(at, self.size) // self.size} % of it is looked through")
+        """All pieces, once the program has played the script to its end."""
+        for place in self.places:
+            yield self.text(place)
+            self.progress.say(f"the script is played, {100 * place[1] // self.size} % of it is looked through")
 
 
 def traced(script):
     """The lines of the trace of a script, by the program `trace`; ends the tool as that ends where the script has a fault."""
     with Run(script) as run:
-        return [line for begin, end in run.pieces() for line in run.text(begin, end).split("\n")[:-1]]
+        return [line for place in run.pieces() for line in run.text(place).split("\n")[:-1]]
 
 
 class Paths:
@@ -251,10 +253,16 @@ def is_request(line):
 class AboutSuite:
     """Whether lines are about a suite: a request for it, or of a transaction that asked for it, and how its job ended."""
 
-    def __init__(self, suite, lines):
-        self.word, self.jobs = f" suite {suite} ", {}
-        asked = (asked_in(line) for line in lines if self.word in line)
-        self.asked = {words.split(" ", 2)[1] for words in asked if self.word in words and words.startswith("t ")}
+    def __init__(self, suite, pieces):
+        self.word, self.jobs, self.asked = f" suite {suite} ", {}, set()
+        for piece in pieces:
+            at = piece.find(self.word)
+            while at >= 0:
+                begin, end = piece.rfind("\n", 0, at) + 1, piece.find("\n", at)
+                words = asked_in(piece[begin:end])
+                if self.word in words and words.startswith("t "):
+                    self.asked.add(words.split(" ", 2)[1])
+                at = piece.find(self.word, end)
 
     def __call__(self, line):
         if line[:1].isdigit():
@@ -268,28 +276,32 @@ class AboutSuite:
         self.jobs[agent] = self.jobs.get(agent, False) or is_about
         return is_about
 
+    def may_be(self, agent, text):
+        """Whether a line may be of what an agent did in its steps, which are looked at all at once."""
+        return self.word in text or "  nothing" in text or self.jobs.get(str(agent), False) or not self.asked.isdisjoint(OF_TRANSACTION.findall(text))
 
-def narrowed(lines, agent, suite):
-    """The lines that are about an agent, and about a suite. They are gone over twice."""
-    if agent is None and suite is None:
-        yield from lines
-        return
-    about = AboutSuite(suite, lines) if suite is not None else None
+
+def narrowed(pieces, agent, suite):
+    """The lines that are about an agent, and about a suite, of a trace in pieces of whole blocks. For a suite it is gone over twice."""
+    about = AboutSuite(suite, pieces) if suite is not None else None
     held, begun = [], {}
-    for head, block in blocks(lines):
-        words = head[2:].split()
+    for text in (text for piece in pieces for text in BETWEEN.split(piece[:-1])):
+        head, _, below = text.partition("\n")
+        words = head[2:].split(None, 2)
         of_server = head.startswith("=") or words[0] in OF_SERVERS
-        if agent is not None and not of_server and words[0] != "audit" and int(words[1]) != agent:
+        number = None if of_server or words[0] == "audit" else int(words[1])
+        if agent is not None and number not in (None, agent):
             continue
-        kept = [line for line in block if about(line)] if about else block
+        kept = below.split("\n") if below and (not about or words[0] not in STEP or about.may_be(number, below)) else []
+        kept = list(filter(about, kept))
         if kept or of_server or not about:
             held.append([True, head, kept])
-            if words[0] in STEP and words[1] in begun:
+            if words[0] in STEP and number in begun:
                 # the job came to be about it, so the line that began it is too
-                begun.pop(words[1])[0] = True
+                begun.pop(number)[0] = True
         elif words[0] in BEGIN:
-            begun[words[1]] = [False, head, kept]
-            held.append(begun[words[1]])
+            begun[number] = [False, head, kept]
+            held.append(begun[number])
         if not begun:
             yield from told(held)
             held.clear()
@@ -325,7 +337,7 @@ class WithPaths:
     """Lines with the path before each suite whose path is known by then, and the suites that were met before it was."""
 
     def __init__(self, known):
-        self.known, self.count, self.kept, self.lacking = known, 0, {}, set()
+        self.known, self.kept, self.lacking = known, {}, set()
 
     def named(self, found):
         suite = int(found[1])
@@ -335,7 +347,7 @@ class WithPaths:
         return found[0]
 
     def asked(self, words):
-        """What is asked of suites, which is asked so again and again."""
+        """What is asked of suites. It is asked so again and again, so it is kept, where all paths are known: those stay."""
         before, self.lacking = self.lacking, set()
         told = SUITE.sub(self.named, f" suite {words.rstrip()}")
         if not self.lacking:
@@ -346,9 +358,6 @@ class WithPaths:
         return told
 
     def tell(self, lines):
-        if len(self.known) != self.count:
-            self.kept.clear()
-            self.count = len(self.known)
         kept = self.kept
         for line in lines:
             if line[:2] != "  ":
@@ -405,57 +414,58 @@ def text_of(lines):
     return "\n".join([*lines, ""])
 
 
-def lines_of(text):
-    """The lines of a piece of a trace, with what is behind where it has the end."""
-    lines = text.split("\n")[:-1]
+def lines_of(text, agent):
+    """The lines of a piece of a trace, or those that are about an agent, with what is behind where it has the end."""
+    lines = text.split("\n")[:-1] if agent is None else narrowed([text], agent, None)
     return behind(lines) if "= server " in text else lines
 
 
 def shown(lines, agent=None, suite=None):
     """The text of a trace as the program prints it, or of a part of it, with paths and what is behind."""
     known = paths(lines)
-    return text_of(with_paths(behind(narrowed(lines, agent, number_of(suite, known))), known))
+    return text_of(with_paths(behind(narrowed([text_of(lines)], agent, number_of(suite, known))), known))
 
 
 class Held:
     """What is not written before the end: pieces of a trace, of which those wait that met a suite whose path was not known."""
 
-    def __init__(self, run):
-        self.run, self.file, self.pieces = run, tempfile.TemporaryFile(), []
+    def __init__(self):
+        self.file, self.pieces = tempfile.TemporaryFile(), []
 
     def keep(self, place, text, lacking):
         self.pieces.append((place, self.file.tell(), self.file.write(text), lacking))
 
-    def texts(self, known):
+    def texts(self, run, agent, known):
         """All of it, told anew where it met a suite whose path is known by now."""
+        self.file.flush()
         for place, at, size, lacking in self.pieces:
             if lacking & known.keys():
-                yield text_of(with_paths(lines_of(self.run.text(*place)), known)).encode("latin1")
+                yield text_of(with_paths(lines_of(run.text(place), agent), known)).encode("latin1")
             else:
                 yield os.pread(self.file.fileno(), size, at)
 
 
-def write_all(run, out):
-    """Writes all of a trace, while the program plays, up to where a path was not known that may be told later, and then the rest."""
-    found, held = Paths(), Held(run)
+def write_all(run, out, agent):
+    """Writes a trace, or what is about an agent, while the program plays, up to where a path was not known that may be told
+    later; and then the rest."""
+    found, held = Paths(), Held()
     telling = WithPaths(found.known)
     for place in run.pieces():
-        text = run.text(*place)
+        text = run.text(place)
         found.learn(text)
-        told = text_of(telling.tell(lines_of(text))).encode("latin1")
+        told = text_of(telling.tell(lines_of(text, agent))).encode("latin1")
         if held.pieces or telling.lacking:
             held.keep(place, told, telling.lacking)
         else:
             run.progress.make_way()
             out.write(told)
         telling.lacking = set()
-    held.file.flush()
     run.progress.make_way()
-    out.writelines(held.texts(found.known))
+    out.writelines(held.texts(run, agent, found.known))
 
 
-def write_part(run, out, agent, suite):
-    """Writes what is about an agent and a suite, once the script is played."""
+def write_about(run, out, agent, suite):
+    """Writes what is about a suite, and of that what is about an agent, once the script is played."""
     known = run.play()
     for line in with_paths(behind(narrowed(run, agent, number_of(suite, known))), known):
         run.progress.make_way()
@@ -465,10 +475,10 @@ def write_part(run, out, agent, suite):
 def main():
     given = asked(sys.argv[1:], __doc__)
     with Run(script()) as run:
-        if given.agent is None and given.suite is None:
-            write_all(run, sys.stdout.buffer)
+        if given.suite is None:
+            write_all(run, sys.stdout.buffer, given.agent)
         else:
-            write_part(run, sys.stdout.buffer, given.agent, given.suite)
+            write_about(run, sys.stdout.buffer, given.agent, given.suite)
     return 0
 
 
