@@ -9,7 +9,8 @@ whole    nothing is off the canvas, no text is on another one, each label is on 
 names    agents and servers are named at the top and again within each screen; those that do nothing are left out
 chosen   --agent, --suite, --from and --to draw what they say, and --all all; what was so before is drawn as such
 many     above 2,000 requests nothing is drawn without --anyway, and it is said how many there are and how to choose
-told     a trace that is written piece by piece is the one that is written as a whole, and tells each line of the script
+told     a trace that is written piece by piece is the one that is written as a whole, and tells each line of the script; of
+         a suite it tells what a slow reading of the whole finds
 slow     a terminal is told how far it is, and nothing else is
 """
 import io
@@ -55,7 +56,7 @@ SCRIPTS = {
                       "sweep 2 1\nrun 2", "return 4", begun(2, "drop " + LONG), begun(2, " ; ".join(["read /a"] * 9)), begun(2, "read /a")),
     "twenty": script_of(20, 6, ",".join(["1"] * 9 + ["-"] * 10 + ["1"]) + "/6/6", begun(0, "file /a 666 ; write /a 00"), begun(5, f"file {LONG} 600"), "crash 12",
                         begun(3, "read /a")),
-    "late": script_of(3, 2, "1,1,1/2/2", "begin 0 1000 100 0 file /late 666\nstep 0 5", "begin 1 1000 100 0 read /none\nstep 1 1", "run 0", "run 1"),
+    "late": script_of(3, 2, "1,1,1/2/2", "begin 0 1000 100 0 file /late 666\nstep 0 5", "run 0", begun(1, "write /late 00"), "audit 0"),
     "alone": script_of(3, 3, "1/1/1", "forget 2 0"),
     "still": script_of(3, 3, "1/1/1"),
 }
@@ -263,6 +264,38 @@ def told(judge, name, script, lines):
     verbs = ("begin", "sweep", "step", "run", "crash", "return", "forget", "audit")
     given = [line for line in script.splitlines() if line.startswith(verbs)]
     judge.holds([line[2:] for line in whole.splitlines() if line.startswith("> ")] == given, name, "lines of the script")
+    asked = [line.partition(" : ")[0] for line in whole.splitlines() if re.match(r"  \d", line)]
+    judge.holds(all(len(words) == max(56, len(words.rstrip())) for words in asked), name, "where replies stand")
+    for suite in (0, 1, 9, 10):
+        found = trace.narrowed(["\n".join([*lines, ""])], None, suite)
+        judge.holds(list(found) == about_suite(lines, suite), name, "told of suite", suite)
+
+
+def about_suite(lines, suite):
+    """The lines that are about a suite: requests that name it or are of a transaction that does, the ends of such jobs, what
+    agents are told that do nothing, audits and servers; and the lines of the script that have such lines, or begin such jobs."""
+    asked = [re.match(r"  (\d+) -> s\d+  (?:t (\d+) )?(.*?) +: ", line) for line in lines]
+    suites = [set(map(int, re.findall(r"suite (\d+)", found[3]))) if found else set() for found in asked]
+    own = {found[2] for found, named in zip(asked, suites) if found and suite in named}
+    jobs, heads, shown = {}, {}, set()
+    for place, (line, found, named) in enumerate(zip(lines, asked, suites)):
+        ended, words = re.match(r"(\d+)\.\d+ ", line), line[2:].split()
+        is_about = True
+        if line[:1] in "=>":
+            head, is_about = place, line[0] == "=" or words[0] in ("crash", "return")
+            if words[0] in ("begin", "sweep") and not lines[place + 1].startswith("  nothing"):
+                heads[words[1]] = place
+        elif found:
+            is_about = suite in named if named else found[2] is not None and found[2] in own
+            jobs[found[1]] = jobs.get(found[1], False) or is_about
+        elif ended:
+            is_about = jobs.pop(ended[1], False)
+        elif line.startswith("    "):
+            is_about = re.search(rf"suite {suite}\b", line) is not None
+        if is_about:
+            shown |= {place, head}
+            shown |= {heads[words[1]] for words in [lines[head][2:].split()] if words[0] in ("step", "run") and words[1] in heads}
+    return [line for place, line in enumerate(lines) if place in shown]
 
 
 def unordered(judge):
