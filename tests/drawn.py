@@ -57,6 +57,8 @@ SCRIPTS = {
     "twenty": script_of(20, 6, ",".join(["1"] * 9 + ["-"] * 10 + ["1"]) + "/6/6", begun(0, "file /a 666 ; write /a 00"), begun(5, f"file {LONG} 600"), "crash 12",
                         begun(3, "read /a")),
     "late": script_of(3, 2, "1,1,1/2/2", "begin 0 1000 100 0 file /late 666\nstep 0 5", "run 0", begun(1, "write /late 00"), "audit 0"),
+    "swept": script_of(1, 3, "1/1/1", begun(0, "file /a 666 ; file /b 666"), "begin 0 1000 100 0 read /a\nstep 0 4", "begin 1 1000 100 0 read /b\nstep 1 4",
+                       "sweep 2 0" + "\nstep 2" * 12),
     "alone": script_of(3, 3, "1/1/1", "forget 2 0"),
     "still": script_of(3, 3, "1/1/1"),
 }
@@ -198,6 +200,7 @@ def chosen(judge):
     own = drawn(two, "--agent", "1")
     judge.holds(own.requests() == [one for one in every if one[0] == "agent 1"], "--agent 1")
     judge.holds(("agent 1", "forgets its cache of site 0") in own.said(), "forget of an agent is not drawn")
+    judge.holds({("server 1", "falls down"), ("server 1", "comes up")} <= set(own.said()), "servers are left out for an agent", own.said())
     part = drawn(two, "--agent", "1", "--from", "2", "--to", "4").requests()
     judge.holds(part == own.requests()[1:4], "--agent 1 --from 2 --to 4")
     judge.holds(drawn(two, "--suite", "/d/f").requests() == drawn(two, "--suite", "2").requests() != [], "a path and its number")
@@ -266,7 +269,7 @@ def told(judge, name, script, lines):
     judge.holds([line[2:] for line in whole.splitlines() if line.startswith("> ")] == given, name, "lines of the script")
     asked = [line.partition(" : ")[0] for line in whole.splitlines() if re.match(r"  \d", line)]
     judge.holds(all(len(words) == max(56, len(words.rstrip())) for words in asked), name, "where replies stand")
-    for suite in (0, 1, 9, 10):
+    for suite in (0, 1, 2, 9, 10):
         found = trace.narrowed(["\n".join([*lines, ""])], None, suite)
         judge.holds(list(found) == about_suite(lines, suite), name, "told of suite", suite)
 
