@@ -1,12 +1,19 @@
 #!/usr/bin/env python3
-"""./suites draw [--agent A] [--suite S] < SCRIPT > run.svg
+"""./suites draw [--agent A] [--suite S] [--from N] [--to M] [--all] [--anyway] < SCRIPT > run.svg
 
 Plays a script of events as `suites play` does, and draws what happens, from above to below: a line for each agent and
-each server, an arrow for each request and a dashed one for its reply, grey where a server is down, a mark where a
-transaction is decided, and how a job ended beside its last arrow.
+each server that does something, an arrow for each request and a dashed one for its reply, grey where a server is down, a
+mark where a transaction is decided, and how a job ended beside its last arrow. A label that has no room is cut, and is
+there whole for whoever points at it.
 
     --agent A   only what agent A does, and what becomes of servers
     --suite S   only what is about a file or folder, by its path or its number
+    --from N    only from the Nth request on, of those that would be drawn else
+    --to M      only up to the Mth request
+    --all       agents and servers that do nothing, too
+    --anyway    more than 2,000 requests, too
+
+Where it takes longer than two seconds it says on a terminal how far it is.
 """
 import html
 import re
@@ -15,18 +22,27 @@ import sys
 import console
 import trace
 
-HEAD, ROW, BAND, LEFT, RIGHT = 34, 28, 22, 60, 300
-# How far a line is from the one before it, and how often the names stand above the lines again.
-OF_AGENTS, OF_SERVERS, AGAIN = 110, 150, 1800
-STYLE = """<style>
-text { font: 11px sans-serif; fill: #222; paint-order: stroke; stroke: #fff; stroke-width: 3px; stroke-linejoin: round }
-.name { font-weight: bold; font-size: 12px } .event { font-weight: bold } .reply { fill: #666 } .good { fill: #176b2c } .bad { fill: #a3161b }
-.open { fill: #8a5a00 } .life { stroke: #bbb } .ask { stroke: #345; stroke-width: 1.2 } .told { stroke: #888; stroke-dasharray: 4 3 } .down { fill: #ddd }
+# The most requests of a picture that is drawn without a word.
+MOST = 2000
+# A line of names, of an event and of a request; how far names are from the next ones; and what is beside the outer lines.
+HEAD, BAND, ROW, SCREEN, LEFT, RIGHT, EDGE = 34, 22, 30, 640, 60, 300, 6
+# How far agents and servers are from each other where there is room for that, and where they are many; agents from servers.
+OF_AGENTS, OF_SERVERS, LEAST, GAP = 110, 150, 76, 230
+# So much all agents, and all servers, take before they are nearer to each other; and no picture is narrower.
+WIDE, NARROW = 1200, 720
+# No letter of these fonts at this size is wider.
+LETTER, FONT = 6.7, "11px ui-monospace, 'DejaVu Sans Mono', Menlo, Consolas, 'Liberation Mono', monospace"
+STYLE = f"""<style>
+text {{ font: {FONT}; fill: #222; paint-order: stroke; stroke: #fff; stroke-width: 3px; stroke-linejoin: round }}
+.name {{ font-weight: bold; stroke: #eee }} .event {{ font-weight: bold }} .reply {{ fill: #666 }} .good {{ fill: #176b2c }} .bad {{ fill: #a3161b }}
+.open {{ fill: #8a5a00 }} .life {{ stroke: #bbb }} .ask {{ stroke: #345; stroke-width: 1.2 }} .told {{ stroke: #888; stroke-dasharray: 4 3 }} .down {{ fill: #ddd }} .names {{ fill: #eee }}
 </style>"""
 TIPS = """<defs>
 <marker id="a" markerWidth="7" markerHeight="6" refX="7" refY="3" orient="auto"><path d="M0 0L7 3L0 6z" fill="#345"/></marker>
 <marker id="b" markerWidth="7" markerHeight="6" refX="7" refY="3" orient="auto"><path d="M0 0L7 3L0 6z" fill="#888"/></marker>
 </defs>"""
+# What happens: a request that is served, a job that ends, a line of the script that is shown itself, and one before all of them.
+ASKED, ENDED, SAID, STANDS = "asked", "ended", "said", "stands"
 
 
 def short(words, known, agent):
@@ -44,23 +60,40 @@ class Picture:
     """What is drawn so far, and where it goes on."""
 
     def __init__(self, agents, servers):
-        self.x = {f"agent {agent}": LEFT + place * OF_AGENTS for place, agent in enumerate(agents)}
-        self.x |= {f"server {server}": LEFT + len(agents) * OF_AGENTS + place * OF_SERVERS for place, server in enumerate(servers)}
+        self.x, at = {}, LEFT
+        for kind, numbers, apart in (("agent", agents, OF_AGENTS), ("server", servers, OF_SERVERS)):
+            step = max(LEAST, min(apart, WIDE // max(1, len(numbers))))
+            self.x |= {f"{kind} {number}": at + place * step for place, number in enumerate(numbers)}
+            at = max(self.x.values(), default=at) + GAP
+        self.width = max([x + RIGHT for x in self.x.values()] + [NARROW])
         self.y, self.named, self.parts, self.greys, self.down, self.last = HEAD + 14, [20], [], [], {}, {}
 
-    def text(self, x, y, words, style="", anchor=""):
-        words = words if len(words) <= 90 else words[:89] + "…"
-        style, anchor = style and f' class="{style}"', anchor and f' text-anchor="{anchor}"'
-        self.parts.append(f'<text x="{x}" y="{y}"{style}{anchor}>{html.escape(words)}</text>')
+    def label(self, x, y, words, room, style):
+        """A text right of a place, or left of it where the room is negative. What has no room is cut."""
+        most, title = int(abs(room) / LETTER), ""
+        if len(words) > most:
+            title = f"<title>{html.escape(words)}</title>"
+            words = words[: max(0, most - 1)] + "…"
+        style = f' class="{style}"' if style else ""
+        anchor = ' text-anchor="end"' if room < 0 else ""
+        self.parts.append(f'<text x="{x}" y="{y}"{style}{anchor}>{html.escape(words)}{title}</text>')
 
-    def event(self, name, words):
-        """A line of the script, at what it is about."""
-        x = self.x[name]
-        if self.y > self.named[-1] + AGAIN:
+    def beside(self, x, y, words, style):
+        """A text that has room up to the edge of the picture."""
+        self.label(x, y, words, self.width - x - EDGE, style)
+
+    def names_again(self, height):
+        """The names of agents and servers stand above what comes next, where it would be a screen from them."""
+        if self.y + height > self.named[-1] + SCREEN:
             self.named.append(self.y + 2)
             self.y += BAND
-        self.parts.append(f'<circle cx="{x}" cy="{self.y}" r="3" fill="#222"/>')
-        self.text(x + 7, self.y + 4, words, "event")
+
+    def said(self, name, words):
+        """A line of the script, at what it is about. What comes next is not about a job that was before."""
+        self.names_again(BAND)
+        self.last.pop(name, None)
+        self.parts.append(f'<circle cx="{self.x[name]}" cy="{self.y}" r="3" fill="#222"/>')
+        self.beside(self.x[name] + 7, self.y + 4, words, "event")
         self.y += BAND
 
     def grey(self, server, is_down):
@@ -70,42 +103,40 @@ class Picture:
         elif server in self.down:
             self.greys.append((server, self.down.pop(server), self.y))
 
-    def exchange(self, agent, server, request, reply, decides):
+    def asked(self, agent, server, words, decides):
         """A request and its reply."""
+        self.names_again(ROW)
         a, b, y = self.x[f"agent {agent}"], self.x[f"server {server}"], self.y
-        there, back = f"M{a} {y}H{b}", f"M{b} {y + 13}H{a}"
+        there, back = f"M{a} {y}H{b}", f"M{b} {y + 14}H{a}"
         self.parts.append(f'<path d="{there}" class="ask" marker-end="url(#a)"/><path d="{back}" class="told" marker-end="url(#b)"/>')
-        self.text(a + 7, y - 3, request)
-        self.text(b - 10, y + 10, reply, "reply", "end")
+        self.label(a + 7, y - 4, words[0], b - a - 14, "")
+        self.label(b - 10, y + 10, words[1], a - b + 17, "reply")
         if decides:
             self.parts.append(f'<path d="M{b} {y - 6}l6 6l-6 6l-6 -6z" fill="#176b2c"/>')
-        self.last[agent] = b, y + 4
+        self.last[f"agent {agent}"] = b, y + 4
         self.y += ROW
 
-    def outcome(self, agent, words):
-        """How a job ended, beside its last arrow."""
-        x, y = self.last.get(agent, (self.x[f"agent {agent}"], self.y))
+    def ended(self, agent, words):
+        """How a job ended: beside its last arrow, or below its line of the script where there is none."""
+        if agent not in self.last:
+            self.names_again(BAND)
+            self.last[agent] = self.x[agent], self.y + 4
+            self.y += BAND
+        x, y = self.last.pop(agent)
         style = "good" if words.startswith(("answered", "swept")) else "open" if words.startswith("undecided") else "bad"
-        self.text(x + 12, y, words, f"event {style}")
+        self.beside(x + 12, y, words, f"event {style}")
 
     def told(self):
         """The whole picture."""
-        width, height = max(self.x.values()) + RIGHT, self.y + 10
+        width, height = self.width, self.y + 10
         for server in list(self.down):
             self.grey(server, False)
         lines = [f'<svg xmlns="http://www.w3.org/2000/svg" viewBox="0 0 {width} {height}" width="{width}" height="{height}">', STYLE, TIPS, '<rect width="100%" height="100%" fill="#fff"/>']
         lines += [f'<path d="M{x} {HEAD}V{height}" class="life"/>' for x in self.x.values()]
         lines += [f'<rect x="{self.x[server] - 7}" y="{top}" width="14" height="{bottom - top}" class="down"/>' for server, top, bottom in self.greys]
+        lines += [f'<rect x="0" y="{top - 14}" width="{width}" height="20" class="names"/>' for top in self.named]
         names = [f'<text x="{x}" y="{top}" class="name" text-anchor="middle">{name}</text>' for top in self.named for name, x in self.x.items()]
         return "\n".join([*lines, *self.parts, *names, "</svg>", ""])
-
-
-def columns(lines):
-    """The agents that do something, and all servers."""
-    agents = {int(found[1]) for found in filter(None, map(trace.REQUEST.match, lines))}
-    agents |= {int(words[2]) for words in map(str.split, lines) if words[:1] == [">"] and words[1] in ("begin", "sweep", "forget")}
-    servers = {int(line.split()[2]) for line in lines if line.startswith("= server")}
-    return sorted(agents), sorted(servers)
 
 
 def head_of(words):
@@ -122,40 +153,141 @@ def head_of(words):
     return None
 
 
-def drawn(lines, known):
-    """The picture of a trace."""
-    picture = Picture(*columns(lines))
+def happenings(lines):
+    """What happens in a trace, in its order: of which kind, at what, and the line that tells it."""
     for head, block in trace.blocks(lines):
         if head.startswith("="):
-            break
+            return
         words = head[2:].split()
         shown = head_of(words)
         if shown:
             is_idle = any(line.startswith("  nothing") for line in block)
-            if words[0] in trace.OF_SERVERS:
-                picture.grey(shown[0], words[0] == "crash")
-            picture.event(shown[0], shown[1] + (" (nothing happens: it has a job)" if is_idle else ""))
+            yield SAID, shown[0], ("nothing" if is_idle else words[0], shown[1] + (" (nothing happens: it has a job)" if is_idle else ""))
         for line in block:
-            request, outcome = trace.REQUEST.match(line), trace.OUTCOME.match(line)
-            if request:
-                agent, server = int(request[1]), int(request[2])
-                asked, reply = (short(words, known, agent) for words in request.group(3, 4))
-                decides = re.search(" decide | resolve", request[3]) and request[4].startswith("verdict")
-                picture.exchange(agent, server, asked, reply, decides)
-            elif outcome:
-                picture.outcome(int(outcome[1]), outcome[4])
+            if trace.is_request(line):
+                yield ASKED, f"agent {line[2 : line.index(' ', 2)]}", line
+            elif line[:1].isdigit():
+                yield ENDED, f"agent {line[: line.index('.')]}", line
+
+
+class Choice:
+    """What happens from one request to another, counted from 1; of what was before, what is still so."""
+
+    def __init__(self, first, last):
+        self.first, self.last, self.count, self.before = first, last, 0, {}
+
+    def has(self, kind):
+        """Whether what happens behind so many requests belongs to them."""
+        if kind == SAID:
+            return self.first - 1 <= self.count < self.last
+        return self.count <= self.last and (self.count >= self.first or self.first == 1)
+
+    def pass_by(self, kind, name, what):
+        """Keeps which servers are down, and which jobs are under way."""
+        if kind == ENDED or kind == SAID and what[0] == "return":
+            self.before.pop(name, None)
+        elif kind == SAID and what[0] in trace.BEGIN:
+            self.before[name] = STANDS, name, (what[0], f"begun before, {what[1]}")
+        elif kind == SAID and what[0] == "crash":
+            self.before[name] = STANDS, name, (what[0], "is down")
+
+    def of(self, found):
+        for kind, name, what in found:
+            self.count += kind == ASKED
+            if self.has(kind):
+                yield from self.before.values()
+                self.before.clear()
+                yield kind, name, what
+            elif self.count > self.last:
+                return
+            else:
+                self.pass_by(kind, name, what)
+
+
+def gathered(found, choice, most):
+    """What is to be drawn, of so many requests at most, and how many requests that would be."""
+    items, count = [], 0
+    for item in choice.of(found):
+        count += item[0] == ASKED
+        if count <= most:
+            items.append(item)
+    return items, count
+
+
+def columns(items):
+    """The numbers of the agents and servers that do something."""
+    asked = [trace.REQUEST.match(what) for kind, _, what in items if kind == ASKED]
+    agents, servers = {int(found[1]) for found in asked}, {int(found[2]) for found in asked}
+    for kind, name, what in items:
+        if kind == SAID:
+            (servers if name.startswith("server") else agents).add(int(name.split()[1]))
+    return agents, servers
+
+
+def drawn(items, known, agents, servers):
+    """The picture of what happens at these agents and servers."""
+    picture = Picture(sorted(agents), sorted(servers))
+    for kind, name, what in items:
+        if kind == ASKED:
+            found = trace.REQUEST.match(what)
+            words = [short(words, known, int(found[1])) for words in found.group(3, 4)]
+            decides = re.search(" decide | resolve", found[3]) and found[4].startswith("verdict")
+            picture.asked(int(found[1]), int(found[2]), words, decides)
+        elif kind == ENDED:
+            picture.ended(name, trace.OUTCOME.match(what)[4])
+        elif name in picture.x:
+            if what[0] in trace.OF_SERVERS:
+                picture.grey(name, what[0] == "crash")
+            picture.said(name, what[1])
+    if not items:
+        picture.beside(LEFT, picture.y, "nothing happens", "event")
     return picture.told()
 
 
-def picture_of(lines, agent=None, suite=None):
-    """The picture of a trace as the program prints it, or of a part of it."""
-    known = trace.paths(lines)
-    return drawn(list(trace.narrowed(lines, agent, trace.number_of(suite, known))), known)
+def picture_of(lines, words=()):
+    """The picture of a trace as the program prints it, or of the part that these words ask for."""
+    return picture([trace.text_of(lines)], trace.paths(lines), asked(words), (0, 0))
+
+
+def picture(pieces, known, given, everybody):
+    """The picture of a trace in pieces, or of the part that is asked for, with all of so many agents and servers."""
+    if given.first > given.last:
+        raise console.Stop("--from is to be no more than --to")
+    choice = Choice(given.first, given.last)
+    found = happenings(trace.narrowed(pieces, given.agent, trace.number_of(given.suite, known)))
+    items, count = gathered(found, choice, sys.maxsize if given.anyway else MOST)
+    if given.first > max(1, choice.count):
+        raise console.Stop(f"there are {choice.count:,} requests, and no more to begin with at {given.first:,}")
+    if count > MOST and not given.anyway:
+        raise console.Stop(f"{count:,} requests would be drawn, above {MOST:,}: choose by --agent A, --suite S (a path or a number) or --from N --to M"
+                           f" (as --from 1 --to {MOST}); --anyway draws them all")
+    agents, servers = columns(items)
+    return drawn(items, known, agents | {*range(everybody[0])}, servers | {*range(everybody[1])})
+
+
+def positive(word):
+    if int(word) < 1:
+        raise ValueError
+    return int(word)
+
+
+def asked(words):
+    """The words of the command line."""
+    place, flag = {"type": positive}, {"action": "store_true"}
+    more = {"--from": {**place, "dest": "first", "default": 1}, "--to": {**place, "dest": "last", "default": sys.maxsize}, "--all": flag, "--anyway": flag}
+    return trace.asked(words, __doc__, more)
 
 
 def main():
-    given = trace.asked(sys.argv[1:], __doc__)
-    sys.stdout.buffer.write(picture_of(trace.traced(trace.script()), given.agent, given.suite).encode())
+    given = asked(sys.argv[1:])
+    script = trace.script()
+    counts = [re.search(rb"^\s*%s\s+(\d+)" % word, script, re.M) for word in (b"agents", b"servers")]
+    with trace.Run(script) as run:
+        known = run.play()
+        everybody = [int(found[1]) if given.all and found else 0 for found in counts]
+        text = picture(run, known, given, everybody)
+        run.progress.make_way()
+        sys.stdout.buffer.write(text.encode())
     return 0
 
 

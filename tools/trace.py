@@ -7,24 +7,42 @@ has of each file and folder, with their versions, votes and locks, and where a c
 
     --agent A   only what agent A does, and what becomes of servers
     --suite S   only what is about a file or folder, by its path or its number
+
+Where it takes longer than two seconds it says on a terminal how far it is.
 """
 import argparse
+import contextlib
 import functools
 import os
 import re
+import shlex
+import shutil
 import subprocess
 import sys
+import tempfile
+import time
 
 import console
 
 TOOLS = os.path.dirname(os.path.abspath(__file__))
 TOP = os.path.dirname(TOOLS)
+CHOICE = os.path.join(TOP, "out", "trace-choice.sh")
 REQUEST = re.compile(r"  (\d+) -> s(\d+)  (.*?) +: (.*)")
 OUTCOME = re.compile(r"(\d+)\.(\d+) (\d+) (.*)")
 SUITE = re.compile(r"\bsuite (\d+)\b")
+OF_TRANSACTION = re.compile(r"  t (\d+) ")
+BETWEEN = re.compile(r"\n(?=[>=] )")
 COPY = re.compile(r"    suite (\d+) (\w+) prefix (\d+) content (\d+) votes (\S+)")
 NAMES = re.compile(r"suite (\d+)\b[^;:]*(?:: given, content \d+)? names((?: \S+=\d+)+)")
 OF_SERVERS, BEGIN, STEP = ("crash", "return"), ("begin", "sweep"), ("step", "run")
+# Where the reply stands in a line with paths.
+REPLY_AT = 56
+# So much of a trace is read at once, and so many seconds pass before it is looked whether there is more.
+PIECE, PAUSE = 4 << 20, 0.02
+# How many texts are kept, so that they need not be read again.
+FEW = 4096
+# After how many seconds it is said how far a tool is, and after how many more again.
+PATIENCE, AGAIN = 2, 0.5
 # What a terminal is told where the program ends so (as `./suites` tells it of the other commands).
 EXPLAINED = {
     3: "./suites explain 'THE LINE ABOVE' tells what it means",
@@ -33,60 +51,180 @@ EXPLAINED = {
 ENV = {**os.environ, "SUITES_PROGRAM": "trace"}
 
 
+def kept_choice():
+    """The kind and the path of the program that was chosen last, where all stands that it was chosen from (`./suites` looks
+    so at the other one): choosing takes longer than playing a story."""
+    with contextlib.suppress(OSError, ValueError, KeyError), open(CHOICE, encoding="utf-8") as file:
+        kept = dict(word.split("=", 1) for word in shlex.split(file.read()))
+        names = [*kept["files"].split("\n"), kept["program"]]
+        is_same_kit = os.environ.get("PATH") == kept["searched"] or shutil.which("rt") == kept["rt"]
+        written = os.fstat(file.fileno()).st_mtime_ns
+        if is_same_kit and all(os.stat(os.path.join(TOP, name)).st_ctime_ns <= written for name in names):
+            return kept["kind"], kept["program"]
+    return None
+
+
 @functools.cache
 def program():
     """The program `trace`: the proved one where it is that of the sources, else a checked build."""
-    chosen = subprocess.run([sys.executable, os.path.join(TOOLS, "choose.py")], env=ENV, stdin=subprocess.DEVNULL, stdout=subprocess.PIPE, text=True)
-    if chosen.returncode != 0:
-        sys.exit(chosen.returncode)
-    kind, path = chosen.stdout.split()
+    choice = kept_choice()
+    if not choice:
+        chosen = subprocess.run([sys.executable, os.path.join(TOOLS, "choose.py")], env=ENV, stdin=subprocess.DEVNULL, stdout=subprocess.PIPE, text=True)
+        if chosen.returncode != 0:
+            sys.exit(chosen.returncode)
+        choice = chosen.stdout.split()
+    kind, path = choice
     if kind == "checked":
         console.Teller().say("checked build of trace, not proved yet; ./suites --prove trace proves and builds it")
     return os.path.join(TOP, path)
 
 
-def traced(script):
-    """The trace of a script, by the program `trace`; ends the tool as that ends where the script has a fault."""
-    done = subprocess.run([program()], env=ENV, input=script, stdout=subprocess.PIPE)
-    text = done.stdout.decode("latin1")
-    if done.returncode != 0:
+class Progress:
+    """Says on a terminal how far a tool is, where that takes its time."""
+
+    def __init__(self):
+        self.teller, self.last = console.Teller(), 0
+        self.is_over = not self.teller.changes
+
+    def say(self, text):
+        seconds = time.monotonic() - self.teller.begun
+        if not self.is_over and seconds >= max(PATIENCE, self.last + AGAIN):
+            self.last = seconds
+            self.teller.say(f"{text}, {int(seconds)} s", False)
+
+    def make_way(self):
+        """Before something is written: says nothing more where that goes to the terminal too."""
+        if not self.is_over and sys.stdout.isatty():
+            self.end()
+
+    def end(self):
+        """Takes away what was said last, and says nothing more."""
+        if self.last and not self.is_over:
+            sys.stderr.write("\r\033[K")
+            sys.stderr.flush()
+        self.is_over = True
+
+
+class Run:
+    """The program `trace`, which plays a script, and what it prints, which is kept in a file."""
+
+    def __init__(self, script):
+        self.printed, self.size, self.places, self.progress = tempfile.TemporaryFile(), 0, [], Progress()
+        self.count = max(1, script.count(b"\n"))
+        with tempfile.TemporaryFile() as given:
+            given.write(script)
+            given.seek(0)
+            self.process = console.start([program()], None, self.printed, stdin=given, stderr=None, env=ENV)
+
+    def __enter__(self):
+        return self
+
+    def __exit__(self, *_):
+        self.progress.end()
+        console.stop(self.process)
+
+    def text(self, place):
+        begin, end = place
+        return os.pread(self.printed.fileno(), end - begin, begin).decode("latin1")
+
+    def pieces(self):
+        """What is printed, while the program plays, in pieces of whole lines of the script with all that is below them: where
+        each begins and ends in the file. Ends the tool as the program ends where that does not play the script to its end."""
+        begin = played = 0
+        while True:
+            has_ended = self.process.poll() is not None
+            piece = os.pread(self.printed.fileno(), PIECE, self.size)
+            cut = piece.rfind(b"\n> ") + 1
+            if cut:
+                self.places.append((begin, self.size + cut))
+                yield self.places[-1]
+                begin = self.size + cut
+            self.size += len(piece)
+            played += piece.count(b"\n> ")
+            self.progress.say(f"{100 * played // self.count} % of the script is played")
+            if not piece and has_ended:
+                break
+            if not piece:
+                with contextlib.suppress(subprocess.TimeoutExpired):
+                    self.process.wait(PAUSE)
+        if self.process.returncode != 0:
+            self.give_up(self.text((begin, self.size)))
+        self.places.append((begin, self.size))
+        yield self.places[-1]
+
+    def give_up(self, text):
+        """Ends the tool as the program has ended, with what it printed last."""
+        self.progress.end()
         sys.stdout.write(text)
         sys.stdout.flush()
-        if sys.stderr.isatty() and done.returncode in EXPLAINED:
-            console.Teller().say(EXPLAINED[done.returncode])
-        sys.exit(done.returncode)
-    return text.splitlines()
+        if sys.stderr.isatty() and self.process.returncode in EXPLAINED:
+            console.Teller().say(EXPLAINED[self.process.returncode])
+        sys.exit(self.process.returncode)
+
+    def play(self):
+        """Waits until the script is played to its end. Answers the paths that were met, by the numbers of what has them."""
+        found = Paths()
+        for place in self.pieces():
+            found.learn(self.text(place))
+        return found.known
+
+    def __iter__(self):
+        """All pieces, once the program has played the script to its end."""
+        for place in self.places:
+            yield self.text(place)
+            self.progress.say(f"the script is played, {100 * place[1] // self.size} % of it is looked through")
+
+
+def traced(script):
+    """The lines of the trace of a script, by the program `trace`; ends the tool as that ends where the script has a fault."""
+    with Run(script) as run:
+        return [line for place in run.pieces() for line in run.text(place).split("\n")[:-1]]
+
+
+class Paths:
+    """The paths of files and folders, by their numbers, so far as a folder with their names was told."""
+
+    def __init__(self):
+        self.known, self.placed, self.waiting, self.read = {0: "/"}, {0}, {}, set()
+
+    def learn(self, text):
+        """Takes what is told in lines of a trace."""
+        at = text.find(" names ")
+        while at >= 0:
+            begin, end = text.rfind("\n", 0, at) + 1, text.find("\n", at)
+            end = len(text) if end < 0 else end
+            names = text[at:end]
+            if names not in self.read and text.startswith("  ", begin):
+                if len(self.read) == FEW:
+                    self.read.clear()
+                self.read.add(names)
+                for folder, found in NAMES.findall(text[begin:end]):
+                    for word in found.split():
+                        name, _, suite = word.rpartition("=")
+                        self.place(int(folder), name, int(suite))
+            at = text.find(" names ", end)
+
+    def place(self, folder, name, suite):
+        """A suite is in a folder under a name. It is there for good: what is made later has another number."""
+        if suite in self.placed:
+            return
+        self.placed.add(suite)
+        found = [(folder, name, suite)]
+        while found:
+            folder, name, suite = found.pop()
+            if folder in self.known:
+                self.known[suite] = f"{self.known[folder].rstrip('/')}/{name}"
+                found += [(suite, *below) for below in self.waiting.pop(suite, ())]
+            else:
+                self.waiting.setdefault(folder, []).append((name, suite))
 
 
 def paths(lines):
     """The paths of files and folders, by their numbers, so far as a folder with their names was told."""
-    parents = {}
+    found = Paths()
     for line in lines:
-        for folder, names in NAMES.findall(line) if line.startswith("  ") else ():
-            for word in names.split():
-                name, _, suite = word.rpartition("=")
-                parents.setdefault(int(suite), (int(folder), name))
-    found = {0: "/"}
-    for suite in parents:
-        path, at, seen = "", suite, set()
-        while at in parents and at not in seen:
-            seen.add(at)
-            at, name = parents[at][0], parents[at][1]
-            path = f"/{name}{path}"
-        if at == 0:
-            found[suite] = path
-    return found
-
-
-def transactions(lines):
-    """The suites that each transaction asked for, by its number."""
-    found = {}
-    for line in lines:
-        request = REQUEST.match(line)
-        about = request and re.match(r"t (\d+) ", request[3])
-        if about:
-            found.setdefault(about[1], set()).update(map(int, SUITE.findall(request[3])))
-    return found
+        found.learn(line)
+    return found.known
 
 
 def blocks(lines):
@@ -103,48 +241,75 @@ def blocks(lines):
         yield head, block
 
 
-def is_of_agent(line, agent):
-    request, outcome = REQUEST.match(line), OUTCOME.match(line)
-    return not (request or outcome) or int((request or outcome)[1]) == agent
+def asked_in(line):
+    """What is asked in the line of a request; nothing in another line."""
+    return line[2:].partition("  ")[2].partition(" : ")[0] if is_request(line) else ""
+
+
+def is_request(line):
+    return line[:2] == "  " and line[2:3].isdigit()
 
 
 class AboutSuite:
     """Whether lines are about a suite: a request for it, or of a transaction that asked for it, and how its job ended."""
 
-    def __init__(self, suite, lines):
-        self.suite, self.asked, self.jobs = suite, transactions(lines), {}
+    def __init__(self, suite, pieces):
+        self.word, self.jobs, self.asked = f" suite {suite} ", {}, set()
+        for piece in pieces:
+            at = piece.find(self.word)
+            while at >= 0:
+                begin, end = piece.rfind("\n", 0, at) + 1, piece.find("\n", at)
+                words = asked_in(piece[begin:end])
+                if self.word in words and words.startswith("t "):
+                    self.asked.add(words.split(" ", 2)[1])
+                at = piece.find(self.word, end)
 
     def __call__(self, line):
-        request, outcome = REQUEST.match(line), OUTCOME.match(line)
-        if outcome:
-            return self.jobs.pop(outcome[1], False)
-        if not request:
-            return not line.startswith("    ") or f"suite {self.suite} " in f"{line} "
-        suites = set(map(int, SUITE.findall(request[3])))
-        of = re.match(r"t (\d+) ", request[3])
-        is_about = self.suite in suites if suites else bool(of) and self.suite in self.asked[of[1]]
-        self.jobs[request[1]] = self.jobs.get(request[1], False) or is_about
+        if line[:1].isdigit():
+            return self.jobs.pop(line[: line.index(".")], False)
+        words = asked_in(line)
+        if not words:
+            return not line.startswith("    ") or self.word in f"{line} "
+        is_named = " suite " in words
+        is_about = self.word in words if is_named else words.startswith("t ") and words.split(" ", 2)[1] in self.asked
+        agent = line[2 : line.index(" ", 2)]
+        self.jobs[agent] = self.jobs.get(agent, False) or is_about
         return is_about
 
+    def may_be(self, agent, text):
+        """Whether a line may be of what an agent did in its steps, which are looked at all at once."""
+        return self.word in text or "  nothing" in text or self.jobs.get(str(agent), False) or not self.asked.isdisjoint(OF_TRANSACTION.findall(text))
 
-def narrowed(lines, agent, suite):
-    """The lines that are about an agent, and about a suite."""
-    about = AboutSuite(suite, lines) if suite is not None else None
-    shown, begun = [], {}
-    for head, block in blocks(lines):
-        words = head[2:].split()
+
+def narrowed(pieces, agent, suite):
+    """The lines that are about an agent, and about a suite, of a trace in pieces of whole blocks. For a suite it is gone over twice."""
+    about = AboutSuite(suite, pieces) if suite is not None else None
+    held, begun = [], {}
+    for text in (text for piece in pieces for text in BETWEEN.split(piece[:-1])):
+        head, _, below = text.partition("\n")
+        words = head[2:].split(None, 2)
         of_server = head.startswith("=") or words[0] in OF_SERVERS
-        if agent is not None and not of_server and words[0] != "audit" and int(words[1]) != agent:
+        number = None if of_server or words[0] == "audit" else int(words[1])
+        if agent is not None and number not in (None, agent):
             continue
-        kept = [line for line in block if (agent is None or is_of_agent(line, agent)) and (about is None or about(line))]
-        begins = words[0] in BEGIN
-        shown.append([bool(kept) or of_server or (begins and about is None), head, kept])
-        if begins and not kept:
-            begun[int(words[1])] = shown[-1]
-        elif kept and words[0] in STEP:
-            # the job came to be about it, so the line that began it is too
-            begun.pop(int(words[1]), shown[-1])[0] = True
-    for is_shown, head, kept in shown:
+        kept = below.split("\n") if below and (not about or words[0] not in STEP or about.may_be(number, below)) else []
+        kept = list(filter(about, kept))
+        if kept or of_server or not about:
+            held.append([True, head, kept])
+            if words[0] in STEP and number in begun:
+                # the job came to be about it, so the line that began it is too
+                begun.pop(number)[0] = True
+        elif words[0] in BEGIN:
+            begun[number] = [False, head, kept]
+            held.append(begun[number])
+        if not begun:
+            yield from told(held)
+            held.clear()
+    yield from told(held)
+
+
+def told(held):
+    for is_shown, head, kept in held:
         if is_shown:
             yield head
             yield from kept
@@ -152,33 +317,75 @@ def narrowed(lines, agent, suite):
 
 def behind(lines):
     """The lines, and at each copy at the end in what it is behind another one of the same suite."""
-    newest = {}
-    for found in filter(None, map(COPY.match, lines)):
+    ending, newest = [], {}
+    for line in lines:
+        if ending or line.startswith("="):
+            ending.append(line)
+        else:
+            yield line
+    copies = [COPY.match(line) for line in ending]
+    for found in filter(None, copies):
         before = newest.get(found[1], (0, 0))
         newest[found[1]] = max(before[0], int(found[3])), max(before[1], int(found[4]))
-    for line in lines:
-        found = COPY.match(line)
+    for line, found in zip(ending, copies):
         versions = zip(("prefix", "content"), found.group(3, 4), newest[found[1]]) if found else ()
         parts = [what for what, own, most in versions if int(own) < most]
         yield line + (f"   behind: {', '.join(parts)}" if parts else "")
 
 
+class WithPaths:
+    """Lines with the path before each suite whose path is known by then, and the suites that were met before it was."""
+
+    def __init__(self, known):
+        self.known, self.kept, self.lacking = known, {}, set()
+
+    def named(self, found):
+        suite = int(found[1])
+        if suite in self.known:
+            return f"{self.known[suite]}=suite {found[1]}"
+        self.lacking.add(suite)
+        return found[0]
+
+    def asked(self, words):
+        """What is asked of suites. It is asked so again and again, so it is kept, where all paths are known: those stay."""
+        before, self.lacking = self.lacking, set()
+        told = SUITE.sub(self.named, f" suite {words.rstrip()}")
+        if not self.lacking:
+            if len(self.kept) == FEW:
+                self.kept.clear()
+            self.kept[words] = told
+        self.lacking |= before
+        return told
+
+    def tell(self, lines):
+        kept = self.kept
+        for line in lines:
+            if line[:2] != "  ":
+                yield line
+                continue
+            who, colon, reply = line.partition(" : ")
+            if not colon:
+                yield SUITE.sub(self.named, line) if line[2:3] == " " else line
+                continue
+            who, suite, words = who.partition(" suite ")
+            who = who + (kept.get(words) or self.asked(words)) if suite else who.rstrip()
+            if " suite " in reply:
+                reply = SUITE.sub(self.named, reply)
+            yield f"{who.ljust(REPLY_AT)} : {reply}"
+
+
 def with_paths(lines, known):
     """The lines, with the path before each suite whose path is known."""
-    for line in lines:
-        if not line.startswith("  ") or line.startswith("  nothing"):
-            yield line
-            continue
-        line = SUITE.sub(lambda found: f"{known[int(found[1])]}=suite {found[1]}" if int(found[1]) in known else found[0], line)
-        request = REQUEST.match(line)
-        yield f"{f'  {request[1]} -> s{request[2]}  {request[3]}':56} : {request[4]}" if request else line
+    return WithPaths(known).tell(lines)
 
 
-def asked(words, text):
-    """The words of the command line; help is this text."""
+def asked(words, text, more=None):
+    """The words of the command line, with some more, as argparse has them; help is this text."""
     read = argparse.ArgumentParser(prog=text.split(" [")[0], add_help=False)
     read.add_argument("--agent", type=int)
     read.add_argument("--suite")
+    for word, how in (more or {}).items():
+        read.add_argument(word, **how)
     read.add_argument("-h", "--help", action="store_true")
     given = read.parse_args(words)
     if given.help:
@@ -203,16 +410,75 @@ def script():
     return sys.stdin.buffer.read()
 
 
+def text_of(lines):
+    return "\n".join([*lines, ""])
+
+
+def lines_of(text, agent):
+    """The lines of a piece of a trace, or those that are about an agent, with what is behind where it has the end."""
+    lines = text.split("\n")[:-1] if agent is None else narrowed([text], agent, None)
+    return behind(lines) if "= server " in text else lines
+
+
 def shown(lines, agent=None, suite=None):
     """The text of a trace as the program prints it, or of a part of it, with paths and what is behind."""
     known = paths(lines)
-    kept = narrowed(list(behind(lines)), agent, number_of(suite, known))
-    return "".join(f"{line}\n" for line in with_paths(kept, known))
+    return text_of(with_paths(behind(narrowed([text_of(lines)], agent, number_of(suite, known))), known))
+
+
+class Held:
+    """What is not written before the end: pieces of a trace, of which those wait that met a suite whose path was not known."""
+
+    def __init__(self):
+        self.file, self.pieces = tempfile.TemporaryFile(), []
+
+    def keep(self, place, text, lacking):
+        self.pieces.append((place, self.file.tell(), self.file.write(text), lacking))
+
+    def texts(self, run, agent, known):
+        """All of it, told anew where it met a suite whose path is known by now."""
+        self.file.flush()
+        for place, at, size, lacking in self.pieces:
+            if lacking & known.keys():
+                yield text_of(with_paths(lines_of(run.text(place), agent), known)).encode("latin1")
+            else:
+                yield os.pread(self.file.fileno(), size, at)
+
+
+def write_all(run, out, agent):
+    """Writes a trace, or what is about an agent, while the program plays, up to where a path was not known that may be told
+    later; and then the rest."""
+    found, held = Paths(), Held()
+    telling = WithPaths(found.known)
+    for place in run.pieces():
+        text = run.text(place)
+        found.learn(text)
+        told = text_of(telling.tell(lines_of(text, agent))).encode("latin1")
+        if held.pieces or telling.lacking:
+            held.keep(place, told, telling.lacking)
+        else:
+            run.progress.make_way()
+            out.write(told)
+        telling.lacking = set()
+    run.progress.make_way()
+    out.writelines(held.texts(run, agent, found.known))
+
+
+def write_about(run, out, agent, suite):
+    """Writes what is about a suite, and of that what is about an agent, once the script is played."""
+    known = run.play()
+    for line in with_paths(behind(narrowed(run, agent, number_of(suite, known))), known):
+        run.progress.make_way()
+        out.write(f"{line}\n".encode("latin1"))
 
 
 def main():
     given = asked(sys.argv[1:], __doc__)
-    sys.stdout.buffer.write(shown(traced(script()), given.agent, given.suite).encode("latin1"))
+    with Run(script()) as run:
+        if given.suite is None:
+            write_all(run, sys.stdout.buffer, given.agent)
+        else:
+            write_about(run, sys.stdout.buffer, given.agent, given.suite)
     return 0
 
 

@@ -9,12 +9,12 @@ use suite_content::Content;
 pub(crate) fn push_request(text: &mut Vec<u8>, request: &Request) -> Result<(), AllocError> {
     match request {
         Request::Poll { t, suite, mode } => {
-            push_about(text, *t, b" poll", *suite)?;
+            push_about(text, *t, b" poll suite ", *suite)?;
             text.extend_from_slice(mode_word(*mode))
         }
-        Request::Upgrade { t, suite } => push_about(text, *t, b" upgrade", *suite),
-        Request::Fetch { t, suite } => push_about(text, *t, b" fetch", *suite),
-        Request::Break { t, suite } => push_about(text, *t, b" break", *suite),
+        Request::Upgrade { t, suite } => push_about(text, *t, b" upgrade suite ", *suite),
+        Request::Fetch { t, suite } => push_about(text, *t, b" fetch suite ", *suite),
+        Request::Break { t, suite } => push_about(text, *t, b" break suite ", *suite),
         Request::Prepare { t, parts } => {
             push_pair(text, b"t ", *t)?;
             text.extend_from_slice(b" prepare")?;
@@ -42,8 +42,7 @@ pub(crate) fn push_request(text: &mut Vec<u8>, request: &Request) -> Result<(), 
 /// A transaction, what it asks, and of which suite.
 fn push_about(text: &mut Vec<u8>, t: u64, what: &[u8], suite: u64) -> Result<(), AllocError> {
     push_pair(text, b"t ", t)?;
-    text.extend_from_slice(what)?;
-    push_pair(text, b" suite ", suite)
+    push_pair(text, what, suite)
 }
 
 fn push_parts(text: &mut Vec<u8>, parts: &[Part]) -> Result<(), AllocError> {

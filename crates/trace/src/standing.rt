@@ -2,7 +2,7 @@
 
 use crate::told::push_lock;
 use crate::words::{push_pair, push_votes};
-use rep_core::{Lock, Reply, Request, Server, Stamped, Take, Verdict};
+use rep_core::{Lock, Part, Reply, Request, Server, Stamped, Take, Verdict};
 use std::alloc::{AllocError, Global};
 use suite_prefix::{LockMode, Prefix, PrefixKind, Settings};
 
@@ -31,19 +31,20 @@ impl Standing {
         })
     }
 
-    /// Serves a request that a server of the world served. That one had room for it, and so has this: where it is not
-    /// served, memory is wanting.
+    /// Serves a request that a server of the world served, where it may change copies or locks. That one had room for it,
+    /// and so has this: where it is not served, memory is wanting.
     pub(crate) fn serve(
         &mut self,
         server: u8,
         request: &Stamped<Request>,
     ) -> Result<(), AllocError> {
-        if let Request::Prepare { parts, .. } = &request.value {
-            for part in parts.as_slice() {
-                if let Take::Whole(_) = part.take {
-                    self.keep_suite(part.suite)?;
-                }
-            }
+        match &request.value {
+            Request::Prepare { parts, .. } => self.keep_suites(parts.as_slice())?,
+            Request::Fetch { .. }
+            | Request::Decide { .. }
+            | Request::Resolve { .. }
+            | Request::Locks => return Ok(()),
+            _ => (),
         }
         let Some(found) = self.servers.get_mut(usize::from(server)) else {
             return Ok(());
@@ -57,6 +58,16 @@ impl Standing {
     /// Has a server fall down, or come up.
     pub(crate) fn operate(&mut self, server: u8, request: Request) -> Result<(), AllocError> {
         self.serve(server, &unstamped(request))
+    }
+
+    /// Keeps the numbers of suites that a server may come to have.
+    fn keep_suites(&mut self, parts: &[Part]) -> Result<(), AllocError> {
+        for part in parts {
+            if let Take::Whole(_) = part.take {
+                self.keep_suite(part.suite)?;
+            }
+        }
+        Ok(())
     }
 
     /// Keeps the number of a suite, in its place.

@@ -6,8 +6,11 @@ use rep_core::{Lock, Reply};
 use run_core::Served;
 use std::alloc::AllocError;
 
-/// Where the reply stands in a line.
-const REPLY_AT: usize = 48;
+/// The most that stands between a request and its reply: the reply stands in one place, behind one space at least.
+const SPACE: &[u8] = b"                                                 : ";
+
+/// The most bytes of a line for which the reply stands there.
+const LAST: usize = 47;
 
 /// Tells that an event does nothing, since an agent has a job, or none.
 pub(crate) fn push_nothing(text: &mut Vec<u8>, agent: u8, why: &[u8]) -> Result<(), AllocError> {
@@ -48,11 +51,8 @@ fn push_way(text: &mut Vec<u8>, agent: u8, server: u8) -> Result<(), AllocError>
 
 /// What is between a request, whose line began there, and its reply.
 fn push_space(text: &mut Vec<u8>, begun: usize) -> Result<(), AllocError> {
-    text.push(b' ')?;
-    for _ in text.len().saturating_sub(begun)..REPLY_AT {
-        text.push(b' ')?;
-    }
-    text.extend_from_slice(b" : ")
+    let written = text.len().saturating_sub(begun).min(LAST);
+    text.extend_from_slice(&SPACE[written..])
 }
 
 /// What a server answers.

@@ -5,10 +5,14 @@ use std::alloc::AllocError;
 use suite_prefix::LockMode;
 use vote_core::Votes;
 
-/// Adds a word and a number behind it.
+/// Adds a word and a number behind it, which mostly has one digit.
 pub(crate) fn push_pair(text: &mut Vec<u8>, word: &[u8], number: u64) -> Result<(), AllocError> {
     text.extend_from_slice(word)?;
-    push_number(text, number)
+    if number > 9 {
+        return push_number(text, number);
+    }
+    text.push(b'0' + number as u8)?;
+    Ok(())
 }
 
 /// The mode of a lock.
