@@ -4,8 +4,8 @@
 Runs all tests that want no proof, side by side: the rows of crates/rows/stdin through the program that `./suites` runs
 (which it first makes, where there is none), the tests of libraries, runs and commands without their proofs (`rt try`),
 the examples of docs/FAULTS.md, the command lines that README.md and docs/FAULTS.md show, what `./suites votes` tells,
-random scripts of `play` against the plain table, and the checks of documents. Prints a line for each part as it ends,
-of a part that fails also what it printed, and last how many passed and failed. Status 1 where one failed. The gate
+pictures, random scripts of `play` against the plain table, and the checks of documents. Prints a line for each part as
+it ends, of a part that fails also what it printed, and last how many passed and failed. Status 1 where one failed. The gate
 (.ci/run) begins with it.
 """
 import os
@@ -91,6 +91,7 @@ PARTS = (
     Part("what explain says of damaged scripts", tool("tests/damaged-scripts.py", "--cases", "1000"), [PROGRAM]),
     Part("command lines of documents", tool("tests/typed.py"), [PROGRAM, TRACE]),
     Part("what votes tells", tool("tests/votes.py"), [PROGRAM, TRACE]),
+    Part("pictures", tool("tests/drawn.py"), [TRACE]),
     Part("random scripts", tool("tools/compare.py", "--seeds", "200"), [PROGRAM, TRACE]),
 )
 

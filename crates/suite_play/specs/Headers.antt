@@ -81,8 +81,8 @@ abbrev pub old_in : ℕ → Lists → Configuration → List Word → Result (Fi
 old_in servers acl votes words = do
   next ← word words
   old ← among servers empty (slice_split (λ byte. byte == 44) next.value)
-  at_end next.rest
-  if fits_one acl votes then Ok old else Err (Settings OldTooLarge)
+  if fits_one acl votes then at_end next.rest else Err (Settings OldTooLarge)
+  Ok old
 
 -- ---- the header
 

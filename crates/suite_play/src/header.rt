@@ -223,12 +223,11 @@ fn old_of(
     ensures held { IfOk result (λ old. FitsOne acl.now votes.now) }
 {
     let old = among(servers, next_word(words)?)?;
-    at_end(words)?;
-    if Form::One.holds(acl, votes) {
-        Ok(old)
-    } else {
-        Err(LineFault::Settings(SettingsFault::OldTooLarge))
+    if !Form::One.holds(acl, votes) {
+        return Err(LineFault::Settings(SettingsFault::OldTooLarge));
     }
+    at_end(words)?;
+    Ok(old)
 }
 
 /// The servers that a word names, with commas between them.
