@@ -7,6 +7,8 @@ pub mod Swept
 pub mod Rounds
 pub mod Found
 pub mod Leading
+pub mod Picks
+pub mod Heard
 pub mod Led
 pub mod Rows
 pub mod Free
@@ -17,4 +19,8 @@ pub mod Taken
 pub mod Quiet
 pub mod Calm
 pub mod Stored
+pub mod Downs
+pub mod Since
+pub mod Decider
+pub mod AtDecision
 pub mod HadVotes
