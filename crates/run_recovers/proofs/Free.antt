@@ -3,8 +3,7 @@ use Rattle.std.proofs.Common.{◌≡◌, inl, ℕ, zero, suc, ◌<◌, ◌+◌, 
 use Rattle.std.specs.Prelude.{◌==◌, ◌%◌, ◌/◌, ◌&&◌, ◌*◌, not, nat_lt, slice_get}
 use Rattle.std.specs.List.{list_all}
 use Rattle.std.proofs.Math.Nat.{mod-lt}
-use Rattle.std.proofs.lemmas.Bool.{false≢true, and_parts, ltb-true}
-use Rattle.std.proofs.lemmas.List.Folds.{and-false}
+use Rattle.std.proofs.lemmas.Bool.{false≢true, and_parts, and_right, ltb-true}
 use Rattle.std.proofs.lemmas.Option.{slice_get_within}
 use Rattle.suite_prefix.specs.SettingsRules.{Opening}
 use Rattle.rep_core.specs.declared.lock.Lock.{Lock}
@@ -87,4 +86,5 @@ no_lock_is_left given events agent round can up goes all =
     some_servers = let some = can.accepted.some_servers.0 in omega (arith, some)
 
     certain : (lock : Lock) (locks : List Lock) → is_in_doubt (fixed_of given) (run given events) locks lock ≡ false
-    certain lock locks = ap (λ b. has_prepared lock.t locks && not b) (is_up_of given events up (home_of (fixed_of given).service lock.t) (mod-lt (lock.t % 64 + lock.t / 64) some_servers)) ∙ and-false (has_prepared lock.t locks)
+    certain lock locks = and_right (has_prepared lock.t locks) (not (is_up first (home_of (fixed_of given).service lock.t)))
+        (ap not (is_up_of given events up (home_of (fixed_of given).service lock.t) (mod-lt (lock.t % 64 + lock.t / 64) some_servers)))

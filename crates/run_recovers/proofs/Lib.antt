@@ -24,3 +24,4 @@ pub mod Since
 pub mod Decider
 pub mod AtDecision
 pub mod HadVotes
+pub mod Promised

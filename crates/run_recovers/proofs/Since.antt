@@ -25,7 +25,7 @@ use Rattle.run_laws.proofs.Places.{same_or}
 use Rattle.run_recovers.specs.Standing.{up_in, is_up}
 use Rattle.run_recovers.specs.Alone.{hinders}
 use Rattle.run_recovers.proofs.Aside.{Aside, event_aside}
-use Rattle.run_recovers.proofs.Downs.{never_returns, was_up, held_up, held-append, three}
+use Rattle.run_recovers.proofs.Downs.{is_return, never_returns, was_up, held_up, held-append, three}
 
 module _ (given : Opening) (first : World) (agent : ℕ) (begun : Agent) where
   abbrev fixed : Fixed
