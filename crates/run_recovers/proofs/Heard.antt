@@ -39,7 +39,7 @@ is_gathering c is = ap (λ w. (record c { widening = w })) is
 
 -- ---- what it asks next, and where it ends
 
-server_of : Next → ℕ
+abbrev server_of : Next → ℕ
 server_of (Ask server asked) = server
 server_of (Current prefix dver members) = 0
 server_of (Short had wanting busy) = 0
