@@ -39,7 +39,7 @@ use Rattle.run_recovers.proofs.Rows.{row_votes}
 use Rattle.run_recovers.proofs.Downs.{down_decides_none}
 
 -- a decision is recorded at a server that is up
-decided_none : (found : Option State) (asked : Option ℕ) (task : Option Task) → decided_at found asked (decided_as task None) ≡ None
+pub decided_none : (found : Option State) (asked : Option ℕ) (task : Option Task) → decided_at found asked (decided_as task None) ≡ None
 decided_none found None task = refl
 decided_none None (Some t) task = refl
 decided_none (Some st) (Some t) None = elim (is_some (record_of st t)) as (λ b. ◌≡◌ {A = Option Decided} (cond b None None) None) [ true ↦ refl | false ↦ refl ]

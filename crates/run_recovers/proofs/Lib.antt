@@ -8,7 +8,7 @@ pub mod Rounds
 pub mod Found
 pub mod Leading
 pub mod Picks
-pub mod Heard
+pub mod Polled
 pub mod Led
 pub mod Rows
 pub mod Free

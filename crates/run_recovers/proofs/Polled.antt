@@ -177,7 +177,7 @@ module _ (fixed : Fixed) (world : World) (suite : ℕ) where
   said_down server Down right is = right
   said_down server (Held prefix dver) right is = absurd (false≢true is)
 
-  refused_down : (told : List Told) → AllRight told → (server : ℕ) → has_refused told server ≡ true → is_up world server ≡ false
+  pub refused_down : (told : List Told) → AllRight told → (server : ℕ) → has_refused told server ≡ true → is_up world server ≡ false
   refused_down [] right server is = absurd (false≢true is)
   refused_down (one ∷ told) right server is =
       elim (or_cases ((one.server == server) && not (is_held one.said)) (has_refused told server) is) [
