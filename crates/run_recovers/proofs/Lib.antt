@@ -18,3 +18,11 @@ pub mod Quiet
 pub mod Calm
 pub mod Stored
 pub mod HadVotes
+pub mod Asking
+pub mod VotesSet
+pub mod Widened
+pub mod Stands
+pub mod Widens
+pub mod Hinting
+pub mod Gathered
+pub mod Executes
