@@ -71,7 +71,7 @@ numbers_are (one ∷ all) = ap (λ rest. one.0 ∷ rest) (numbers_are all)
 
 -- ---- what is not gathered
 
-none_with : (suites : Suites) (number : ℕ) (new : Suite) (z : ℕ) → suite_of (with_suite number new suites) z ≡ None → (suite_of suites z ≡ None) × ((number == z) ≡ false)
+pub none_with : (suites : Suites) (number : ℕ) (new : Suite) (z : ℕ) → suite_of (with_suite number new suites) z ≡ None → (suite_of suites z ≡ None) × ((number == z) ≡ false)
 none_with suites number new z none = of (number == z) refl (sym (with_at number new suites z) ∙ none)
   where
     of : (b : Bool) → (number == z) ≡ b → cond b (Some new) (suite_of suites z) ≡ None → (suite_of suites z ≡ None) × ((number == z) ≡ false)
@@ -156,7 +156,7 @@ module _ (fixed : Fixed) (world : World) (table : PlainTable) (task : Task) (cac
       of true = refl
       of false = search_keeps_all.hint task.site number first.dver task.site z now
 
-  still_there : (suites : Suites) (number : ℕ) (new : Suite) (z : ℕ) → is_some (suite_of suites z) ≡ true → is_some (suite_of (with_suite number new suites) z) ≡ true
+  pub still_there : (suites : Suites) (number : ℕ) (new : Suite) (z : ℕ) → is_some (suite_of suites z) ≡ true → is_some (suite_of (with_suite number new suites) z) ≡ true
   still_there suites number new z some = ap is_some (with_at number new suites z) ∙ of (number == z)
     where
       of : (b : Bool) → is_some (cond b (Some new) (suite_of suites z)) ≡ true

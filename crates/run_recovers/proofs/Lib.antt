@@ -26,3 +26,5 @@ pub mod Widens
 pub mod Hinting
 pub mod Gathered
 pub mod Executes
+pub mod Knows
+pub mod Heard
