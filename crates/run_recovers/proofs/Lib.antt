@@ -18,3 +18,8 @@ pub mod Quiet
 pub mod Calm
 pub mod Stored
 pub mod HadVotes
+pub mod Took
+pub mod Still
+pub mod Moments
+pub mod Endings
+pub mod OwnAsks
