@@ -31,7 +31,7 @@ use Rattle.run_alone.specs.Alone.{all_idle, begins_job, begins_alone, jobs_from,
 use Rattle.run_alone.specs.Endings.{IsDecided, IsRunning, AllAreDecided, UndisturbedEndingsAreOne}
 use Rattle.run_alone.specs.Undisturbed.{all_up, no_locks, disturbs, is_decided, begins_clear, some_runs, all_undisturbed_from, all_undisturbed}
 use Rattle.run_alone.proofs.Turns.{with_job, doing_of, doing_at, all_none}
-use Rattle.run_alone.proofs.Clear.{IsMine}
+use Rattle.run_alone.proofs.Owns.{IsMine}
 use Rattle.run_alone.proofs.Same.{endings_are_one}
 use Rattle.run_alone.proofs.NeverLost.{none_is_lost}
 use Rattle.run_alone.proofs.Reached.{can_front, run_more, AllKept, Reached, reached_first, runs_first, next_reached, ended_decided, runs_still}

@@ -6,6 +6,8 @@ pub mod Endings
 pub mod Same
 pub mod Worked
 pub mod Own
+pub mod Owns
+pub mod Idle
 pub mod Clear
 pub mod Votes
 pub mod Walks
@@ -26,6 +28,7 @@ pub mod Grown
 pub mod Whole
 pub mod Fits
 pub mod Replied
+pub mod Lefts
 pub mod Requests
 pub mod NeverLost
 pub mod Decided

@@ -40,8 +40,9 @@ use Rattle.run_quorums.specs.Telling.{DoingAgrees}
 use Rattle.headline.specs.Premises.{CanBe}
 use Rattle.run_alone.specs.Alone.{all_idle, begins_job, jobs_from}
 use Rattle.run_alone.specs.Undisturbed.{all_up, no_locks, is_crash, none_crashes}
-use Rattle.run_alone.proofs.Turns.{doing_of, with_job}
-use Rattle.run_alone.proofs.Clear.{Clear, IsMine, is_turn, is_mine, event_clear, begun_clear, none_now, crash_not}
+use Rattle.run_alone.proofs.Turns.{doing_of, doing_at, with_job}
+use Rattle.run_alone.proofs.Owns.{IsMine}
+use Rattle.run_alone.proofs.Clear.{Clear, is_turn, is_mine, is_calm, event_clear, begun_clear, none_now, crash_not}
 use Rattle.run_alone.proofs.Holding.{PhaseStands, DoingStands, doing_any, AtStands, event_stands}
 use Rattle.run_alone.proofs.Whole.{Carried, next_machines, carried_next, carried_after}
 use Rattle.run_alone.proofs.Requests.{not_lost}
@@ -49,7 +50,7 @@ use Rattle.run_alone.proofs.Requests.{not_lost}
 -- ---- a world
 
 -- with the machine of each suite
-abbrev AllStand : (ℕ → World) → worlds.World → ℕ → ℕ → Type 0
+abbrev pub AllStand : (ℕ → World) → worlds.World → ℕ → ℕ → Type 0
 AllStand machines world t turn = (z : ℕ) → AtStands (machines z) world t turn
 
 -- a reply is not Lost
@@ -108,14 +109,14 @@ run_kept given c0 t turn (event ∷ later) world ds past holds' clear machines n
     let begun = none_now (begins_job given world event) (jobs_from given next later) none in
     run_kept given c0 t turn later next _ _ (event_holds fixed world event ds past holds') (event_clear given t turn world ds past holds' clear event (crash_not event parts.0) begun.0)
     (next_machines given machines world event) (carried_next given c0 machines world event later now)
-    (λ z. event_stands given t turn world ds past holds' clear z (machines z) (stands z) event (crash_not event parts.0) begun.0) parts.1 begun.1 i
+    (λ z. event_stands given (λ s. true) t turn world z (machines z) (stands z) event (is_calm given t turn world ds past holds' clear event (crash_not event parts.0) begun.0)) parts.1 begun.1 i
 
 -- ---- from the begin on
 
 -- a transaction that begins was told of nothing
-begun_stands : (given : Opening) (machines : ℕ → World) (world : worlds.World) (later : List Event) (t turn : ℕ) → Clear world t turn → Carried given machines world later
+pub begun_stands : (given : Opening) (machines : ℕ → World) (world : worlds.World) (later : List Event) (t turn : ℕ) → IsMine t (doing_at world turn) → Carried given machines world later
     → ((actor : Actor) (course : Course) → actor_at world turn ≡ Some actor → actor.agent.doing ≡ Some (Running course) → (z : ℕ) → told_at course.suites z ≡ []) → AllStand machines world t turn
-begun_stands given machines world later t turn clear now none z actor there = of actor.agent.doing refl (subst (IsMine t) (ap doing_of there) clear.mine)
+begun_stands given machines world later t turn mine now none z actor there = of actor.agent.doing refl (subst (IsMine t) (ap doing_of there) mine)
   where
     of : (doing : Option Doing) → actor.agent.doing ≡ doing → IsMine t doing → DoingStands (machines z) t doing
     of None running mine = tt
@@ -125,7 +126,7 @@ begun_stands given machines world later t turn clear now none z actor there = of
         let untold : is_some ((machines z).told i course.task.t) ≡ false = agrees.held i ∙ ap (λ list. holds Shared list i) (none actor course there running z) in
         absurd (false≢true (sym untold ∙ ap is_some (ap ((machines z).told i) mine ∙ is))))
 
-started_untold : (given : Opening) (world : worlds.World) (i t : ℕ) (caller : Identity) (site : ℕ) (ops : List Op) (found : Option Actor) → actor_at world i ≡ found
+pub started_untold : (given : Opening) (world : worlds.World) (i t : ℕ) (caller : Identity) (site : ℕ) (ops : List Op) (found : Option Actor) → actor_at world i ≡ found
     → with_job (Transaction caller site ops) (begins_now (fixed_of given) i (Transaction caller site ops) found) ≡ Some (t, Transaction caller site ops)
     → (actor : Actor) (course : Course) → actor_at (becomes world i (λ agent. begin (fixed_of given) agent (Transaction caller site ops)) found).world i ≡ Some actor → actor.agent.doing ≡ Some (Running course) → (z : ℕ) → told_at course.suites z ≡ []
 started_untold given world i t caller site ops None is begins actor course there running z = absurd (none-some (t, Transaction caller site ops) begins)
@@ -174,7 +175,7 @@ none_is_lost given events later agent t caller site ops can begins idle up locks
     let clear = begun_clear given world (decisions given events) (ended given events) holds' agent t caller site ops idle up locks (actor_at world agent) refl begins in
     what_is _ what is
     (run_kept given can.c0 t agent later begun _ _ (event_holds (fixed_of given) world event (decisions given events) (ended given events) holds') clear machines now
-    (begun_stands given machines begun later t agent clear now (started_untold given world agent t caller site ops (actor_at world agent) refl begins)) crashes none other)
+    (begun_stands given machines begun later t agent clear.owns.mine now (started_untold given world agent t caller site ops (actor_at world agent) refl begins)) crashes none other)
   where
     what_is : (found : Option Served) (what : Served) → found ≡ Some what → IsKept found → is_lost what.reply.value ≡ false
     what_is None what is none = absurd (none-some what is)

@@ -129,7 +129,7 @@ module _ (given : Opening) (events : List Event) (agent t : ℕ) (caller : Ident
         → Begun (becomes (run given events) agent (λ agent. begin (fixed_of given) agent job) found).world
     agent_begun None is begins' valid = absurd (none-some (t, job) begins')
     agent_begun (Some actor) is begins' valid =
-        record { actor = new; there = there; since = since_begin (fixed_of given) actor.agent job idle' valid_job (valid agent new there); runs = runs (is_idle actor.agent.doing && has_sense (fixed_of given) job && nat_lt actor.agent.count max_jobs) begins' }
+        record { actor = new; there = there; since = since_begin (fixed_of given) actor.agent caller site ops idle' valid_job (valid agent new there); runs = runs (is_idle actor.agent.doing && has_sense (fixed_of given) job && nat_lt actor.agent.count max_jobs) begins' }
       where
         new : Actor
         new = record actor { agent = begin (fixed_of given) actor.agent job }

@@ -1,5 +1,5 @@
 -- A transaction that begins where every agent is idle, every server is up and no lock is left: what holds as long as nothing disturbs it, and how it ends.
-use Rattle.std.proofs.Common.{◌≡◌, ℕ, zero, suc, ◌+◌, true, false, cond, List, [], ◌∷◌, Option, Some, None, refl, sym, ap, subst, ◌∙◌, arith}
+use Rattle.std.proofs.Common.{◌≡◌, ℕ, zero, suc, ◌+◌, Bool, true, false, cond, List, [], ◌∷◌, Option, Some, None, refl, sym, ap, subst, ◌∙◌, arith}
 use Rattle.std.specs.Prelude.{◌*◌, ◌-◌, ◌||◌, slice_get}
 use Rattle.std.proofs.lemmas.Bool.{false≢true}
 use Rattle.std.proofs.lemmas.Option.{none-some, same_Some}
@@ -44,9 +44,10 @@ use Rattle.run_laws.proofs.Words.{Leaves, leaves_word}
 use Rattle.run_laws.proofs.Worlds.{agent_of, Holds}
 use Rattle.run_alone.specs.Alone.{begins_job}
 use Rattle.run_alone.specs.Undisturbed.{is_crash, disturbs, is_decided}
-use Rattle.run_alone.proofs.Own.{not_busy, not_down}
+use Rattle.run_alone.proofs.Own.{is_return, not_busy, not_down, replies_down}
 use Rattle.run_alone.proofs.Turns.{doing_of, doing_at}
-use Rattle.run_alone.proofs.Clear.{IsMine, Clear, polls_named, names_mine, is_mine, event_clear}
+use Rattle.run_alone.proofs.Owns.{IsMine, polls_named, names_mine}
+use Rattle.run_alone.proofs.Clear.{Clear, is_mine, event_clear}
 use Rattle.run_alone.proofs.Votes.{HasValidVotes}
 use Rattle.run_alone.proofs.Exchanged.{TellsValid, IsFree, Since, since_forget, since_take, never_undecided}
 use Rattle.run_alone.proofs.Unswept.{is_resolve, never_resolves, Unswept, stays_unswept, not_aborted}
@@ -99,6 +100,10 @@ up_valid st valid request.Return = tt
 tells_valid : (st : State) (asked : Request) → st.up ≡ true → ((suite : ℕ) → IsValid (copy_of st.store suite).prefix.votes) → TellsValid (reply_of st asked)
 tells_valid st asked up valid = subst (λ b. TellsValid (cond b (reply_up st asked) (reply_down asked))) (sym up) (up_valid st valid asked)
 
+pub tells_valid_at : (b : Bool) (st : State) (asked : Request) → is_return asked ≡ false → st.up ≡ b → ((suite : ℕ) → IsValid (copy_of st.store suite).prefix.votes) → TellsValid (reply_of st asked)
+tells_valid_at true st asked other up valid = tells_valid st asked up valid
+tells_valid_at false st asked other down valid = subst TellsValid (sym (replies_down st asked other down)) tt
+
 -- ---- endings
 
 decided_by : (v : Verdict) (cause : Cause) → ((cause' : Cause) → ending_by v cause ≡ Undecided cause' → ⊥) → is_decided (ending_by v cause) ≡ true
@@ -107,7 +112,7 @@ decided_by (verdict.Refused refusal) cause none = refl
 decided_by verdict.Aborted cause none = absurd (none cause refl)
 
 -- a transaction that does not end undecided is decided
-after_decided : (course : Course) (v : Verdict) (after : After Course) (ending : Ending) → Leaves course.task v after → end_of after ≡ Some ending → ((cause : Cause) → ending ≡ Undecided cause → ⊥) → is_decided ending ≡ true
+pub after_decided : (course : Course) (v : Verdict) (after : After Course) (ending : Ending) → Leaves course.task v after → end_of after ≡ Some ending → ((cause : Cause) → ending ≡ Undecided cause → ⊥) → is_decided ending ≡ true
 after_decided course v (GoesOn more) ending leaves is none = absurd (none-some ending is)
 after_decided course v (Ends other) ending leaves is none =
     let as' : ending ≡ ending_by v leaves.0 = sym (same_Some other ending is) ∙ leaves.1 in
@@ -157,16 +162,17 @@ module _ (given : Opening) (c0 : IsValid given.c0) (t turn : ℕ) (world : World
   fixed = fixed_of given
 
   mine : IsMine t at.actor.agent.doing
-  mine = subst (IsMine t) (ap doing_of at.there) at.clear.mine
+  mine = subst (IsMine t) (ap doing_of at.there) at.clear.owns.mine
 
   -- a reply to the transaction is free
-  reply_free : (asked : ℕ × Request) (st : State) (what : Served) → next_of fixed at.actor.agent ≡ Some asked → server_at world asked.0 ≡ Some st → (step fixed world (Step turn)).done.served ≡ Some what → what.reply.value ≡ reply_of st asked.1 → IsFree asked.1 (reply_of st asked.1)
+  reply_free : (asked : ℕ × Request) (st : State) (what : Served) → next_of fixed at.actor.agent ≡ Some asked → server_at world asked.0 ≡ Some st → (step fixed world (Step turn)).done.served ≡ Some what → what.reply.value ≡ reply_of st asked.1 → IsFree true asked.1 (reply_of st asked.1)
   reply_free asked st what next there served is =
-      let own = at.clear.servers asked.0 st there in
+      let own = at.clear.owns.servers asked.0 st there in
       let named = names_mine fixed t at.actor.agent.doing asked mine next in
       record {
         busy = not_busy t st asked.1 own.0 (polls_named t asked.1 named) own.1;
-        up = not_down st asked.1 own.0;
+        down = not_down st asked.1 own.0;
+        stood = λ _. refl;
         fit = reply_fits st asked.1 (at.all asked.0 st there).sound;
         valid = tells_valid st asked.1 own.0 (facts.copies asked.0 st there);
         decides = not_aborted t st asked.1 (at.unswept asked.0 st there) named;
@@ -200,10 +206,10 @@ module _ (given : Opening) (c0 : IsValid given.c0) (t turn : ℕ) (world : World
 
       of : Went fixed world turn at.actor moves.0.agent (step fixed world event).done.outcome → Since fixed moves.0.agent
       of (Stayed same out) = subst (Since fixed) (sym same) at.since
-      of (Forgot site same out) = subst (Since fixed) (sym same) (since_forget fixed at.actor.agent site (subst (λ (agent : Agent). HasValidVotes agent.cache) same cache) at.since)
+      of (Forgot site same out) = subst (Since fixed) (sym same) (since_forget fixed at.actor.agent at.since site (subst (λ (agent : Agent). HasValidVotes agent.cache) same cache))
       of (Took asked st what next there served is same out) =
           subst (Since fixed) (sym same)
-          (since_take fixed at.actor.agent asked (reply_of st asked.1) next (reply_free asked st what next there served is) (subst (λ (agent : Agent). HasValidVotes agent.cache) same cache) at.since)
+          (since_take fixed at.actor.agent at.since asked (reply_of st asked.1) next (reply_free asked st what next there served is) (subst (λ (agent : Agent). HasValidVotes agent.cache) same cache))
 
   -- how it ends, if it does
   outcome_ending : (ending : Option Ending) (job : Outcome) → outcome_of turn at.actor ending ≡ Some job → (ending ≡ Some job.ending) × (number_of job ≡ 64 * (at.actor.agent.count - 1) + turn)

@@ -21,9 +21,18 @@ use Rattle.run_laws.proofs.Worlds.{puts_in}
 abbrev pub AllServers : (State → Type 0) → World → Type 0
 AllServers Q world = (s : ℕ) (st : State) → server_at world s ≡ Some st → Q st
 
--- What every request of a kind keeps of a server, all requests that agents now ask being of that kind, and a crash and a return.
+-- the request that an event makes of an agent is of a kind
+abbrev pub MayAsk : Fixed → (Request → Type 0) → World → Event → Type 0
+MayAsk fixed C world (Step i) = (actor : Actor) (asked : ℕ × Request) → actor_at world i ≡ Some actor → next_of fixed actor.agent ≡ Some asked → C asked.1
+MayAsk fixed C world (Begin i job) = Unit {0}
+MayAsk fixed C world (Crash server) = Unit {0}
+MayAsk fixed C world (Return server) = Unit {0}
+MayAsk fixed C world (Forget i site) = Unit {0}
+MayAsk fixed C world (Lack i why) = Unit {0}
+
+-- What every request of a kind keeps of a server, what is asked being of that kind, and a crash and a return.
 module _ (fixed : Fixed) (Q : State → Type 0) (C : Request → Type 0) (keeps : (st : State) (asked : Stamped Request) → C asked.value → Q st → Q (serving.step st asked)) (crashes : C request.Crash) (returns : C request.Return)
-    (world : World) (may : (i : ℕ) (actor : Actor) (asked : ℕ × Request) → actor_at world i ≡ Some actor → next_of fixed actor.agent ≡ Some asked → C asked.1) (all : AllServers Q world) where
+    (world : World) (all : AllServers Q world) where
   all_served : (s : ℕ) (st : State) (asked : Stamped Request) → server_at world s ≡ Some st → is_full st asked ≡ false → C asked.value → (s' : ℕ) (st' : State) → slice_get (slice_set world.servers s (served st asked)) s' ≡ Some st' → Q st'
   all_served s st asked at room of_kind s' st' is = elim (at_puts (slice_get world.servers) (slice_get (slice_set world.servers s (served st asked))) s st (served st asked) (puts_in world.servers s st (served st asked) at) s' st' is) [
     | inl here ↦ subst Q (step_is st asked room ∙ sym here.is) (keeps st asked of_kind (all s st at))
@@ -55,13 +64,13 @@ module _ (fixed : Fixed) (Q : State → Type 0) (C : Request → Type 0) (keeps 
   asks_all i actor asked of_kind None at = all
   asks_all i actor asked of_kind (Some st) at = answered_all i actor asked st of_kind at
 
-  steps_all : (i : ℕ) (actor : Actor) → actor_at world i ≡ Some actor → (asked : Option (ℕ × Request)) → next_of fixed actor.agent ≡ asked → AllServers Q (asks fixed world i actor asked).world
-  steps_all i actor is None next = all
-  steps_all i actor is (Some asked) next = asks_all i actor asked (may i actor asked is next) (server_at world asked.0) refl
+  steps_all : (i : ℕ) → MayAsk fixed C world (Step i) → (actor : Actor) → actor_at world i ≡ Some actor → (asked : Option (ℕ × Request)) → next_of fixed actor.agent ≡ asked → AllServers Q (asks fixed world i actor asked).world
+  steps_all i may actor is None next = all
+  steps_all i may actor is (Some asked) next = asks_all i actor asked (may actor asked is next) (server_at world asked.0) refl
 
-  step_all : (i : ℕ) (found : Option Actor) → actor_at world i ≡ found → AllServers Q (steps_once fixed world i found).world
-  step_all i None is = all
-  step_all i (Some actor) is = steps_all i actor is (next_of fixed actor.agent) refl
+  step_all : (i : ℕ) → MayAsk fixed C world (Step i) → (found : Option Actor) → actor_at world i ≡ found → AllServers Q (steps_once fixed world i found).world
+  step_all i may None is = all
+  step_all i may (Some actor) is = steps_all i may actor is (next_of fixed actor.agent) refl
 
   becomes_all : (i : ℕ) (change : Agent → Agent) (found : Option Actor) → AllServers Q (becomes world i change found).world
   becomes_all i change None = all
@@ -75,10 +84,23 @@ module _ (fixed : Fixed) (Q : State → Type 0) (C : Request → Type 0) (keeps 
   lack_all i why None = all
   lack_all i why (Some actor) = lacks_all i why actor (next_of fixed actor.agent)
 
-  pub event_servers : (event : Event) → AllServers Q (step fixed world event).world
-  event_servers (Begin i job) = becomes_all i (λ agent. begin fixed agent job) (actor_at world i)
-  event_servers (Step i) = step_all i (actor_at world i) refl
-  event_servers (Crash server) = operator_all server request.Crash crashes (server_at world server) refl
-  event_servers (Return server) = operator_all server request.Return returns (server_at world server) refl
-  event_servers (Forget i site) = becomes_all i (λ agent. forget agent site) (actor_at world i)
-  event_servers (Lack i why) = lack_all i why (actor_at world i)
+  pub asks_servers : (event : Event) → MayAsk fixed C world event → AllServers Q (step fixed world event).world
+  asks_servers (Begin i job) may = becomes_all i (λ agent. begin fixed agent job) (actor_at world i)
+  asks_servers (Step i) may = step_all i may (actor_at world i) refl
+  asks_servers (Crash server) may = operator_all server request.Crash crashes (server_at world server) refl
+  asks_servers (Return server) may = operator_all server request.Return returns (server_at world server) refl
+  asks_servers (Forget i site) may = becomes_all i (λ agent. forget agent site) (actor_at world i)
+  asks_servers (Lack i why) may = lack_all i why (actor_at world i)
+
+-- the same where all requests that agents now ask are of that kind
+pub event_servers : (fixed : Fixed) (Q : State → Type 0) (C : Request → Type 0) → ((st : State) (asked : Stamped Request) → C asked.value → Q st → Q (serving.step st asked)) → C request.Crash → C request.Return → (world : World)
+    → ((i : ℕ) (actor : Actor) (asked : ℕ × Request) → actor_at world i ≡ Some actor → next_of fixed actor.agent ≡ Some asked → C asked.1) → AllServers Q world → (event : Event) → AllServers Q (step fixed world event).world
+event_servers fixed Q C keeps crashes returns world may all event = asks_servers fixed Q C keeps crashes returns world all event (of event)
+  where
+    of : (event : Event) → MayAsk fixed C world event
+    of (Step i) = may i
+    of (Begin i job) = tt
+    of (Crash server) = tt
+    of (Return server) = tt
+    of (Forget i site) = tt
+    of (Lack i why) = tt

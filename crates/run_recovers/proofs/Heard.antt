@@ -77,12 +77,12 @@ MayExecute (Deciding outcome) = ⊥
 MayExecute (Finishing left v ended) = ⊥
 
 -- what a collector asks of a server
-record AsksFor (t number : ℕ) (c : Collector) (server : ℕ) (asked : Request) : Type 0 where
-  question : Asked
-  is : next c ≡ Ask server question
-  asked_is : asked ≡ request_for t number question
+pub record AsksFor (t number : ℕ) (c : Collector) (server : ℕ) (asked : Request) : Type 0 where
+  pub question : Asked
+  pub is : next c ≡ Ask server question
+  pub asked_is : asked ≡ request_for t number question
 
-asks_for : (task : Task) (number : ℕ) (c : Collector) (server : ℕ) (asked : Request) → asked_by task number (next c) ≡ Some (server, asked) → AsksFor task.t number c server asked
+pub asks_for : (task : Task) (number : ℕ) (c : Collector) (server : ℕ) (asked : Request) → asked_by task number (next c) ≡ Some (server, asked) → AsksFor task.t number c server asked
 asks_for task number c server asked = of (next c) refl
   where
     of : (after : Next) → next c ≡ after → asked_by task number after ≡ Some (server, asked) → AsksFor task.t number c server asked

@@ -18,6 +18,11 @@ pub mod Quiet
 pub mod Calm
 pub mod Stored
 pub mod HadVotes
+pub mod Took
+pub mod Still
+pub mod Moments
+pub mod Endings
+pub mod OwnAsks
 pub mod Asking
 pub mod VotesSet
 pub mod Widened
@@ -28,3 +33,5 @@ pub mod Gathered
 pub mod Executes
 pub mod Knows
 pub mod Heard
+pub mod Knew
+pub mod Ends

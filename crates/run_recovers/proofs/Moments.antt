@@ -1,0 +1,439 @@
+-- A transaction that goes alone, at each of its moments: at the servers that were up when it began it has all locks, those that were down stay so, all that it
+-- was told was free, and stored copies stand still until it tells how it ended.
+use Rattle.std.proofs.Common.{◌≡◌, ◌≢◌, ◌⊎◌, inl, inr, ⊎_elim, ℕ, ◌+◌, Bool, true, false, cond, List, [], ◌∷◌, ◌++◌, append_assoc, Option, Some, None, is_some, refl, sym, ap, subst, ◌∙◌, arith}
+use Rattle.std.specs.Prelude.{◌*◌, ◌==◌, ◌&&◌, ◌||◌, not, nat_lt, length, slice_get, slice_set}
+use Rattle.std.proofs.lemmas.Bool.{false≢true}
+use Rattle.std.proofs.lemmas.Bool.Decides.{nat_tests}
+use Rattle.std.proofs.lemmas.Option.{none-some, same_Some}
+use Rattle.acl_core.specs.Identity.{Identity}
+use Rattle.vote_core.specs.Validity.{IsValid}
+use Rattle.suite_prefix.specs.SettingsRules.{Opening}
+use Rattle.file_ops.specs.declared.operation.Op.{Op}
+use Rattle.rep_core.specs.declared.request.Request.{Request}
+use Rattle.rep_core.specs.declared.reply.Reply.{Reply}
+use Rattle.rep_core.specs.declared.reply.Verdict.{Verdict}
+use Rattle.rep_core.specs.declared.reply.Verdict.TheVariants as verdict
+use Rattle.rep_core.specs.declared.stamped.Stamped.{Stamped}
+use Rattle.rep_core.specs.Fits.{is_lost}
+use Rattle.rep_core.specs.Store.{copy_of}
+use Rattle.rep_core.specs.State.{State, record_of}
+use Rattle.rep_core.specs.Service.{reply_of}
+use Rattle.rep_core.specs.Serving.{served}
+use Rattle.rep_core.proofs.Members.{Has, all_at}
+use Rattle.rep_core.proofs.FittingReplies.{reply_fits}
+use Rattle.txn_core.specs.declared.job.Job.{Job}
+use Rattle.txn_core.specs.declared.job.Job.TheVariants.{Transaction}
+use Rattle.txn_core.specs.declared.word.Word.TheVariants.{Replied}
+use Rattle.txn_core.specs.Doing.{Fixed, Course, Doing, Running, Rounding, home_of}
+use Rattle.txn_core.specs.Agents as agents
+use Rattle.txn_core.specs.Agents.{Agent, Take, fixed_of, is_idle, has_sense, max_jobs, next_in, next_of, take, take_in, begin, after_all}
+use Rattle.txn_core.specs.Laws.{Exchange, of_job, is_decide}
+use Rattle.txn_core.specs.Undecided.{stands_on_locks}
+use Rattle.txn_core.proofs.Upheld.{after-append}
+use Rattle.run_core.specs.declared.event.Event.{Event}
+use Rattle.run_core.specs.declared.event.Event.TheVariants.{Begin, Step, Crash, Return, Forget, Lack}
+use Rattle.run_core.specs.declared.done.Outcome.{Outcome}
+use Rattle.run_core.specs.Worlds.{Actor, World, server_at, actor_at, has_no_job, becomes, outcome_of, step}
+use Rattle.run_core.specs.Runs.{run}
+use Rattle.run_core.specs.Decisions.{decisions}
+use Rattle.run_laws.specs.Naming.{names}
+use Rattle.run_laws.specs.Numbers.{begins_now}
+use Rattle.run_laws.specs.Claims.{ended}
+use Rattle.run_laws.proofs.Places.{same_or}
+use Rattle.run_laws.proofs.Asking.{decides}
+use Rattle.run_laws.proofs.Turns.{step_is}
+use Rattle.run_laws.proofs.Worlds.{Holds, puts_in}
+use Rattle.run_laws.proofs.Conclusions.{holds_of}
+use Rattle.suite_machine.specs.Machine as machine
+use Rattle.run_machine.specs.Machines.{moved, machine_of}
+use Rattle.one_table.proofs.Running.{machine_one}
+use Rattle.headline.specs.Premises.{CanBe}
+use Rattle.run_alone.specs.Alone.{begins_job}
+use Rattle.run_alone.proofs.Own.{IsOwnAt, up_as, up_where, not_busy_at, down_at}
+use Rattle.run_alone.proofs.Turns.{doing_of, doing_at, with_job}
+use Rattle.run_alone.proofs.Owns.{IsMine, Owns, IsCalm, polls_named, never_returns, names_mine, event_owns, begun_owns}
+use Rattle.run_alone.proofs.Clear.{none_own}
+use Rattle.run_alone.proofs.Votes.{copy_valid}
+use Rattle.run_alone.proofs.Walks.{AllServers, MayAsk, asks_servers}
+use Rattle.run_alone.proofs.Named.{no_record, no_lock}
+use Rattle.run_alone.proofs.Unswept.{is_resolve, never_resolves, Unswept, stays_unswept, not_aborted}
+use Rattle.run_alone.proofs.Went.{busy}
+use Rattle.run_alone.proofs.Exchanged.{IsFree, IsFreeWord, all_with}
+use Rattle.run_alone.proofs.Unhindered.{AllConsistent, all_consistent, tells_valid_at}
+use Rattle.run_alone.proofs.Reached.{can_front, run_more}
+use Rattle.run_alone.proofs.Holding.{PhaseStands, DoingStands, event_stands}
+use Rattle.run_alone.proofs.Whole.{Carried, next_machines, carried_next, carried_by}
+use Rattle.run_alone.proofs.Requests.{Finds, finds, not_lost, stands_where}
+use Rattle.run_alone.proofs.NeverLost.{AllStand, begun_stands, started_untold}
+use Rattle.run_recovers.specs.Standing.{up_in, is_up}
+use Rattle.run_recovers.specs.Alone.{hinders}
+use Rattle.run_recovers.specs.Laws.{GoesAlone}
+use Rattle.run_recovers.proofs.Found.{at_has}
+use Rattle.run_recovers.proofs.Aside.{Aside, event_aside}
+use Rattle.run_recovers.proofs.Took.{OwnTook, own_took}
+use Rattle.run_recovers.proofs.Still.{IsOpen, copy_stays, record_stays, open_next, open_before, open_undecided}
+
+is_at : (a b : ℕ) → (a == b) ≡ true → a ≡ b
+is_at a b same = grind (arith, nat_tests)
+
+at_is : (a b : ℕ) → a ≡ b → (a == b) ≡ true
+at_is a b same = grind (arith, nat_tests)
+
+-- ---- what does not hinder is calm
+
+not_some : {X : Type 0} (b : Bool) (found : Option X) → (b && is_some found) ≡ false → b ≡ true → found ≡ None
+not_some b None calm is = refl
+not_some true (Some x) calm is = absurd (false≢true (sym calm))
+not_some false (Some x) calm is = absurd (false≢true is)
+
+its_turn : (idle b served : Bool) → idle ≡ false → (not idle && not (b && served)) ≡ false → b ≡ true
+its_turn false true served is calm = refl
+its_turn false false served is calm = absurd (false≢true (sym calm))
+its_turn true b served is calm = absurd (false≢true (sym is))
+
+pub is_calm : (given : Opening) (up : ℕ → Bool) (agent : ℕ) (w : World) (event : Event) → hinders given agent w event ≡ false → IsCalm given up agent w event
+is_calm given up agent w (Begin other job) calm = λ at. not_some (other == agent) (begins_job given w (Begin other job)) calm (at_is other agent at)
+is_calm given up agent w (Step other) calm = λ actor asked is next.
+    is_at other agent (its_turn (has_no_job (actor_at w other)) (other == agent) (is_some (step (fixed_of given) w (Step other)).done.served) (ap has_no_job is ∙ busy (fixed_of given) actor.agent.doing asked next) calm)
+is_calm given up agent w (Crash server) calm = absurd (false≢true (sym calm))
+is_calm given up agent w (Return server) calm = absurd (false≢true (sym calm))
+is_calm given up agent w (Forget other site) calm = tt
+is_calm given up agent w (Lack other why) calm = tt
+
+-- ---- moments
+
+module _ (given : Opening) (first : World) (agent t : ℕ) (before : Agent) (caller : Identity) (site : ℕ) (ops : List Op) where
+  abbrev pub fixed : Fixed
+  fixed = fixed_of given
+
+  abbrev pub job : Job
+  job = Transaction caller site ops
+
+  -- which servers were up when it began
+  abbrev pub up : ℕ → Bool
+  up = is_up first
+
+  -- what it was told was free; a decision was asked for at its home
+  abbrev pub Heard : Exchange → Type 0
+  Heard one = IsFreeWord (up one.server) one.request one.word × (is_decide one.request ≡ true → one.server ≡ home_of fixed.service t)
+
+  -- stored copies are those that were there when it began
+  abbrev pub Stored : World → Type 0
+  Stored w = (i : ℕ) (st old : State) → server_at w i ≡ Some st → server_at first i ≡ Some old → (z : ℕ) → copy_of st.store z ≡ copy_of old.store z
+
+  -- no server has recorded how it ended
+  abbrev pub Unrecorded : World → Type 0
+  Unrecorded w = (i : ℕ) (st : State) → server_at w i ≡ Some st → record_of st t ≡ None
+
+  -- where these events are to come
+  pub record Moment (w : World) (later : List Event) : Type 0 where
+    pub here : Actor
+    pub there : actor_at w agent ≡ Some here
+    pub told : List agents.Event
+    pub is : here.agent ≡ after_all fixed (begin fixed before job) told
+    pub idle : is_idle before.doing ≡ true
+    pub owns : Owns up w t agent
+    pub heard : (one : Exchange) → Has (of_job fixed before job told) one → Heard one
+    pub still : IsOpen here.agent.doing → Stored w
+    pub unrecorded : IsOpen here.agent.doing → Unrecorded w
+    pub unswept : AllServers (Unswept t) w
+    pub machines : ℕ → machine.World
+    pub carried : Carried given machines w later
+    pub stand : AllStand machines w t agent
+    pub all : List Event
+    pub run_is : w ≡ run given all
+    pub machines_are : (z : ℕ) → machines z ≡ machine_of given z all
+    pub can : CanBe given (all ++ later)
+
+  module _ (w : World) (later : List Event) (m : Moment w later) where
+    pub mine : IsMine t m.here.agent.doing
+    mine = subst (IsMine t) (ap doing_of m.there) m.owns.mine
+
+    pub holds_at : Holds fixed w (decisions given m.all) (ended given m.all)
+    holds_at = subst (λ w. Holds fixed w (decisions given m.all) (ended given m.all)) (sym m.run_is) (holds_of given m.can.accepted m.all)
+
+    copies : (i : ℕ) (st : State) → server_at w i ≡ Some st → (z : ℕ) → IsValid (copy_of st.store z).prefix.votes
+    copies = subst (λ w. (i : ℕ) (st : State) → server_at w i ≡ Some st → (z : ℕ) → IsValid (copy_of st.store z).prefix.votes) (sym m.run_is) (copy_valid given m.all (can_front given m.all later m.can))
+
+    consistent : AllConsistent w
+    consistent = subst AllConsistent (sym m.run_is) (all_consistent given m.all)
+
+    -- ---- what it asks
+
+    pub record OfCourse : Type 0 where
+      pub course : Course
+      pub running : m.here.agent.doing ≡ Some (Running course)
+      pub same : course.task.t ≡ t
+
+    course_of : (asked : ℕ × Request) → next_of fixed m.here.agent ≡ Some asked → (doing : Option Doing) → m.here.agent.doing ≡ doing → IsMine t doing → OfCourse
+    course_of asked next None is own = absurd (none-some asked (sym (ap (next_in fixed) is) ∙ next))
+    course_of asked next (Some (Rounding round)) is own = absurd own
+    course_of asked next (Some (Running course)) is own = record { course = course; running = is; same = own }
+
+    module _ (asked : ℕ × Request) (st : State) (next : next_of fixed m.here.agent ≡ Some asked) (at : server_at w asked.0 ≡ Some st) where
+      pub own_course : OfCourse
+      own_course = course_of asked next m.here.agent.doing refl mine
+
+      pub own_server : IsOwnAt (up asked.0) t st
+      own_server = m.owns.servers asked.0 st at
+
+      pub own_named : names t asked.1 ≡ true
+      own_named = names_mine fixed t m.here.agent.doing asked mine next
+
+      stands : (c : OfCourse) (z : ℕ) → PhaseStands (m.machines z) c.course.task.t c.course.phase
+      stands c z = subst (λ t. PhaseStands (m.machines z) t c.course.phase) (sym c.same) (subst (DoingStands (m.machines z) t) c.running (m.stand z m.here m.there))
+
+      pub own_finds : Finds st asked.1
+      own_finds = finds given m.can.c0 w later m.machines m.carried agent m.here own_course.course m.there own_course.running (stands own_course) asked next st at
+
+      own_kept : is_lost (reply_of st asked.1) ≡ false
+      own_kept = not_lost given m.can.c0 w later m.machines m.carried agent m.here own_course.course m.there own_course.running (stands own_course) asked next st at
+
+      pub own_up : stands_on_locks asked.1 ≡ true → up asked.0 ≡ true
+      own_up on =
+          let some = stands_where given m.can.c0 w later m.machines m.carried agent m.here own_course.course m.there own_course.running (stands own_course) asked next on st at in
+          up_where (up asked.0) t st own_server some.lock some.has (some.of_it ∙ own_course.same)
+
+      -- its reply is free
+      pub own_free : IsFree (up asked.0) asked.1 (reply_of st asked.1)
+      own_free = record {
+        busy = not_busy_at (up asked.0) t st asked.1 (never_returns t asked.1 own_named) (polls_named t asked.1 own_named) own_server;
+        down = down_at (up asked.0) t st asked.1 (never_returns t asked.1 own_named) own_server;
+        kept = own_kept;
+        fit = reply_fits st asked.1 (consistent asked.0 st at).sound;
+        valid = tells_valid_at (up asked.0) st asked.1 (never_returns t asked.1 own_named) (up_as (up asked.0) t st own_server) (copies asked.0 st at);
+        decides = not_aborted t st asked.1 (m.unswept asked.0 st at) own_named;
+        stood = own_up;
+      }
+
+      pub own_home : is_decide asked.1 ≡ true → asked.0 ≡ home_of fixed.service t
+      own_home decide =
+          let c = own_course in
+          (decides fixed c.course.task c.course.suites c.course.phase asked.0 asked.1 (ap (next_in fixed) (sym c.running) ∙ next) decide).at_home ∙ ap (home_of fixed.service) c.same
+
+      pub own_resolve : is_resolve asked.1 ≡ false
+      own_resolve = let c = own_course in never_resolves fixed c.course.task c.course.suites c.course.phase asked.0 asked.1 (ap (next_in fixed) (sym c.running) ∙ next)
+
+      -- a reply more
+      pub own_heard : (one : Exchange) → Has (of_job fixed before job (m.told ++ Take (Replied (reply_of st asked.1)) ∷ [])) one → Heard one
+      own_heard = all_with Heard fixed before m.here.agent job m.told asked (Replied (reply_of st asked.1)) m.is next m.heard (own_free, own_home)
+
+  -- ---- one event
+
+  module _ (w : World) (event : Event) (later : List Event) (m : Moment w (event ∷ later)) (calm : hinders given agent w event ≡ false) where
+    abbrev pub after_it : World
+    after_it = (step fixed w event).world
+
+    calm_so : IsCalm given up agent w event
+    calm_so = is_calm given up agent w event calm
+
+    no_resolve : (event : Event) → IsCalm given up agent w event → MayAsk fixed (λ asked. is_resolve asked ≡ false) w event
+    no_resolve (Step i) calm = λ actor asked is next. of actor.agent.doing asked next (subst (IsMine t) (ap (doing_at w) (sym (calm actor asked is next)) ∙ ap doing_of is) m.owns.mine)
+      where
+        of : (doing : Option Doing) (asked : ℕ × Request) → next_in fixed doing ≡ Some asked → IsMine t doing → is_resolve asked.1 ≡ false
+        of None asked next own = absurd (none-some asked next)
+        of (Some (Rounding round)) asked next own = absurd own
+        of (Some (Running course)) asked next own = never_resolves fixed course.task course.suites course.phase asked.0 asked.1 next
+    no_resolve (Begin i _) calm = tt
+    no_resolve (Crash server) calm = tt
+    no_resolve (Return server) calm = tt
+    no_resolve (Forget i site) calm = tt
+    no_resolve (Lack i why) calm = tt
+
+    next_moment : (new : Actor) → actor_at after_it agent ≡ Some new → (told : List agents.Event) → new.agent ≡ after_all fixed (begin fixed before job) told
+        → ((one : Exchange) → Has (of_job fixed before job told) one → Heard one) → (IsOpen new.agent.doing → Stored after_it) → (IsOpen new.agent.doing → Unrecorded after_it) → Moment after_it later
+    next_moment new there told is heard still unrecorded = record {
+      here = new;
+      there = there;
+      told = told;
+      is = is;
+      idle = m.idle;
+      owns = event_owns given up t agent w (decisions given m.all) (ended given m.all) (holds_at w (event ∷ later) m) m.owns event calm_so;
+      heard = heard;
+      still = still;
+      unrecorded = unrecorded;
+      unswept = asks_servers fixed (Unswept t) (λ asked. is_resolve asked ≡ false) (stays_unswept t) refl refl w m.unswept event (no_resolve event calm_so);
+      machines = next_machines given m.machines w event;
+      carried = carried_next given m.can.c0 m.machines w event later m.carried;
+      stand = λ z. event_stands given up t agent w z (m.machines z) (m.stand z) event calm_so;
+      all = m.all ++ event ∷ [];
+      run_is = ap (λ w. (step fixed w event).world) m.run_is ∙ sym (run_more given m.all event);
+      machines_are = λ z.
+          ap (λ old. moved given z old w event) (m.machines_are z) ∙ ap (λ w. moved given z (machine_of given z m.all) w event) m.run_is ∙ sym (machine_one given z m.all event);
+      can = subst (CanBe given) (sym (append_assoc m.all (event ∷ []) later)) m.can;
+    }
+
+    -- it is another's: the agent is as it was, and no job of it ended
+    pub record Beside : Type 0 where
+      pub new : Moment after_it later
+      pub here : new.here ≡ m.here
+      pub told : new.told ≡ m.told
+      pub all : new.all ≡ m.all ++ event ∷ []
+      pub other : (one : Outcome) → (step fixed w event).done.outcome ≡ Some one → one.agent ≢ agent
+
+    -- or it is its own step, which was served
+    pub record Takes : Type 0 where
+      pub asked : ℕ × Request
+      pub st : State
+      pub own : event ≡ Step agent
+      pub next : next_of fixed m.here.agent ≡ Some asked
+      pub at : server_at w asked.0 ≡ Some st
+      pub new : Moment after_it later
+      pub here : new.here.agent ≡ (take fixed m.here.agent (Replied (reply_of st asked.1))).agent
+      pub told : new.told ≡ m.told ++ Take (Replied (reply_of st asked.1)) ∷ []
+      pub all : new.all ≡ m.all ++ event ∷ []
+      pub ended : (step fixed w event).done.outcome ≡ outcome_of agent m.here (take fixed m.here.agent (Replied (reply_of st asked.1))).ending
+
+    pub beside : Aside agent w (step fixed w event) → Beside
+    unfolding next_moment
+    beside aside = record {
+      new = next_moment m.here (aside.actor ∙ m.there) m.told m.is m.heard (λ open' i st old at. m.still open' i st old (ap (λ servers. slice_get servers i) (sym aside.servers) ∙ at))
+          (λ open' i st at. m.unrecorded open' i st (ap (λ servers. slice_get servers i) (sym aside.servers) ∙ at));
+      here = refl;
+      told = refl;
+      all = refl;
+      other = aside.other;
+    }
+
+    module _ (own : event ≡ Step agent) (took : OwnTook fixed w agent m.here m.there (step fixed w event)) where
+      abbrev said : Reply
+      said = reply_of took.st took.asked.1
+
+      abbrev stamped : Stamped Request
+      stamped = record { stamp = m.here.stamp; value = took.asked.1 }
+
+      open_now : IsOpen took.new.agent.doing → IsOpen m.here.agent.doing
+      open_now open' =
+          open_before fixed m.here.agent (Replied said) m.here.agent.doing took.asked took.next
+          (subst (λ asked. IsOpen (take_in fixed m.here.agent (Replied said) m.here.agent.doing asked).agent.doing) took.next (subst (λ (agent : Agent). IsOpen agent.doing) took.took open'))
+
+      served_copy : IsOpen m.here.agent.doing → (z : ℕ) → copy_of (served took.st stamped).store z ≡ copy_of took.st.store z
+      served_copy open' z = ap (λ (st : State). copy_of st.store z) (sym (step_is took.st stamped took.room)) ∙ copy_stays took.st stamped z (open_next fixed m.here.agent.doing took.asked took.next open')
+
+      -- the server that it asked, or another
+      at_now : (i : ℕ) (st : State) → server_at after_it i ≡ Some st → ((i ≡ took.asked.0) × (served took.st stamped ≡ st)) ⊎ (server_at w i ≡ Some st)
+      at_now i st at =
+          let puts = puts_in w.servers took.asked.0 took.st (served took.st stamped) took.at in
+          let there : slice_get (slice_set w.servers took.asked.0 (served took.st stamped)) i ≡ Some st = ap (λ servers. slice_get servers i) (sym took.servers) ∙ at in
+          ⊎_elim
+          (λ (here : i ≡ took.asked.0). inl (here, same_Some (served took.st stamped) st (sym puts.here ∙ ap (slice_get (slice_set w.servers took.asked.0 (served took.st stamped))) (sym here) ∙ there)))
+          (λ apart. inr (sym (puts.apart i apart) ∙ there))
+          (same_or i took.asked.0)
+
+      stored_now : IsOpen took.new.agent.doing → Stored after_it
+      stored_now open' i st old at was z = ⊎_elim
+          (λ here.
+          ap (λ (st : State). copy_of st.store z) (sym here.1)
+          ∙ served_copy (open_now open') z
+          ∙ m.still (open_now open') took.asked.0 took.st old took.at (ap (server_at first) (sym here.0) ∙ was) z)
+          (λ there. m.still (open_now open') i st old there was z)
+          (at_now i st at)
+
+      served_record : IsOpen took.new.agent.doing → record_of (served took.st stamped) t ≡ record_of took.st t
+      served_record open' =
+          let now = subst (λ asked. IsOpen (take_in fixed m.here.agent (Replied said) m.here.agent.doing asked).agent.doing) took.next (subst (λ (agent : Agent). IsOpen agent.doing) took.took open') in
+          ap (λ (st : State). record_of st t) (sym (step_is took.st stamped took.room))
+          ∙ record_stays took.st stamped t (open_undecided fixed m.here.agent (Replied said) m.here.agent.doing took.asked took.next now) (own_resolve w (event ∷ later) m took.asked took.st took.next took.at)
+
+      unrecorded_now : IsOpen took.new.agent.doing → Unrecorded after_it
+      unrecorded_now open' i st at = ⊎_elim
+          (λ here. ap (λ (st : State). record_of st t) (sym here.1) ∙ served_record open' ∙ m.unrecorded (open_now open') took.asked.0 took.st took.at)
+          (λ there. m.unrecorded (open_now open') i st there)
+          (at_now i st at)
+
+      pub takes : Takes
+      unfolding next_moment
+      takes = record {
+        asked = took.asked;
+        st = took.st;
+        own = own;
+        next = took.next;
+        at = took.at;
+        new = next_moment took.new took.now (m.told ++ Take (Replied said) ∷ [])
+            (took.took ∙ ap (λ agent. (take fixed agent (Replied said)).agent) m.is ∙ sym (after-append fixed (begin fixed before job) m.told (Take (Replied said))))
+            (own_heard w (event ∷ later) m took.asked took.st took.next took.at) stored_now unrecorded_now;
+        here = took.took;
+        told = refl;
+        all = refl;
+        ended = took.ended;
+      }
+
+    pub comes : Beside ⊎ Takes
+    comes = ⊎_elim
+        (λ aside. inl (beside aside))
+        (λ own. inr (takes own.0 (subst (λ event. is_some (step fixed w event).done.served ≡ true → OwnTook fixed w agent m.here m.there (step fixed w event)) (sym own.0) (own_took fixed w agent m.here m.there) own.1)))
+        (event_aside given agent w event calm)
+
+-- ---- the first moment
+
+begins_idle : (given : Opening) (agent t : ℕ) (job : Job) (actor : Actor) → with_job job (begins_now (fixed_of given) agent job (Some actor)) ≡ Some (t, job) → is_idle actor.agent.doing ≡ true
+begins_idle given agent t job' actor = of (is_idle actor.agent.doing) (has_sense (fixed_of given) job') (nat_lt actor.agent.count max_jobs)
+  where
+    of : (idle sense more : Bool) → with_job job' (cond (idle && sense && more) (Some (64 * actor.agent.count + agent)) None) ≡ Some (t, job') → idle ≡ true
+    of true sense more is = refl
+    of false sense more is = absurd (none-some (t, job') is)
+
+none_where : (b : Bool) (n : ℕ) → (not b || (n == 0)) ≡ true → b ≡ true → (n == 0) ≡ true
+none_where true n is up = is
+none_where false n is up = absurd (false≢true up)
+
+module _ (given : Opening) (events later : List Event) (agent t : ℕ) (caller : Identity) (site : ℕ) (ops : List Op) (actor : Actor) (goes : GoesAlone given events later agent t caller site ops actor) where
+  abbrev world : World
+  world = run given events
+
+  abbrev begins : Event
+  begins = Begin agent (Transaction caller site ops)
+
+  abbrev begun : Actor
+  begun = record actor { agent = begin (fixed_of given) actor.agent (Transaction caller site ops) }
+
+  servers_begun : (i : ℕ) → server_at (step (fixed_of given) world begins).world i ≡ server_at world i
+  servers_begun i = ap (λ found. server_at (becomes world agent (λ a. begin (fixed_of given) a (Transaction caller site ops)) found).world i) goes.there
+
+  free_at : (i : ℕ) (st : State) → server_at world i ≡ Some st → IsOwnAt (is_up world i) t st
+  free_at i st at = subst (λ b. IsOwnAt b t st) (sym (ap up_in at)) (of (st.up) refl)
+    where
+      of : (b : Bool) → st.up ≡ b → IsOwnAt b t st
+      of true is = (is, none_own t st.locks (none_where st.up (length st.locks) (all_at (λ (st : State). not st.up || (length st.locks == 0)) world.servers st goes.free (at_has world.servers i st at)) is))
+      of false is = (is, λ lock has. no_lock given goes.can.accepted events agent t (Transaction caller site ops) goes.begins i st at lock has)
+
+  no_record_of : (st : State) (found : Option Verdict) → record_of st t ≡ found → ((v : Verdict) → record_of st t ≡ Some v → ⊥) → record_of st t ≡ None
+  no_record_of st None is none = is
+  no_record_of st (Some v) is none = absurd (none v is)
+
+  pub moment_first : Moment given world agent t actor.agent caller site ops (step (fixed_of given) world begins).world later
+  moment_first =
+      let holds = holds_of given goes.can.accepted events in
+      let old : ℕ → machine.World = λ z. machine_of given z events in
+      let owns : Owns (is_up world) (step (fixed_of given) world begins).world t agent =
+      begun_owns given (is_up world) world (decisions given events) (ended given events) holds agent t caller site ops free_at (actor_at world agent) refl goes.begins in
+      let carried = carried_next given goes.can.c0 old world begins later (carried_by given events (begins ∷ later) goes.can) in
+      record {
+        here = begun;
+        there = ap (λ found. actor_at (becomes world agent (λ a. begin (fixed_of given) a (Transaction caller site ops)) found).world agent) goes.there ∙ (puts_in world.agents agent actor begun goes.there).here;
+        told = [];
+        is = refl;
+        idle = begins_idle given agent t (Transaction caller site ops) actor (ap (λ found. with_job (Transaction caller site ops) (begins_now (fixed_of given) agent (Transaction caller site ops) found)) (sym goes.there) ∙ goes.begins);
+        owns = owns;
+        heard = λ one has. absurd has;
+        still = λ _ i st old at was z. ap (λ (st : State). copy_of st.store z) (same_Some st old (sym at ∙ servers_begun i ∙ was));
+        unrecorded = λ _ i st at. no_record_of st (record_of st t) refl (λ v is. no_record given goes.can.accepted events agent t (Transaction caller site ops) goes.begins i st (sym (servers_begun i) ∙ at) v is);
+        unswept = asks_servers (fixed_of given) (Unswept t) (λ asked. is_resolve asked ≡ false) (stays_unswept t) refl refl world
+            (λ i st at aborted. no_record given goes.can.accepted events agent t (Transaction caller site ops) goes.begins i st at verdict.Aborted aborted) begins tt;
+        machines = next_machines given old world begins;
+        carried = carried;
+        stand = begun_stands given (next_machines given old world begins) (step (fixed_of given) world begins).world later t agent owns.mine carried
+            (started_untold given world agent t caller site ops (actor_at world agent) refl goes.begins);
+        all = events ++ begins ∷ [];
+        run_is = sym (run_more given events begins);
+        machines_are = λ z. sym (machine_one given z events begins);
+        can = subst (CanBe given) (sym (append_assoc events (begins ∷ []) later)) goes.can;
+      }
+
+  pub first_all : moment_first.all ≡ events ++ begins ∷ []
+  unfolding moment_first
+  first_all = refl
+
+  pub first_here : moment_first.here.agent ≡ begin (fixed_of given) actor.agent (Transaction caller site ops)
+  unfolding moment_first
+  first_here = refl
