@@ -23,7 +23,7 @@ use Rattle.suite_collect.specs.Collecting.{Collector, all_told, needed, needed_o
 use Rattle.weak_cache.specs.Entries.{Cache}
 use Rattle.txn_core.specs.declared.ending.Ending.{Ending}
 use Rattle.txn_core.specs.declared.ending.Ending.TheVariants.{Undecided}
-use Rattle.txn_core.specs.Suites.{First, Suite, Suites, suite_of, with_suite, settled, first_or}
+use Rattle.txn_core.specs.Suites.{First, Suite, Suites, suite_of, with_suite, settled, first_or, source_of}
 use Rattle.txn_core.specs.Doing.{Fixed, Task}
 use Rattle.txn_core.specs.Transactions.{Step, short_cause, gather_by, locked_at}
 use Rattle.txn_core.proofs.Gathers.{self, with_at, each_but, each_with}
@@ -135,7 +135,7 @@ module _ (fixed : Fixed) (world : World) (table : PlainTable) (task : Task) (cac
 
   pub current_whole : (z : ℕ) (suite : Suite) → IsFound fixed world table task cache Was ground z suite → (prefix : Prefix) (dver : ℕ) (members : List ℕ) → next suite.collector ≡ Current prefix dver members → Whole z (settled prefix dver members suite)
   current_whole z suite found prefix dver members is = record {
-    found = record { start = found.start; may = found.may; reached = found.reached };
+    found = record { start = found.start; may = found.may; reached = found.reached; led = λ first. led_of suite.first refl first };
     had = some suite.first _;
     mode_is = refl;
     lock = has_lock z suite found prefix dver members is (settled prefix dver members suite) refl;
@@ -144,6 +144,12 @@ module _ (fixed : Fixed) (world : World) (table : PlainTable) (task : Task) (cac
       some : (first : Option First) (given : First) → is_some (first_or first given) ≡ true
       some (Some first) given = refl
       some None given = refl
+
+      led_of : (old : Option First) → suite.first ≡ old → (first : First) → first_or old (record { prefix = prefix; dver = dver; source = source_of suite.collector dver members }) ≡ Some first → first.prefix ≡ led_to fixed world z found.start
+      led_of (Some old) was first same = ap (λ (first : First). first.prefix) (sym (same_Some old first same)) ∙ found.led old was
+      led_of None was first same =
+          ap (λ (first : First). first.prefix) (sym (same_Some _ first same))
+          ∙ (reached_current fixed world z (Was z) found.start (ground.rules z found.start found.may) suite.collector found.reached prefix dver members is).prefix_is
 
   module _ (suites : Suites) (number : ℕ) (g : Now suites number) (prefix : Prefix) (dver : ℕ) (members : List ℕ) (is : next g.suite.collector ≡ Current prefix dver members) where
     abbrev new : Suite

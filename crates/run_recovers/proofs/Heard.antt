@@ -174,6 +174,7 @@ module _ (fixed : Fixed) (world : World) (table : PlainTable) (task : Task) (cac
           may = g.found.may;
           reached = reached_told fixed world number (Was number) g.found.start (ground.rules number g.found.start g.found.may) g.suite.collector g.found.reached said one
               (answers_it fixed world task.t number g.suite server asked said (found_right fixed world table task cache Was ground number g.suite g.found).right asks so) told;
+          led = g.found.led;
         } in
         record {
           asked = g.asked;

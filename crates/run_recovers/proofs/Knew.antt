@@ -102,7 +102,7 @@ up_answers_none st request.Locks is other = refl
 up_answers_none st request.Crash is other = refl
 up_answers_none st request.Return is other = refl
 
-answers_none : (st : State) (asked : Request) → is_decide asked ≡ false → is_resolve asked ≡ false → answer_in (reply_of st asked) ≡ None
+pub answers_none : (st : State) (asked : Request) → is_decide asked ≡ false → is_resolve asked ≡ false → answer_in (reply_of st asked) ≡ None
 answers_none st asked is other = of (st.up)
   where
     of : (b : Bool) → answer_in (cond b (reply_up st asked) (reply_down asked)) ≡ None
@@ -110,23 +110,26 @@ answers_none st asked is other = of (st.up)
     of false = down_decides_none asked
 
 -- an agent's own step that asks for nothing to be decided
-module _ (fixed : Fixed) (w : World) (i : ℕ) (actor : Actor) (asked : ℕ × Request) (st : State) (is : is_decide asked.1 ≡ false) (other : is_resolve asked.1 ≡ false) where
+module _ (fixed : Fixed) (w : World) (i : ℕ) (actor : Actor) (asked : ℕ × Request) (st : State) where
   abbrev stamped : Stamped Request
   stamped = record { stamp = actor.stamp; value = asked.1 }
 
-  served_undecided : (task : Option Task) → decided_by w task (answered fixed w i actor st (serve asked.0 st stamped)).done.served ≡ None
-  served_undecided task =
+  served_undecided : answer_in (reply_of st asked.1) ≡ None → (task : Option Task) → decided_by w task (answered fixed w i actor st (serve asked.0 st stamped)).done.served ≡ None
+  served_undecided none task =
       elim (is_full st stamped) as (λ b. decided_by w task (answered fixed w i actor st (cond b None (Some (record { server = asked.0; request = stamped; reply = answer_of st stamped })))).done.served ≡ None) [
         | true ↦ refl
-        | false ↦ ap (λ answer. decided_at (server_at w asked.0) (to_decide asked.1) (decided_as task answer)) (answers_none st asked.1 is other) ∙ decided_none (server_at w asked.0) (to_decide asked.1) task
+        | false ↦ ap (λ answer. decided_at (server_at w asked.0) (to_decide asked.1) (decided_as task answer)) none ∙ decided_none (server_at w asked.0) (to_decide asked.1) task
       ]
 
-  pub undecided_own : actor_at w i ≡ Some actor → next_of fixed actor.agent ≡ Some asked → server_at w asked.0 ≡ Some st → decided fixed w (Step i) ≡ None
-  undecided_own there next at =
+  pub unanswered_own : answer_in (reply_of st asked.1) ≡ None → actor_at w i ≡ Some actor → next_of fixed actor.agent ≡ Some asked → server_at w asked.0 ≡ Some st → decided fixed w (Step i) ≡ None
+  unanswered_own none there next at =
       ap (λ found. decided_by w (task_at found) (steps_once fixed w i found).done.served) there
       ∙ ap (λ found. decided_by w (task_of actor.agent.doing) (asks fixed w i actor found).done.served) next
       ∙ ap (λ found. decided_by w (task_of actor.agent.doing) (asks_at fixed w i actor asked found).done.served) at
-      ∙ served_undecided (task_of actor.agent.doing)
+      ∙ served_undecided none (task_of actor.agent.doing)
+
+  pub undecided_own : is_decide asked.1 ≡ false → is_resolve asked.1 ≡ false → actor_at w i ≡ Some actor → next_of fixed actor.agent ≡ Some asked → server_at w asked.0 ≡ Some st → decided fixed w (Step i) ≡ None
+  undecided_own is other = unanswered_own (answers_none st asked.1 is other)
 
 -- an event that does not hinder an agent decides nothing, but it is that agent's own step
 pub undecided_aside : (given : Opening) (agent : ℕ) (w : World) (event : Event) → hinders given agent w event ≡ false

@@ -35,3 +35,8 @@ pub mod Knows
 pub mod Heard
 pub mod Knew
 pub mod Ends
+pub mod SameDemands
+pub mod Hinted
+pub mod NotHome
+pub mod Freed
+pub mod Leaves

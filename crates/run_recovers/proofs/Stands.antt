@@ -29,7 +29,7 @@ use Rattle.weak_cache.specs.Cache.{hint}
 use Rattle.txn_core.specs.declared.ending.Ending.{Ending}
 use Rattle.txn_core.specs.declared.ending.Ending.TheVariants.{Undecided}
 use Rattle.txn_core.specs.declared.ending.Cause.TheVariants.{Unavailable}
-use Rattle.txn_core.specs.Suites.{Suite, Suites, suite_of, with_suite}
+use Rattle.txn_core.specs.Suites.{First, Suite, Suites, suite_of, with_suite}
 use Rattle.txn_core.specs.Doing as doing
 use Rattle.txn_core.specs.Doing.{Fixed, Task, Granted, Phase, Gathering, Fetching, Preparing, Deciding, Finishing, Course, After, GoesOn, Ends, home_of}
 use Rattle.txn_core.specs.Transactions as course
@@ -247,6 +247,7 @@ module _ (fixed : Fixed) (world : World) (table : PlainTable) (task : Task) (cac
       pub start : Prefix
       pub may : MayStart fixed cache task.site z start
       pub reached : Reached fixed world z (Was z) start (ground.rules z start may) suite.collector
+      pub led : (first : First) → suite.first ≡ Some first → first.prefix ≡ led_to fixed world z start
 
     pub found_start : (z : ℕ) (suite : Suite) (found : IsFound z suite) → suite.collector.start ≡ found.start
     found_start z suite found = ap (λ (c : Collector). c.start) found.reached.is
