@@ -84,7 +84,7 @@ use Rattle.run_recovers.proofs.Knows.{any_at, among_numbers}
 use Rattle.run_recovers.proofs.Knew.{answers_none, unanswered_own}
 use Rattle.run_recovers.proofs.Ends as ends
 
-none_of : (all : List Demand) → all_met all ≡ true → first_short all ≡ None
+pub none_of : (all : List Demand) → all_met all ≡ true → first_short all ≡ None
 none_of [] met = refl
 none_of (one ∷ all) met =
     elim (is_met one) as (λ b. (b && all_met all) ≡ true → cond (not b) (Some one) (first_short all) ≡ None) [

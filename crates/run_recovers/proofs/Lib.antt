@@ -40,3 +40,4 @@ pub mod Hinted
 pub mod NotHome
 pub mod Freed
 pub mod Leaves
+pub mod Again
