@@ -23,3 +23,4 @@ pub mod Still
 pub mod Moments
 pub mod Endings
 pub mod OwnAsks
+pub mod Lasting

@@ -2,7 +2,7 @@
 -- was told was free, and stored copies stand still until it tells how it ended.
 use Rattle.std.proofs.Common.{◌≡◌, ◌≢◌, ◌⊎◌, inl, inr, ⊎_elim, ℕ, ◌+◌, Bool, true, false, cond, List, [], ◌∷◌, ◌++◌, append_assoc, Option, Some, None, is_some, refl, sym, ap, subst, ◌∙◌, arith}
 use Rattle.std.specs.Prelude.{◌*◌, ◌==◌, ◌&&◌, ◌||◌, not, nat_lt, length, slice_get, slice_set}
-use Rattle.std.proofs.lemmas.Bool.{false≢true}
+use Rattle.std.proofs.lemmas.Bool.{false≢true, and_parts}
 use Rattle.std.proofs.lemmas.Bool.Decides.{nat_tests}
 use Rattle.std.proofs.lemmas.Option.{none-some, same_Some}
 use Rattle.acl_core.specs.Identity.{Identity}
@@ -20,13 +20,12 @@ use Rattle.rep_core.specs.State.{State, record_of}
 use Rattle.rep_core.specs.Service.{reply_of}
 use Rattle.rep_core.specs.Serving.{served}
 use Rattle.rep_core.proofs.Members.{Has, all_at}
-use Rattle.rep_core.proofs.FittingReplies.{reply_fits}
 use Rattle.txn_core.specs.declared.job.Job.{Job}
 use Rattle.txn_core.specs.declared.job.Job.TheVariants.{Transaction}
 use Rattle.txn_core.specs.declared.word.Word.TheVariants.{Replied}
-use Rattle.txn_core.specs.Doing.{Fixed, Course, Doing, Running, Rounding, home_of}
+use Rattle.txn_core.specs.Doing.{Fixed, Task, Course, Doing, Running, Rounding, home_of}
 use Rattle.txn_core.specs.Agents as agents
-use Rattle.txn_core.specs.Agents.{Agent, Take, fixed_of, is_idle, has_sense, max_jobs, next_in, next_of, take, take_in, begin, after_all}
+use Rattle.txn_core.specs.Agents.{Agent, Take, fixed_of, is_idle, has_sense, max_jobs, next_in, next_of, take, take_in, begin, after_all, started}
 use Rattle.txn_core.specs.Laws.{Exchange, of_job, is_decide}
 use Rattle.txn_core.specs.Undecided.{stands_on_locks}
 use Rattle.txn_core.proofs.Upheld.{after-append}
@@ -47,17 +46,18 @@ use Rattle.run_laws.proofs.Conclusions.{holds_of}
 use Rattle.suite_machine.specs.Machine as machine
 use Rattle.headline.specs.Premises.{CanBe}
 use Rattle.run_alone.specs.Alone.{begins_job}
-use Rattle.run_alone.proofs.Own.{IsOwnAt, up_as, up_where, not_busy_at, down_at}
+use Rattle.run_alone.proofs.Own.{IsOwnAt, up_where}
 use Rattle.run_alone.proofs.Turns.{doing_of, doing_at, with_job}
-use Rattle.run_alone.proofs.Owns.{IsMine, Owns, IsCalm, polls_named, never_returns, names_mine, event_owns, begun_owns}
+use Rattle.run_alone.proofs.Owns.{IsMine, Owns, IsCalm, names_mine, event_owns, begun_owns}
 use Rattle.run_alone.proofs.Clear.{none_own}
-use Rattle.run_alone.proofs.Votes.{copy_valid}
+use Rattle.run_alone.proofs.Votes.{copy_valid, cache_valid}
+use Rattle.run_alone.proofs.Starts.{starts}
 use Rattle.run_alone.proofs.Walks.{AllServers, MayAsk, asks_servers}
 use Rattle.run_alone.proofs.Named.{no_record, no_lock}
-use Rattle.run_alone.proofs.Unswept.{is_resolve, never_resolves, Unswept, stays_unswept, not_aborted}
+use Rattle.run_alone.proofs.Unswept.{is_resolve, never_resolves, Unswept, stays_unswept}
 use Rattle.run_alone.proofs.Went.{busy}
 use Rattle.run_alone.proofs.Exchanged.{IsFree, IsFreeWord, all_with}
-use Rattle.run_alone.proofs.Unhindered.{AllConsistent, all_consistent, tells_valid_at}
+use Rattle.run_alone.proofs.Unhindered.{AllConsistent, all_consistent, free_reply}
 use Rattle.run_alone.proofs.Reached.{can_front, run_more}
 use Rattle.run_alone.proofs.Holding.{PhaseStands, DoingStands, event_stands}
 use Rattle.run_alone.proofs.Whole.{Carried, next_machines, carried_next, carried_after}
@@ -97,6 +97,39 @@ is_calm given up agent w (Crash server) calm = absurd (false≢true (sym calm))
 is_calm given up agent w (Return server) calm = absurd (false≢true (sym calm))
 is_calm given up agent w (Forget other site) calm = tt
 is_calm given up agent w (Lack other why) calm = tt
+
+-- ---- steps of its own
+
+abbrev pub its_step : ℕ → Event → Bool
+its_step agent (Step other) = other == agent
+its_step agent (Begin other _) = false
+its_step agent (Crash server) = false
+its_step agent (Return server) = false
+its_step agent (Forget other _) = false
+its_step agent (Lack other why) = false
+
+step_of : (agent : ℕ) (event : Event) → its_step agent event ≡ true → event ≡ Step agent
+step_of agent (Step other) is = ap Step (is_at other agent is)
+step_of agent (Begin other _) is = absurd (false≢true is)
+step_of agent (Crash server) is = absurd (false≢true is)
+step_of agent (Return server) is = absurd (false≢true is)
+step_of agent (Forget other _) is = absurd (false≢true is)
+step_of agent (Lack other why) is = absurd (false≢true is)
+
+-- where it does not hinder, the step of an agent that has a job is served
+was_served : (idle b served : Bool) → idle ≡ false → (not idle && not (b && served)) ≡ false → served ≡ true
+was_served false b true is calm = refl
+was_served false true false is calm = absurd (false≢true (sym calm))
+was_served false false false is calm = absurd (false≢true (sym calm))
+was_served true b served is calm = absurd (false≢true (sym is))
+
+both_not : (idle b : Bool) → (not idle && b) ≡ false → idle ≡ false → b ≡ false
+both_not false b none is = none
+both_not true b none is = absurd (false≢true (sym is))
+
+no_not : (idle : Bool) → not idle ≡ true → idle ≡ false
+no_not false is = refl
+no_not true is = absurd (false≢true is)
 
 -- ---- moments
 
@@ -193,15 +226,7 @@ module _ (given : Opening) (first : World) (agent t : ℕ) (before : Agent) (cal
 
       -- its reply is free
       pub own_free : IsFree (up asked.0) asked.1 (reply_of st asked.1)
-      own_free = record {
-        busy = not_busy_at (up asked.0) t st asked.1 (never_returns t asked.1 own_named) (polls_named t asked.1 own_named) own_server;
-        down = down_at (up asked.0) t st asked.1 (never_returns t asked.1 own_named) own_server;
-        kept = own_kept;
-        fit = reply_fits st asked.1 (consistent asked.0 st at).sound;
-        valid = tells_valid_at (up asked.0) st asked.1 (never_returns t asked.1 own_named) (up_as (up asked.0) t st own_server) (copies asked.0 st at);
-        decides = not_aborted t st asked.1 (m.unswept asked.0 st at) own_named;
-        stood = own_up;
-      }
+      own_free = free_reply (up asked.0) t st asked.1 own_named own_server (consistent asked.0 st at) (copies asked.0 st at) (m.unswept asked.0 st at) own_kept own_up
 
       pub own_home : is_decide asked.1 ≡ true → asked.0 ≡ home_of fixed.service t
       own_home decide =
@@ -224,7 +249,7 @@ module _ (given : Opening) (first : World) (agent t : ℕ) (before : Agent) (cal
     calm_so : IsCalm given up agent w event
     calm_so = is_calm given up agent w event calm
 
-    no_resolve : (event : Event) → IsCalm given up agent w event → MayAsk fixed (λ asked. is_resolve asked ≡ false) w event
+    no_resolve : (event : Event) → IsCalm given up agent w event → MayAsk fixed (λ _ asked. is_resolve asked ≡ false) w event
     no_resolve (Step i) calm = λ actor asked is next. of actor.agent.doing asked next (subst (IsMine t) (ap (doing_at w) (sym (calm actor asked is next)) ∙ ap doing_of is) m.owns.mine)
       where
         of : (doing : Option Doing) (asked : ℕ × Request) → next_in fixed doing ≡ Some asked → IsMine t doing → is_resolve asked.1 ≡ false
@@ -232,8 +257,8 @@ module _ (given : Opening) (first : World) (agent t : ℕ) (before : Agent) (cal
         of (Some (Rounding round)) asked next own = absurd own
         of (Some (Running course)) asked next own = never_resolves fixed course.task course.suites course.phase asked.0 asked.1 next
     no_resolve (Begin i _) calm = tt
-    no_resolve (Crash server) calm = tt
-    no_resolve (Return server) calm = tt
+    no_resolve (Crash server) calm = refl
+    no_resolve (Return server) calm = refl
     no_resolve (Forget i site) calm = tt
     no_resolve (Lack i why) calm = tt
 
@@ -249,7 +274,7 @@ module _ (given : Opening) (first : World) (agent t : ℕ) (before : Agent) (cal
       heard = heard;
       still = still;
       unrecorded = unrecorded;
-      unswept = asks_servers fixed (Unswept t) (λ asked. is_resolve asked ≡ false) (stays_unswept t) refl refl w m.unswept event (no_resolve event calm_so);
+      unswept = asks_servers fixed (λ _. Unswept t) (λ _ asked. is_resolve asked ≡ false) (λ _. stays_unswept t) w m.unswept event (no_resolve event calm_so);
       machines = next_machines given m.machines w event;
       carried = carried_next given m.can.c0 m.machines w event later m.carried;
       stand = λ z. event_stands given up t agent w z (m.machines z) (m.stand z) event calm_so;
@@ -258,12 +283,13 @@ module _ (given : Opening) (first : World) (agent t : ℕ) (before : Agent) (cal
       can = subst (CanBe given) (sym (append_assoc m.all (event ∷ []) later)) m.can;
     }
 
-    -- it is another's: the agent is as it was, and no job of it ended
+    -- it is another's, or its agent has no job: the agent is as it was, and no job of it ended
     pub record Beside : Type 0 where
       pub new : Moment after_it later
       pub here : new.here ≡ m.here
       pub told : new.told ≡ m.told
       pub other : (one : Outcome) → (step fixed w event).done.outcome ≡ Some one → one.agent ≢ agent
+      pub apart : is_idle m.here.agent.doing ≡ false → its_step agent event ≡ false
 
     -- or it is its own step, which was served
     pub record Takes : Type 0 where
@@ -277,14 +303,15 @@ module _ (given : Opening) (first : World) (agent t : ℕ) (before : Agent) (cal
       pub told : new.told ≡ m.told ++ Take (Replied (reply_of st asked.1)) ∷ []
       pub ended : (step fixed w event).done.outcome ≡ outcome_of agent m.here (take fixed m.here.agent (Replied (reply_of st asked.1))).ending
 
-    beside : Aside agent w (step fixed w event) → Beside
+    beside : (not (is_idle m.here.agent.doing) && its_step agent event) ≡ false → Aside agent w (step fixed w event) → Beside
     unfolding next_moment
-    beside aside = record {
+    beside none aside = record {
       new = next_moment m.here (aside.actor ∙ m.there) m.told m.is m.heard (λ open' i st old at. m.still open' i st old (ap (λ servers. slice_get servers i) (sym aside.servers) ∙ at))
           (λ open' i st at. m.unrecorded open' i st (ap (λ servers. slice_get servers i) (sym aside.servers) ∙ at));
       here = refl;
       told = refl;
       other = aside.other;
+      apart = both_not (is_idle m.here.agent.doing) (its_step agent event) none;
     }
 
     module _ (own : event ≡ Step agent) (took : OwnTook fixed w agent m.here m.there (step fixed w event)) where
@@ -349,11 +376,23 @@ module _ (given : Opening) (first : World) (agent t : ℕ) (before : Agent) (cal
         ended = took.ended;
       }
 
+    -- a step of its own that was served
+    own_takes : (event ≡ Step agent) × (is_some (step fixed w event).done.served ≡ true) → Takes
+    own_takes own = takes own.0 (subst (λ event. is_some (step fixed w event).done.served ≡ true → OwnTook fixed w agent m.here m.there (step fixed w event)) (sym own.0) (own_took fixed w agent m.here m.there) own.1)
+
+    busy_takes : is_idle m.here.agent.doing ≡ false → event ≡ Step agent → Takes
+    busy_takes busy' own =
+        own_takes (own, subst (λ event. hinders given agent w event ≡ false → is_some (step fixed w event).done.served ≡ true) (sym own)
+        (was_served (has_no_job (actor_at w agent)) (agent == agent) (is_some (step fixed w (Step agent)).done.served) (ap has_no_job m.there ∙ busy')) calm)
+
     pub comes : Beside ⊎ Takes
-    comes = ⊎_elim
-        (λ aside. inl (beside aside))
-        (λ own. inr (takes own.0 (subst (λ event. is_some (step fixed w event).done.served ≡ true → OwnTook fixed w agent m.here m.there (step fixed w event)) (sym own.0) (own_took fixed w agent m.here m.there) own.1)))
-        (event_aside given agent w event calm)
+    comes = of (not (is_idle m.here.agent.doing) && its_step agent event) refl
+      where
+        of : (b : Bool) → (not (is_idle m.here.agent.doing) && its_step agent event) ≡ b → Beside ⊎ Takes
+        of true is =
+            let parts = and_parts (not (is_idle m.here.agent.doing)) (its_step agent event) is in
+            inr (busy_takes (no_not (is_idle m.here.agent.doing) parts.0) (step_of agent event parts.1))
+        of false is = ⊎_elim (λ aside. inl (beside is aside)) (λ own. inr (own_takes own)) (event_aside given agent w event calm)
 
 -- ---- the first moment
 
@@ -409,7 +448,7 @@ module _ (given : Opening) (events later : List Event) (agent t : ℕ) (caller :
         heard = λ one has. absurd has;
         still = λ _ i st old at was z. ap (λ (st : State). copy_of st.store z) (same_Some st old (sym at ∙ servers_begun i ∙ was));
         unrecorded = λ _ i st at. no_record_of st (record_of st t) refl (λ v is. no_record given goes.can.accepted events agent t (Transaction caller site ops) goes.begins i st (sym (servers_begun i) ∙ at) v is);
-        unswept = asks_servers (fixed_of given) (Unswept t) (λ asked. is_resolve asked ≡ false) (stays_unswept t) refl refl world
+        unswept = asks_servers (fixed_of given) (λ _. Unswept t) (λ _ asked. is_resolve asked ≡ false) (λ _. stays_unswept t) world
             (λ i st at aborted. no_record given goes.can.accepted events agent t (Transaction caller site ops) goes.begins i st at verdict.Aborted aborted) begins tt;
         machines = next_machines given old.0 world begins;
         carried = carried;
@@ -419,3 +458,27 @@ module _ (given : Opening) (events later : List Event) (agent t : ℕ) (caller :
         run_is = sym (run_more given events begins);
         can = subst (CanBe given) (sym (append_assoc events (begins ∷ []) later)) goes.can;
       }
+
+  pub first_here : moment_first.here ≡ begun
+  unfolding moment_first
+  first_here = refl
+
+  pub first_told : moment_first.told ≡ []
+  unfolding moment_first
+  first_told = refl
+
+  -- it does not end at once
+  pub first_runs : is_idle moment_first.here.agent.doing ≡ false
+  first_runs =
+      ap (λ (actor : Actor). is_idle actor.agent.doing) first_here
+      ∙ of (is_idle actor.agent.doing && has_sense (fixed_of given) its_job && nat_lt actor.agent.count max_jobs) (ap (λ found. with_job its_job (begins_now (fixed_of given) agent its_job found)) (sym goes.there) ∙ goes.begins)
+    where
+      its_job : Job
+      its_job = Transaction caller site ops
+
+      task : Task
+      task = record { t = 64 * actor.agent.count + actor.agent.index; caller = caller; site = site; ops = ops }
+
+      of : (b : Bool) → with_job its_job (cond b (Some (64 * actor.agent.count + agent)) None) ≡ Some (t, its_job) → is_idle (cond b (record (started (fixed_of given) actor.agent its_job) { count = actor.agent.count + 1 }) actor.agent).doing ≡ false
+      of true is = starts (fixed_of given) task actor.agent.cache goes.can.c0 (cache_valid given events (can_front given events (begins ∷ later) goes.can) agent actor goes.there)
+      of false is = absurd (none-some (t, its_job) is)
