@@ -12,7 +12,7 @@ use Rattle.rep_core.specs.declared.request.Request.{Request}
 use Rattle.rep_core.specs.declared.stamped.Stamped.{Stamped}
 use Rattle.rep_core.specs.Fits.{is_busy, is_down}
 use Rattle.rep_core.specs.State.{State}
-use Rattle.rep_core.specs.Serving.{is_full, served, answer_of}
+use Rattle.rep_core.specs.Serving.{is_full, answer_of}
 use Rattle.rep_core.proofs.Members.{Has, all_at}
 use Rattle.txn_core.specs.declared.job.Job.{Job}
 use Rattle.txn_core.specs.declared.job.Job.TheVariants.{Transaction}

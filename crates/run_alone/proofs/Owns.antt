@@ -1,5 +1,5 @@
 -- A transaction that has all locks at the servers that are up: what others do beside it, and its own steps, leave it so.
-use Rattle.std.proofs.Common.{◌≡◌, ◌≢◌, ℕ, ◌+◌, Bool, true, false, cond, List, [], Option, Some, None, refl, sym, ap, subst, ◌∙◌, arith}
+use Rattle.std.proofs.Common.{◌≡◌, ℕ, ◌+◌, Bool, true, false, cond, List, [], Option, Some, None, refl, sym, ap, subst, ◌∙◌, arith}
 use Rattle.std.specs.Prelude.{◌*◌, ◌==◌, ◌&&◌, nat_lt}
 use Rattle.std.proofs.lemmas.Bool.{false≢true}
 use Rattle.std.proofs.lemmas.Bool.Decides.{nat_tests}
@@ -23,7 +23,6 @@ use Rattle.run_core.specs.declared.event.Event.{Event}
 use Rattle.run_core.specs.declared.event.Event.TheVariants.{Begin, Step, Crash, Return, Forget, Lack}
 use Rattle.run_core.specs.declared.done.Outcome.{Outcome}
 use Rattle.run_core.specs.Worlds.{Actor, World, server_at, actor_at, with_actor, becomes, step}
-use Rattle.run_core.specs.Runs.{after}
 use Rattle.run_core.specs.Decisions.{Decided}
 use Rattle.run_laws.specs.Naming.{names}
 use Rattle.run_laws.specs.Numbers.{begins_now}
@@ -32,7 +31,6 @@ use Rattle.run_laws.proofs.Asking.{asks_in_its_name}
 use Rattle.run_laws.proofs.Agents.{IsAt}
 use Rattle.run_laws.proofs.Worlds.{agent_of, Holds, puts_in}
 use Rattle.run_alone.specs.Alone.{begins_job}
-use Rattle.run_alone.specs.Undisturbed.{is_crash}
 use Rattle.run_alone.proofs.Own as own
 use Rattle.run_alone.proofs.Own.{IsOwnAt, PollsFor, is_return, own_at_stays}
 use Rattle.run_alone.proofs.Walks.{MayAsk, asks_servers, BeginsNone, event_doing}
