@@ -1,6 +1,6 @@
 -- A transaction that goes alone ends, or it has taken as many words as its agent took steps.
-use Rattle.std.proofs.Common.{◌≡◌, ◌⊎◌, inl, inr, ⊎_elim, ℕ, ◌+◌, Bool, true, false, cond, List, [], ◌∷◌, ◌++◌, length, Option, Some, None, refl, sym, ap, subst, ◌∙◌, arith}
-use Rattle.std.specs.Prelude.{◌==◌, ◌-◌, not}
+use Rattle.std.proofs.Common.{◌≡◌, ◌⊎◌, inl, inr, ⊎_elim, ℕ, ◌+◌, Bool, true, false, cond, List, [], ◌∷◌, ◌++◌, length, Option, Some, None, is_some, refl, sym, ap, subst, ◌∙◌, arith}
+use Rattle.std.specs.Prelude.{◌==◌, ◌-◌, ◌&&◌, not}
 use Rattle.std.specs.List.{cons_option}
 use Rattle.std.proofs.lemmas.Bool.{false≢true, and_parts}
 use Rattle.std.proofs.lemmas.Bool.Decides.{nat_tests}
@@ -15,13 +15,45 @@ use Rattle.txn_core.specs.Doing.{Fixed}
 use Rattle.txn_core.specs.Agents as agents
 use Rattle.txn_core.specs.Agents.{Agent, fixed_of, is_idle, take, take_in}
 use Rattle.run_core.specs.declared.event.Event.{Event}
+use Rattle.run_core.specs.declared.event.Event.TheVariants.{Begin, Step, Crash, Return, Forget, Lack}
 use Rattle.run_core.specs.declared.done.Outcome.{Outcome}
 use Rattle.run_core.specs.Worlds as worlds
-use Rattle.run_core.specs.Worlds.{Actor, World, outcome_of, step}
+use Rattle.run_core.specs.Worlds.{Actor, World, actor_at, has_no_job, outcome_of, step}
 use Rattle.run_core.specs.Runs.{after, dones, outcomes}
 use Rattle.run_alone.proofs.Unhindered.{goes_on}
 use Rattle.run_recovers.specs.Alone.{hinders, unhindered_from}
-use Rattle.run_recovers.proofs.Moments.{its_step, Moment, Beside, Takes, comes, mine}
+use Rattle.run_recovers.proofs.Aside.{event_aside}
+use Rattle.run_recovers.proofs.Took.{OwnTook, own_took}
+use Rattle.run_recovers.proofs.Moments as moments
+use Rattle.run_recovers.proofs.Moments.{Moment, Beside, Takes, mine}
+
+-- a step of the agent
+abbrev pub its_step : ℕ → Event → Bool
+its_step agent (Step other) = other == agent
+its_step agent (Begin other _) = false
+its_step agent (Crash server) = false
+its_step agent (Return server) = false
+its_step agent (Forget other _) = false
+its_step agent (Lack other why) = false
+
+step_of : (agent : ℕ) (event : Event) → its_step agent event ≡ true → event ≡ Step agent
+step_of agent (Step other) is = ap Step (same_at other agent is)
+  where
+    same_at : (a b : ℕ) → (a == b) ≡ true → a ≡ b
+    same_at a b is = grind (arith, nat_tests)
+step_of agent (Begin other _) is = absurd (false≢true is)
+step_of agent (Crash server) is = absurd (false≢true is)
+step_of agent (Return server) is = absurd (false≢true is)
+step_of agent (Forget other _) is = absurd (false≢true is)
+step_of agent (Lack other why) is = absurd (false≢true is)
+
+-- where it does not hinder, the step of an agent that has a job is served
+was_served : (idle b served : Bool) → idle ≡ false → (not idle && not (b && served)) ≡ false → served ≡ true
+was_served false true true is calm = refl
+was_served false false true is calm = refl
+was_served false true false is calm = absurd (false≢true (sym calm))
+was_served false false false is calm = absurd (false≢true (sym calm))
+was_served true b served is calm = absurd (false≢true (sym is))
 
 -- how many steps of the agent these are
 abbrev pub own_steps : ℕ → List Event → ℕ
@@ -76,9 +108,23 @@ module _ (given : Opening) (first : World) (agent t : ℕ) (before : Agent) (cal
     more_steps : (told : List agents.Event) (new : ℕ) → new ≡ length m.told + cond (its_step agent event) 1 0 → length told ≡ new → StillRuns next later told → StillRuns w (event ∷ later) m.told
     more_steps told new is same still = record { last = still.last; runs = still.runs; steps = let steps = still.steps in omega (arith, is, same, steps) }
 
-    after_beside : (beside : Beside given first agent t before caller site ops w event later m calm) → Lasts next later beside.new.told → Lasts w (event ∷ later) m.told
-    after_beside beside lasts = ⊎_elim
-        (λ still. inl (more_steps beside.new.told (length m.told) (none (its_step agent event) (beside.apart runs)) (ap length beside.told) still))
+    -- it is a step of its own
+    own_takes : event ≡ Step agent → Takes given first agent t before caller site ops w event later m calm
+    own_takes own = moments.takes given first agent t before caller site ops w event later m calm own
+        (subst (λ event. is_some (step fixed w event).done.served ≡ true → OwnTook fixed w agent m.here m.there (step fixed w event)) (sym own) (own_took fixed w agent m.here m.there)
+        (subst (λ event. hinders given agent w event ≡ false → is_some (step fixed w event).done.served ≡ true) (sym own)
+        (was_served (has_no_job (actor_at w agent)) (agent == agent) (is_some (step fixed w (Step agent)).done.served) (ap has_no_job m.there ∙ runs)) calm))
+
+    -- or it stands aside
+    not_own : its_step agent event ≡ false → Beside given first agent t before caller site ops w event later m calm
+    not_own none = ⊎_elim
+        (λ aside. moments.beside given first agent t before caller site ops w event later m calm aside)
+        (λ own. absurd (false≢true (sym none ∙ ap (its_step agent) own.0 ∙ itself agent)))
+        (event_aside given agent w event calm)
+
+    after_beside : (beside : Beside given first agent t before caller site ops w event later m calm) → its_step agent event ≡ false → Lasts next later beside.new.told → Lasts w (event ∷ later) m.told
+    after_beside beside other lasts = ⊎_elim
+        (λ still. inl (more_steps beside.new.told (length m.told) (none (its_step agent event) other) (ap length beside.told) still))
         (λ ended. inr (ended_later ended))
         lasts
       where
@@ -120,7 +166,14 @@ module _ (given : Opening) (first : World) (agent t : ℕ) (before : Agent) (cal
   lasts w (event ∷ later) m calm runs =
       let parts = and_parts (not (hinders given agent w event)) (unhindered_from given agent (step fixed w event).world later) calm in
       let still = not_true (hinders given agent w event) parts.0 in
-      ⊎_elim
-      (λ beside. after_beside w event later m still runs beside (lasts (step fixed w event).world later beside.new parts.1 (ap (λ (actor : Actor). is_idle actor.agent.doing) beside.here ∙ runs)))
-      (λ takes. ends_now w event later m still runs takes _ refl (λ on. lasts (step fixed w event).world later takes.new parts.1 on))
-      (comes given first agent t before caller site ops w event later m still)
+      of still (its_step agent event) refl
+      (λ new on. lasts (step fixed w event).world later new parts.1 on)
+    where
+      of : (calm : hinders given agent w event ≡ false) (b : Bool) → its_step agent event ≡ b
+          → ((new : At (step fixed w event).world later) → is_idle new.here.agent.doing ≡ false → Lasts (step fixed w event).world later new.told) → Lasts w (event ∷ later) m.told
+      of calm true is rest =
+          let own = own_takes w event later m calm runs (step_of agent event is) in
+          ends_now w event later m calm runs own _ refl (λ on. rest own.new on)
+      of calm false is rest =
+          let aside = not_own w event later m calm runs is in
+          after_beside w event later m calm runs aside is (rest aside.new (ap (λ (actor : Actor). is_idle actor.agent.doing) aside.here ∙ runs))

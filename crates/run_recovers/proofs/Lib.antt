@@ -24,3 +24,15 @@ pub mod Moments
 pub mod Endings
 pub mod OwnAsks
 pub mod Lasting
+pub mod Asking
+pub mod VotesSet
+pub mod Widened
+pub mod Stands
+pub mod Widens
+pub mod Hinting
+pub mod Gathered
+pub mod Executes
+pub mod Knows
+pub mod Heard
+pub mod Knew
+pub mod Ends

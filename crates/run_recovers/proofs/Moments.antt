@@ -2,7 +2,7 @@
 -- was told was free, and stored copies stand still until it tells how it ended.
 use Rattle.std.proofs.Common.{◌≡◌, ◌≢◌, ◌⊎◌, inl, inr, ⊎_elim, ℕ, ◌+◌, Bool, true, false, cond, List, [], ◌∷◌, ◌++◌, append_assoc, Option, Some, None, is_some, refl, sym, ap, subst, ◌∙◌, arith}
 use Rattle.std.specs.Prelude.{◌*◌, ◌==◌, ◌&&◌, ◌||◌, not, nat_lt, length, slice_get, slice_set}
-use Rattle.std.proofs.lemmas.Bool.{false≢true, and_parts}
+use Rattle.std.proofs.lemmas.Bool.{false≢true}
 use Rattle.std.proofs.lemmas.Bool.Decides.{nat_tests}
 use Rattle.std.proofs.lemmas.Option.{none-some, same_Some}
 use Rattle.acl_core.specs.Identity.{Identity}
@@ -44,6 +44,8 @@ use Rattle.run_laws.proofs.Turns.{step_is}
 use Rattle.run_laws.proofs.Worlds.{Holds, puts_in}
 use Rattle.run_laws.proofs.Conclusions.{holds_of}
 use Rattle.suite_machine.specs.Machine as machine
+use Rattle.run_machine.specs.Machines.{moved, machine_of}
+use Rattle.one_table.proofs.Running.{machine_one}
 use Rattle.headline.specs.Premises.{CanBe}
 use Rattle.run_alone.specs.Alone.{begins_job}
 use Rattle.run_alone.proofs.Own.{IsOwnAt, up_where}
@@ -60,7 +62,7 @@ use Rattle.run_alone.proofs.Exchanged.{IsFree, IsFreeWord, all_with}
 use Rattle.run_alone.proofs.Unhindered.{AllConsistent, all_consistent, free_reply}
 use Rattle.run_alone.proofs.Reached.{can_front, run_more}
 use Rattle.run_alone.proofs.Holding.{PhaseStands, DoingStands, event_stands}
-use Rattle.run_alone.proofs.Whole.{Carried, next_machines, carried_next, carried_after}
+use Rattle.run_alone.proofs.Whole.{Carried, next_machines, carried_next, carried_by}
 use Rattle.run_alone.proofs.Requests.{Finds, finds, not_lost, stands_where}
 use Rattle.run_alone.proofs.NeverLost.{AllStand, begun_stands, started_untold}
 use Rattle.run_recovers.specs.Standing.{up_in, is_up}
@@ -97,39 +99,6 @@ is_calm given up agent w (Crash server) calm = absurd (false≢true (sym calm))
 is_calm given up agent w (Return server) calm = absurd (false≢true (sym calm))
 is_calm given up agent w (Forget other site) calm = tt
 is_calm given up agent w (Lack other why) calm = tt
-
--- ---- steps of its own
-
-abbrev pub its_step : ℕ → Event → Bool
-its_step agent (Step other) = other == agent
-its_step agent (Begin other _) = false
-its_step agent (Crash server) = false
-its_step agent (Return server) = false
-its_step agent (Forget other _) = false
-its_step agent (Lack other why) = false
-
-step_of : (agent : ℕ) (event : Event) → its_step agent event ≡ true → event ≡ Step agent
-step_of agent (Step other) is = ap Step (is_at other agent is)
-step_of agent (Begin other _) is = absurd (false≢true is)
-step_of agent (Crash server) is = absurd (false≢true is)
-step_of agent (Return server) is = absurd (false≢true is)
-step_of agent (Forget other _) is = absurd (false≢true is)
-step_of agent (Lack other why) is = absurd (false≢true is)
-
--- where it does not hinder, the step of an agent that has a job is served
-was_served : (idle b served : Bool) → idle ≡ false → (not idle && not (b && served)) ≡ false → served ≡ true
-was_served false b true is calm = refl
-was_served false true false is calm = absurd (false≢true (sym calm))
-was_served false false false is calm = absurd (false≢true (sym calm))
-was_served true b served is calm = absurd (false≢true (sym is))
-
-both_not : (idle b : Bool) → (not idle && b) ≡ false → idle ≡ false → b ≡ false
-both_not false b none is = none
-both_not true b none is = absurd (false≢true (sym is))
-
-no_not : (idle : Bool) → not idle ≡ true → idle ≡ false
-no_not false is = refl
-no_not true is = absurd (false≢true is)
 
 -- ---- moments
 
@@ -173,6 +142,7 @@ module _ (given : Opening) (first : World) (agent t : ℕ) (before : Agent) (cal
     pub stand : AllStand machines w t agent
     pub all : List Event
     pub run_is : w ≡ run given all
+    pub machines_are : (z : ℕ) → machines z ≡ machine_of given z all
     pub can : CanBe given (all ++ later)
 
   module _ (w : World) (later : List Event) (m : Moment w later) where
@@ -280,16 +250,18 @@ module _ (given : Opening) (first : World) (agent t : ℕ) (before : Agent) (cal
       stand = λ z. event_stands given up t agent w z (m.machines z) (m.stand z) event calm_so;
       all = m.all ++ event ∷ [];
       run_is = ap (λ w. (step fixed w event).world) m.run_is ∙ sym (run_more given m.all event);
+      machines_are = λ z.
+          ap (λ old. moved given z old w event) (m.machines_are z) ∙ ap (λ w. moved given z (machine_of given z m.all) w event) m.run_is ∙ sym (machine_one given z m.all event);
       can = subst (CanBe given) (sym (append_assoc m.all (event ∷ []) later)) m.can;
     }
 
-    -- it is another's, or its agent has no job: the agent is as it was, and no job of it ended
+    -- it is another's: the agent is as it was, and no job of it ended
     pub record Beside : Type 0 where
       pub new : Moment after_it later
       pub here : new.here ≡ m.here
       pub told : new.told ≡ m.told
+      pub all : new.all ≡ m.all ++ event ∷ []
       pub other : (one : Outcome) → (step fixed w event).done.outcome ≡ Some one → one.agent ≢ agent
-      pub apart : is_idle m.here.agent.doing ≡ false → its_step agent event ≡ false
 
     -- or it is its own step, which was served
     pub record Takes : Type 0 where
@@ -301,17 +273,18 @@ module _ (given : Opening) (first : World) (agent t : ℕ) (before : Agent) (cal
       pub new : Moment after_it later
       pub here : new.here.agent ≡ (take fixed m.here.agent (Replied (reply_of st asked.1))).agent
       pub told : new.told ≡ m.told ++ Take (Replied (reply_of st asked.1)) ∷ []
+      pub all : new.all ≡ m.all ++ event ∷ []
       pub ended : (step fixed w event).done.outcome ≡ outcome_of agent m.here (take fixed m.here.agent (Replied (reply_of st asked.1))).ending
 
-    beside : (not (is_idle m.here.agent.doing) && its_step agent event) ≡ false → Aside agent w (step fixed w event) → Beside
+    pub beside : Aside agent w (step fixed w event) → Beside
     unfolding next_moment
-    beside none aside = record {
+    beside aside = record {
       new = next_moment m.here (aside.actor ∙ m.there) m.told m.is m.heard (λ open' i st old at. m.still open' i st old (ap (λ servers. slice_get servers i) (sym aside.servers) ∙ at))
           (λ open' i st at. m.unrecorded open' i st (ap (λ servers. slice_get servers i) (sym aside.servers) ∙ at));
       here = refl;
       told = refl;
+      all = refl;
       other = aside.other;
-      apart = both_not (is_idle m.here.agent.doing) (its_step agent event) none;
     }
 
     module _ (own : event ≡ Step agent) (took : OwnTook fixed w agent m.here m.there (step fixed w event)) where
@@ -360,7 +333,7 @@ module _ (given : Opening) (first : World) (agent t : ℕ) (before : Agent) (cal
           (λ there. m.unrecorded (open_now open') i st there)
           (at_now i st at)
 
-      takes : Takes
+      pub takes : Takes
       unfolding next_moment
       takes = record {
         asked = took.asked;
@@ -373,26 +346,15 @@ module _ (given : Opening) (first : World) (agent t : ℕ) (before : Agent) (cal
             (own_heard w (event ∷ later) m took.asked took.st took.next took.at) stored_now unrecorded_now;
         here = took.took;
         told = refl;
+        all = refl;
         ended = took.ended;
       }
 
-    -- a step of its own that was served
-    own_takes : (event ≡ Step agent) × (is_some (step fixed w event).done.served ≡ true) → Takes
-    own_takes own = takes own.0 (subst (λ event. is_some (step fixed w event).done.served ≡ true → OwnTook fixed w agent m.here m.there (step fixed w event)) (sym own.0) (own_took fixed w agent m.here m.there) own.1)
-
-    busy_takes : is_idle m.here.agent.doing ≡ false → event ≡ Step agent → Takes
-    busy_takes busy' own =
-        own_takes (own, subst (λ event. hinders given agent w event ≡ false → is_some (step fixed w event).done.served ≡ true) (sym own)
-        (was_served (has_no_job (actor_at w agent)) (agent == agent) (is_some (step fixed w (Step agent)).done.served) (ap has_no_job m.there ∙ busy')) calm)
-
     pub comes : Beside ⊎ Takes
-    comes = of (not (is_idle m.here.agent.doing) && its_step agent event) refl
-      where
-        of : (b : Bool) → (not (is_idle m.here.agent.doing) && its_step agent event) ≡ b → Beside ⊎ Takes
-        of true is =
-            let parts = and_parts (not (is_idle m.here.agent.doing)) (its_step agent event) is in
-            inr (busy_takes (no_not (is_idle m.here.agent.doing) parts.0) (step_of agent event parts.1))
-        of false is = ⊎_elim (λ aside. inl (beside is aside)) (λ own. inr (own_takes own)) (event_aside given agent w event calm)
+    comes = ⊎_elim
+        (λ aside. inl (beside aside))
+        (λ own. inr (takes own.0 (subst (λ event. is_some (step fixed w event).done.served ≡ true → OwnTook fixed w agent m.here m.there (step fixed w event)) (sym own.0) (own_took fixed w agent m.here m.there) own.1)))
+        (event_aside given agent w event calm)
 
 -- ---- the first moment
 
@@ -434,10 +396,10 @@ module _ (given : Opening) (events later : List Event) (agent t : ℕ) (caller :
   pub moment_first : Moment given world agent t actor.agent caller site ops (step (fixed_of given) world begins).world later
   moment_first =
       let holds = holds_of given goes.can.accepted events in
-      let old = carried_after given events (begins ∷ later) goes.can in
+      let old : ℕ → machine.World = λ z. machine_of given z events in
       let owns : Owns (is_up world) (step (fixed_of given) world begins).world t agent =
       begun_owns given (is_up world) world (decisions given events) (ended given events) holds agent t caller site ops free_at (actor_at world agent) refl goes.begins in
-      let carried = carried_next given goes.can.c0 old.0 world begins later old.1 in
+      let carried = carried_next given goes.can.c0 old world begins later (carried_by given events (begins ∷ later) goes.can) in
       record {
         here = begun;
         there = ap (λ found. actor_at (becomes world agent (λ a. begin (fixed_of given) a (Transaction caller site ops)) found).world agent) goes.there ∙ (puts_in world.agents agent actor begun goes.there).here;
@@ -450,27 +412,28 @@ module _ (given : Opening) (events later : List Event) (agent t : ℕ) (caller :
         unrecorded = λ _ i st at. no_record_of st (record_of st t) refl (λ v is. no_record given goes.can.accepted events agent t (Transaction caller site ops) goes.begins i st (sym (servers_begun i) ∙ at) v is);
         unswept = asks_servers (fixed_of given) (λ _. Unswept t) (λ _ asked. is_resolve asked ≡ false) (λ _. stays_unswept t) world
             (λ i st at aborted. no_record given goes.can.accepted events agent t (Transaction caller site ops) goes.begins i st at verdict.Aborted aborted) begins tt;
-        machines = next_machines given old.0 world begins;
+        machines = next_machines given old world begins;
         carried = carried;
-        stand = begun_stands given (next_machines given old.0 world begins) (step (fixed_of given) world begins).world later t agent owns.mine carried
+        stand = begun_stands given (next_machines given old world begins) (step (fixed_of given) world begins).world later t agent owns.mine carried
             (started_untold given world agent t caller site ops (actor_at world agent) refl goes.begins);
         all = events ++ begins ∷ [];
         run_is = sym (run_more given events begins);
+        machines_are = λ z. sym (machine_one given z events begins);
         can = subst (CanBe given) (sym (append_assoc events (begins ∷ []) later)) goes.can;
       }
 
-  pub first_here : moment_first.here ≡ begun
+  pub first_all : moment_first.all ≡ events ++ begins ∷ []
+  unfolding moment_first
+  first_all = refl
+
+  pub first_here : moment_first.here.agent ≡ begin (fixed_of given) actor.agent (Transaction caller site ops)
   unfolding moment_first
   first_here = refl
-
-  pub first_told : moment_first.told ≡ []
-  unfolding moment_first
-  first_told = refl
 
   -- it does not end at once
   pub first_runs : is_idle moment_first.here.agent.doing ≡ false
   first_runs =
-      ap (λ (actor : Actor). is_idle actor.agent.doing) first_here
+      ap (λ (agent : Agent). is_idle agent.doing) first_here
       ∙ of (is_idle actor.agent.doing && has_sense (fixed_of given) its_job && nat_lt actor.agent.count max_jobs) (ap (λ found. with_job its_job (begins_now (fixed_of given) agent its_job found)) (sym goes.there) ∙ goes.begins)
     where
       its_job : Job
