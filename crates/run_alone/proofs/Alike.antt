@@ -132,7 +132,7 @@ DecidedOrRuns given all t = IsDecided (decisions given all) t ⊎ IsRunning (run
 module _ (given : Opening) (events : List Event) (agent t : ℕ) (caller : Identity) (site : ℕ) (ops : List Op) (kept : AllKept given events agent t caller site ops) where
   follow : (all rest : List Event) → CanBe given (all ++ rest) → Reached given events agent t caller site ops all → is_idle (doing_at (run given all) agent) ≡ false
       → one_at_a_time_from given (run given all) rest ≡ true → all_undisturbed_from given (run given all) rest ≡ true → DecidedOrRuns given (all ++ rest) t
-  follow all [] can reached runs alone calm = inr (subst (λ all. IsRunning (run given all) t) (sym (append_none all)) (runs_it (run given all) agent t reached.at.clear.mine runs).running)
+  follow all [] can reached runs alone calm = inr (subst (λ all. IsRunning (run given all) t) (sym (append_none all)) (runs_it (run given all) agent t reached.at.clear.owns.mine runs).running)
   follow all (event ∷ rest) can reached runs alone calm =
       subst (λ whole. DecidedOrRuns given whole t) (append_assoc all (event ∷ []) rest)
       (of (step (fixed_of given) world event).done.outcome refl can'
@@ -150,7 +150,7 @@ module _ (given : Opening) (events : List Event) (agent t : ℕ) (caller : Ident
       can_now = can_front given (all ++ event ∷ []) rest can'
 
       now : Runs world agent t
-      now = runs_it world agent t reached.at.clear.mine runs
+      now = runs_it world agent t reached.at.clear.owns.mine runs
 
       calm' : (begins_clear given world event ≡ true) × (not (some_runs world && disturbs given world event) ≡ true) × (all_undisturbed_from given (step (fixed_of given) world event).world rest ≡ true)
       calm' = two_parts (begins_clear given world event) (not (some_runs world && disturbs given world event)) (all_undisturbed_from given (step (fixed_of given) world event).world rest) calm

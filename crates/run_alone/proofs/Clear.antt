@@ -12,7 +12,7 @@ use Rattle.rep_core.specs.declared.request.Request.{Request}
 use Rattle.rep_core.specs.declared.stamped.Stamped.{Stamped}
 use Rattle.rep_core.specs.Fits.{is_busy, is_down}
 use Rattle.rep_core.specs.State.{State}
-use Rattle.rep_core.specs.Serving.{is_full, served, answer_of}
+use Rattle.rep_core.specs.Serving.{is_full, answer_of}
 use Rattle.rep_core.proofs.Members.{Has, all_at}
 use Rattle.txn_core.specs.declared.job.Job.{Job}
 use Rattle.txn_core.specs.declared.job.Job.TheVariants.{Transaction}
@@ -35,7 +35,7 @@ use Rattle.run_alone.specs.Undisturbed.{all_up, no_locks, is_crash, none_crashes
 use Rattle.run_alone.proofs.Own.{AreOwn, not_busy, not_down}
 use Rattle.run_alone.proofs.Turns.{doing_of, doing_at, with_job, all_none}
 use Rattle.run_alone.proofs.Owns.{IsMine, Owns, IsCalm, polls_named, names_mine, event_owns, begun_owns}
-use Rattle.run_alone.proofs.Idle.{event_idle}
+use Rattle.run_alone.proofs.Walks.{none_begins, event_doing}
 
 -- all servers are up, and its agent alone has a job
 pub record Clear (world : World) (t turn : ℕ) : Type 0 where
@@ -69,7 +69,8 @@ module _ (given : Opening) (t turn : ℕ) (world : World) (ds : List Decided) (p
 
   pub event_clear : (event : Event) → is_crash event ≡ false → begins_job given world event ≡ None → Clear (step fixed world event).world t turn
   event_clear event other none = record {
-    alone = λ j apart. event_idle given world j (clear.alone j apart) event none;
+    alone = λ j apart. event_doing given (λ doing. doing ≡ None) j world
+        (λ actor asked word is next. absurd (none-some asked (sym (ap (next_in fixed) (sym (ap doing_of is) ∙ clear.alone j apart)) ∙ next))) (clear.alone j apart) event (none_begins given j world event none);
     owns = event_owns given (λ s. true) t turn world ds past holds clear.owns event (is_calm event other none);
   }
 

@@ -1,6 +1,6 @@
 -- As long as one transaction alone asks servers and none crashes, the locks that it was told of stand, until it tells how it ended.
 use Rattle.std.proofs.Common.{◌≡◌, inl, inr, ℕ, Bool, true, false, cond, List, [], ◌∷◌, ◌++◌, Option, Some, None, refl, sym, ap, subst, ◌∙◌}
-use Rattle.std.specs.Prelude.{◌+◌, slice_get, slice_set}
+use Rattle.std.specs.Prelude.{slice_get, slice_set}
 use Rattle.suite_prefix.specs.SettingsRules.{Opening}
 use Rattle.rep_core.specs.declared.request.Request.{Request}
 use Rattle.rep_core.specs.declared.request.Request.TheVariants as request
@@ -39,7 +39,8 @@ use Rattle.server_moves.specs.Laws.{beginning}
 use Rattle.run_machine.specs.Deciding.{decision_by, own_events}
 use Rattle.run_machine.specs.Machines.{home_in, word_events, begin_events, answered_events, asked_at_events, asked_events, step_events, lacks_for_events, lack_events, operated_events, operator_events, moved}
 use Rattle.run_alone.proofs.Turns.{with_job}
-use Rattle.run_alone.proofs.Owns.{IsCalm, begun_same}
+use Rattle.run_alone.proofs.Walks.{begun_same}
+use Rattle.run_alone.proofs.Owns.{IsCalm}
 use Rattle.run_alone.proofs.Standing.{Stands, AllSpare, all_spare-append, stands_all, spare_begun, spare_own, spare_decision, releases, spare_moves}
 
 -- ---- an agent

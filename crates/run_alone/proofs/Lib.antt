@@ -7,7 +7,6 @@ pub mod Same
 pub mod Worked
 pub mod Own
 pub mod Owns
-pub mod Idle
 pub mod Clear
 pub mod Votes
 pub mod Walks

@@ -30,6 +30,7 @@ use Rattle.txn_core.specs.declared.word.Word.TheVariants.{Replied}
 use Rattle.txn_core.specs.Doing.{Fixed, Course, Doing, Running, Rounding, After, GoesOn, Ends}
 use Rattle.txn_core.specs.Transactions.{after_word, ending_by}
 use Rattle.txn_core.specs.Laws.{is_decide, said_by}
+use Rattle.txn_core.specs.Undecided.{stands_on_locks}
 use Rattle.txn_core.specs.Agents.{Agent, fixed_of, is_idle, next_in, next_of, left, end_of, take_in, take}
 use Rattle.run_core.specs.declared.event.Event.{Event}
 use Rattle.run_core.specs.declared.event.Event.TheVariants.{Begin, Step, Crash, Return, Forget, Lack}
@@ -38,15 +39,16 @@ use Rattle.run_core.specs.declared.done.Outcome.{Outcome}
 use Rattle.run_core.specs.Worlds.{Actor, World, opening, servers_from, server_at, actor_at, outcome_of, step}
 use Rattle.run_core.specs.Runs.{after, run}
 use Rattle.run_core.specs.Decisions.{Decided}
+use Rattle.run_laws.specs.Naming.{names}
 use Rattle.run_laws.specs.Numbers.{number_of}
 use Rattle.run_laws.proofs.Agents.{IsAt}
 use Rattle.run_laws.proofs.Words.{Leaves, leaves_word}
 use Rattle.run_laws.proofs.Worlds.{agent_of, Holds}
 use Rattle.run_alone.specs.Alone.{begins_job}
 use Rattle.run_alone.specs.Undisturbed.{is_crash, disturbs, is_decided}
-use Rattle.run_alone.proofs.Own.{is_return, not_busy, not_down, replies_down}
+use Rattle.run_alone.proofs.Own.{IsOwnAt, is_return, up_as, not_busy_at, down_at, replies_down}
 use Rattle.run_alone.proofs.Turns.{doing_of, doing_at}
-use Rattle.run_alone.proofs.Owns.{IsMine, polls_named, names_mine}
+use Rattle.run_alone.proofs.Owns.{IsMine, polls_named, never_returns, names_mine}
 use Rattle.run_alone.proofs.Clear.{Clear, is_mine, event_clear}
 use Rattle.run_alone.proofs.Votes.{HasValidVotes}
 use Rattle.run_alone.proofs.Exchanged.{TellsValid, IsFree, Since, since_forget, since_take, never_undecided}
@@ -100,9 +102,22 @@ up_valid st valid request.Return = tt
 tells_valid : (st : State) (asked : Request) → st.up ≡ true → ((suite : ℕ) → IsValid (copy_of st.store suite).prefix.votes) → TellsValid (reply_of st asked)
 tells_valid st asked up valid = subst (λ b. TellsValid (cond b (reply_up st asked) (reply_down asked))) (sym up) (up_valid st valid asked)
 
-pub tells_valid_at : (b : Bool) (st : State) (asked : Request) → is_return asked ≡ false → st.up ≡ b → ((suite : ℕ) → IsValid (copy_of st.store suite).prefix.votes) → TellsValid (reply_of st asked)
+tells_valid_at : (b : Bool) (st : State) (asked : Request) → is_return asked ≡ false → st.up ≡ b → ((suite : ℕ) → IsValid (copy_of st.store suite).prefix.votes) → TellsValid (reply_of st asked)
 tells_valid_at true st asked other up valid = tells_valid st asked up valid
 tells_valid_at false st asked other down valid = subst TellsValid (sym (replies_down st asked other down)) tt
+
+-- a reply to a transaction is free, where it is not Lost and what stands on a lock is asked where the server is up
+pub free_reply : (b : Bool) (t : ℕ) (st : State) (asked : Request) → names t asked ≡ true → IsOwnAt b t st → IsConsistent st → ((suite : ℕ) → IsValid (copy_of st.store suite).prefix.votes) → Unswept t st → is_lost (reply_of st asked) ≡ false
+    → (stands_on_locks asked ≡ true → b ≡ true) → IsFree b asked (reply_of st asked)
+free_reply b t st asked named own sound valid unswept kept stood = record {
+  busy = not_busy_at b t st asked (never_returns t asked named) (polls_named t asked named) own;
+  down = down_at b t st asked (never_returns t asked named) own;
+  kept = kept;
+  fit = reply_fits st asked sound.sound;
+  valid = tells_valid_at b st asked (never_returns t asked named) (up_as b t st own) valid;
+  decides = not_aborted t st asked unswept named;
+  stood = stood;
+}
 
 -- ---- endings
 
@@ -119,7 +134,7 @@ after_decided course v (Ends other) ending leaves is none =
     ap is_decided as' ∙ decided_by v leaves.0 (λ cause same. none cause (as' ∙ same))
 
 -- who took a word and did not end goes on
-goes_on : (fixed : Fixed) (agent : Agent) (said : Reply) (doing : Option Doing) (asked : ℕ × Request) → next_in fixed doing ≡ Some asked → (t : ℕ) → IsMine t doing → (take_in fixed agent (Replied said) doing (Some asked)).ending ≡ None
+pub goes_on : (fixed : Fixed) (agent : Agent) (said : Reply) (doing : Option Doing) (asked : ℕ × Request) → next_in fixed doing ≡ Some asked → (t : ℕ) → IsMine t doing → (take_in fixed agent (Replied said) doing (Some asked)).ending ≡ None
     → is_idle (take_in fixed agent (Replied said) doing (Some asked)).agent.doing ≡ false
 goes_on fixed agent said None asked next t mine none = absurd (none-some asked next)
 goes_on fixed agent said (Some (Rounding round)) asked next t mine none = absurd mine
@@ -167,17 +182,8 @@ module _ (given : Opening) (c0 : IsValid given.c0) (t turn : ℕ) (world : World
   -- a reply to the transaction is free
   reply_free : (asked : ℕ × Request) (st : State) (what : Served) → next_of fixed at.actor.agent ≡ Some asked → server_at world asked.0 ≡ Some st → (step fixed world (Step turn)).done.served ≡ Some what → what.reply.value ≡ reply_of st asked.1 → IsFree true asked.1 (reply_of st asked.1)
   reply_free asked st what next there served is =
-      let own = at.clear.owns.servers asked.0 st there in
-      let named = names_mine fixed t at.actor.agent.doing asked mine next in
-      record {
-        busy = not_busy t st asked.1 own.0 (polls_named t asked.1 named) own.1;
-        down = not_down st asked.1 own.0;
-        stood = λ _. refl;
-        fit = reply_fits st asked.1 (at.all asked.0 st there).sound;
-        valid = tells_valid st asked.1 own.0 (facts.copies asked.0 st there);
-        decides = not_aborted t st asked.1 (at.unswept asked.0 st there) named;
-        kept = subst (λ said. is_lost said ≡ false) is (kept what served);
-      }
+      free_reply true t st asked.1 (names_mine fixed t at.actor.agent.doing asked mine next) (at.clear.owns.servers asked.0 st there) (at.all asked.0 st there) (facts.copies asked.0 st there) (at.unswept asked.0 st there)
+      (subst (λ said. is_lost said ≡ false) is (kept what served)) (λ _. refl)
 
   moves : Moves given t turn world facts.ds facts.past facts.holds at.clear at.actor at.there (step fixed world event)
   moves = event_moves given t turn world facts.ds facts.past facts.holds at.clear at.actor at.there event calm none

@@ -20,13 +20,12 @@ use Rattle.rep_core.specs.State.{State, record_of}
 use Rattle.rep_core.specs.Service.{reply_of}
 use Rattle.rep_core.specs.Serving.{served}
 use Rattle.rep_core.proofs.Members.{Has, all_at}
-use Rattle.rep_core.proofs.FittingReplies.{reply_fits}
 use Rattle.txn_core.specs.declared.job.Job.{Job}
 use Rattle.txn_core.specs.declared.job.Job.TheVariants.{Transaction}
 use Rattle.txn_core.specs.declared.word.Word.TheVariants.{Replied}
-use Rattle.txn_core.specs.Doing.{Fixed, Course, Doing, Running, Rounding, home_of}
+use Rattle.txn_core.specs.Doing.{Fixed, Task, Course, Doing, Running, Rounding, home_of}
 use Rattle.txn_core.specs.Agents as agents
-use Rattle.txn_core.specs.Agents.{Agent, Take, fixed_of, is_idle, has_sense, max_jobs, next_in, next_of, take, take_in, begin, after_all}
+use Rattle.txn_core.specs.Agents.{Agent, Take, fixed_of, is_idle, has_sense, max_jobs, next_in, next_of, take, take_in, begin, after_all, started}
 use Rattle.txn_core.specs.Laws.{Exchange, of_job, is_decide}
 use Rattle.txn_core.specs.Undecided.{stands_on_locks}
 use Rattle.txn_core.proofs.Upheld.{after-append}
@@ -49,17 +48,18 @@ use Rattle.run_machine.specs.Machines.{moved, machine_of}
 use Rattle.one_table.proofs.Running.{machine_one}
 use Rattle.headline.specs.Premises.{CanBe}
 use Rattle.run_alone.specs.Alone.{begins_job}
-use Rattle.run_alone.proofs.Own.{IsOwnAt, up_as, up_where, not_busy_at, down_at}
+use Rattle.run_alone.proofs.Own.{IsOwnAt, up_where}
 use Rattle.run_alone.proofs.Turns.{doing_of, doing_at, with_job}
-use Rattle.run_alone.proofs.Owns.{IsMine, Owns, IsCalm, polls_named, never_returns, names_mine, event_owns, begun_owns}
+use Rattle.run_alone.proofs.Owns.{IsMine, Owns, IsCalm, names_mine, event_owns, begun_owns}
 use Rattle.run_alone.proofs.Clear.{none_own}
-use Rattle.run_alone.proofs.Votes.{copy_valid}
+use Rattle.run_alone.proofs.Votes.{copy_valid, cache_valid}
+use Rattle.run_alone.proofs.Starts.{starts}
 use Rattle.run_alone.proofs.Walks.{AllServers, MayAsk, asks_servers}
 use Rattle.run_alone.proofs.Named.{no_record, no_lock}
-use Rattle.run_alone.proofs.Unswept.{is_resolve, never_resolves, Unswept, stays_unswept, not_aborted}
+use Rattle.run_alone.proofs.Unswept.{is_resolve, never_resolves, Unswept, stays_unswept}
 use Rattle.run_alone.proofs.Went.{busy}
 use Rattle.run_alone.proofs.Exchanged.{IsFree, IsFreeWord, all_with}
-use Rattle.run_alone.proofs.Unhindered.{AllConsistent, all_consistent, tells_valid_at}
+use Rattle.run_alone.proofs.Unhindered.{AllConsistent, all_consistent, free_reply}
 use Rattle.run_alone.proofs.Reached.{can_front, run_more}
 use Rattle.run_alone.proofs.Holding.{PhaseStands, DoingStands, event_stands}
 use Rattle.run_alone.proofs.Whole.{Carried, next_machines, carried_next, carried_by}
@@ -196,15 +196,7 @@ module _ (given : Opening) (first : World) (agent t : ℕ) (before : Agent) (cal
 
       -- its reply is free
       pub own_free : IsFree (up asked.0) asked.1 (reply_of st asked.1)
-      own_free = record {
-        busy = not_busy_at (up asked.0) t st asked.1 (never_returns t asked.1 own_named) (polls_named t asked.1 own_named) own_server;
-        down = down_at (up asked.0) t st asked.1 (never_returns t asked.1 own_named) own_server;
-        kept = own_kept;
-        fit = reply_fits st asked.1 (consistent asked.0 st at).sound;
-        valid = tells_valid_at (up asked.0) st asked.1 (never_returns t asked.1 own_named) (up_as (up asked.0) t st own_server) (copies asked.0 st at);
-        decides = not_aborted t st asked.1 (m.unswept asked.0 st at) own_named;
-        stood = own_up;
-      }
+      own_free = free_reply (up asked.0) t st asked.1 own_named own_server (consistent asked.0 st at) (copies asked.0 st at) (m.unswept asked.0 st at) own_kept own_up
 
       pub own_home : is_decide asked.1 ≡ true → asked.0 ≡ home_of fixed.service t
       own_home decide =
@@ -227,7 +219,7 @@ module _ (given : Opening) (first : World) (agent t : ℕ) (before : Agent) (cal
     calm_so : IsCalm given up agent w event
     calm_so = is_calm given up agent w event calm
 
-    no_resolve : (event : Event) → IsCalm given up agent w event → MayAsk fixed (λ asked. is_resolve asked ≡ false) w event
+    no_resolve : (event : Event) → IsCalm given up agent w event → MayAsk fixed (λ _ asked. is_resolve asked ≡ false) w event
     no_resolve (Step i) calm = λ actor asked is next. of actor.agent.doing asked next (subst (IsMine t) (ap (doing_at w) (sym (calm actor asked is next)) ∙ ap doing_of is) m.owns.mine)
       where
         of : (doing : Option Doing) (asked : ℕ × Request) → next_in fixed doing ≡ Some asked → IsMine t doing → is_resolve asked.1 ≡ false
@@ -235,8 +227,8 @@ module _ (given : Opening) (first : World) (agent t : ℕ) (before : Agent) (cal
         of (Some (Rounding round)) asked next own = absurd own
         of (Some (Running course)) asked next own = never_resolves fixed course.task course.suites course.phase asked.0 asked.1 next
     no_resolve (Begin i _) calm = tt
-    no_resolve (Crash server) calm = tt
-    no_resolve (Return server) calm = tt
+    no_resolve (Crash server) calm = refl
+    no_resolve (Return server) calm = refl
     no_resolve (Forget i site) calm = tt
     no_resolve (Lack i why) calm = tt
 
@@ -252,7 +244,7 @@ module _ (given : Opening) (first : World) (agent t : ℕ) (before : Agent) (cal
       heard = heard;
       still = still;
       unrecorded = unrecorded;
-      unswept = asks_servers fixed (Unswept t) (λ asked. is_resolve asked ≡ false) (stays_unswept t) refl refl w m.unswept event (no_resolve event calm_so);
+      unswept = asks_servers fixed (λ _. Unswept t) (λ _ asked. is_resolve asked ≡ false) (λ _. stays_unswept t) w m.unswept event (no_resolve event calm_so);
       machines = next_machines given m.machines w event;
       carried = carried_next given m.can.c0 m.machines w event later m.carried;
       stand = λ z. event_stands given up t agent w z (m.machines z) (m.stand z) event calm_so;
@@ -418,7 +410,7 @@ module _ (given : Opening) (events later : List Event) (agent t : ℕ) (caller :
         heard = λ one has. absurd has;
         still = λ _ i st old at was z. ap (λ (st : State). copy_of st.store z) (same_Some st old (sym at ∙ servers_begun i ∙ was));
         unrecorded = λ _ i st at. no_record_of st (record_of st t) refl (λ v is. no_record given goes.can.accepted events agent t (Transaction caller site ops) goes.begins i st (sym (servers_begun i) ∙ at) v is);
-        unswept = asks_servers (fixed_of given) (Unswept t) (λ asked. is_resolve asked ≡ false) (stays_unswept t) refl refl world
+        unswept = asks_servers (fixed_of given) (λ _. Unswept t) (λ _ asked. is_resolve asked ≡ false) (λ _. stays_unswept t) world
             (λ i st at aborted. no_record given goes.can.accepted events agent t (Transaction caller site ops) goes.begins i st at verdict.Aborted aborted) begins tt;
         machines = next_machines given old world begins;
         carried = carried;
@@ -437,3 +429,19 @@ module _ (given : Opening) (events later : List Event) (agent t : ℕ) (caller :
   pub first_here : moment_first.here.agent ≡ begin (fixed_of given) actor.agent (Transaction caller site ops)
   unfolding moment_first
   first_here = refl
+
+  -- it does not end at once
+  pub first_runs : is_idle moment_first.here.agent.doing ≡ false
+  first_runs =
+      ap (λ (agent : Agent). is_idle agent.doing) first_here
+      ∙ of (is_idle actor.agent.doing && has_sense (fixed_of given) its_job && nat_lt actor.agent.count max_jobs) (ap (λ found. with_job its_job (begins_now (fixed_of given) agent its_job found)) (sym goes.there) ∙ goes.begins)
+    where
+      its_job : Job
+      its_job = Transaction caller site ops
+
+      task : Task
+      task = record { t = 64 * actor.agent.count + actor.agent.index; caller = caller; site = site; ops = ops }
+
+      of : (b : Bool) → with_job its_job (cond b (Some (64 * actor.agent.count + agent)) None) ≡ Some (t, its_job) → is_idle (cond b (record (started (fixed_of given) actor.agent its_job) { count = actor.agent.count + 1 }) actor.agent).doing ≡ false
+      of true is = starts (fixed_of given) task actor.agent.cache goes.can.c0 (cache_valid given events (can_front given events (begins ∷ later) goes.can) agent actor goes.there)
+      of false is = absurd (none-some (t, its_job) is)

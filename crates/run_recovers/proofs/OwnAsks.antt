@@ -93,11 +93,12 @@ module _ (opening : Opening) (first : World) (agent t : ℕ) (before : Agent) (c
   pub own_fetch : (suite : ℕ) (old : State) → next_of fixed m.here.agent ≡ Some (server, request.Fetch t suite) → server_at first server ≡ Some old
       → (is_up first server ≡ true) × (reply_of st (request.Fetch t suite) ≡ reply.Given (copy_of old.store suite).dver (copy_of old.store suite).content)
   own_fetch suite old next was =
-      let up = own_up opening first agent t before caller site ops w later m (server, request.Fetch t suite) st next at refl in
-      (up,
-      replies_up (request.Fetch t suite) next up
-      ∙ ap (λ b. cond b (given (copy_of st.store suite)) reply.Lost) (its_finds (request.Fetch t suite) next)
-      ∙ ap given (m.still (own_open (request.Fetch t suite) next refl) server st old at was suite))
+      let up = own_up opening first agent t before caller site ops w later m (server, request.Fetch t suite) st next at refl in (
+        up,
+        replies_up (request.Fetch t suite) next up
+            ∙ ap (λ b. cond b (given (copy_of st.store suite)) reply.Lost) (its_finds (request.Fetch t suite) next)
+            ∙ ap given (m.still (own_open (request.Fetch t suite) next refl) server st old at was suite),
+      )
 
   pub own_prepare : (parts : List Part) → next_of fixed m.here.agent ≡ Some (server, request.Prepare t parts) → (is_up first server ≡ true) × (reply_of st (request.Prepare t parts) ≡ reply.Prepared)
   own_prepare parts next =
