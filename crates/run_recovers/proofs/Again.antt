@@ -1,5 +1,5 @@
 -- A transaction that is begun again and again where its votes are up: one of as many tries as there are servers is decided.
-use Rattle.std.proofs.Common.{◌≡◌, ◌≢◌, ◌⊎◌, inl, inr, ⊎_elim, ℕ, zero, suc, ◌+◌, ◌<◌, ◌≤◌, Bool, true, false, cond, List, [], ◌∷◌, ◌++◌, append_assoc, length, Option, Some, None, is_some, Result, Ok, Err, refl, sym, ap, subst, ◌∙◌, arith}
+use Rattle.std.proofs.Common.{◌≡◌, ◌≢◌, ◌⊎◌, inl, inr, ⊎_elim, ℕ, zero, suc, ◌+◌, ◌<◌, ◌≤◌, Bool, true, false, cond, List, [], ◌∷◌, ◌++◌, append-nil, append_assoc, length, Option, Some, None, is_some, Result, Ok, Err, refl, sym, ap, subst, ◌∙◌, arith}
 use Rattle.std.specs.Prelude.{◌*◌, ◌==◌, ◌&&◌, ◌||◌, not, nat_lt, slice_get, Contains, option_map}
 use Rattle.std.specs.List.{cons_option, list_any, list_all}
 use Rattle.std.proofs.lemmas.Bool.{false≢true, and_parts, eqb-true}
@@ -57,10 +57,9 @@ use Rattle.run_recovers.specs.Alone.{hinders, unhindered_from}
 use Rattle.run_recovers.specs.Demands.{demands, first_short, led_to, newer_from, MayStart, VotesAreUp}
 use Rattle.run_recovers.specs.Laws as laws
 use Rattle.run_recovers.specs.Laws.{GoesAlone, EndsByVotes, ending_of, answer_on, again, goes_again, OneIsDecided, OneOfThemIsDecided}
-use Rattle.run_recovers.proofs.HadVotes.{none_by}
+use Rattle.one_table.proofs.Logs.{no_task}
 use Rattle.run_recovers.proofs.Homes.{homes_go_round}
-use Rattle.run_recovers.proofs.Found.{at_has}
-use Rattle.run_recovers.proofs.Quiet.{append_none}
+use Rattle.run_alone.proofs.Clear.{at_has}
 use Rattle.run_recovers.proofs.Took.{OwnTook, own_took}
 use Rattle.run_recovers.proofs.Moments.{Moment, beside, takes, moment_first, first_all, first_here}
 use Rattle.run_recovers.proofs.Stands.{Ground, EndsRight, AfterStands}
@@ -281,7 +280,7 @@ module _ (given : Opening) (events later : List Event) (agent t : ℕ) (caller :
   decisions_begun : decisions given (moment_first given events later agent t caller site ops actor goes).all ≡ decisions given events
   decisions_begun =
       ap (decisions given) (first_all given events later agent t caller site ops actor goes) ∙ decisions_from-append fixed (opening given) events (Begin agent job ∷ [])
-      ∙ ap (λ found. decisions given events ++ cons_option found []) (none_by first (step fixed first (Begin agent job)).done.served) ∙ append_none (decisions given events)
+      ∙ ap (λ found. decisions given events ++ cons_option found []) (no_task first (step fixed first (Begin agent job)).done.served) ∙ append-nil (decisions given events)
 
   abbrev now_first : Now begun_world later
   now_first = record {
@@ -342,7 +341,7 @@ module _ (given : Opening) (events later : List Event) (agent t : ℕ) (caller :
       last = leaves.last_in given events later agent t caller site ops actor goes down met later begun_world now_first still_first goes.alone
 
       all_is : last.now.m.all ≡ last_events
-      all_is = sym (append_none last.now.m.all) ∙ last.still.whole
+      all_is = sym (append-nil last.now.m.all) ∙ last.still.whole
 
       pub run_is : run given last_events ≡ last_world
       run_is = appending.after-append fixed (opening given) events (Begin agent job ∷ later)

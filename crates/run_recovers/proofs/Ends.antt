@@ -1,5 +1,5 @@
 -- A transaction that goes alone ends as the votes say that are up.
-use Rattle.std.proofs.Common.{◌≡◌, ◌≢◌, ◌⊎◌, inl, inr, ⊎_elim, ℕ, ◌+◌, Bool, true, false, cond, List, [], ◌∷◌, ◌++◌, Option, Some, None, is_some, refl, sym, ap, subst, ◌∙◌, arith}
+use Rattle.std.proofs.Common.{◌≡◌, ◌≢◌, ◌⊎◌, inl, inr, ⊎_elim, ℕ, ◌+◌, Bool, true, false, cond, List, [], ◌∷◌, ◌++◌, append-nil, Option, Some, None, is_some, refl, sym, ap, subst, ◌∙◌, arith}
 use Rattle.std.specs.Prelude.{◌*◌, ◌&&◌, not, nat_lt, Contains}
 use Rattle.std.specs.List.{cons_option}
 use Rattle.std.specs.Ordering.{nat_cmp}
@@ -70,9 +70,9 @@ use Rattle.run_recovers.specs.Alone.{hinders, unhindered_from}
 use Rattle.run_recovers.specs.Demands.{demands, first_short}
 use Rattle.run_recovers.specs.Laws.{GoesAlone, EndsByVotes, EndsAreByVotes, ending_by, answer_on}
 use Rattle.run_recovers.proofs.Aside.{Aside, event_aside}
-use Rattle.run_recovers.proofs.Led.{Answers, answers_so, rules_of}
+use Rattle.run_recovers.proofs.Led.{rules_of}
+use Rattle.run_recovers.proofs.Polled.{Answers, answers_so}
 use Rattle.run_recovers.proofs.Rows.{start_was}
-use Rattle.run_recovers.proofs.Quiet.{append_none}
 use Rattle.run_recovers.proofs.Took.{OwnTook, own_took}
 use Rattle.run_recovers.proofs.Still.{IsOpen, IsOpenPhase, open_before, open_undecided}
 use Rattle.run_recovers.proofs.Moments.{Moment, mine, own_up, own_resolve, Beside, Takes, beside, takes, moment_first, first_all, first_here}
@@ -80,7 +80,7 @@ use Rattle.run_recovers.proofs.OwnAsks.{own_asks, own_fetch, own_prepare, own_de
 use Rattle.run_recovers.proofs.Stands.{Ground, EndsRight, PhaseStands, AfterStands, StepStands}
 use Rattle.run_recovers.proofs.Executes.{begin_stands}
 use Rattle.run_recovers.proofs.Heard.{RightFor, MayExecute, AsksFor, asks_for, KnowsSo, reply_stands}
-use Rattle.run_recovers.proofs.HadVotes.{none_by}
+use Rattle.one_table.proofs.Logs.{no_task}
 use Rattle.run_recovers.proofs.Knew.{undecided_aside, undecided_own, stands_on, unrecorded_on, unanswered, knows_table}
 
 -- ---- where it may execute next
@@ -289,7 +289,7 @@ module _ (given : Opening) (events later : List Event) (agent t : ℕ) (caller :
       none_decided is before =
           let none : decided fixed (run given m.all) event ≡ None =
           ap (decided fixed (run given m.all)) own ∙ ap (λ w. decided fixed w (Step agent)) (sym m.run_is) ∙ undecided_own fixed w agent m.here tk.asked tk.st is resolves_none m.there tk.next tk.at in
-          ap (decisions given) tk.all ∙ decisions_from-append fixed (opening given) m.all (event ∷ []) ∙ ap (λ found. decisions given m.all ++ cons_option found []) none ∙ append_none (decisions given m.all) ∙ before
+          ap (decisions given) tk.all ∙ decisions_from-append fixed (opening given) m.all (event ∷ []) ∙ ap (λ found. decisions given m.all ++ cons_option found []) none ∙ append-nil (decisions given m.all) ∙ before
 
       pub same_asked : took.asked ≡ tk.asked
       same_asked = same_Some took.asked tk.asked (sym took.next ∙ tk.next)
@@ -403,7 +403,7 @@ module _ (given : Opening) (events later : List Event) (agent t : ℕ) (caller :
         m = m;
         stands = subst (λ (agent : Agent). StandsIn agent.cache agent.doing) (sym (first_here given events later agent t caller site ops actor goes)) first_stands;
         none = λ _. ap (decisions given) (first_all given events later agent t caller site ops actor goes) ∙ decisions_from-append fixed (opening given) events (Begin agent job ∷ [])
-            ∙ ap (λ found. decisions given events ++ cons_option found []) (none_by first (step fixed first (Begin agent job)).done.served) ∙ append_none (decisions given events);
+            ∙ ap (λ found. decisions given events ++ cons_option found []) (no_task first (step fixed first (Begin agent job)).done.served) ∙ append-nil (decisions given events);
       }
 
   module _ (w : World) (event : Event) (rest : List Event) (n : Now w (event ∷ rest)) (calm : hinders given agent w event ≡ false) (none : decided fixed w event ≡ None) (b : Beside given first agent t actor.agent caller site ops w event rest n.m calm) where
@@ -413,7 +413,7 @@ module _ (given : Opening) (events later : List Event) (agent t : ℕ) (caller :
     pub aside_none : IsOpen b.new.here.agent.doing → decisions given b.new.all ≡ decisions given events
     aside_none open' =
         ap (decisions given) b.all ∙ decisions_from-append fixed (opening given) n.m.all (event ∷ [])
-        ∙ ap (λ found. decisions given n.m.all ++ cons_option found []) (ap (λ w. decided fixed w event) (sym n.m.run_is) ∙ none) ∙ append_none (decisions given n.m.all)
+        ∙ ap (λ found. decisions given n.m.all ++ cons_option found []) (ap (λ w. decided fixed w event) (sym n.m.run_is) ∙ none) ∙ append-nil (decisions given n.m.all)
         ∙ n.none (subst (λ (here : Actor). IsOpen here.agent.doing) b.here open')
 
     aside_now : Now (step fixed w event).world rest

@@ -31,9 +31,10 @@ use Rattle.run_core.specs.Worlds.{World}
 use Rattle.run_recovers.specs.Standing.{is_up}
 use Rattle.run_recovers.specs.Demands.{is_met, demand, led_to, has_asked}
 use Rattle.run_recovers.proofs.Asking.{onto, held_in, held_if}
-use Rattle.run_recovers.proofs.Led.{gathering, Reached, nobody_busy, at_current, reached_short, reached_current}
+use Rattle.run_recovers.proofs.Led.{Reached, reached_short, reached_current}
+use Rattle.run_recovers.proofs.Polled.{gathering, nobody_busy, at_current}
 use Rattle.run_recovers.proofs.Widened.{short_busy}
-use Rattle.run_recovers.proofs.HadVotes.{holds_shared}
+use Rattle.run_recovers.proofs.Downs.{holds_shared}
 use Rattle.run_recovers.proofs.Stands.{Ground, locks_on, needed_on, of_lock, EndsRight, ends_short, short_lock, IsRight, IsHad, start_of, starts, may_start, had_met, SameStart, had_with, Asked, Hints, IsFound, found_start, found_right, HasLock, IsWhole, IsReady, IsGathering, StepStands, told_stands}
 
 -- ---- voters
@@ -123,7 +124,7 @@ module _ (fixed : Fixed) (world : World) (table : PlainTable) (task : Task) (cac
       let at = found.reached in
       let c : Collector = gathering found.start at.mode at.told in
       let enough : nat_le (needed_of at.mode (newest found.start at.told).votes) (votes_in (newest found.start at.told).votes.reps (holds at.mode at.told)) ≡ true =
-      subst (λ (c : Collector). nat_le (needed c) (got c) ≡ true) at.is (at_current fixed world z suite.collector prefix dver members is).enough in
+      subst (λ (c : Collector). nat_le (needed c) (got c) ≡ true) at.is (at_current suite.collector prefix dver members is).enough in
       let valid = ground.valid z (newest found.start at.told) at.going.known in
       let voter = some_voter (newest found.start at.told).votes.reps (holds at.mode at.told)
       (above_none (needed_of at.mode (newest found.start at.told).votes) (votes_in (newest found.start at.told).votes.reps (holds at.mode at.told)) (wants_some (newest found.start at.told).votes valid at.mode) enough) in

@@ -64,7 +64,9 @@ use Rattle.run_alone.proofs.Standing.{Stands, AllSpare, all_spare-append, stands
 use Rattle.run_alone.proofs.Known.{is_known, known_owed}
 use Rattle.run_alone.proofs.Reached.{can_front}
 use Rattle.run_recovers.specs.Alone.{hinders}
-use Rattle.run_recovers.proofs.HadVotes.{none_by, decided_none, down_decides_none}
+use Rattle.run_recovers.proofs.AtDecision.{decided_none}
+use Rattle.run_recovers.proofs.Downs.{down_decides_none}
+use Rattle.one_table.proofs.Logs.{no_task}
 use Rattle.run_recovers.proofs.Took.{OwnTook}
 use Rattle.run_recovers.proofs.Still.{record_stays}
 
@@ -134,23 +136,23 @@ module _ (fixed : Fixed) (w : World) (i : ℕ) (actor : Actor) (asked : ℕ × R
 -- an event that does not hinder an agent decides nothing, but it is that agent's own step
 pub undecided_aside : (given : Opening) (agent : ℕ) (w : World) (event : Event) → hinders given agent w event ≡ false
     → (decided (fixed_of given) w event ≡ None) ⊎ ((event ≡ Step agent) × (is_some (step (fixed_of given) w event).done.served ≡ true))
-undecided_aside given agent w (Begin i job) calm = inl (none_by w _)
-undecided_aside given agent w (Crash server) calm = inl (none_by w _)
-undecided_aside given agent w (Return server) calm = inl (none_by w _)
-undecided_aside given agent w (Forget i site) calm = inl (none_by w _)
-undecided_aside given agent w (Lack i why) calm = inl (none_by w _)
+undecided_aside given agent w (Begin i job) calm = inl (no_task w _)
+undecided_aside given agent w (Crash server) calm = inl (no_task w _)
+undecided_aside given agent w (Return server) calm = inl (no_task w _)
+undecided_aside given agent w (Forget i site) calm = inl (no_task w _)
+undecided_aside given agent w (Lack i why) calm = inl (no_task w _)
 undecided_aside given agent w (Step number) calm = of (actor_at w number) (number == agent) refl (is_some (step (fixed_of given) w (Step number)).done.served) refl calm
   where
     by : (doing : Option Doing) (b served : Bool) → (number == agent) ≡ b → is_some (step (fixed_of given) w (Step number)).done.served ≡ served → (not (is_idle doing) && not (b && served)) ≡ false
         → (decided_by w (task_of doing) (step (fixed_of given) w (Step number)).done.served ≡ None) ⊎ ((Step number ≡ Step agent) × (is_some (step (fixed_of given) w (Step number)).done.served ≡ true))
-    by None b served at is calm = inl (none_by w _)
+    by None b served at is calm = inl (no_task w _)
     by (Some doing) true true at is calm = inr (ap Step (same_at number agent at), is)
     by (Some doing) true false at is calm = absurd (false≢true (sym calm))
     by (Some doing) false served at is calm = absurd (false≢true (sym calm))
 
     of : (found : Option Actor) (b : Bool) → (number == agent) ≡ b → (served : Bool) → is_some (step (fixed_of given) w (Step number)).done.served ≡ served → (not (has_no_job found) && not (b && served)) ≡ false
         → (decided_by w (task_at found) (step (fixed_of given) w (Step number)).done.served ≡ None) ⊎ ((Step number ≡ Step agent) × (is_some (step (fixed_of given) w (Step number)).done.served ≡ true))
-    of None b at served is calm = inl (none_by w _)
+    of None b at served is calm = inl (no_task w _)
     of (Some actor) b at served is calm = by actor.agent.doing b served at is calm
 
 -- ---- right after an own step that takes no lock away

@@ -1,5 +1,5 @@
 -- What a transaction that goes alone leaves where its votes are up and its home is not: no lock at a server that is up, and all else as it was.
-use Rattle.std.proofs.Common.{◌≡◌, ◌≢◌, ◌⊎◌, inl, inr, ⊎_elim, ℕ, ◌+◌, ◌<◌, Bool, true, false, cond, List, [], ◌∷◌, ◌++◌, append_assoc, length, Option, Some, None, is_some, refl, sym, ap, subst, ◌∙◌, arith}
+use Rattle.std.proofs.Common.{◌≡◌, ◌≢◌, ◌⊎◌, inl, inr, ⊎_elim, ℕ, ◌+◌, ◌<◌, Bool, true, false, cond, List, [], ◌∷◌, ◌++◌, append-nil, append_assoc, length, Option, Some, None, is_some, refl, sym, ap, subst, ◌∙◌, arith}
 use Rattle.std.specs.Prelude.{◌*◌, ◌==◌, ◌&&◌, ◌||◌, not, find, slice_get, slice_set}
 use Rattle.std.specs.List.{cons_option}
 use Rattle.std.proofs.lemmas.Bool.{false≢true, and_parts}
@@ -69,8 +69,8 @@ use Rattle.run_recovers.specs.Alone.{hinders, unhindered_from}
 use Rattle.run_recovers.specs.Demands.{Demand, demands, first_short, is_met, all_met, VotesAreUp}
 use Rattle.run_recovers.specs.Laws as laws
 use Rattle.run_recovers.specs.Laws.{GoesAlone, answer_on}
-use Rattle.run_recovers.proofs.HadVotes.{held-append, none_by}
-use Rattle.run_recovers.proofs.Quiet.{append_none}
+use Rattle.run_recovers.proofs.Downs.{held-append}
+use Rattle.one_table.proofs.Logs.{no_task}
 use Rattle.run_recovers.proofs.Took.{OwnTook, own_took}
 use Rattle.run_recovers.proofs.Aside.{Aside}
 use Rattle.run_recovers.proofs.Still.{IsOpen, IsOpenPhase, open_next}
@@ -446,7 +446,7 @@ module _ (given : Opening) (events later : List Event) (agent t : ℕ) (caller :
       none_now =
           let none : decided fixed (run given m.all) event ≡ None =
           ap (decided fixed (run given m.all)) own ∙ ap (λ w. decided fixed w (Step agent)) (sym m.run_is) ∙ unanswered_own fixed w agent m.here tk.asked tk.st (answers_for course.phase refl) m.there tk.next tk.at in
-          ap (decisions given) tk.all ∙ decisions_from-append fixed (opening given) m.all (event ∷ []) ∙ ap (λ found. decisions given m.all ++ cons_option found []) none ∙ append_none (decisions given m.all) ∙ s.none
+          ap (decisions given) tk.all ∙ decisions_from-append fixed (opening given) m.all (event ∷ []) ∙ ap (λ found. decisions given m.all ++ cons_option found []) none ∙ append-nil (decisions given m.all) ∙ s.none
 
       pub course_still : Still next_world rest tk.new
       course_still = record {
@@ -479,7 +479,7 @@ module _ (given : Opening) (events later : List Event) (agent t : ℕ) (caller :
     left = subst (λ (here : Actor). LeftBy (step fixed w event).world here.agent.doing) (sym b.here) (of n.m.here.agent.doing s.left);
     stored = λ i st old at was z. s.stored i st old (at_server i st at) was z;
     none = ap (decisions given) b.all ∙ decisions_from-append fixed (opening given) n.m.all (event ∷ [])
-        ∙ ap (λ found. decisions given n.m.all ++ cons_option found []) (ap (λ w. decided fixed w event) (sym n.m.run_is) ∙ none) ∙ append_none (decisions given n.m.all) ∙ s.none;
+        ∙ ap (λ found. decisions given n.m.all ++ cons_option found []) (ap (λ w. decided fixed w event) (sym n.m.run_is) ∙ none) ∙ append-nil (decisions given n.m.all) ∙ s.none;
     led = subst (λ (here : Actor). HintsLed fixed first cache site here.agent.cache) (sym b.here) s.led;
     whole = ap (λ all. all ++ rest) b.all ∙ append_assoc n.m.all (event ∷ []) rest ∙ s.whole;
   }

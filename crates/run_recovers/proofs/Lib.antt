@@ -7,6 +7,8 @@ pub mod Swept
 pub mod Rounds
 pub mod Found
 pub mod Leading
+pub mod Picks
+pub mod Polled
 pub mod Led
 pub mod Rows
 pub mod Free
@@ -17,6 +19,10 @@ pub mod Taken
 pub mod Quiet
 pub mod Calm
 pub mod Stored
+pub mod Downs
+pub mod Since
+pub mod Decider
+pub mod AtDecision
 pub mod HadVotes
 pub mod Took
 pub mod Still
@@ -42,3 +48,4 @@ pub mod NotHome
 pub mod Freed
 pub mod Leaves
 pub mod Again
+pub mod Promised

@@ -17,7 +17,8 @@ use Rattle.txn_core.specs.Doing.{Fixed}
 use Rattle.run_core.specs.Worlds.{World}
 use Rattle.run_recovers.specs.Standing.{is_up, shown_at}
 use Rattle.run_recovers.specs.Demands.{Demand, demand, demands, all_met, shows_newer, newer_from, led_on, led_so_far, led_to, locks_asked, votes_set, MayStart, MayStartAll, VotesAreUp}
-use Rattle.run_recovers.proofs.Led.{votes_alike, stays}
+use Rattle.run_recovers.proofs.Leading.{stays}
+use Rattle.run_recovers.proofs.Picks.{votes_alike}
 use Rattle.run_recovers.proofs.Unmoved.{map_alike}
 
 find_alike : {X : Type 0} (f g : X → Bool) → ((x : X) → f x ≡ g x) → (xs : List X) → find f xs ≡ find g xs
