@@ -1,6 +1,6 @@
 -- What a request leaves of a server's locks and copies: who asks for no lock leaves none more, and a Finish of what was not answered changes no copy.
 use Rattle.std.proofs.Common.{◌≡◌, ◌⊎◌, inl, inr, ⊎_elim, ℕ, Bool, true, false, cond, List, [], ◌∷◌, Option, Some, None, refl, sym, ap, subst, ◌∙◌, arith}
-use Rattle.std.specs.Prelude.{◌==◌, ◌&&◌, not, filter, map}
+use Rattle.std.specs.Prelude.{◌==◌, ◌&&◌, ◌||◌, not, filter, map}
 use Rattle.std.proofs.lemmas.Bool.{false≢true}
 use Rattle.std.proofs.lemmas.Bool.Decides.{nat_tests}
 use Rattle.suite_prefix.specs.declared.lock_mode.LockMode.{LockMode}
@@ -17,7 +17,30 @@ use Rattle.rep_core.specs.Service.{is_answered, after_up, after_down}
 use Rattle.rep_core.specs.Serving.{is_full, served}
 use Rattle.rep_core.proofs.Members.{Has, has_filter, has_between, has_map, any_has}
 use Rattle.rep_core.proofs.Ways.{Ways, by_request, room}
+use Rattle.suite_prefix.specs.declared.lock_mode.LockMode.TheVariants.{Shared}
+use Rattle.suite_collect.specs.Telling.{holds}
+use Rattle.txn_core.specs.Suites.{Suite, told_in, holds_lock}
+use Rattle.txn_core.specs.Undecided.{is_finish}
 use Rattle.run_alone.proofs.Own.{AreOwn}
+
+-- ---- tests
+
+pub or_left : (a b : Bool) → a ≡ true → (a || b) ≡ true
+or_left true b is = refl
+or_left false b is = absurd (false≢true is)
+
+pub or_right : (a b : Bool) → b ≡ true → (a || b) ≡ true
+or_right true b is = refl
+or_right false b is = is
+
+pub or_none : (a b : Bool) → b ≡ false → (a || b) ≡ true → a ≡ true
+or_none true b none is = refl
+or_none false b none is = absurd (false≢true (sym none ∙ is))
+
+pub itself : (n : ℕ) → (n == n) ≡ true
+itself n = grind (arith, nat_tests)
+
+-- ---- locks
 
 -- each of these locks is of such a suite
 abbrev pub LocksIn : (ℕ → Type 0) → List Lock → Type 0
@@ -80,6 +103,19 @@ abbrev pub Spares : Request → Type 0
 Spares (request.Finish t v) = is_answered v ≡ false
 Spares other = Unit {0}
 
+pub spares_other : (asked : Request) → is_finish asked ≡ false → Spares asked
+spares_other (request.Finish t v) is = absurd (false≢true (sym is))
+spares_other (request.Poll t suite mode) is = tt
+spares_other (request.Upgrade t suite) is = tt
+spares_other (request.Fetch t suite) is = tt
+spares_other (request.Prepare t parts) is = tt
+spares_other (request.Decide t decision) is = tt
+spares_other (request.Resolve t) is = tt
+spares_other (request.Break t suite) is = tt
+spares_other request.Locks is = tt
+spares_other request.Crash is = tt
+spares_other request.Return is = tt
+
 abbrev SameCopy : State → ℕ → Request → State → Type 0
 SameCopy st z asked new = Spares asked → copy_of new.store z ≡ copy_of st.store z
 
@@ -113,3 +149,9 @@ none_after st t stamp v up own lock has =
       where
         itself : (a b : ℕ) → a ≡ b → (a == b) ≡ true
         itself a b same = grind (arith, nat_tests)
+
+-- ---- who is told of a lock
+
+pub told_some : (found : Option Suite) (i : ℕ) → holds Shared (told_in found) i ≡ true → (suite : Suite) × (found ≡ Some suite) × (holds_lock suite i ≡ true)
+told_some (Some suite) i is = (suite, refl, is)
+told_some None i is = absurd (false≢true is)

@@ -79,7 +79,7 @@ use Rattle.run_recovers.proofs.Stands.{EndsRight, PhaseStands, AfterStands, Step
 use Rattle.run_recovers.proofs.SameDemands.{HintsLed}
 use Rattle.run_recovers.proofs.Hinted.{reply_hints}
 use Rattle.run_recovers.proofs.NotHome.{is_home, told_in as told_by, ended_in, IsBefore, reply_not}
-use Rattle.run_recovers.proofs.Freed.{LocksIn, Brings, locks_stay, Spares, copy_kept, none_after}
+use Rattle.run_recovers.proofs.Freed.{or_left, or_right, or_none, itself, LocksIn, Brings, locks_stay, Spares, spares_other, copy_kept, none_after, told_some}
 use Rattle.run_recovers.proofs.Knows.{any_at, among_numbers}
 use Rattle.run_recovers.proofs.Knew.{answers_none, unanswered_own}
 use Rattle.run_recovers.proofs.Ends as ends
@@ -91,39 +91,6 @@ none_of (one ∷ all) met =
       | true ↦ λ met. none_of all met
       | false ↦ λ met. absurd (false≢true met)
     ] met
-
-or_left : (a b : Bool) → a ≡ true → (a || b) ≡ true
-or_left true b is = refl
-or_left false b is = absurd (false≢true is)
-
-or_right : (a b : Bool) → b ≡ true → (a || b) ≡ true
-or_right true b is = refl
-or_right false b is = is
-
-or_none : (a b : Bool) → b ≡ false → (a || b) ≡ true → a ≡ true
-or_none true b none is = refl
-or_none false b none is = absurd (false≢true (sym none ∙ is))
-
-itself : (n : ℕ) → (n == n) ≡ true
-itself n = grind (arith, nat_tests)
-
-spares_other : (asked : Request) → is_finish asked ≡ false → Spares asked
-spares_other (request.Finish t v) is = absurd (false≢true (sym is))
-spares_other (request.Poll t suite mode) is = tt
-spares_other (request.Upgrade t suite) is = tt
-spares_other (request.Fetch t suite) is = tt
-spares_other (request.Prepare t parts) is = tt
-spares_other (request.Decide t decision) is = tt
-spares_other (request.Resolve t) is = tt
-spares_other (request.Break t suite) is = tt
-spares_other request.Locks is = tt
-spares_other request.Crash is = tt
-spares_other request.Return is = tt
-
--- whoever is told of a lock
-told_some : (found : Option Suite) (i : ℕ) → holds Shared (told_in found) i ≡ true → (suite : Suite) × (found ≡ Some suite) × (holds_lock suite i ≡ true)
-told_some (Some suite) i is = (suite, refl, is)
-told_some None i is = absurd (false≢true is)
 
 module _ (given : Opening) (events later : List Event) (agent t : ℕ) (caller : Identity) (site : ℕ) (ops : List Op) (actor : Actor) (goes : GoesAlone given events later agent t caller site ops actor)
     (down : is_up (run given events) (home_of (fixed_of given).service t) ≡ false) (met : VotesAreUp (fixed_of given) (run given events) (table_of given events) actor.agent.cache t site caller ops) where

@@ -47,5 +47,6 @@ pub mod Hinted
 pub mod NotHome
 pub mod Freed
 pub mod Leaves
+pub mod Tries
 pub mod Again
 pub mod Promised
