@@ -30,5 +30,6 @@ pub mod Replied
 pub mod Lefts
 pub mod Requests
 pub mod NeverLost
+pub mod Goes
 pub mod Decided
 pub mod Alike
