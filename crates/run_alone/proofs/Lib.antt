@@ -31,5 +31,6 @@ pub mod Lefts
 pub mod Requests
 pub mod NeverLost
 pub mod Goes
+pub mod Undisturbed
 pub mod Decided
 pub mod Alike
