@@ -45,7 +45,7 @@ use Rattle.run_alone.proofs.Reached.{can_front, run_more}
 use Rattle.run_alone.proofs.Holding.{PhaseStands, DoingStands, event_stands}
 use Rattle.run_alone.proofs.Whole.{Carried, next_machines, carried_next, carried_by}
 use Rattle.run_alone.proofs.Requests.{Finds, finds, not_lost, stands_where}
-use Rattle.run_alone.proofs.NeverLost.{AllStand, begun_stands, started_untold}
+use Rattle.run_alone.proofs.Untold.{AllStand, begun_stands, started_untold}
 
 module _ (given : Opening) (up : ℕ → Bool) (t turn : ℕ) where
   abbrev fixed : Fixed

@@ -1,5 +1,5 @@
 -- Parts of a run, and what is known of each.
-use Rattle.std.proofs.Common.{◌≡◌, ◌+◌, List, [], ◌∷◌, ◌++◌}
+use Rattle.std.proofs.Common.{◌≡◌, List, [], ◌∷◌, ◌++◌}
 use Rattle.suite_prefix.specs.SettingsRules.{Opening}
 use Rattle.txn_core.specs.Agents.{fixed_of}
 use Rattle.run_core.specs.declared.event.Event.{Event}

@@ -20,7 +20,7 @@ use Rattle.run_core.specs.declared.event.Event.{Event}
 use Rattle.run_core.specs.declared.event.Event.TheVariants.{Begin}
 use Rattle.run_core.specs.declared.done.Outcome.{Outcome}
 use Rattle.run_core.specs.Worlds.{Actor, World, server_at, actor_at, outcome_of, step, becomes}
-use Rattle.run_core.specs.Runs.{after, run}
+use Rattle.run_core.specs.Runs.{run}
 use Rattle.run_laws.specs.Numbers.{number_of, begins_now}
 use Rattle.run_laws.proofs.Agents.{IsAt}
 use Rattle.run_laws.proofs.Words.{leaves_word}
@@ -37,7 +37,6 @@ use Rattle.acl_core.specs.Identity.{Identity}
 use Rattle.file_ops.specs.declared.operation.Op.{Op}
 use Rattle.txn_core.specs.declared.job.Job.{Job}
 use Rattle.txn_core.specs.declared.job.Job.TheVariants.{Transaction}
-use Rattle.run_laws.specs.Claims.{ended}
 use Rattle.headline.specs.Premises.{CanBe, JobGivesValidVotes}
 use Rattle.run_alone.proofs.Starts.{starts}
 use Rattle.run_alone.proofs.Unhindered.{Facts, no_crash, after_decided, goes_on}

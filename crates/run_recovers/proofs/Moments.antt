@@ -56,7 +56,7 @@ use Rattle.run_alone.proofs.Reached.{can_front}
 use Rattle.run_alone.proofs.Whole.{Carried}
 use Rattle.run_alone.proofs.Goes as alone
 use Rattle.run_alone.proofs.Requests.{Finds}
-use Rattle.run_alone.proofs.NeverLost.{AllStand}
+use Rattle.run_alone.proofs.Untold.{AllStand}
 use Rattle.run_recovers.specs.Standing.{up_in, is_up}
 use Rattle.run_recovers.specs.Alone.{hinders}
 use Rattle.run_recovers.specs.Laws.{GoesAlone}

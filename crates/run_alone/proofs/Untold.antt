@@ -18,7 +18,6 @@ use Rattle.txn_core.proofs.Locks.{Leaves, are_nil, leaves_execute}
 use Rattle.run_core.specs.declared.event.Event.{Event}
 use Rattle.run_core.specs.Worlds as worlds
 use Rattle.run_core.specs.Worlds.{Actor, actor_at, becomes}
-use Rattle.run_core.specs.Runs.{after}
 use Rattle.run_laws.specs.Numbers.{begins_now}
 use Rattle.suite_machine.specs.Machine.{World}
 use Rattle.run_machine.proofs.Turned.{only, set_here}
