@@ -4,12 +4,12 @@
 Each file of examples/ has to be the input of a row of crates/rows/stdin; each script, command and output that
 README.md shows has to be that of a row, and an output that of the script or the command before it. The picture and
 what is shown of `./suites trace` have to be those of the trace which the program of crates/trace is to print of the
-same script (its stdin and stdout). What differs is told, and the status is 1. The rows themselves are played by the
-program of crates/rows.
+same script (its stdin and stdout), and what is shown of `./suites votes` what tools/votes.py tells. What differs is
+told, and the status is 1. The rows themselves are played by the program of crates/rows.
 """
 import os, re, sys
 
-import draw, sources, trace
+import draw, sources, trace, votes
 
 TOP = os.path.join(os.path.dirname(os.path.abspath(__file__)), "..")
 PICTURE, STORY = "docs/revocation.svg", "examples/play/revocation.script"
@@ -84,6 +84,14 @@ def traced(block):
     return None
 
 
+def told_of_votes(block):
+    """What `./suites votes` tells, where a block shows that."""
+    match = re.fullmatch(r"\$ \./suites votes (\S+)", block[0].decode())
+    if match:
+        return "".join(f"{line}\n" for line in votes.told_of_word(match[1])).encode()
+    return None
+
+
 def main():
     played, wrong = rows(), []
     inputs = {given for _, given, _ in played}
@@ -95,7 +103,7 @@ def main():
     for number, block in blocks(content("README.md")):
         text = b"\n".join(block) + b"\n"
         if re.match(rb"\$ |\./|\.ci/", block[0]):
-            outputs = {traced(block)} - {None}
+            outputs = {traced(block), told_of_votes(block)} - {None}
             for words, name in commands(block):
                 those = {printed for word, given, printed in played if word == words and given == content(name)}
                 outputs |= those

@@ -137,7 +137,7 @@ none_at (Some st) (Some t) = of (is_some (record_of st t))
     of true = refl
     of false = refl
 
-no_task : (world : worlds.World) (what : Option Served) → decided_by world None what ≡ None
+pub no_task : (world : worlds.World) (what : Option Served) → decided_by world None what ≡ None
 no_task world None = refl
 no_task world (Some what) = none_at (server_at world what.server) (to_decide what.request.value)
 

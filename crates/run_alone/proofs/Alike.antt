@@ -1,6 +1,6 @@
 -- In a run in which nothing disturbs any transaction all of them are decided, but for one that still runs.
-use Rattle.std.proofs.Common.{◌≡◌, ◌⊎◌, inl, inr, ⊎_elim, ℕ, zero, suc, Bool, true, false, List, [], ◌∷◌, ◌++◌, append_assoc, Option, Some, None, refl, sym, ap, subst, ◌∙◌}
-use Rattle.std.specs.Prelude.{◌&&◌, ◌||◌, not, is_some, slice_get}
+use Rattle.std.proofs.Common.{◌≡◌, ◌⊎◌, inl, inr, ⊎_elim, ℕ, Bool, true, false, List, [], ◌∷◌, ◌++◌, append_assoc, Option, Some, None, refl, sym, ap, subst, ◌∙◌}
+use Rattle.std.specs.Prelude.{◌&&◌, ◌||◌, not, is_some}
 use Rattle.std.specs.List.{cons_option}
 use Rattle.std.proofs.lemmas.Bool.{false≢true, and_parts}
 use Rattle.std.proofs.lemmas.Option.{none-some, same_Some}
@@ -32,6 +32,7 @@ use Rattle.run_alone.specs.Endings.{IsDecided, IsRunning, AllAreDecided, Undistu
 use Rattle.run_alone.specs.Undisturbed.{all_up, no_locks, disturbs, is_decided, begins_clear, some_runs, all_undisturbed_from, all_undisturbed}
 use Rattle.run_alone.proofs.Turns.{with_job, doing_of, doing_at, all_none}
 use Rattle.run_alone.proofs.Owns.{IsMine}
+use Rattle.run_alone.proofs.Clear.{at_has}
 use Rattle.run_alone.proofs.Same.{endings_are_one}
 use Rattle.run_alone.proofs.Reached.{can_front, run_more}
 use Rattle.run_alone.proofs.Undisturbed.{Reached, reached_first, runs_first, next_reached, ended_decided, runs_still}
@@ -74,11 +75,6 @@ decided_last given accepted all job has well = of job.ending refl well
     of (Undecided cause) same well = absurd (false≢true well)
 
 -- ---- who runs
-
-at_has : {X : Type 0} (xs : List X) (i : ℕ) (x : X) → slice_get xs i ≡ Some x → Has xs x
-at_has [] i x is = absurd (none-some x is)
-at_has (y ∷ xs) zero x is = inl (same_Some y x is)
-at_has (y ∷ xs) (suc i) x is = inr (at_has xs i x is)
 
 record Runs (world : World) (agent t : ℕ) : Type 0 where
   running : IsRunning world t

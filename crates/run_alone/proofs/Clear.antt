@@ -131,7 +131,7 @@ run_clear given t turn (event ∷ later) world ds past holds clear crashes none 
 
 -- ---- where it begins
 
-at_has : {X : Type 0} (xs : List X) (i : ℕ) (x : X) → slice_get xs i ≡ Some x → Has xs x
+pub at_has : {X : Type 0} (xs : List X) (i : ℕ) (x : X) → slice_get xs i ≡ Some x → Has xs x
 at_has [] i x is = absurd (none-some x is)
 at_has (y ∷ ys) zero x is = inl (same_Some y x is)
 at_has (y ∷ ys) (suc i) x is = inr (at_has ys i x is)

@@ -179,7 +179,7 @@ takes_word fixed ds number actor word asked d (Some (Rounding round)) next at de
 
 -- ---- where every agent is idle
 
-none_of : (doing : Option Doing) → is_idle doing ≡ true → doing ≡ None
+pub none_of : (doing : Option Doing) → is_idle doing ≡ true → doing ≡ None
 none_of None idle = refl
 none_of (Some doing) idle = cc
 

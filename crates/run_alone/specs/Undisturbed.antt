@@ -36,11 +36,11 @@ is_crash event = false
 abbrev pub none_crashes : List Event → Bool
 none_crashes events = list_all (λ event. not (is_crash event)) events
 
--- A transaction begins so. As long as no server crashes and no other job begins, whatever an agent asks is answered neither Busy nor Down, whatever
+-- After these events a transaction begins so. As long as no server crashes and no other job begins, whatever an agent asks is answered neither Busy nor Down, whatever
 -- locks were lost, copies are old and requests are not served.
-abbrev pub NothingIsInTheWay : Type 0
-NothingIsInTheWay =
-    (given : Opening) → IsAccepted given → (events later : List Event) (agent t : ℕ) (caller : Identity) (site : ℕ) (ops : List Op) →
+abbrev pub NothingIsInTheWayAt : Opening → List Event → Type 0
+NothingIsInTheWayAt given events =
+    (later : List Event) (agent t : ℕ) (caller : Identity) (site : ℕ) (ops : List Op) →
     let begins = Begin agent (Transaction caller site ops) in
     let begun = (step (fixed_of given) (run given events) begins).world in
     begins_job given (run given events) begins ≡ Some (t, Transaction caller site ops)
@@ -48,6 +48,9 @@ NothingIsInTheWay =
     → none_crashes later ≡ true → jobs_from given begun later ≡ []
     → (other : ℕ) (what : Served) → (step (fixed_of given) (after (fixed_of given) begun later) (Step other)).done.served ≡ Some what
     → (is_busy what.reply.value ≡ false) × (is_down what.reply.value ≡ false)
+
+abbrev pub NothingIsInTheWay : Type 0
+NothingIsInTheWay = (given : Opening) → IsAccepted given → (events : List Event) → NothingIsInTheWayAt given events
 
 -- ---- nothing disturbs it
 
@@ -70,11 +73,11 @@ is_decided (Refused refusal) = true
 is_decided (Swept broken finished left) = false
 is_decided (Undecided cause) = false
 
--- A transaction begins where every agent is idle, every server is up and no lock is left. No other job begins, and nothing disturbs: then it is decided
+-- A transaction begins after these events, where every agent is idle, every server is up and no lock is left. No other job begins, and nothing disturbs: then it is decided
 -- when it ends. Old copies and hints, and locks that were lost before, do not matter.
-abbrev pub UndisturbedAreDecided : Type 0
-UndisturbedAreDecided =
-    (given : Opening) (events later : List Event) (agent t : ℕ) (caller : Identity) (site : ℕ) (ops : List Op) →
+abbrev pub UndisturbedAreDecidedAt : Opening → List Event → Type 0
+UndisturbedAreDecidedAt given events =
+    (later : List Event) (agent t : ℕ) (caller : Identity) (site : ℕ) (ops : List Op) →
     let begins = Begin agent (Transaction caller site ops) in
     let begun = (step (fixed_of given) (run given events) begins).world in
     CanBe given (events ++ begins ∷ later)
@@ -82,6 +85,9 @@ UndisturbedAreDecided =
     → all_idle (run given events) ≡ true → all_up (run given events) ≡ true → no_locks (run given events) ≡ true
     → jobs_from given begun later ≡ [] → undisturbed_from given begun later ≡ true
     → (job : Outcome) → Contains (outcomes (dones (fixed_of given) begun later)) job → (number_of job ≡ t) × (is_decided job.ending ≡ true)
+
+abbrev pub UndisturbedAreDecided : Type 0
+UndisturbedAreDecided = (given : Opening) (events : List Event) → UndisturbedAreDecidedAt given events
 
 -- ---- nothing disturbs any
 

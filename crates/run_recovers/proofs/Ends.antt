@@ -1,5 +1,5 @@
 -- A transaction that goes alone ends as the votes say that are up.
-use Rattle.std.proofs.Common.{◌≡◌, ◌≢◌, ◌⊎◌, inl, inr, ⊎_elim, ℕ, ◌+◌, Bool, true, false, cond, List, [], ◌∷◌, ◌++◌, Option, Some, None, is_some, refl, sym, ap, subst, ◌∙◌, arith}
+use Rattle.std.proofs.Common.{◌≡◌, ◌≢◌, ◌⊎◌, inl, inr, ⊎_elim, ℕ, ◌+◌, Bool, true, false, cond, List, [], ◌∷◌, ◌++◌, append-nil, Option, Some, None, is_some, refl, sym, ap, subst, ◌∙◌, arith}
 use Rattle.std.specs.Prelude.{◌*◌, ◌&&◌, not, nat_lt, Contains}
 use Rattle.std.specs.List.{cons_option}
 use Rattle.std.specs.Ordering.{nat_cmp}
@@ -70,9 +70,9 @@ use Rattle.run_recovers.specs.Alone.{hinders, unhindered_from}
 use Rattle.run_recovers.specs.Demands.{demands, first_short}
 use Rattle.run_recovers.specs.Laws.{GoesAlone, EndsByVotes, EndsAreByVotes, ending_by, answer_on}
 use Rattle.run_recovers.proofs.Aside.{Aside, event_aside}
-use Rattle.run_recovers.proofs.Led.{Answers, answers_so, rules_of}
+use Rattle.run_recovers.proofs.Led.{rules_of}
+use Rattle.run_recovers.proofs.Polled.{Answers, answers_so}
 use Rattle.run_recovers.proofs.Rows.{start_was}
-use Rattle.run_recovers.proofs.Quiet.{append_none}
 use Rattle.run_recovers.proofs.Took.{OwnTook, own_took}
 use Rattle.run_recovers.proofs.Still.{IsOpen, IsOpenPhase, open_before, open_undecided}
 use Rattle.run_recovers.proofs.Moments.{Moment, mine, own_up, own_resolve, Beside, Takes, beside, takes, moment_first, first_all, first_here}
@@ -80,7 +80,7 @@ use Rattle.run_recovers.proofs.OwnAsks.{own_asks, own_fetch, own_prepare, own_de
 use Rattle.run_recovers.proofs.Stands.{Ground, EndsRight, PhaseStands, AfterStands, StepStands}
 use Rattle.run_recovers.proofs.Executes.{begin_stands}
 use Rattle.run_recovers.proofs.Heard.{RightFor, MayExecute, AsksFor, asks_for, KnowsSo, reply_stands}
-use Rattle.run_recovers.proofs.HadVotes.{none_by}
+use Rattle.one_table.proofs.Logs.{no_task}
 use Rattle.run_recovers.proofs.Knew.{undecided_aside, undecided_own, stands_on, unrecorded_on, unanswered, knows_table}
 
 -- ---- where it may execute next
@@ -131,11 +131,11 @@ begun_so given actor agent t job =
       | false ↦ λ is. absurd (none-some (t, job) is)
     ]
 
-ending_in : (i : ℕ) (actor : Actor) (ended : Option Ending) (job : Outcome) → outcome_of i actor ended ≡ Some job → ended ≡ Some job.ending
+pub ending_in : (i : ℕ) (actor : Actor) (ended : Option Ending) (job : Outcome) → outcome_of i actor ended ≡ Some job → ended ≡ Some job.ending
 ending_in i actor None job is = absurd (none-some job is)
 ending_in i actor (Some ended) job is = ap (λ (job : Outcome). Some job.ending) (same_Some _ job is)
 
-not_true : (b : Bool) → not b ≡ true → b ≡ false
+pub not_true : (b : Bool) → not b ≡ true → b ≡ false
 not_true true is = sym is
 not_true false is = refl
 
@@ -157,7 +157,7 @@ module _ (given : Opening) (events later : List Event) (agent t : ℕ) (caller :
   abbrev cache : Cache
   cache = actor.agent.cache
 
-  abbrev task : Task
+  abbrev pub task : Task
   task = record { t = 64 * actor.agent.count + actor.agent.index; caller = caller; site = site; ops = ops }
 
   abbrev Was : ℕ → Prefix → Type 0
@@ -173,23 +173,23 @@ module _ (given : Opening) (events later : List Event) (agent t : ℕ) (caller :
     valid = λ z prefix was. subst (λ (p : Prefix). IsValid p.votes) was.1 ((effects.inv given events (all_keep given events can) z).logged.valid prefix.pver);
   }
 
-  same_service : (table_of given events).service ≡ (fixed_of given).service
+  pub same_service : (table_of given events).service ≡ (fixed_of given).service
   same_service = service_stays (rows.opening given) (decisions given events)
 
-  begun : (64 * actor.agent.count + agent ≡ t) × (begins (fixed_of given) actor.agent job ≡ true)
+  pub begun : (64 * actor.agent.count + agent ≡ t) × (begins (fixed_of given) actor.agent job ≡ true)
   begun = begun_so given actor agent t job (ap (λ found. with_job job (begins_now (fixed_of given) agent job found)) (sym goes.there) ∙ goes.begins)
 
-  number_is : 64 * actor.agent.count + actor.agent.index ≡ t
+  pub number_is : 64 * actor.agent.count + actor.agent.index ≡ t
   number_is = ap (λ n. 64 * actor.agent.count + n) ((holds_of given goes.can.accepted events).agents.index agent actor.agent (ap agent_of goes.there)) ∙ begun.0
 
-  abbrev Right : Ending → Type 0
+  abbrev pub Right : Ending → Type 0
   Right ended = EndsRight fixed first table task cache ended
 
-  abbrev Good : CourseStep → Type 0
+  abbrev pub Good : CourseStep → Type 0
   Good step = StepStands fixed first table task cache Was ground step
 
   -- how it stands
-  abbrev StandsIn : Cache → Option Doing → Type 0
+  abbrev pub StandsIn : Cache → Option Doing → Type 0
   StandsIn now None = Unit {0}
   StandsIn now (Some (Rounding round)) = ⊥
   StandsIn now (Some (Running course)) = (course.task ≡ task) × PhaseStands fixed first table task cache Was ground course.suites now course.phase
@@ -208,7 +208,7 @@ module _ (given : Opening) (events later : List Event) (agent t : ℕ) (caller :
       of (GoesOn course) good ended is = absurd (none-some ended is)
       of (Ends other) good ended is = subst (EndsRight fixed first table task cache) (same_Some other ended is) good
 
-  first_stands : StandsIn (begin fixed actor.agent job).cache (begin fixed actor.agent job).doing
+  pub first_stands : StandsIn (begin fixed actor.agent job).cache (begin fixed actor.agent job).doing
   first_stands =
       subst (λ b. StandsIn (begin_if b).cache (begin_if b).doing) (sym begun.1)
       (stands_left (execute fixed task (record { suites = []; cache = actor.agent.cache })) (begin_stands fixed first table task cache Was ground same_service))
@@ -216,17 +216,17 @@ module _ (given : Opening) (events later : List Event) (agent t : ℕ) (caller :
       begin_if : Bool → Agent
       begin_if b = cond b (record (started (fixed_of given) actor.agent job) { count = actor.agent.count + 1 }) actor.agent
 
-  abbrev MomentHere : World → List Event → Type 0
+  abbrev pub MomentHere : World → List Event → Type 0
   MomentHere w rest = Moment given first agent t actor.agent caller site ops w rest
 
   -- ---- an own step
 
   module _ (w : World) (event : Event) (rest : List Event) (m : MomentHere w (event ∷ rest)) (calm : hinders given agent w event ≡ false) (own : event ≡ Step agent) (took : OwnTook fixed w agent m.here m.there (step fixed w event)) where
-    abbrev Taking : Type 0
+    abbrev pub Taking : Type 0
     Taking = Takes given first agent t actor.agent caller site ops w event rest m calm
 
     module _ (tk : Taking) where
-      abbrev said : Reply
+      abbrev pub said : Reply
       said = reply_of tk.st tk.asked.1
 
       abbrev new : List Event
@@ -256,7 +256,7 @@ module _ (given : Opening) (events later : List Event) (agent t : ℕ) (caller :
           of (Some old) at up = ap (λ asked. is_some (given_in (reply_of tk.st asked))) is
               ∙ ap (λ said. is_some (given_in said)) (own_fetch given first agent t actor.agent caller site ops w (event ∷ rest) m tk.asked.0 tk.st tk.at z old (asks_so (request.Fetch t z) is) at).1
 
-      right_for : (now : Cache) (suites : Suites) (phase : Phase) → PhaseStands fixed first table task cache Was ground suites now phase → request_in fixed task suites phase ≡ Some (tk.asked.0, tk.asked.1) → RightFor fixed first task phase tk.asked.0 said
+      pub right_for : (now : Cache) (suites : Suites) (phase : Phase) → PhaseStands fixed first table task cache Was ground suites now phase → request_in fixed task suites phase ≡ Some (tk.asked.0, tk.asked.1) → RightFor fixed first task phase tk.asked.0 said
       right_for now suites (Gathering z) at asks =
           let g = at.0 in asks_here z g.suite.collector (asks_for task z g.suite.collector tk.asked.0 tk.asked.1 (sym (ap (asked_for task z) g.there) ∙ asks))
       right_for now suites (Fetching z) at asks = fetches_here z (fetch_is task z (suite_of suites z) tk.asked.0 tk.asked.1 asks)
@@ -282,34 +282,34 @@ module _ (given : Opening) (events later : List Event) (agent t : ℕ) (caller :
 
       -- ---- nothing is decided
 
-      resolves_none : is_resolve tk.asked.1 ≡ false
+      pub resolves_none : is_resolve tk.asked.1 ≡ false
       resolves_none = own_resolve given first agent t actor.agent caller site ops w (event ∷ rest) m tk.asked tk.st tk.next tk.at
 
       none_decided : is_decide tk.asked.1 ≡ false → decisions given m.all ≡ decisions given events → decisions given tk.new.all ≡ decisions given events
       none_decided is before =
           let none : decided fixed (run given m.all) event ≡ None =
           ap (decided fixed (run given m.all)) own ∙ ap (λ w. decided fixed w (Step agent)) (sym m.run_is) ∙ undecided_own fixed w agent m.here tk.asked tk.st is resolves_none m.there tk.next tk.at in
-          ap (decisions given) tk.all ∙ decisions_from-append fixed (opening given) m.all (event ∷ []) ∙ ap (λ found. decisions given m.all ++ cons_option found []) none ∙ append_none (decisions given m.all) ∙ before
+          ap (decisions given) tk.all ∙ decisions_from-append fixed (opening given) m.all (event ∷ []) ∙ ap (λ found. decisions given m.all ++ cons_option found []) none ∙ append-nil (decisions given m.all) ∙ before
 
-      same_asked : took.asked ≡ tk.asked
+      pub same_asked : took.asked ≡ tk.asked
       same_asked = same_Some took.asked tk.asked (sym took.next ∙ tk.next)
 
       -- ---- of its course
 
       module _ (course : Course) (running : m.here.agent.doing ≡ Some (Running course)) (good : (course.task ≡ task) × PhaseStands fixed first table task cache Was ground course.suites m.here.agent.cache course.phase)
           (none : IsOpen m.here.agent.doing → decisions given m.all ≡ decisions given events) where
-        abbrev step_of : Task → CourseStep
+        abbrev pub step_of : Task → CourseStep
         step_of task = after_reply fixed task m.here.agent.cache course.suites course.phase tk.asked.0 tk.asked.1 said
 
-        request_is : request_in fixed task course.suites course.phase ≡ Some (tk.asked.0, tk.asked.1)
+        pub request_is : request_in fixed task course.suites course.phase ≡ Some (tk.asked.0, tk.asked.1)
         request_is = subst (λ task. request_in fixed task course.suites course.phase ≡ Some (tk.asked.0, tk.asked.1)) good.0 (sym (ap (next_in fixed) running) ∙ tk.next)
 
-        taken : take fixed m.here.agent (Replied said) ≡ with_step m.here.agent (step_of course.task)
+        pub taken : take fixed m.here.agent (Replied said) ≡ with_step m.here.agent (step_of course.task)
         taken =
             ap (λ doing. take_in fixed m.here.agent (Replied said) doing (next_of fixed m.here.agent)) running
             ∙ ap (take_in fixed m.here.agent (Replied said) (Some (Running course))) tk.next
 
-        here_is : tk.new.here.agent ≡ (with_step m.here.agent (step_of course.task)).agent
+        pub here_is : tk.new.here.agent ≡ (with_step m.here.agent (step_of course.task)).agent
         here_is = tk.here ∙ ap (λ (taken : Taken). taken.agent) taken
 
         module _ (may : MayExecute course.phase) (more : Course) (is : (step_of task).after ≡ GoesOn more) where
@@ -319,7 +319,7 @@ module _ (given : Opening) (events later : List Event) (agent t : ℕ) (caller :
           is_open : IsOpen m.here.agent.doing
           is_open = subst IsOpen (sym running) (early_open course.phase may)
 
-          running_on : tk.new.here.agent.doing ≡ Some (Running more)
+          pub running_on : tk.new.here.agent.doing ≡ Some (Running more)
           running_on = ap (λ (agent : Agent). agent.doing) here_is ∙ ap (left Running) (ap (λ task. (step_of task).after) good.0 ∙ is)
 
           can_on : CanBe given tk.new.all
@@ -354,7 +354,7 @@ module _ (given : Opening) (events later : List Event) (agent t : ℕ) (caller :
               (knows_table given tk.new.all can_on agent tk.new.here more (ap (λ w. actor_at w agent) (sym tk.new.run_is) ∙ tk.new.there) running_on ordered_on stands_then
               (λ z. unanswered given tk.new.all can_on more.task.t unrecorded_then z))
 
-        good_step : Good (step_of course.task)
+        pub good_step : Good (step_of course.task)
         good_step =
             subst (λ task. Good (step_of task)) (sym good.0)
             (reply_stands fixed first table task cache Was ground same_service m.here.agent.cache course.suites course.phase good.1 tk.asked.0 tk.asked.1 request_is said
@@ -391,34 +391,36 @@ module _ (given : Opening) (events later : List Event) (agent t : ℕ) (caller :
 
   -- ---- all along
 
-  record Now (w : World) (rest : List Event) : Type 0 where
-    m : MomentHere w rest
-    stands : StandsIn m.here.agent.cache m.here.agent.doing
-    none : IsOpen m.here.agent.doing → decisions given m.all ≡ decisions given events
+  pub record Now (w : World) (rest : List Event) : Type 0 where
+    pub m : MomentHere w rest
+    pub stands : StandsIn m.here.agent.cache m.here.agent.doing
+    pub none : IsOpen m.here.agent.doing → decisions given m.all ≡ decisions given events
 
-  first_now : Now (step fixed first (Begin agent job)).world later
+  pub first_now : Now (step fixed first (Begin agent job)).world later
   first_now =
       let m = moment_first given events later agent t caller site ops actor goes in
       record {
         m = m;
         stands = subst (λ (agent : Agent). StandsIn agent.cache agent.doing) (sym (first_here given events later agent t caller site ops actor goes)) first_stands;
         none = λ _. ap (decisions given) (first_all given events later agent t caller site ops actor goes) ∙ decisions_from-append fixed (opening given) events (Begin agent job ∷ [])
-            ∙ ap (λ found. decisions given events ++ cons_option found []) (none_by first (step fixed first (Begin agent job)).done.served) ∙ append_none (decisions given events);
+            ∙ ap (λ found. decisions given events ++ cons_option found []) (no_task first (step fixed first (Begin agent job)).done.served) ∙ append-nil (decisions given events);
       }
 
-  aside_now : (w : World) (event : Event) (rest : List Event) (n : Now w (event ∷ rest)) (calm : hinders given agent w event ≡ false) → decided fixed w event ≡ None → (b : Beside given first agent t actor.agent caller site ops w event rest n.m calm)
-      → Now (step fixed w event).world rest
-  aside_now w event rest n calm none b = record {
-    m = b.new;
-    stands = subst (λ (here : Actor). StandsIn here.agent.cache here.agent.doing) (sym b.here) n.stands;
-    none = λ open'.
+  module _ (w : World) (event : Event) (rest : List Event) (n : Now w (event ∷ rest)) (calm : hinders given agent w event ≡ false) (none : decided fixed w event ≡ None) (b : Beside given first agent t actor.agent caller site ops w event rest n.m calm) where
+    pub aside_stands : StandsIn b.new.here.agent.cache b.new.here.agent.doing
+    aside_stands = subst (λ (here : Actor). StandsIn here.agent.cache here.agent.doing) (sym b.here) n.stands
+
+    pub aside_none : IsOpen b.new.here.agent.doing → decisions given b.new.all ≡ decisions given events
+    aside_none open' =
         ap (decisions given) b.all ∙ decisions_from-append fixed (opening given) n.m.all (event ∷ [])
-        ∙ ap (λ found. decisions given n.m.all ++ cons_option found []) (ap (λ w. decided fixed w event) (sym n.m.run_is) ∙ none) ∙ append_none (decisions given n.m.all)
-        ∙ n.none (subst (λ (here : Actor). IsOpen here.agent.doing) b.here open');
-  }
+        ∙ ap (λ found. decisions given n.m.all ++ cons_option found []) (ap (λ w. decided fixed w event) (sym n.m.run_is) ∙ none) ∙ append-nil (decisions given n.m.all)
+        ∙ n.none (subst (λ (here : Actor). IsOpen here.agent.doing) b.here open')
+
+    aside_now : Now (step fixed w event).world rest
+    aside_now = record { m = b.new; stands = aside_stands; none = aside_none }
 
   -- an event that does not hinder it decides nothing and is aside, or is its own step
-  apart : (w : World) (event : Event) → hinders given agent w event ≡ false → ((decided fixed w event ≡ None) × Aside agent w (step fixed w event)) ⊎ ((event ≡ Step agent) × (is_some (step fixed w event).done.served ≡ true))
+  pub apart : (w : World) (event : Event) → hinders given agent w event ≡ false → ((decided fixed w event ≡ None) × Aside agent w (step fixed w event)) ⊎ ((event ≡ Step agent) × (is_some (step fixed w event).done.served ≡ true))
   apart w event calm = ⊎_elim (λ none. ⊎_elim (λ aside. inl (none, aside)) inr (event_aside given agent w event calm)) inr (undecided_aside given agent w event calm)
 
   ends_in : (rest : List Event) (w : World) → Now w rest → unhindered_from given agent w rest ≡ true → (one : Outcome) → Has (outcomes (dones fixed w rest)) one → one.agent ≡ agent → Right one.ending

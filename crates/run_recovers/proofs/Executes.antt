@@ -138,7 +138,7 @@ module _ (fixed : Fixed) (world : World) (table : PlainTable) (task : Task) (cac
 
       of : Whole number suite → Whole number (record suite { content = content })
       of w = record {
-        found = record { start = w.found.start; may = w.found.may; reached = w.found.reached };
+        found = record { start = w.found.start; may = w.found.may; reached = w.found.reached; led = w.found.led };
         had = w.had;
         mode_is = w.mode_is;
         lock = record { server = w.lock.server; is_one = w.lock.is_one; holds = w.lock.holds };
@@ -149,7 +149,7 @@ module _ (fixed : Fixed) (world : World) (table : PlainTable) (task : Task) (cac
     pub hints : Hinted more.suites more.cache
     pub there : (z : ℕ) → is_some (suite_of all.suites z) ≡ true → is_some (suite_of more.suites z) ≡ true
 
-  hint_after : (now : Cache) (number : ℕ) (first : First) (z : ℕ) → hint (after_search task now number first) task.site z ≡ hint now task.site z
+  pub hint_after : (now : Cache) (number : ℕ) (first : First) (z : ℕ) → hint (after_search task now number first) task.site z ≡ hint now task.site z
   hint_after now number first z = of (first.dver == 0)
     where
       of : (b : Bool) → hint (cond b now (searched task.site number first.dver now)) task.site z ≡ hint now task.site z
@@ -241,7 +241,7 @@ module _ (fixed : Fixed) (world : World) (table : PlainTable) (task : Task) (cac
               let start = start_from fixed task now number in
               let may = may_from number none in
               let new : Suite = record { collector = collect mode start; first = None; mode = Shared; content = None } in
-              let g = gathers new (record { start = start; may = may; reached = reached_first fixed world number (Was number) start (ground.rules number start may) mode }) refl
+              let g = gathers new (record { start = start; may = may; reached = reached_first fixed world number (Was number) start (ground.rules number start may) mode; led = λ first had. absurd (none-some first had) }) refl
               (λ old there. absurd (none-some old (sym none ∙ there))) (λ other. ap (held_in other) (sym none))
               (λ other had. absurd (false≢true (sym (ap (held_in other) none) ∙ ready.asks.modes number other ∙ had))) in
               gather_by_stands fixed world table task cache Was ground (with_suite number new suites) number g now (hinted_with suites number new now hints)
@@ -252,7 +252,7 @@ module _ (fixed : Fixed) (world : World) (table : PlainTable) (task : Task) (cac
               let raised_mode : new.collector.mode ≡ Exclusive = ap (λ (c : Collector). (raise c).mode) found.reached.is in
               let weak : serves suite.mode mode ≡ false = sym (by_first suite.first whole.had) ∙ ap (held_in mode) (sym there) ∙ ready.asks.modes number mode ∙ is_new in
               let exclusive : mode ≡ Exclusive = weak_or_not suite.mode mode weak in
-              let g = gathers new (record { start = found.start; may = found.may; reached = reached_raise fixed world number (Was number) found.start (ground.rules number found.start found.may) suite.collector found.reached })
+              let g = gathers new (record { start = found.start; may = found.may; reached = reached_raise fixed world number (Was number) found.start (ground.rules number found.start found.may) suite.collector found.reached; led = found.led })
               (raised_mode ∙ sym exclusive)
               (λ old is. ap (λ (suite : Suite). suite.collector.start) (same_Some suite old (sym there ∙ is)))
               (λ other. held other suite.first ∙ ap (held_in other) (sym there))

@@ -1,11 +1,10 @@
 -- Once all servers are up and each was swept, no server has a lock.
-use Rattle.std.proofs.Common.{◌≡◌, inl, ℕ, zero, suc, ◌<◌, ◌+◌, Bool, true, false, cond, List, [], ◌∷◌, ◌++◌, length, Option, Some, None, is_some, refl, sym, ap, subst, ◌∙◌, arith}
+use Rattle.std.proofs.Common.{◌≡◌, inl, ℕ, zero, suc, ◌<◌, ◌+◌, Bool, true, false, cond, List, [], ◌∷◌, ◌++◌, length, Option, Some, None, is_some, refl, sym, ap, ◌∙◌, arith}
 use Rattle.std.specs.Prelude.{◌==◌, ◌%◌, ◌/◌, ◌&&◌, ◌*◌, not, nat_lt, slice_get}
-use Rattle.std.specs.List.{list_all, list_any}
+use Rattle.std.specs.List.{list_all}
 use Rattle.std.proofs.Math.Nat.{mod-lt}
-use Rattle.std.proofs.lemmas.Bool.{false≢true, and_parts}
-use Rattle.std.proofs.lemmas.Bool.Decides.{nat_tests}
-use Rattle.std.proofs.lemmas.Option.{none-some}
+use Rattle.std.proofs.lemmas.Bool.{false≢true, and_parts, and_right, ltb-true}
+use Rattle.std.proofs.lemmas.Option.{slice_get_within}
 use Rattle.suite_prefix.specs.SettingsRules.{Opening}
 use Rattle.rep_core.specs.declared.lock.Lock.{Lock}
 use Rattle.rep_core.specs.Locks.{has_prepared}
@@ -17,18 +16,18 @@ use Rattle.txn_core.specs.declared.job.Job.TheVariants.{Sweep}
 use Rattle.txn_core.specs.Agents.{fixed_of, is_idle, has_sense, max_jobs}
 use Rattle.run_core.specs.declared.event.Event.{Event}
 use Rattle.run_core.specs.declared.event.Event.TheVariants.{Begin}
-use Rattle.run_core.specs.Worlds.{Actor, World, server_at, actor_at, step}
+use Rattle.run_core.specs.Worlds.{Actor, World, actor_at, step}
 use Rattle.run_core.specs.Runs.{after, run}
 use Rattle.run_laws.specs.Numbers.{begins_now}
 use Rattle.run_laws.proofs.Lengths.{so_many}
 use Rattle.run_alone.specs.Alone.{begins_job}
 use Rattle.run_alone.proofs.Turns.{with_job}
+use Rattle.run_alone.proofs.Clear.{at_has}
 use Rattle.run_recovers.specs.Alone.{unhindered_from}
 use Rattle.run_alone.specs.Undisturbed.{all_up}
-use Rattle.run_recovers.specs.Standing.{up_in, is_up, locks_in, locks_at, is_in_doubt, in_doubt}
+use Rattle.run_recovers.specs.Standing.{up_in, is_up, locks_in, locks_at, is_in_doubt}
 use Rattle.run_recovers.specs.Sweeping.{sweeps, goes_round, NoLockIsLeft}
 use Rattle.run_recovers.proofs.Doubts.{filter_none}
-use Rattle.run_recovers.proofs.Found.{at_has}
 use Rattle.run_recovers.proofs.Rounds.{Ends, ends}
 
 all_from : {X : Type 0} (p : X → Bool) (xs : List X) → ((i : ℕ) (x : X) → slice_get xs i ≡ Some x → p x ≡ true) → list_all p xs ≡ true
@@ -39,11 +38,6 @@ some_at : {X : Type 0} (xs : List X) (i : ℕ) → i < length xs → (x : X) × 
 some_at [] i less = absurd (omega (arith, less))
 some_at (x ∷ xs) zero less = (x, refl)
 some_at (x ∷ xs) (suc i) less = some_at xs i (omega (arith, less))
-
-at_some : {X : Type 0} (xs : List X) (i : ℕ) (x : X) → slice_get xs i ≡ Some x → i < length xs
-at_some [] i x is = absurd (none-some x is)
-at_some (y ∷ xs) zero x is = omega arith
-at_some (y ∷ xs) (suc i) x is = let rest = at_some xs i x is in omega (arith, rest)
 
 -- where all servers are up, each that there is is up
 pub is_up_of : (given : Opening) (events : List Event) → all_up (run given events) ≡ true → (i : ℕ) → i < given.servers → is_up (run given events) i ≡ true
@@ -56,7 +50,7 @@ pub no_lock_is_left : NoLockIsLeft
 no_lock_is_left given events agent round can up goes all =
     all_from (λ (st : State). length st.locks == 0) last.servers (λ i st is.
     let many = (so_many given (events ++ sweeps agent round)).0 in
-    let less = at_some last.servers i st is in
+    let less = slice_get_within last.servers i st is in
     let ups = is_up_of given events up i (omega (arith, many, less)) in
     let none = (whole.swept i (all i ups)) ∙ filter_none (is_in_doubt (fixed_of given) first (locks_at first i)) (locks_at first i) (λ lock has. certain lock (locks_at first i)) in
     ap (λ locks. length locks == 0) (sym (ap locks_in is) ∙ none))
@@ -73,12 +67,9 @@ no_lock_is_left given events agent round can up goes all =
         let begun = (step (fixed_of given) w (Begin agent (Sweep one.0))).world in
         let parts = and_parts (is_some (begins_job given w (Begin agent (Sweep one.0))) && unhindered_from given agent begun one.1) (goes_round given agent (after (fixed_of given) begun one.1) more) goes in
         let begins = and_parts (is_some (begins_job given w (Begin agent (Sweep one.0)))) (unhindered_from given agent begun one.1) parts.0 in
-        let there = below one.0 given.servers (sense (Sweep one.0) (actor_at w agent) begins.0) in
+        let there = ltb-true one.0 given.servers (sense (Sweep one.0) (actor_at w agent) begins.0) in
         ap (λ b. b && list_all (λ (one : ℕ × List Event). is_up (run given events) one.0) more) (is_up_of given events up one.0 there) ∙ every (after (fixed_of given) begun one.1) more parts.1
       where
-        below : (a b : ℕ) → nat_lt a b ≡ true → a < b
-        below a b is = grind (arith, nat_tests)
-
         sense : (job : Job) (found : Option Actor) → is_some (with_job job (begins_now (fixed_of given) agent job found)) ≡ true → has_sense (fixed_of given) job ≡ true
         sense job None is = absurd (false≢true is)
         sense job (Some actor) is = of (is_idle actor.agent.doing) (has_sense (fixed_of given) job) (nat_lt actor.agent.count max_jobs) is
@@ -95,8 +86,5 @@ no_lock_is_left given events agent round can up goes all =
     some_servers = let some = can.accepted.some_servers.0 in omega (arith, some)
 
     certain : (lock : Lock) (locks : List Lock) → is_in_doubt (fixed_of given) (run given events) locks lock ≡ false
-    certain lock locks = ap (λ b. has_prepared lock.t locks && not b) (is_up_of given events up (home_of (fixed_of given).service lock.t) (mod-lt (lock.t % 64 + lock.t / 64) some_servers)) ∙ none (has_prepared lock.t locks)
-      where
-        none : (b : Bool) → (b && false) ≡ false
-        none true = refl
-        none false = refl
+    certain lock locks = and_right (has_prepared lock.t locks) (not (is_up first (home_of (fixed_of given).service lock.t)))
+        (ap not (is_up_of given events up (home_of (fixed_of given).service lock.t) (mod-lt (lock.t % 64 + lock.t / 64) some_servers)))

@@ -23,7 +23,7 @@ use Rattle.suite_collect.specs.Collecting.{Collector, all_told, needed, needed_o
 use Rattle.weak_cache.specs.Entries.{Cache}
 use Rattle.txn_core.specs.declared.ending.Ending.{Ending}
 use Rattle.txn_core.specs.declared.ending.Ending.TheVariants.{Undecided}
-use Rattle.txn_core.specs.Suites.{First, Suite, Suites, suite_of, with_suite, settled, first_or}
+use Rattle.txn_core.specs.Suites.{First, Suite, Suites, suite_of, with_suite, settled, first_or, source_of}
 use Rattle.txn_core.specs.Doing.{Fixed, Task}
 use Rattle.txn_core.specs.Transactions.{Step, short_cause, gather_by, locked_at}
 use Rattle.txn_core.proofs.Gathers.{self, with_at, each_but, each_with}
@@ -31,9 +31,10 @@ use Rattle.run_core.specs.Worlds.{World}
 use Rattle.run_recovers.specs.Standing.{is_up}
 use Rattle.run_recovers.specs.Demands.{is_met, demand, led_to, has_asked}
 use Rattle.run_recovers.proofs.Asking.{onto, held_in, held_if}
-use Rattle.run_recovers.proofs.Led.{gathering, Reached, nobody_busy, at_current, reached_short, reached_current}
+use Rattle.run_recovers.proofs.Led.{Reached, reached_short, reached_current}
+use Rattle.run_recovers.proofs.Polled.{gathering, nobody_busy, at_current}
 use Rattle.run_recovers.proofs.Widened.{short_busy}
-use Rattle.run_recovers.proofs.HadVotes.{holds_shared}
+use Rattle.run_recovers.proofs.Downs.{holds_shared}
 use Rattle.run_recovers.proofs.Stands.{Ground, locks_on, needed_on, of_lock, EndsRight, ends_short, short_lock, IsRight, IsHad, start_of, starts, may_start, had_met, SameStart, had_with, Asked, Hints, IsFound, found_start, found_right, HasLock, IsWhole, IsReady, IsGathering, StepStands, told_stands}
 
 -- ---- voters
@@ -123,7 +124,7 @@ module _ (fixed : Fixed) (world : World) (table : PlainTable) (task : Task) (cac
       let at = found.reached in
       let c : Collector = gathering found.start at.mode at.told in
       let enough : nat_le (needed_of at.mode (newest found.start at.told).votes) (votes_in (newest found.start at.told).votes.reps (holds at.mode at.told)) ≡ true =
-      subst (λ (c : Collector). nat_le (needed c) (got c) ≡ true) at.is (at_current fixed world z suite.collector prefix dver members is).enough in
+      subst (λ (c : Collector). nat_le (needed c) (got c) ≡ true) at.is (at_current suite.collector prefix dver members is).enough in
       let valid = ground.valid z (newest found.start at.told) at.going.known in
       let voter = some_voter (newest found.start at.told).votes.reps (holds at.mode at.told)
       (above_none (needed_of at.mode (newest found.start at.told).votes) (votes_in (newest found.start at.told).votes.reps (holds at.mode at.told)) (wants_some (newest found.start at.told).votes valid at.mode) enough) in
@@ -135,7 +136,7 @@ module _ (fixed : Fixed) (world : World) (table : PlainTable) (task : Task) (cac
 
   pub current_whole : (z : ℕ) (suite : Suite) → IsFound fixed world table task cache Was ground z suite → (prefix : Prefix) (dver : ℕ) (members : List ℕ) → next suite.collector ≡ Current prefix dver members → Whole z (settled prefix dver members suite)
   current_whole z suite found prefix dver members is = record {
-    found = record { start = found.start; may = found.may; reached = found.reached };
+    found = record { start = found.start; may = found.may; reached = found.reached; led = λ first. led_of suite.first refl first };
     had = some suite.first _;
     mode_is = refl;
     lock = has_lock z suite found prefix dver members is (settled prefix dver members suite) refl;
@@ -144,6 +145,12 @@ module _ (fixed : Fixed) (world : World) (table : PlainTable) (task : Task) (cac
       some : (first : Option First) (given : First) → is_some (first_or first given) ≡ true
       some (Some first) given = refl
       some None given = refl
+
+      led_of : (old : Option First) → suite.first ≡ old → (first : First) → first_or old (record { prefix = prefix; dver = dver; source = source_of suite.collector dver members }) ≡ Some first → first.prefix ≡ led_to fixed world z found.start
+      led_of (Some old) was first same = ap (λ (first : First). first.prefix) (sym (same_Some old first same)) ∙ found.led old was
+      led_of None was first same =
+          ap (λ (first : First). first.prefix) (sym (same_Some _ first same))
+          ∙ (reached_current fixed world z (Was z) found.start (ground.rules z found.start found.may) suite.collector found.reached prefix dver members is).prefix_is
 
   module _ (suites : Suites) (number : ℕ) (g : Now suites number) (prefix : Prefix) (dver : ℕ) (members : List ℕ) (is : next g.suite.collector ≡ Current prefix dver members) where
     abbrev new : Suite

@@ -44,7 +44,8 @@ use Rattle.run_recovers.specs.Demands.{MayStart, is_met}
 use Rattle.run_recovers.specs.Laws as laws
 use Rattle.run_recovers.specs.Laws.{ending_of}
 use Rattle.run_recovers.proofs.Asking.{held_in, held_if}
-use Rattle.run_recovers.proofs.Led.{Answers, AllRight, reached_told}
+use Rattle.run_recovers.proofs.Led.{reached_told}
+use Rattle.run_recovers.proofs.Polled.{Answers, AllRight}
 use Rattle.run_recovers.proofs.Widened.{WidenedShort, start_stays, same_said, same_mode, hears, right_more}
 use Rattle.run_recovers.proofs.Hinting.{hint_put}
 use Rattle.run_recovers.proofs.Stands.{Ground, of_votes, answer_to, EndsRight, IsRight, SameStart, asked_with, Hints, HasAll, answer_in, Sets, IsWidening, IsFound, found_right, IsWhole, IsReady, IsGathering, PhaseStands, StepStands, told_stands, prepare_stands}
@@ -174,6 +175,7 @@ module _ (fixed : Fixed) (world : World) (table : PlainTable) (task : Task) (cac
           may = g.found.may;
           reached = reached_told fixed world number (Was number) g.found.start (ground.rules number g.found.start g.found.may) g.suite.collector g.found.reached said one
               (answers_it fixed world task.t number g.suite server asked said (found_right fixed world table task cache Was ground number g.suite g.found).right asks so) told;
+          led = g.found.led;
         } in
         record {
           asked = g.asked;

@@ -1,7 +1,8 @@
 -- What a cache hints of a suite after another was put: what it did before, or nothing.
-use Rattle.std.proofs.Common.{◌≡◌, ℕ, Bool, true, false, cond, [], ◌∷◌, Option, Some, None, refl, sym, ap, subst, ◌∙◌}
+use Rattle.std.proofs.Common.{◌≡◌, ℕ, Bool, true, false, cond, [], ◌∷◌, Option, Some, None, refl, sym, ap, subst, ◌∙◌, arith}
 use Rattle.std.specs.Prelude.{◌==◌, ◌-◌, ◌&&◌, not, nat_le, nat_lt, find, option_map}
 use Rattle.std.proofs.lemmas.Bool.{false≢true, and_parts, eqb-true}
+use Rattle.std.proofs.lemmas.Bool.Decides.{nat_tests}
 use Rattle.std.proofs.lemmas.Option.{none-some, same_Some}
 use Rattle.suite_prefix.specs.declared.copies.Prefix.{Prefix}
 use Rattle.rep_core.proofs.Finding.{find_some}
@@ -96,3 +97,43 @@ module _ (site z : ℕ) where
           of : (found : Option Entry) → entry_of (put limits new c) site z ≡ found → option_map (λ (entry : Entry). entry.prefix) found ≡ Some prefix → hint c site z ≡ Some prefix
           of None found is = absurd (none-some prefix is)
           of (Some entry) found is = ap (option_map (λ (entry : Entry). entry.prefix)) (finds_put c entry found) ∙ is
+
+-- of the suite that was put it hints the prefix that was put, or nothing
+module _ (limits : Limits) (new : Entry) where
+  same_itself : is_of new.site new.suite new ≡ true
+  same_itself = both (new.site == new.site) (new.suite == new.suite) (itself new.site) (itself new.suite)
+    where
+      itself : (n : ℕ) → (n == n) ≡ true
+      itself n = grind (arith, nat_tests)
+
+      both : (a b : Bool) → a ≡ true → b ≡ true → (a && b) ≡ true
+      both true b a is = is
+      both false b a is = absurd (false≢true a)
+
+  none_without : (c : Cache) → entry_of (without new.site new.suite c) new.site new.suite ≡ None
+  none_without [] = refl
+  none_without (e ∷ c) = of (is_of new.site new.suite e) refl (none_without c)
+    where
+      of : (b : Bool) → is_of new.site new.suite e ≡ b → entry_of (without new.site new.suite c) new.site new.suite ≡ None
+          → entry_of (cond (not b) (e ∷ without new.site new.suite c) (without new.site new.suite c)) new.site new.suite ≡ None
+      of true is rest = rest
+      of false is rest = ap (λ b. cond b (Some e) (entry_of (without new.site new.suite c) new.site new.suite)) is ∙ rest
+
+  finds_new : (c : Cache) (entry : Entry) → entry_of (put limits new c) new.site new.suite ≡ Some entry → new ≡ entry
+  finds_new c entry = of (has_room limits new.content)
+    where
+      whole : Cache
+      whole = new ∷ without new.site new.suite c
+
+      of : (b : Bool) → entry_of (cond b (within_budget limits.budget limits.slots (within_quota new.site limits.quota whole)) (without new.site new.suite c)) new.site new.suite ≡ Some entry → new ≡ entry
+      of true is =
+          let found = finds_quota new.site new.suite limits.quota whole entry (finds_budget new.site new.suite limits.budget limits.slots (within_quota new.site limits.quota whole) entry is) in
+          same_Some new entry (sym (ap (λ b. cond b (Some new) (entry_of (without new.site new.suite c) new.site new.suite)) same_itself) ∙ found)
+      of false is = absurd (none-some entry (sym (none_without c) ∙ is))
+
+  pub hint_put_here : (c : Cache) (prefix : Prefix) → hint (put limits new c) new.site new.suite ≡ Some prefix → prefix ≡ new.prefix
+  hint_put_here c prefix = of (entry_of (put limits new c) new.site new.suite) refl
+    where
+      of : (found : Option Entry) → entry_of (put limits new c) new.site new.suite ≡ found → option_map (λ (entry : Entry). entry.prefix) found ≡ Some prefix → prefix ≡ new.prefix
+      of None found is = absurd (none-some prefix is)
+      of (Some entry) found is = sym (same_Some entry.prefix prefix is) ∙ ap (λ (entry : Entry). entry.prefix) (sym (finds_new c entry found))

@@ -64,7 +64,9 @@ use Rattle.run_alone.proofs.Standing.{Stands, AllSpare, all_spare-append, stands
 use Rattle.run_alone.proofs.Known.{is_known, known_owed}
 use Rattle.run_alone.proofs.Reached.{can_front}
 use Rattle.run_recovers.specs.Alone.{hinders}
-use Rattle.run_recovers.proofs.HadVotes.{none_by, decided_none, down_decides_none}
+use Rattle.run_recovers.proofs.AtDecision.{decided_none}
+use Rattle.run_recovers.proofs.Downs.{down_decides_none}
+use Rattle.one_table.proofs.Logs.{no_task}
 use Rattle.run_recovers.proofs.Took.{OwnTook}
 use Rattle.run_recovers.proofs.Still.{record_stays}
 
@@ -102,7 +104,7 @@ up_answers_none st request.Locks is other = refl
 up_answers_none st request.Crash is other = refl
 up_answers_none st request.Return is other = refl
 
-answers_none : (st : State) (asked : Request) → is_decide asked ≡ false → is_resolve asked ≡ false → answer_in (reply_of st asked) ≡ None
+pub answers_none : (st : State) (asked : Request) → is_decide asked ≡ false → is_resolve asked ≡ false → answer_in (reply_of st asked) ≡ None
 answers_none st asked is other = of (st.up)
   where
     of : (b : Bool) → answer_in (cond b (reply_up st asked) (reply_down asked)) ≡ None
@@ -110,44 +112,47 @@ answers_none st asked is other = of (st.up)
     of false = down_decides_none asked
 
 -- an agent's own step that asks for nothing to be decided
-module _ (fixed : Fixed) (w : World) (i : ℕ) (actor : Actor) (asked : ℕ × Request) (st : State) (is : is_decide asked.1 ≡ false) (other : is_resolve asked.1 ≡ false) where
+module _ (fixed : Fixed) (w : World) (i : ℕ) (actor : Actor) (asked : ℕ × Request) (st : State) where
   abbrev stamped : Stamped Request
   stamped = record { stamp = actor.stamp; value = asked.1 }
 
-  served_undecided : (task : Option Task) → decided_by w task (answered fixed w i actor st (serve asked.0 st stamped)).done.served ≡ None
-  served_undecided task =
+  served_undecided : answer_in (reply_of st asked.1) ≡ None → (task : Option Task) → decided_by w task (answered fixed w i actor st (serve asked.0 st stamped)).done.served ≡ None
+  served_undecided none task =
       elim (is_full st stamped) as (λ b. decided_by w task (answered fixed w i actor st (cond b None (Some (record { server = asked.0; request = stamped; reply = answer_of st stamped })))).done.served ≡ None) [
         | true ↦ refl
-        | false ↦ ap (λ answer. decided_at (server_at w asked.0) (to_decide asked.1) (decided_as task answer)) (answers_none st asked.1 is other) ∙ decided_none (server_at w asked.0) (to_decide asked.1) task
+        | false ↦ ap (λ answer. decided_at (server_at w asked.0) (to_decide asked.1) (decided_as task answer)) none ∙ decided_none (server_at w asked.0) (to_decide asked.1) task
       ]
 
-  pub undecided_own : actor_at w i ≡ Some actor → next_of fixed actor.agent ≡ Some asked → server_at w asked.0 ≡ Some st → decided fixed w (Step i) ≡ None
-  undecided_own there next at =
+  pub unanswered_own : answer_in (reply_of st asked.1) ≡ None → actor_at w i ≡ Some actor → next_of fixed actor.agent ≡ Some asked → server_at w asked.0 ≡ Some st → decided fixed w (Step i) ≡ None
+  unanswered_own none there next at =
       ap (λ found. decided_by w (task_at found) (steps_once fixed w i found).done.served) there
       ∙ ap (λ found. decided_by w (task_of actor.agent.doing) (asks fixed w i actor found).done.served) next
       ∙ ap (λ found. decided_by w (task_of actor.agent.doing) (asks_at fixed w i actor asked found).done.served) at
-      ∙ served_undecided (task_of actor.agent.doing)
+      ∙ served_undecided none (task_of actor.agent.doing)
+
+  pub undecided_own : is_decide asked.1 ≡ false → is_resolve asked.1 ≡ false → actor_at w i ≡ Some actor → next_of fixed actor.agent ≡ Some asked → server_at w asked.0 ≡ Some st → decided fixed w (Step i) ≡ None
+  undecided_own is other = unanswered_own (answers_none st asked.1 is other)
 
 -- an event that does not hinder an agent decides nothing, but it is that agent's own step
 pub undecided_aside : (given : Opening) (agent : ℕ) (w : World) (event : Event) → hinders given agent w event ≡ false
     → (decided (fixed_of given) w event ≡ None) ⊎ ((event ≡ Step agent) × (is_some (step (fixed_of given) w event).done.served ≡ true))
-undecided_aside given agent w (Begin i job) calm = inl (none_by w _)
-undecided_aside given agent w (Crash server) calm = inl (none_by w _)
-undecided_aside given agent w (Return server) calm = inl (none_by w _)
-undecided_aside given agent w (Forget i site) calm = inl (none_by w _)
-undecided_aside given agent w (Lack i why) calm = inl (none_by w _)
+undecided_aside given agent w (Begin i job) calm = inl (no_task w _)
+undecided_aside given agent w (Crash server) calm = inl (no_task w _)
+undecided_aside given agent w (Return server) calm = inl (no_task w _)
+undecided_aside given agent w (Forget i site) calm = inl (no_task w _)
+undecided_aside given agent w (Lack i why) calm = inl (no_task w _)
 undecided_aside given agent w (Step number) calm = of (actor_at w number) (number == agent) refl (is_some (step (fixed_of given) w (Step number)).done.served) refl calm
   where
     by : (doing : Option Doing) (b served : Bool) → (number == agent) ≡ b → is_some (step (fixed_of given) w (Step number)).done.served ≡ served → (not (is_idle doing) && not (b && served)) ≡ false
         → (decided_by w (task_of doing) (step (fixed_of given) w (Step number)).done.served ≡ None) ⊎ ((Step number ≡ Step agent) × (is_some (step (fixed_of given) w (Step number)).done.served ≡ true))
-    by None b served at is calm = inl (none_by w _)
+    by None b served at is calm = inl (no_task w _)
     by (Some doing) true true at is calm = inr (ap Step (same_at number agent at), is)
     by (Some doing) true false at is calm = absurd (false≢true (sym calm))
     by (Some doing) false served at is calm = absurd (false≢true (sym calm))
 
     of : (found : Option Actor) (b : Bool) → (number == agent) ≡ b → (served : Bool) → is_some (step (fixed_of given) w (Step number)).done.served ≡ served → (not (has_no_job found) && not (b && served)) ≡ false
         → (decided_by w (task_at found) (step (fixed_of given) w (Step number)).done.served ≡ None) ⊎ ((Step number ≡ Step agent) × (is_some (step (fixed_of given) w (Step number)).done.served ≡ true))
-    of None b at served is calm = inl (none_by w _)
+    of None b at served is calm = inl (no_task w _)
     of (Some actor) b at served is calm = by actor.agent.doing b served at is calm
 
 -- ---- right after an own step that takes no lock away

@@ -40,7 +40,7 @@ use Rattle.run_recovers.proofs.Executes.{Opened, opened_stands}
 
 -- ---- some server holds a lock
 
-any_at : (p : Suite → Bool) (suites : Suites) (z : ℕ) (suite : Suite) → suite_of suites z ≡ Some suite → p suite ≡ true → list_any (λ (one : ℕ × Suite). p one.1) suites ≡ true
+pub any_at : (p : Suite → Bool) (suites : Suites) (z : ℕ) (suite : Suite) → suite_of suites z ≡ Some suite → p suite ≡ true → list_any (λ (one : ℕ × Suite). p one.1) suites ≡ true
 any_at p [] z suite is so = absurd (none-some suite is)
 any_at p (e ∷ es) z suite is so = of (is_eq (nat_cmp z e.0)) is (λ is. any_at p es z suite is so)
   where
@@ -52,7 +52,7 @@ any_at p (e ∷ es) z suite is so = of (is_eq (nat_cmp z e.0)) is (λ is. any_at
     of true is go = ap (λ b. b || list_any (λ (one : ℕ × Suite). p one.1) es) (ap p (same_Some e.1 suite is) ∙ so)
     of false is go = right (p e.1) (list_any (λ (one : ℕ × Suite). p one.1) es) (go is)
 
-among_numbers : (count start n : ℕ) → start ≤ n → n < start + count → Has (numbers_from start count) n
+pub among_numbers : (count start n : ℕ) → start ≤ n → n < start + count → Has (numbers_from start count) n
 among_numbers zero start n from below = absurd (omega (arith, from, below))
 among_numbers (suc count) start n from below = of (start == n) refl (among_numbers count (start + 1) n)
   where

@@ -7,6 +7,8 @@ pub mod Swept
 pub mod Rounds
 pub mod Found
 pub mod Leading
+pub mod Picks
+pub mod Polled
 pub mod Led
 pub mod Rows
 pub mod Free
@@ -17,6 +19,10 @@ pub mod Taken
 pub mod Quiet
 pub mod Calm
 pub mod Stored
+pub mod Downs
+pub mod Since
+pub mod Decider
+pub mod AtDecision
 pub mod HadVotes
 pub mod Took
 pub mod Still
@@ -36,3 +42,11 @@ pub mod Knows
 pub mod Heard
 pub mod Knew
 pub mod Ends
+pub mod SameDemands
+pub mod Hinted
+pub mod NotHome
+pub mod Freed
+pub mod Leaves
+pub mod Tries
+pub mod Again
+pub mod Promised

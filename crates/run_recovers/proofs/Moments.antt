@@ -60,7 +60,7 @@ use Rattle.run_alone.proofs.Untold.{AllStand}
 use Rattle.run_recovers.specs.Standing.{up_in, is_up}
 use Rattle.run_recovers.specs.Alone.{hinders}
 use Rattle.run_recovers.specs.Laws.{GoesAlone}
-use Rattle.run_recovers.proofs.Found.{at_has}
+use Rattle.run_alone.proofs.Clear.{at_has}
 use Rattle.run_recovers.proofs.Aside.{Aside, event_aside}
 use Rattle.run_recovers.proofs.Took.{OwnTook, own_took}
 use Rattle.run_recovers.proofs.Still.{IsOpen, copy_stays, record_stays, open_next, open_before, open_undecided}

@@ -1,5 +1,5 @@
 -- Events that decide nothing change nothing that is in effect.
-use Rattle.std.proofs.Common.{◌≡◌, ℕ, Bool, true, false, cond, List, [], ◌∷◌, ◌++◌, append_assoc, Option, Some, None, refl, sym, ap, subst, ◌∙◌}
+use Rattle.std.proofs.Common.{◌≡◌, ℕ, Bool, true, false, cond, List, [], ◌∷◌, ◌++◌, append-nil, Option, Some, None, refl, sym, ap, subst, ◌∙◌}
 use Rattle.std.specs.Prelude.{◌==◌, ◌&&◌}
 use Rattle.std.specs.List.{list_all}
 use Rattle.std.proofs.lemmas.Bool.{false≢true, and_parts}
@@ -24,7 +24,7 @@ use Rattle.txn_core.specs.Laws.{is_decide}
 use Rattle.txn_core.specs.Agents.{Taken, fixed_of, next_in, next_of, take, begin}
 use Rattle.run_core.specs.declared.event.Event as happening
 use Rattle.run_core.specs.Worlds as worlds
-use Rattle.run_core.specs.Worlds.{Actor, opening, server_at, step}
+use Rattle.run_core.specs.Worlds.{Actor, opening, server_at}
 use Rattle.run_core.specs.Runs as runs
 use Rattle.run_core.specs.Decisions.{decisions, decisions_from}
 use Rattle.run_core.proofs.Appending.{decisions_from-append}
@@ -42,7 +42,7 @@ use Rattle.server_moves.specs.Preparing.{part_of}
 use Rattle.server_moves.specs.Moves.{moves, first_verdict, prepare_of, left_by_break}
 use Rattle.server_moves.specs.Laws.{beginning}
 use Rattle.run_machine.specs.Deciding.{to_write, decision_by, fixed_in, aim_of, aims_once, aims, is_finishing, is_at_an_end, gives_up, tells_aborted, begun_events, own_events}
-use Rattle.run_machine.specs.Machines.{home_in, begin_events, answered_events, asked_at_events, asked_events, lacks_for_events, lack_events, events_of, moved, machine_from, history_from, machine_of, history_of}
+use Rattle.run_machine.specs.Machines.{home_in, begin_events, answered_events, asked_at_events, asked_events, lacks_for_events, lack_events, history_from, machine_of, history_of}
 use Rattle.run_machine.proofs.Joining.{run-append}
 use Rattle.one_table.specs.Tables.{AllKeepSides}
 use Rattle.one_table.specs.Effects.{copy_at}
@@ -191,10 +191,6 @@ module _ (given : Opening) (z : ℕ) (w : World) where
 
 -- ---- a run goes on
 
-pub append_none : {X : Type 0} (xs : List X) → xs ++ [] ≡ xs
-append_none [] = refl
-append_none (x ∷ xs) = ap (λ xs. x ∷ xs) (append_none xs)
-
 -- what happens from a world on is quiet for each suite, and decides nothing
 pub record Calm (given : Opening) (world : worlds.World) (events : List happening.Event) : Type 0 where
   pub quiet : (z : ℕ) (w : World) → AllQuiet (history_from given z w world events)
@@ -224,4 +220,4 @@ module _ (given : Opening) (events later : List happening.Event) (can : CanBe gi
       ∙ effects.effect_at given events before z i
 
   pub decisions_stay : decisions given (events ++ later) ≡ decisions given events
-  decisions_stay = decisions_from-append (fixed_of given) (opening given) events later ∙ ap (λ rest. decisions given events ++ rest) calm.none ∙ append_none (decisions given events)
+  decisions_stay = decisions_from-append (fixed_of given) (opening given) events later ∙ ap (λ rest. decisions given events ++ rest) calm.none ∙ append-nil (decisions given events)

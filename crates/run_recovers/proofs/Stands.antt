@@ -1,5 +1,5 @@
 -- How a transaction stands that goes alone: what it has asked for so far and how that was found, and how it ends.
-use Rattle.std.proofs.Common.{◌≡◌, ◌⊎◌, inl, inr, ⊎_elim, ℕ, Bool, true, false, cond, List, [], ◌∷◌, ◌++◌, Option, Some, None, is_some, Result, Ok, Err, refl, sym, ap, subst, ◌∙◌}
+use Rattle.std.proofs.Common.{◌≡◌, ◌⊎◌, inl, inr, ⊎_elim, ℕ, Bool, true, false, cond, List, [], ◌∷◌, ◌++◌, append-nil, Option, Some, None, is_some, Result, Ok, Err, refl, sym, ap, subst, ◌∙◌}
 use Rattle.std.specs.Prelude.{◌==◌, not, nat_lt, nat_le, find, map}
 use Rattle.std.specs.Ordering.{nat_cmp}
 use Rattle.std.proofs.lemmas.Bool.{false≢true, eqb-true}
@@ -29,7 +29,7 @@ use Rattle.weak_cache.specs.Cache.{hint}
 use Rattle.txn_core.specs.declared.ending.Ending.{Ending}
 use Rattle.txn_core.specs.declared.ending.Ending.TheVariants.{Undecided}
 use Rattle.txn_core.specs.declared.ending.Cause.TheVariants.{Unavailable}
-use Rattle.txn_core.specs.Suites.{Suite, Suites, suite_of, with_suite}
+use Rattle.txn_core.specs.Suites.{First, Suite, Suites, suite_of, with_suite}
 use Rattle.txn_core.specs.Doing as doing
 use Rattle.txn_core.specs.Doing.{Fixed, Task, Granted, Phase, Gathering, Fetching, Preparing, Deciding, Finishing, Course, After, GoesOn, Ends, home_of}
 use Rattle.txn_core.specs.Transactions as course
@@ -40,8 +40,8 @@ use Rattle.run_recovers.specs.Standing.{is_up}
 use Rattle.run_recovers.specs.Demands.{Demand, demand, demands, is_met, first_short, led_to, has_asked, not_asked, locks_asked, votes_set, MayStart, MayStartAll}
 use Rattle.run_recovers.specs.Laws.{ending_by, answer_on}
 use Rattle.run_recovers.proofs.Asking.{onto, find_past, held_in}
-use Rattle.run_recovers.proofs.Led.{AllRight, Rules, Reached}
-use Rattle.run_recovers.proofs.Quiet.{append_none}
+use Rattle.run_recovers.proofs.Led.{Rules, Reached}
+use Rattle.run_recovers.proofs.Polled.{AllRight}
 use Rattle.run_recovers.proofs.VotesSet.{IsSet}
 
 -- ---- what it stands on
@@ -114,9 +114,9 @@ module _ (fixed : Fixed) (world : World) (table : PlainTable) (task : Task) (cac
       → find unmet (map (of_votes world) (sets_on table task)) ≡ find unmet (map (of_votes world) left)
   past_sets done left are met =
       ap (λ sets. find unmet (map (of_votes world) sets)) are
-      ∙ ap (find unmet) (sym (append_none (map (of_votes world) (onto done left))))
+      ∙ ap (find unmet) (sym (append-nil (map (of_votes world) (onto done left))))
       ∙ find_past (of_votes world) unmet done left [] met
-      ∙ ap (find unmet) (append_none (map (of_votes world) left))
+      ∙ ap (find unmet) (append-nil (map (of_votes world) left))
 
   pub short_votes : (start : ℕ → Prefix) (so_far : List (ℕ × LockMode)) (done left : List (ℕ × Configuration)) (one : ℕ × Configuration) → locks_on table task ≡ onto so_far []
       → ((other : ℕ × LockMode) → Has so_far other → unmet (of_lock fixed world start other) ≡ false) → sets_on table task ≡ onto done (one ∷ left)
@@ -247,6 +247,7 @@ module _ (fixed : Fixed) (world : World) (table : PlainTable) (task : Task) (cac
       pub start : Prefix
       pub may : MayStart fixed cache task.site z start
       pub reached : Reached fixed world z (Was z) start (ground.rules z start may) suite.collector
+      pub led : (first : First) → suite.first ≡ Some first → first.prefix ≡ led_to fixed world z start
 
     pub found_start : (z : ℕ) (suite : Suite) (found : IsFound z suite) → suite.collector.start ≡ found.start
     found_start z suite found = ap (λ (c : Collector). c.start) found.reached.is

@@ -22,7 +22,8 @@ use Rattle.txn_core.specs.Doing.{Fixed}
 use Rattle.txn_core.specs.Transactions as course
 use Rattle.run_core.specs.Worlds.{World}
 use Rattle.run_recovers.specs.Standing.{is_up}
-use Rattle.run_recovers.proofs.Led.{Answers, RightSaid, AllRight, held_up, refused_down, nobody_busy, told_is, votes_alike, find_fails, three, at_current, at_short}
+use Rattle.run_recovers.proofs.Picks.{votes_alike, find_fails, three}
+use Rattle.run_recovers.proofs.Polled.{Answers, RightSaid, AllRight, held_up, refused_down, nobody_busy, told_is, at_current, at_short}
 
 -- ---- what a collector is told
 
@@ -130,7 +131,7 @@ module _ (fixed : Fixed) (world : World) (suite : ℕ) where
 
   pub widened_short : (c : Collector) (votes : Configuration) (since : List Told) → AllRight fixed world suite (since ++ c.told) → (had wanting : ℕ) (busy : Option (ℕ × ℕ)) → next (by_votes c votes since) ≡ Short had wanting busy → WidenedShort votes had wanting busy
   widened_short c votes since right had wanting busy is =
-      let at = at_short fixed world suite (by_votes c votes since) had wanting busy is in
+      let at = at_short (by_votes c votes since) had wanting busy is in
       let up = held_are_up votes.reps Exclusive (since ++ c.told) right at.nobody in
       record {
         had_is = sym at.had_is ∙ up;
@@ -142,7 +143,7 @@ module _ (fixed : Fixed) (world : World) (suite : ℕ) where
   pub widened_current : (c : Collector) (votes : Configuration) (since : List Told) → AllRight fixed world suite (since ++ c.told) → (prefix : Prefix) (dver : ℕ) (members : List ℕ) → next (by_votes c votes since) ≡ Current prefix dver members
       → nat_le votes.w (votes_in votes.reps (is_up world)) ≡ true
   widened_current c votes since right prefix dver members is =
-      up_to votes.w (votes_in votes.reps (holds Exclusive (since ++ c.told))) (votes_in votes.reps (is_up world)) (at_current fixed world suite (by_votes c votes since) prefix dver members is).enough
+      up_to votes.w (votes_in votes.reps (holds Exclusive (since ++ c.told))) (votes_in votes.reps (is_up world)) (at_current (by_votes c votes since) prefix dver members is).enough
       (votes_in-wider votes.reps (holds Exclusive (since ++ c.told)) (is_up world) (λ server has. (held_up fixed world suite (absent_prefix fixed.service.c0) (since ++ c.told) right Exclusive server has).0))
     where
       up_to : (a b c : ℕ) → nat_le a b ≡ true → b ≤ c → nat_le a c ≡ true

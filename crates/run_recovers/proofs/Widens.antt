@@ -20,7 +20,7 @@ use Rattle.txn_core.specs.Transactions.{Step, short_cause, votes_then, widened, 
 use Rattle.txn_core.proofs.Gathers.{self, with_at, each_but, each_with}
 use Rattle.run_core.specs.Worlds.{World}
 use Rattle.run_recovers.specs.Demands.{is_met}
-use Rattle.run_recovers.proofs.Led.{AllRight}
+use Rattle.run_recovers.proofs.Polled.{AllRight}
 use Rattle.run_recovers.proofs.Widened.{WidenedShort, widened_short, widened_current}
 use Rattle.run_recovers.proofs.VotesSet.{IsSet}
 use Rattle.run_recovers.proofs.Stands.{Ground, of_votes, EndsRight, ends_short, short_votes, none_short, IsRight, had_met, starts, may_start, SameStart, had_with, HasAll, Sets, IsWidening, StepStands, told_stands, prepare_stands}

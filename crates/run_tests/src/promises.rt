@@ -1,9 +1,10 @@
-//! Who opens a world and plays events on it is promised what holds of every run: a caller of `headline::promise`, and what came
-//! of its events.
+//! Who opens a world and plays events on it is promised what holds of every run, and what is available from each of its
+//! moments on: a caller of `headline::promise` and `run_recovers::promise`, and what came of its events.
 
 ghost use Rattle.std.specs.Prelude.{◌≡◌, Some};
 ghost use Rattle.headline.specs.Promises.{Promises};
 ghost use Rattle.run_core.specs.Opened.{Opened};
+ghost use Rattle.run_recovers.specs.Promises.{Lends};
 
 use crate::events::events;
 use crate::fixtures::{ended_by, same, settings};
@@ -12,9 +13,10 @@ use run_core::{Event, World};
 use std::alloc::Global;
 use suite_prefix::Settings;
 
-/// A world on which these events were played, unless memory was wanting: it promises what holds of their run.
+/// A world on which these events were played, unless memory was wanting: it promises what holds of their run, and lends
+/// what is available.
 fn promised(alloc: Global, settings: &Settings, events: &[Event]) -> Option<World>
-    ensures { (world : Opened) → result ≡ Some world → Promises world }
+    ensures { (world : Opened) → result ≡ Some world → Promises world × Lends world }
 {
     settings.fits();
     let _reps = settings.c0().reps();
@@ -28,6 +30,7 @@ fn promised(alloc: Global, settings: &Settings, events: &[Event]) -> Option<Worl
         return None;
     };
     promise(&world);
+    run_recovers::promise(&world);
     Some(world)
 }
 

@@ -1,0 +1,47 @@
+-- What a world lends, from the laws of its run.
+use Rattle.std.proofs.Common.{List}
+use Rattle.suite_prefix.specs.SettingsRules.{Opening}
+use Rattle.run_core.specs.declared.event.Event.{Event}
+use Rattle.run_core.specs.Opened.{Opened}
+use Rattle.agent_laws.specs.Sites.{RunsKeepToSites}
+use Rattle.agent_laws.proofs.Ends.{jobs_end}
+use Rattle.headline.specs.Premises.{CanBe}
+use Rattle.headline.proofs.Promised.{front}
+use Rattle.run_alone.proofs.Alike.{undisturbed_endings_are_one}
+use Rattle.run_alone.proofs.Clear.{nothing_is_in_the_way}
+use Rattle.run_alone.proofs.Decided.{undisturbed_are_decided}
+use Rattle.run_alone.proofs.Endings.{endings_are_the_tables}
+use Rattle.run_alone.proofs.Same.{endings_are_one}
+use Rattle.run_recovers.specs.Promises.{IsAvailable, Lends}
+use Rattle.run_recovers.proofs.Calm.{sweeps_keep_effects}
+use Rattle.run_recovers.proofs.Free.{no_lock_is_left}
+use Rattle.run_recovers.proofs.HadVotes.{decided_had_votes_up}
+use Rattle.run_recovers.proofs.Homes.{homes_go_round}
+use Rattle.run_recovers.proofs.Rounds.{only_doubts_are_left}
+use Rattle.run_recovers.proofs.Rows.{met_demands_are_rows}
+use Rattle.run_recovers.proofs.Stored.{all_is_stored}
+use Rattle.run_recovers.proofs.Swept.{sweeps_leave_doubts}
+use Rattle.run_recovers.proofs.Taken.{taken_away_are_never_decided}
+
+pub available : RunsKeepToSites → (given : Opening) (events : List Event) → CanBe given events → IsAvailable given events
+available sites given events can = record {
+  had_votes = decided_had_votes_up given events;
+  rows = met_demands_are_rows given events can;
+  homes = homes_go_round given;
+  sweep = sweeps_leave_doubts given events;
+  effects = sweeps_keep_effects given events;
+  doubts = only_doubts_are_left given events;
+  free = no_lock_is_left given events;
+  stored = all_is_stored given events;
+  never = taken_away_are_never_decided given events;
+  in_the_way = nothing_is_in_the_way given can.accepted events;
+  undisturbed = undisturbed_are_decided given events;
+  endings = endings_are_the_tables given events can;
+  same = endings_are_one;
+  caches = undisturbed_endings_are_one;
+  jobs = jobs_end;
+  sites = sites;
+}
+
+pub lends : RunsKeepToSites → (opened : Opened) → Lends opened
+lends sites opened before later is = available sites opened.given before (front opened.given before later is.can_be)
