@@ -140,7 +140,7 @@ pub none_own : (t : ℕ) (locks : List Lock) → (length locks == 0) ≡ true �
 none_own t [] is lock has = absurd has
 none_own t (first ∷ locks) is lock has = let none : suc (length locks) ≡ 0 = eqb-true (suc (length locks)) 0 is in absurd (omega (arith, none))
 
-clear_servers : (t : ℕ) (world : World) → all_up world ≡ true → no_locks world ≡ true → (s : ℕ) (st : State) → server_at world s ≡ Some st → (st.up ≡ true) × AreOwn t st.locks
+pub clear_servers : (t : ℕ) (world : World) → all_up world ≡ true → no_locks world ≡ true → (s : ℕ) (st : State) → server_at world s ≡ Some st → (st.up ≡ true) × AreOwn t st.locks
 clear_servers t world up locks s st at =
     let has = at_has world.servers s st at in
     (all_at (λ (st : State). st.up) world.servers st up has, none_own t st.locks (all_at (λ (st : State). length st.locks == 0) world.servers st locks has))

@@ -29,6 +29,8 @@ pub mod Fits
 pub mod Replied
 pub mod Lefts
 pub mod Requests
-pub mod NeverLost
+pub mod Untold
+pub mod Goes
+pub mod Undisturbed
 pub mod Decided
 pub mod Alike

@@ -60,15 +60,6 @@ carried_next given c0 machines world event events now = record {
   votes = now.votes.1;
 }
 
--- some machines are so
-abbrev pub IsCarried : Opening → worlds.World → List Event → Type 0
-IsCarried given world events = (machines : ℕ → World) × Carried given machines world events
-
-carried_from : (given : Opening) → IsValid given.c0 → (machines : ℕ → World) (world : worlds.World) (events later : List Event) → Carried given machines world (events ++ later) → IsCarried given (after (fixed_of given) world events) later
-carried_from given c0 machines world [] later now = (machines, now)
-carried_from given c0 machines world (event ∷ events) later now =
-    carried_from given c0 (next_machines given machines world event) (step (fixed_of given) world event).world events later (carried_next given c0 machines world event (events ++ later) now)
-
 opens_carried : (given : Opening) (events : List Event) → CanBe given events → Carried given (λ z. begun (beginning z given)) (worlds.opening given) events
 opens_carried given events can = record {
   whole = λ z. record {
@@ -81,11 +72,7 @@ opens_carried given events can = record {
   votes = can.votes;
 }
 
--- so it is after each run that goes on as it can
-pub carried_after : (given : Opening) (events later : List Event) → CanBe given (events ++ later) → IsCarried given (run given events) later
-carried_after given events later can = carried_from given can.c0 (λ z. begun (beginning z given)) (worlds.opening given) events later (opens_carried given (events ++ later) can)
-
--- with the run's own machines
+-- so it is after each run that goes on as it can, with the run's own machines
 carried_at : (given : Opening) → IsValid given.c0 → (machines : ℕ → World) (world : worlds.World) (events later : List Event) → Carried given machines world (events ++ later)
     → Carried given (λ z. machine_from given z (machines z) world events) (after (fixed_of given) world events) later
 carried_at given c0 machines world [] later now = now

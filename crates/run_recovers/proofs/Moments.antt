@@ -1,20 +1,17 @@
 -- A transaction that goes alone, at each of its moments: at the servers that were up when it began it has all locks, those that were down stay so, all that it
 -- was told was free, and stored copies stand still until it tells how it ended.
-use Rattle.std.proofs.Common.{◌≡◌, ◌≢◌, ◌⊎◌, inl, inr, ⊎_elim, ℕ, ◌+◌, Bool, true, false, cond, List, [], ◌∷◌, ◌++◌, append_assoc, Option, Some, None, is_some, refl, sym, ap, subst, ◌∙◌, arith}
+use Rattle.std.proofs.Common.{◌≡◌, ◌≢◌, ◌⊎◌, inl, inr, ⊎_elim, ℕ, ◌+◌, Bool, true, false, cond, List, [], ◌∷◌, ◌++◌, Option, Some, None, is_some, refl, sym, ap, subst, ◌∙◌, arith}
 use Rattle.std.specs.Prelude.{◌*◌, ◌==◌, ◌&&◌, ◌||◌, not, nat_lt, length, slice_get, slice_set}
 use Rattle.std.proofs.lemmas.Bool.{false≢true}
 use Rattle.std.proofs.lemmas.Bool.Decides.{nat_tests}
 use Rattle.std.proofs.lemmas.Option.{none-some, same_Some}
 use Rattle.acl_core.specs.Identity.{Identity}
-use Rattle.vote_core.specs.Validity.{IsValid}
 use Rattle.suite_prefix.specs.SettingsRules.{Opening}
 use Rattle.file_ops.specs.declared.operation.Op.{Op}
 use Rattle.rep_core.specs.declared.request.Request.{Request}
 use Rattle.rep_core.specs.declared.reply.Reply.{Reply}
 use Rattle.rep_core.specs.declared.reply.Verdict.{Verdict}
-use Rattle.rep_core.specs.declared.reply.Verdict.TheVariants as verdict
 use Rattle.rep_core.specs.declared.stamped.Stamped.{Stamped}
-use Rattle.rep_core.specs.Fits.{is_lost}
 use Rattle.rep_core.specs.Store.{copy_of}
 use Rattle.rep_core.specs.State.{State, record_of}
 use Rattle.rep_core.specs.Service.{reply_of}
@@ -23,9 +20,9 @@ use Rattle.rep_core.proofs.Members.{Has, all_at}
 use Rattle.txn_core.specs.declared.job.Job.{Job}
 use Rattle.txn_core.specs.declared.job.Job.TheVariants.{Transaction}
 use Rattle.txn_core.specs.declared.word.Word.TheVariants.{Replied}
-use Rattle.txn_core.specs.Doing.{Fixed, Task, Course, Doing, Running, Rounding, home_of}
+use Rattle.txn_core.specs.Doing.{Fixed, Task, home_of}
 use Rattle.txn_core.specs.Agents as agents
-use Rattle.txn_core.specs.Agents.{Agent, Take, fixed_of, is_idle, has_sense, max_jobs, next_in, next_of, take, take_in, begin, after_all, started}
+use Rattle.txn_core.specs.Agents.{Agent, Take, fixed_of, is_idle, has_sense, max_jobs, next_of, take, take_in, begin, after_all, started}
 use Rattle.txn_core.specs.Laws.{Exchange, of_job, is_decide}
 use Rattle.txn_core.specs.Undecided.{stands_on_locks}
 use Rattle.txn_core.proofs.Upheld.{after-append}
@@ -35,36 +32,31 @@ use Rattle.run_core.specs.declared.done.Outcome.{Outcome}
 use Rattle.run_core.specs.Worlds.{Actor, World, server_at, actor_at, has_no_job, becomes, outcome_of, step}
 use Rattle.run_core.specs.Runs.{run}
 use Rattle.run_core.specs.Decisions.{decisions}
-use Rattle.run_laws.specs.Naming.{names}
 use Rattle.run_laws.specs.Numbers.{begins_now}
 use Rattle.run_laws.specs.Claims.{ended}
 use Rattle.run_laws.proofs.Places.{same_or}
-use Rattle.run_laws.proofs.Asking.{decides}
 use Rattle.run_laws.proofs.Turns.{step_is}
 use Rattle.run_laws.proofs.Worlds.{Holds, puts_in}
-use Rattle.run_laws.proofs.Conclusions.{holds_of}
 use Rattle.suite_machine.specs.Machine as machine
-use Rattle.run_machine.specs.Machines.{moved, machine_of}
-use Rattle.one_table.proofs.Running.{machine_one}
+use Rattle.run_machine.specs.Machines.{machine_of}
 use Rattle.headline.specs.Premises.{CanBe}
 use Rattle.run_alone.specs.Alone.{begins_job}
-use Rattle.run_alone.proofs.Own.{IsOwnAt, up_where}
-use Rattle.run_alone.proofs.Turns.{doing_of, doing_at, with_job}
-use Rattle.run_alone.proofs.Owns.{IsMine, Owns, IsCalm, names_mine, event_owns, begun_owns}
+use Rattle.run_alone.proofs.Own.{IsOwnAt}
+use Rattle.run_alone.proofs.Turns.{with_job}
+use Rattle.run_alone.proofs.Owns.{IsMine, Owns, IsCalm}
 use Rattle.run_alone.proofs.Clear.{none_own}
-use Rattle.run_alone.proofs.Votes.{copy_valid, cache_valid}
+use Rattle.run_alone.proofs.Votes.{cache_valid}
 use Rattle.run_alone.proofs.Starts.{starts}
-use Rattle.run_alone.proofs.Walks.{AllServers, MayAsk, asks_servers}
+use Rattle.run_alone.proofs.Walks.{AllServers}
 use Rattle.run_alone.proofs.Named.{no_record, no_lock}
-use Rattle.run_alone.proofs.Unswept.{is_resolve, never_resolves, Unswept, stays_unswept}
+use Rattle.run_alone.proofs.Unswept.{is_resolve, Unswept}
 use Rattle.run_alone.proofs.Went.{busy}
 use Rattle.run_alone.proofs.Exchanged.{IsFree, IsFreeWord, all_with}
-use Rattle.run_alone.proofs.Unhindered.{AllConsistent, all_consistent, free_reply}
-use Rattle.run_alone.proofs.Reached.{can_front, run_more}
-use Rattle.run_alone.proofs.Holding.{PhaseStands, DoingStands, event_stands}
-use Rattle.run_alone.proofs.Whole.{Carried, next_machines, carried_next, carried_by}
-use Rattle.run_alone.proofs.Requests.{Finds, finds, not_lost, stands_where}
-use Rattle.run_alone.proofs.NeverLost.{AllStand, begun_stands, started_untold}
+use Rattle.run_alone.proofs.Reached.{can_front}
+use Rattle.run_alone.proofs.Whole.{Carried}
+use Rattle.run_alone.proofs.Goes as alone
+use Rattle.run_alone.proofs.Requests.{Finds}
+use Rattle.run_alone.proofs.Untold.{AllStand}
 use Rattle.run_recovers.specs.Standing.{up_in, is_up}
 use Rattle.run_recovers.specs.Alone.{hinders}
 use Rattle.run_recovers.specs.Laws.{GoesAlone}
@@ -146,65 +138,49 @@ module _ (given : Opening) (first : World) (agent t : ℕ) (before : Agent) (cal
     pub can : CanBe given (all ++ later)
 
   module _ (w : World) (later : List Event) (m : Moment w later) where
+    -- as it goes in the books
+    abbrev goes_at : alone.Goes given up t agent w later
+    goes_at = record {
+      owns = m.owns;
+      unswept = m.unswept;
+      machines = m.machines;
+      carried = m.carried;
+      stand = m.stand;
+      all = m.all;
+      run_is = m.run_is;
+      machines_are = m.machines_are;
+      can = m.can;
+    }
+
     pub mine : IsMine t m.here.agent.doing
-    mine = subst (IsMine t) (ap doing_of m.there) m.owns.mine
+    mine = alone.own_mine given up t agent w later goes_at m.here m.there
 
     pub holds_at : Holds fixed w (decisions given m.all) (ended given m.all)
-    holds_at = subst (λ w. Holds fixed w (decisions given m.all) (ended given m.all)) (sym m.run_is) (holds_of given m.can.accepted m.all)
-
-    copies : (i : ℕ) (st : State) → server_at w i ≡ Some st → (z : ℕ) → IsValid (copy_of st.store z).prefix.votes
-    copies = subst (λ w. (i : ℕ) (st : State) → server_at w i ≡ Some st → (z : ℕ) → IsValid (copy_of st.store z).prefix.votes) (sym m.run_is) (copy_valid given m.all (can_front given m.all later m.can))
-
-    consistent : AllConsistent w
-    consistent = subst AllConsistent (sym m.run_is) (all_consistent given m.all)
+    holds_at = alone.holds_at given up t agent w later goes_at
 
     -- ---- what it asks
 
-    pub record OfCourse : Type 0 where
-      pub course : Course
-      pub running : m.here.agent.doing ≡ Some (Running course)
-      pub same : course.task.t ≡ t
-
-    course_of : (asked : ℕ × Request) → next_of fixed m.here.agent ≡ Some asked → (doing : Option Doing) → m.here.agent.doing ≡ doing → IsMine t doing → OfCourse
-    course_of asked next None is own = absurd (none-some asked (sym (ap (next_in fixed) is) ∙ next))
-    course_of asked next (Some (Rounding round)) is own = absurd own
-    course_of asked next (Some (Running course)) is own = record { course = course; running = is; same = own }
-
     module _ (asked : ℕ × Request) (st : State) (next : next_of fixed m.here.agent ≡ Some asked) (at : server_at w asked.0 ≡ Some st) where
-      pub own_course : OfCourse
-      own_course = course_of asked next m.here.agent.doing refl mine
+      pub own_course : alone.OfCourse given up t agent w later goes_at m.here m.there
+      own_course = alone.own_course given up t agent w later goes_at m.here m.there asked st next at
 
       pub own_server : IsOwnAt (up asked.0) t st
       own_server = m.owns.servers asked.0 st at
 
-      pub own_named : names t asked.1 ≡ true
-      own_named = names_mine fixed t m.here.agent.doing asked mine next
-
-      stands : (c : OfCourse) (z : ℕ) → PhaseStands (m.machines z) c.course.task.t c.course.phase
-      stands c z = subst (λ t. PhaseStands (m.machines z) t c.course.phase) (sym c.same) (subst (DoingStands (m.machines z) t) c.running (m.stand z m.here m.there))
-
       pub own_finds : Finds st asked.1
-      own_finds = finds given m.can.c0 w later m.machines m.carried agent m.here own_course.course m.there own_course.running (stands own_course) asked next st at
-
-      own_kept : is_lost (reply_of st asked.1) ≡ false
-      own_kept = not_lost given m.can.c0 w later m.machines m.carried agent m.here own_course.course m.there own_course.running (stands own_course) asked next st at
+      own_finds = alone.own_finds given up t agent w later goes_at m.here m.there asked st next at
 
       pub own_up : stands_on_locks asked.1 ≡ true → up asked.0 ≡ true
-      own_up on =
-          let some = stands_where given m.can.c0 w later m.machines m.carried agent m.here own_course.course m.there own_course.running (stands own_course) asked next on st at in
-          up_where (up asked.0) t st own_server some.lock some.has (some.of_it ∙ own_course.same)
+      own_up = alone.own_up given up t agent w later goes_at m.here m.there asked st next at
 
-      -- its reply is free
       pub own_free : IsFree (up asked.0) asked.1 (reply_of st asked.1)
-      own_free = free_reply (up asked.0) t st asked.1 own_named own_server (consistent asked.0 st at) (copies asked.0 st at) (m.unswept asked.0 st at) own_kept own_up
+      own_free = alone.own_free given up t agent w later goes_at m.here m.there asked st next at
 
       pub own_home : is_decide asked.1 ≡ true → asked.0 ≡ home_of fixed.service t
-      own_home decide =
-          let c = own_course in
-          (decides fixed c.course.task c.course.suites c.course.phase asked.0 asked.1 (ap (next_in fixed) (sym c.running) ∙ next) decide).at_home ∙ ap (home_of fixed.service) c.same
+      own_home = alone.own_home given up t agent w later goes_at m.here m.there asked st next at
 
       pub own_resolve : is_resolve asked.1 ≡ false
-      own_resolve = let c = own_course in never_resolves fixed c.course.task c.course.suites c.course.phase asked.0 asked.1 (ap (next_in fixed) (sym c.running) ∙ next)
+      own_resolve = alone.own_resolve given up t agent w later goes_at m.here m.there asked st next at
 
       -- a reply more
       pub own_heard : (one : Exchange) → Has (of_job fixed before job (m.told ++ Take (Replied (reply_of st asked.1)) ∷ [])) one → Heard one
@@ -219,18 +195,9 @@ module _ (given : Opening) (first : World) (agent t : ℕ) (before : Agent) (cal
     calm_so : IsCalm given up agent w event
     calm_so = is_calm given up agent w event calm
 
-    no_resolve : (event : Event) → IsCalm given up agent w event → MayAsk fixed (λ _ asked. is_resolve asked ≡ false) w event
-    no_resolve (Step i) calm = λ actor asked is next. of actor.agent.doing asked next (subst (IsMine t) (ap (doing_at w) (sym (calm actor asked is next)) ∙ ap doing_of is) m.owns.mine)
-      where
-        of : (doing : Option Doing) (asked : ℕ × Request) → next_in fixed doing ≡ Some asked → IsMine t doing → is_resolve asked.1 ≡ false
-        of None asked next own = absurd (none-some asked next)
-        of (Some (Rounding round)) asked next own = absurd own
-        of (Some (Running course)) asked next own = never_resolves fixed course.task course.suites course.phase asked.0 asked.1 next
-    no_resolve (Begin i _) calm = tt
-    no_resolve (Crash server) calm = refl
-    no_resolve (Return server) calm = refl
-    no_resolve (Forget i site) calm = tt
-    no_resolve (Lack i why) calm = tt
+    -- the books after it
+    abbrev goes_on : alone.Goes given up t agent after_it later
+    goes_on = alone.goes_next given up t agent w event later (goes_at w (event ∷ later) m) calm_so
 
     next_moment : (new : Actor) → actor_at after_it agent ≡ Some new → (told : List agents.Event) → new.agent ≡ after_all fixed (begin fixed before job) told
         → ((one : Exchange) → Has (of_job fixed before job told) one → Heard one) → (IsOpen new.agent.doing → Stored after_it) → (IsOpen new.agent.doing → Unrecorded after_it) → Moment after_it later
@@ -240,19 +207,18 @@ module _ (given : Opening) (first : World) (agent t : ℕ) (before : Agent) (cal
       told = told;
       is = is;
       idle = m.idle;
-      owns = event_owns given up t agent w (decisions given m.all) (ended given m.all) (holds_at w (event ∷ later) m) m.owns event calm_so;
+      owns = goes_on.owns;
       heard = heard;
       still = still;
       unrecorded = unrecorded;
-      unswept = asks_servers fixed (λ _. Unswept t) (λ _ asked. is_resolve asked ≡ false) (λ _. stays_unswept t) w m.unswept event (no_resolve event calm_so);
-      machines = next_machines given m.machines w event;
-      carried = carried_next given m.can.c0 m.machines w event later m.carried;
-      stand = λ z. event_stands given up t agent w z (m.machines z) (m.stand z) event calm_so;
+      unswept = goes_on.unswept;
+      machines = goes_on.machines;
+      carried = goes_on.carried;
+      stand = goes_on.stand;
       all = m.all ++ event ∷ [];
-      run_is = ap (λ w. (step fixed w event).world) m.run_is ∙ sym (run_more given m.all event);
-      machines_are = λ z.
-          ap (λ old. moved given z old w event) (m.machines_are z) ∙ ap (λ w. moved given z (machine_of given z m.all) w event) m.run_is ∙ sym (machine_one given z m.all event);
-      can = subst (CanBe given) (sym (append_assoc m.all (event ∷ []) later)) m.can;
+      run_is = goes_on.run_is;
+      machines_are = goes_on.machines_are;
+      can = goes_on.can;
     }
 
     -- it is another's: the agent is as it was, and no job of it ended
@@ -395,31 +361,25 @@ module _ (given : Opening) (events later : List Event) (agent t : ℕ) (caller :
 
   pub moment_first : Moment given world agent t actor.agent caller site ops (step (fixed_of given) world begins).world later
   moment_first =
-      let holds = holds_of given goes.can.accepted events in
-      let old : ℕ → machine.World = λ z. machine_of given z events in
-      let owns : Owns (is_up world) (step (fixed_of given) world begins).world t agent =
-      begun_owns given (is_up world) world (decisions given events) (ended given events) holds agent t caller site ops free_at (actor_at world agent) refl goes.begins in
-      let carried = carried_next given goes.can.c0 old world begins later (carried_by given events (begins ∷ later) goes.can) in
+      let first = alone.goes_first given (is_up world) t agent events later caller site ops goes.can goes.begins free_at in
       record {
         here = begun;
         there = ap (λ found. actor_at (becomes world agent (λ a. begin (fixed_of given) a (Transaction caller site ops)) found).world agent) goes.there ∙ (puts_in world.agents agent actor begun goes.there).here;
         told = [];
         is = refl;
         idle = begins_idle given agent t (Transaction caller site ops) actor (ap (λ found. with_job (Transaction caller site ops) (begins_now (fixed_of given) agent (Transaction caller site ops) found)) (sym goes.there) ∙ goes.begins);
-        owns = owns;
+        owns = first.owns;
         heard = λ one has. absurd has;
         still = λ _ i st old at was z. ap (λ (st : State). copy_of st.store z) (same_Some st old (sym at ∙ servers_begun i ∙ was));
         unrecorded = λ _ i st at. no_record_of st (record_of st t) refl (λ v is. no_record given goes.can.accepted events agent t (Transaction caller site ops) goes.begins i st (sym (servers_begun i) ∙ at) v is);
-        unswept = asks_servers (fixed_of given) (λ _. Unswept t) (λ _ asked. is_resolve asked ≡ false) (λ _. stays_unswept t) world
-            (λ i st at aborted. no_record given goes.can.accepted events agent t (Transaction caller site ops) goes.begins i st at verdict.Aborted aborted) begins tt;
-        machines = next_machines given old world begins;
-        carried = carried;
-        stand = begun_stands given (next_machines given old world begins) (step (fixed_of given) world begins).world later t agent owns.mine carried
-            (started_untold given world agent t caller site ops (actor_at world agent) refl goes.begins);
+        unswept = first.unswept;
+        machines = first.machines;
+        carried = first.carried;
+        stand = first.stand;
         all = events ++ begins ∷ [];
-        run_is = sym (run_more given events begins);
-        machines_are = λ z. sym (machine_one given z events begins);
-        can = subst (CanBe given) (sym (append_assoc events (begins ∷ []) later)) goes.can;
+        run_is = first.run_is;
+        machines_are = first.machines_are;
+        can = first.can;
       }
 
   pub first_all : moment_first.all ≡ events ++ begins ∷ []
