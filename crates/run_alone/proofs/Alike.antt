@@ -31,10 +31,11 @@ use Rattle.run_alone.specs.Alone.{all_idle, begins_job, begins_alone, jobs_from,
 use Rattle.run_alone.specs.Endings.{IsDecided, IsRunning, AllAreDecided, UndisturbedEndingsAreOne}
 use Rattle.run_alone.specs.Undisturbed.{all_up, no_locks, disturbs, is_decided, begins_clear, some_runs, all_undisturbed_from, all_undisturbed}
 use Rattle.run_alone.proofs.Turns.{with_job, doing_of, doing_at, all_none}
-use Rattle.run_alone.proofs.Clear.{IsMine, at_has}
+use Rattle.run_alone.proofs.Owns.{IsMine}
+use Rattle.run_alone.proofs.Clear.{at_has}
 use Rattle.run_alone.proofs.Same.{endings_are_one}
-use Rattle.run_alone.proofs.NeverLost.{none_is_lost}
-use Rattle.run_alone.proofs.Reached.{can_front, run_more, AllKept, Reached, reached_first, runs_first, next_reached, ended_decided, runs_still}
+use Rattle.run_alone.proofs.Reached.{can_front, run_more}
+use Rattle.run_alone.proofs.Undisturbed.{Reached, reached_first, runs_first, next_reached, ended_decided, runs_still}
 
 not_true : (b : Bool) → not b ≡ true → b ≡ false
 not_true true is = absurd (false≢true is)
@@ -124,15 +125,15 @@ DecidedOrRuns given all t = IsDecided (decisions given all) t ⊎ IsRunning (run
 
 -- ---- from the begin of a transaction on
 
-module _ (given : Opening) (events : List Event) (agent t : ℕ) (caller : Identity) (site : ℕ) (ops : List Op) (kept : AllKept given events agent t caller site ops) where
-  follow : (all rest : List Event) → CanBe given (all ++ rest) → Reached given events agent t caller site ops all → is_idle (doing_at (run given all) agent) ≡ false
+module _ (given : Opening) (agent t : ℕ) where
+  follow : (all rest : List Event) → CanBe given (all ++ rest) → Reached given t agent all → is_idle (doing_at (run given all) agent) ≡ false
       → one_at_a_time_from given (run given all) rest ≡ true → all_undisturbed_from given (run given all) rest ≡ true → DecidedOrRuns given (all ++ rest) t
-  follow all [] can reached runs alone calm = inr (subst (λ all. IsRunning (run given all) t) (sym (append_none all)) (runs_it (run given all) agent t reached.at.clear.mine runs).running)
+  follow all [] can reached runs alone calm = inr (subst (λ all. IsRunning (run given all) t) (sym (append_none all)) (runs_it (run given all) agent t reached.clear.owns.mine runs).running)
   follow all (event ∷ rest) can reached runs alone calm =
       subst (λ whole. DecidedOrRuns given whole t) (append_assoc all (event ∷ []) rest)
       (of (step (fixed_of given) world event).done.outcome refl can'
-      (λ is. follow (all ++ event ∷ []) rest can' (next_reached given events agent t caller site ops kept all event can_now reached quiet none)
-      (runs_still given events agent t caller site ops kept all event can_now reached quiet none runs is)
+      (λ is. follow (all ++ event ∷ []) rest can' (next_reached given t agent all event can_now reached quiet none)
+      (runs_still given t agent all event can_now reached quiet none runs is)
       (subst (λ world. one_at_a_time_from given world rest ≡ true) more alone'.1) (subst (λ world. all_undisturbed_from given world rest ≡ true) more calm'.2)))
     where
       world : World
@@ -145,7 +146,7 @@ module _ (given : Opening) (events : List Event) (agent t : ℕ) (caller : Ident
       can_now = can_front given (all ++ event ∷ []) rest can'
 
       now : Runs world agent t
-      now = runs_it world agent t reached.at.clear.mine runs
+      now = runs_it world agent t reached.clear.owns.mine runs
 
       calm' : (begins_clear given world event ≡ true) × (not (some_runs world && disturbs given world event) ≡ true) × (all_undisturbed_from given (step (fixed_of given) world event).world rest ≡ true)
       calm' = two_parts (begins_clear given world event) (not (some_runs world && disturbs given world event)) (all_undisturbed_from given (step (fixed_of given) world event).world rest) calm
@@ -165,7 +166,7 @@ module _ (given : Opening) (events : List Event) (agent t : ℕ) (caller : Ident
       of : (outcome : Option Outcome) → (step (fixed_of given) world event).done.outcome ≡ outcome → CanBe given ((all ++ event ∷ []) ++ rest) → ((step (fixed_of given) world event).done.outcome ≡ None → DecidedOrRuns given ((all ++ event ∷ []) ++ rest) t)
           → DecidedOrRuns given ((all ++ event ∷ []) ++ rest) t
       of (Some job) is can later =
-          let well = ended_decided given events agent t caller site ops kept all event can_now reached quiet none job is in
+          let well = ended_decided given t agent all event can_now reached quiet none job is in
           inl (decided_then given (all ++ event ∷ []) rest t (subst (IsDecided (decisions given (all ++ event ∷ []))) well.0
           (decided_last given can.accepted (all ++ event ∷ []) job (ends_last given all event job is) well.1)))
       of None is can later = later is
@@ -204,10 +205,9 @@ module _ (given : Opening) where
       let clear = and_parts (all_up world) (no_locks world) (where_begun (begins_job given world begins) (t, Transaction caller site ops) (all_up world && no_locks world) is calm'.0) in
       let can' : CanBe given ((front ++ begins ∷ []) ++ rest) = subst (CanBe given) (sym (append_assoc front (begins ∷ []) rest)) can in
       let can_now = can_front given (front ++ begins ∷ []) rest can' in
-      let kept : AllKept given front agent t caller site ops = λ sofar can crashes none. none_is_lost given front sofar agent t caller site ops can is idle clear.0 clear.1 crashes none in
       let more = sym (run_more given front begins) in
       subst (λ whole. DecidedOrRuns given whole t) (append_assoc front (begins ∷ []) rest)
-      (follow given front agent t caller site ops kept (front ++ begins ∷ []) rest can' (reached_first given front agent t caller site ops can_now is idle clear.0 clear.1)
+      (follow given agent t (front ++ begins ∷ []) rest can' (reached_first given front agent t caller site ops can_now is idle clear.0 clear.1)
       (runs_first given front agent t caller site ops can_now is idle clear.0 clear.1)
       (subst (λ world. one_at_a_time_from given world rest ≡ true) more alone'.1) (subst (λ world. all_undisturbed_from given world rest ≡ true) more calm'.2))
 

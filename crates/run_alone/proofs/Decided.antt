@@ -3,9 +3,7 @@ use Rattle.std.proofs.Common.{◌≡◌, inl, inr, ℕ, Bool, true, false, List,
 use Rattle.std.specs.Prelude.{not}
 use Rattle.std.specs.List.{cons_option}
 use Rattle.std.proofs.lemmas.Bool.{false≢true, and_parts}
-use Rattle.acl_core.specs.Identity.{Identity}
 use Rattle.suite_prefix.specs.SettingsRules.{Opening}
-use Rattle.file_ops.specs.declared.operation.Op.{Op}
 use Rattle.rep_core.proofs.Members.{Has, has_from}
 use Rattle.txn_core.specs.declared.job.Job.TheVariants.{Transaction}
 use Rattle.txn_core.specs.Agents.{fixed_of}
@@ -19,16 +17,16 @@ use Rattle.headline.specs.Premises.{CanBe}
 use Rattle.run_alone.specs.Alone.{begins_job, jobs_from}
 use Rattle.run_alone.specs.Undisturbed.{disturbs, undisturbed_from, is_decided, UndisturbedAreDecided}
 use Rattle.run_alone.proofs.Clear.{none_now}
-use Rattle.run_alone.proofs.NeverLost.{none_is_lost}
-use Rattle.run_alone.proofs.Reached.{can_front, run_more, AllKept, Reached, reached_first, next_reached, ended_decided}
+use Rattle.run_alone.proofs.Reached.{can_front, run_more}
+use Rattle.run_alone.proofs.Undisturbed.{Reached, reached_first, next_reached, ended_decided}
 
 not_true : (b : Bool) → not b ≡ true → b ≡ false
 not_true true is = absurd (false≢true is)
 not_true false is = refl
 
-module _ (given : Opening) (events : List Event) (agent t : ℕ) (caller : Identity) (site : ℕ) (ops : List Op) (kept : AllKept given events agent t caller site ops) where
+module _ (given : Opening) (agent t : ℕ) where
   -- each ending from there on
-  all_decided : (all rest : List Event) → CanBe given (all ++ rest) → Reached given events agent t caller site ops all → jobs_from given (run given all) rest ≡ [] → undisturbed_from given (run given all) rest ≡ true
+  all_decided : (all rest : List Event) → CanBe given (all ++ rest) → Reached given t agent all → jobs_from given (run given all) rest ≡ [] → undisturbed_from given (run given all) rest ≡ true
       → (job : Outcome) → Has (outcomes (dones (fixed_of given) (run given all) rest)) job → (number_of job ≡ t) × (is_decided job.ending ≡ true)
   all_decided all [] can reached none calm job has = absurd has
   all_decided all (event ∷ rest) can reached none calm job has =
@@ -40,7 +38,7 @@ module _ (given : Opening) (events : List Event) (agent t : ℕ) (caller : Ident
       let can_now = can_front given (all ++ event ∷ []) rest can' in
       let more = sym (run_more given all event) in
       of (step (fixed_of given) (run given all) event).done.outcome refl can_now quiet now.0
-      (λ has. all_decided (all ++ event ∷ []) rest can' (next_reached given events agent t caller site ops kept all event can_now reached quiet now.0)
+      (λ has. all_decided (all ++ event ∷ []) rest can' (next_reached given t agent all event can_now reached quiet now.0)
       (subst (λ world. jobs_from given world rest ≡ []) more now.1) (subst (λ world. undisturbed_from given world rest ≡ true) more parts.1) job
       (subst (λ world. Has (outcomes (dones (fixed_of given) world rest)) job) more has)) has
     where
@@ -49,7 +47,7 @@ module _ (given : Opening) (events : List Event) (agent t : ℕ) (caller : Ident
           → Has (cons_option outcome (outcomes (dones (fixed_of given) (step (fixed_of given) (run given all) event).world rest))) job → (number_of job ≡ t) × (is_decided job.ending ≡ true)
       of None is can quiet now later has = later has
       of (Some one) is can quiet now later has = elim has [
-        | inl same ↦ ended_decided given events agent t caller site ops kept all event can reached quiet now job (is ∙ ap Some same)
+        | inl same ↦ ended_decided given t agent all event can reached quiet now job (is ∙ ap Some same)
         | inr rest' ↦ later rest'
       ]
 
@@ -57,9 +55,8 @@ pub undisturbed_are_decided : UndisturbedAreDecided
 undisturbed_are_decided given events later agent t caller site ops can begins idle up locks none calm job there =
     let begin = Begin agent (Transaction caller site ops) in
     let can' : CanBe given ((events ++ begin ∷ []) ++ later) = subst (CanBe given) (sym (append_assoc events (begin ∷ []) later)) can in
-    let kept : AllKept given events agent t caller site ops = λ sofar can crashes none. none_is_lost given events sofar agent t caller site ops can begins idle up locks crashes none in
     let more = sym (run_more given events begin) in
-    all_decided given events agent t caller site ops kept (events ++ begin ∷ []) later can'
+    all_decided given agent t (events ++ begin ∷ []) later can'
     (reached_first given events agent t caller site ops (can_front given (events ++ begin ∷ []) later can') begins idle up locks)
     (subst (λ world. jobs_from given world later ≡ []) more none) (subst (λ world. undisturbed_from given world later ≡ true) more calm) job
     (subst (λ world. Has (outcomes (dones (fixed_of given) world later)) job) more (has_from (outcomes (dones (fixed_of given) (step (fixed_of given) (run given events) begin).world later)) job there))

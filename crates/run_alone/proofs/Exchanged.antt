@@ -1,9 +1,11 @@
--- What the agent of a transaction was told since it began, where nothing disturbed it; and that it is then decided.
+-- What the agent of a transaction was told since it began, where nothing was in its way: it ends decided, or for want of votes, or since its home is down.
 use Rattle.std.proofs.Common.{◌≡◌, ◌⊎◌, inl, inr, ⊎_elim, ℕ, zero, suc, ◌+◌, ◌<◌, ◌≤◌, Bool, true, false, cond, List, [], ◌∷◌, ◌++◌, Option, Some, None, refl, sym, ap, subst, ◌∙◌, arith}
 use Rattle.std.specs.Prelude.{◌==◌, ◌&&◌, ◌||◌, not}
 use Rattle.std.proofs.lemmas.Bool.{and_parts, false≢true}
 use Rattle.std.proofs.lemmas.Bool.Decides.{nat_tests}
 use Rattle.std.proofs.lemmas.Option.{none-some, same_Some}
+use Rattle.acl_core.specs.Identity.{Identity}
+use Rattle.file_ops.specs.declared.operation.Op.{Op}
 use Rattle.vote_core.specs.Quorums.{Representative, Configuration, votes_in, total_votes}
 use Rattle.vote_core.specs.Validity.{IsValid}
 use Rattle.rep_core.specs.declared.request.Request.{Request}
@@ -25,13 +27,13 @@ use Rattle.txn_core.specs.declared.ending.Cause.{Cause}
 use Rattle.txn_core.specs.declared.ending.Cause.TheVariants as cause
 use Rattle.txn_core.specs.declared.ending.Ending.TheVariants.{Undecided}
 use Rattle.txn_core.specs.declared.job.Job.{Job}
-use Rattle.txn_core.specs.declared.job.Job.TheVariants.{Transaction, Sweep}
+use Rattle.txn_core.specs.declared.job.Job.TheVariants.{Transaction}
 use Rattle.txn_core.specs.declared.word.Word.{Word}
 use Rattle.txn_core.specs.declared.word.Word.TheVariants.{Replied, Lacked}
 use Rattle.txn_core.specs.Doing.{Fixed}
 use Rattle.txn_core.specs.Transactions.{said_to, is_poll}
-use Rattle.txn_core.specs.Laws.{Exchange, exchange_of, of_job, all_fit, fits_word, locks, heard_in, has_said, is_said, refusing, holding, is_decide, told_of, told_by, more_told, task_of, IsStart}
-use Rattle.txn_core.specs.Undecided.{says_down, says_aborted, is_lack, is_finish, loses, stops, Was, WasLost, DidNotServe, IsShort, IsCaused}
+use Rattle.txn_core.specs.Laws.{Exchange, exchange_of, of_job, all_fit, fits_word, locks, heard_in, busy_at, first_of, first_busy_in, has_said, is_said, refusing, holding, is_decide, told_of, told_by, more_told, task_of, IsStart}
+use Rattle.txn_core.specs.Undecided.{stands_on_locks, says_down, says_aborted, is_lack, is_finish, loses, stops, Was, DidNotServe, IsShort, IsCaused}
 use Rattle.txn_core.specs.Agents as agents
 use Rattle.txn_core.specs.Agents.{Agent, Take, Forget, next_of, take, begin, forget, is_idle, after_all, after_event}
 use Rattle.txn_core.proofs.Upheld.{after-append, exchanges-take, exchanges-forget}
@@ -47,22 +49,24 @@ abbrev pub TellsValid : Reply → Type 0
 TellsValid (reply.Held prefix dver) = IsValid prefix.votes
 TellsValid other = Unit {0}
 
--- it is neither Busy, Down nor Lost, it fits what was asked, what it tells is valid, and no Decide is answered Aborted
-pub record IsFree (asked : Request) (said : Reply) : Type 0 where
+-- Of a server that is up, or down: it is not Busy, nor Lost, and Down where the server is; it fits what was asked, what it tells is valid, no Decide is
+-- answered Aborted, and what stands on a lock is asked where the server is up.
+pub record IsFree (up : Bool) (asked : Request) (said : Reply) : Type 0 where
   pub busy : is_busy said ≡ false
-  pub up : is_down said ≡ false
+  pub down : is_down said ≡ not up
   pub kept : is_lost said ≡ false
   pub fit : fits asked said ≡ true
   pub valid : TellsValid said
   pub decides : is_decide asked ≡ true → said ≡ reply.Verdict verdict.Aborted → ⊥
+  pub stood : stands_on_locks asked ≡ true → up ≡ true
 
 -- a request that was not served is not free
-abbrev pub IsFreeWord : Request → Word → Type 0
-IsFreeWord asked (Replied said) = IsFree asked said
-IsFreeWord asked (Lacked why) = ⊥
+abbrev pub IsFreeWord : Bool → Request → Word → Type 0
+IsFreeWord up asked (Replied said) = IsFree up asked said
+IsFreeWord up asked (Lacked why) = ⊥
 
-abbrev pub AllFree : List Exchange → Type 0
-AllFree past = (one : Exchange) → Has past one → IsFreeWord one.request one.word
+abbrev pub AllFree : (ℕ → Bool) → List Exchange → Type 0
+AllFree up past = (one : Exchange) → Has past one → IsFreeWord (up one.server) one.request one.word
 
 -- from each of its moments on the cache of an agent had valid votes
 abbrev pub AllValid : Fixed → Agent → List agents.Event → Type 0
@@ -78,66 +82,88 @@ valid_at fixed agent [] [] all = all
 valid_at fixed agent [] (event ∷ later) all = all.0
 valid_at fixed agent (event ∷ before) later all = valid_at fixed (after_event fixed agent event) before later all.1
 
--- the agent began a job that sets no votes but valid ones, and this is all that it was told since
+-- what holds of all that a job was told, and of a word more
+all_more : (F : Exchange → Type 0) (past more : List Exchange) → ((one : Exchange) → Has past one → F one) → ((one : Exchange) → Has more one → F one) → (one : Exchange) → Has (past ++ more) one → F one
+all_more F past more old new one has = ⊎_elim (λ left. old one left) (λ right. new one right) (has_append past more one has)
+
+module _ (F : Exchange → Type 0) (fixed : Fixed) (before agent : Agent) (job : Job) (told : List agents.Event) (asked : ℕ × Request) (word : Word) (is : agent ≡ after_all fixed (begin fixed before job) told) (next : next_of fixed agent ≡ Some asked)
+    (old : (one : Exchange) → Has (of_job fixed before job told) one → F one) (now : F (record { server = asked.0; request = asked.1; word = word })) where
+  told_now : (one : Exchange) → Has (exchange_of (next_of fixed agent) word) one → F one
+  told_now = subst (λ asked. (one : Exchange) → Has (exchange_of asked word) one → F one) (sym next) (λ one has. ⊎_elim (λ is. subst F is now) (λ none. absurd none) has)
+
+  pub all_with : (one : Exchange) → Has (of_job fixed before job (told ++ Take word ∷ [])) one → F one
+  all_with =
+      subst (λ past. (one : Exchange) → Has past one → F one) (sym (exchanges-take fixed (begin fixed before job) told word))
+      (all_more F (of_job fixed before job told) _ old (subst (λ agent. (one : Exchange) → Has (exchange_of (next_of fixed agent) word) one → F one) is told_now))
+
+-- where all servers are up
+abbrev pub all_up : ℕ → Bool
+all_up server = true
+
+-- the agent began a transaction that sets no votes but valid ones, and this is all that it was told since
 pub record Since (fixed : Fixed) (agent : Agent) : Type 0 where
   pub before : Agent
-  pub job : Job
+  pub caller : Identity
+  pub site : ℕ
+  pub ops : List Op
   pub told : List agents.Event
   pub idle : is_idle before.doing ≡ true
-  pub is : agent ≡ after_all fixed (begin fixed before job) told
-  pub free : AllFree (of_job fixed before job told)
-  pub caches : AllValid fixed (begin fixed before job) told
-  pub sets : JobGivesValidVotes job
+  pub is : agent ≡ after_all fixed (begin fixed before (Transaction caller site ops)) told
+  pub free : AllFree all_up (of_job fixed before (Transaction caller site ops) told)
+  pub caches : AllValid fixed (begin fixed before (Transaction caller site ops)) told
+  pub sets : JobGivesValidVotes (Transaction caller site ops)
 
-pub since_begin : (fixed : Fixed) (agent : Agent) (job : Job) → is_idle agent.doing ≡ true → JobGivesValidVotes job → HasValidVotes (begin fixed agent job).cache → Since fixed (begin fixed agent job)
-since_begin fixed agent job idle sets cache = record { before = agent; job = job; told = []; idle = idle; is = refl; free = λ one has. absurd has; caches = cache; sets = sets }
+pub since_begin : (fixed : Fixed) (agent : Agent) (caller : Identity) (site : ℕ) (ops : List Op) → is_idle agent.doing ≡ true → JobGivesValidVotes (Transaction caller site ops) → HasValidVotes (begin fixed agent (Transaction caller site ops)).cache
+    → Since fixed (begin fixed agent (Transaction caller site ops))
+since_begin fixed agent caller site ops idle sets cache = record { before = agent; caller = caller; site = site; ops = ops; told = []; idle = idle; is = refl; free = λ one has. absurd has; caches = cache; sets = sets }
 
-pub since_forget : (fixed : Fixed) (agent : Agent) (site : ℕ) → HasValidVotes (forget agent site).cache → Since fixed agent → Since fixed (forget agent site)
-since_forget fixed agent site cache since = record {
-  before = since.before;
-  job = since.job;
-  told = since.told ++ Forget site ∷ [];
-  idle = since.idle;
-  is = ap (λ agent. forget agent site) since.is ∙ sym (after-append fixed (begin fixed since.before since.job) since.told (Forget site));
-  free = subst AllFree (sym (exchanges-forget fixed (begin fixed since.before since.job) since.told site)) since.free;
-  caches = valid_more fixed (begin fixed since.before since.job) since.told (Forget site) since.caches (subst (λ agent. HasValidVotes (forget agent site).cache) since.is cache);
-  sets = since.sets;
-}
+module _ (fixed : Fixed) (agent : Agent) (since : Since fixed agent) where
+  abbrev job : Job
+  job = Transaction since.caller since.site since.ops
 
--- what it is told of what it asks
-told_free : (fixed : Fixed) (agent : Agent) (asked : ℕ × Request) (said : Reply) → next_of fixed agent ≡ Some asked → IsFree asked.1 said → AllFree (exchange_of (next_of fixed agent) (Replied said))
-told_free fixed agent asked said next free = subst (λ asked. AllFree (exchange_of asked (Replied said))) (sym next) (λ one has. ⊎_elim (λ is. subst (λ (one : Exchange). IsFreeWord one.request one.word) is free) (λ none. absurd none) has)
+  abbrev first : Agent
+  first = begin fixed since.before job
 
-all_more : (past more : List Exchange) → AllFree past → AllFree more → AllFree (past ++ more)
-all_more past more old new one has = ⊎_elim (λ left. old one left) (λ right. new one right) (has_append past more one has)
+  pub since_forget : (site : ℕ) → HasValidVotes (forget agent site).cache → Since fixed (forget agent site)
+  since_forget site cache = record {
+    before = since.before;
+    caller = since.caller;
+    site = since.site;
+    ops = since.ops;
+    told = since.told ++ Forget site ∷ [];
+    idle = since.idle;
+    is = ap (λ agent. forget agent site) since.is ∙ sym (after-append fixed first since.told (Forget site));
+    free = subst (AllFree all_up) (sym (exchanges-forget fixed first since.told site)) since.free;
+    caches = valid_more fixed first since.told (Forget site) since.caches (subst (λ agent. HasValidVotes (forget agent site).cache) since.is cache);
+    sets = since.sets;
+  }
 
--- all that was told with this reply
-free_with : (fixed : Fixed) (agent : Agent) (asked : ℕ × Request) (said : Reply) → next_of fixed agent ≡ Some asked → IsFree asked.1 said → (since : Since fixed agent) → AllFree (of_job fixed since.before since.job (since.told ++ Take (Replied said) ∷ []))
-free_with fixed agent asked said next free since =
-    subst AllFree (sym (exchanges-take fixed (begin fixed since.before since.job) since.told (Replied said)))
-    (all_more (of_job fixed since.before since.job since.told) _ since.free
-    (subst (λ agent. AllFree (exchange_of (next_of fixed agent) (Replied said))) since.is (told_free fixed agent asked said next free)))
+  -- all that was told with this reply
+  free_with : (asked : ℕ × Request) (said : Reply) → next_of fixed agent ≡ Some asked → IsFree true asked.1 said → AllFree all_up (of_job fixed since.before job (since.told ++ Take (Replied said) ∷ []))
+  free_with asked said next free = all_with (λ one. IsFreeWord true one.request one.word) fixed since.before agent job since.told asked (Replied said) since.is next since.free free
 
-pub since_take : (fixed : Fixed) (agent : Agent) (asked : ℕ × Request) (said : Reply) → next_of fixed agent ≡ Some asked → IsFree asked.1 said → HasValidVotes (take fixed agent (Replied said)).agent.cache → Since fixed agent → Since fixed (take fixed agent (Replied said)).agent
-since_take fixed agent asked said next free cache since = record {
-  before = since.before;
-  job = since.job;
-  told = since.told ++ Take (Replied said) ∷ [];
-  idle = since.idle;
-  is = ap (λ agent. (take fixed agent (Replied said)).agent) since.is ∙ sym (after-append fixed (begin fixed since.before since.job) since.told (Take (Replied said)));
-  free = free_with fixed agent asked said next free since;
-  caches = valid_more fixed (begin fixed since.before since.job) since.told (Take (Replied said)) since.caches (subst (λ agent. HasValidVotes (take fixed agent (Replied said)).agent.cache) since.is cache);
-  sets = since.sets;
-}
+  pub since_take : (asked : ℕ × Request) (said : Reply) → next_of fixed agent ≡ Some asked → IsFree true asked.1 said → HasValidVotes (take fixed agent (Replied said)).agent.cache → Since fixed (take fixed agent (Replied said)).agent
+  since_take asked said next free cache = record {
+    before = since.before;
+    caller = since.caller;
+    site = since.site;
+    ops = since.ops;
+    told = since.told ++ Take (Replied said) ∷ [];
+    idle = since.idle;
+    is = ap (λ agent. (take fixed agent (Replied said)).agent) since.is ∙ sym (after-append fixed first since.told (Take (Replied said)));
+    free = free_with asked said next free;
+    caches = valid_more fixed first since.told (Take (Replied said)) since.caches (subst (λ agent. HasValidVotes (take fixed agent (Replied said)).agent.cache) since.is cache);
+    sets = since.sets;
+  }
 
 -- ---- what was not said
 
 -- a reply that is free says of a lock that it is held, or nothing
-held_or_none : (asked : Request) (word : Word) (said : Said) → IsFreeWord asked word → heard_in asked word ≡ Some said → (mode : LockMode) → refusing mode said ≡ false
+held_or_none : (asked : Request) (word : Word) (said : Said) → IsFreeWord true asked word → heard_in asked word ≡ Some said → (mode : LockMode) → refusing mode said ≡ false
 held_or_none asked (Lacked why) said free is mode = absurd free
 held_or_none asked (Replied (reply.Held prefix dver)) said free is mode = ap (refusing mode) (sym (same_Some (told.Held prefix dver) said is))
 held_or_none asked (Replied (reply.Busy holder prepared)) said free is mode = absurd (false≢true (sym free.busy))
-held_or_none asked (Replied reply.Down) said free is mode = absurd (false≢true (sym free.up))
+held_or_none asked (Replied reply.Down) said free is mode = absurd (false≢true (sym free.down))
 held_or_none asked (Replied reply.Lost) said free is mode = absurd (none-some said is)
 held_or_none asked (Replied (reply.Given dver content)) said free is mode = absurd (none-some said is)
 held_or_none asked (Replied reply.Prepared) said free is mode = absurd (none-some said is)
@@ -145,7 +171,7 @@ held_or_none asked (Replied (reply.Verdict v)) said free is mode = absurd (none-
 held_or_none asked (Replied reply.Done) said free is mode = absurd (none-some said is)
 held_or_none asked (Replied (reply.Locked locks)) said free is mode = absurd (none-some said is)
 
-none_refuses : (asked : Request) (word : Word) → IsFreeWord asked word → is_said refusing asked (heard_in asked word) ≡ false
+none_refuses : (asked : Request) (word : Word) → IsFreeWord true asked word → is_said refusing asked (heard_in asked word) ≡ false
 none_refuses asked word free = of (heard_in asked word) refl
   where
     of : (heard : Option Said) → heard_in asked word ≡ heard → is_said refusing asked heard ≡ false
@@ -155,7 +181,7 @@ none_refuses asked word free = of (heard_in asked word) refl
 and_false : (a b c : Bool) → c ≡ false → (a && b && c) ≡ false
 and_false a b c is = grind (arith, nat_tests)
 
-nobody_refused : (past : List Exchange) (suite server : ℕ) → AllFree past → has_said past suite refusing server ≡ false
+nobody_refused : (past : List Exchange) (suite server : ℕ) → AllFree all_up past → has_said past suite refusing server ≡ false
 nobody_refused [] suite server free = refl
 nobody_refused (one ∷ past) suite server free =
     ap (λ b. b || has_said past suite refusing server) (and_false (one.server == server) (locks suite one.request) (is_said refusing one.request (heard_in one.request one.word)) (none_refuses one.request one.word (free one (inl refl))))
@@ -178,11 +204,11 @@ said_valid before server asked (reply.Verdict v) valid all = all
 said_valid before server asked reply.Done valid all = all
 said_valid before server asked (reply.Locked locks) valid all = all
 
-told_valid : (suite : ℕ) (before : List Told) (past : List Exchange) → AllSayValid before → AllFree past → AllSayValid (told_of suite before past)
+told_valid : (suite : ℕ) (before : List Told) (past : List Exchange) → AllSayValid before → AllFree all_up past → AllSayValid (told_of suite before past)
 told_valid suite before [] all free = all
 told_valid suite before (one ∷ past) all free = told_valid suite (cond (locks suite one.request) (told_by before one one.word) before) past (of (locks suite one.request)) (λ other has. free other (inr has))
   where
-    by : (word : Word) → IsFreeWord one.request word → AllSayValid (told_by before one word)
+    by : (word : Word) → IsFreeWord true one.request word → AllSayValid (told_by before one word)
     by (Replied said) free = said_valid before one.server one.request said free.valid all
     by (Lacked why) free = absurd free
 
@@ -216,65 +242,151 @@ enough Shared votes valid = valid.r_in_range.1
 enough Exclusive votes valid = valid.w_in_range.1
 
 -- a request that was not served
-lacks : (why : Why) (one : Exchange) → IsFreeWord one.request one.word → is_lack why one.word ≡ true → ⊥
-lacks why one free is = of why one.word free is
+lacks : (up : Bool) (why : Why) (one : Exchange) → IsFreeWord up one.request one.word → is_lack why one.word ≡ true → ⊥
+lacks up why one free is = of why one.word free is
   where
-    of : (why : Why) (word : Word) → IsFreeWord one.request word → is_lack why word ≡ true → ⊥
+    of : (why : Why) (word : Word) → IsFreeWord up one.request word → is_lack why word ≡ true → ⊥
     of lack.Full (Replied said) free is = false≢true is
     of lack.Memory (Replied said) free is = false≢true is
     of why (Lacked other) free is = absurd free
 
--- a server that is down
-downs : (one : Exchange) → IsFreeWord one.request one.word → says_down one.word ≡ true → ⊥
-downs one free is = of one.word free is
-  where
-    of : (word : Word) → IsFreeWord one.request word → says_down word ≡ true → ⊥
-    of (Lacked why) free is = absurd free
-    of (Replied reply.Down) free is = false≢true (sym free.up)
-    of (Replied _) free is = false≢true is
+down_is : (up : Bool) → true ≡ not up → up ≡ false
+down_is true is = absurd (false≢true (sym is))
+down_is false is = refl
 
--- or lost locks
-lost : (one : Exchange) → IsFreeWord one.request one.word → loses one.request one.word ≡ true → ⊥
-lost one free is = of one.word free is
+-- a server that is down
+downs : (up : Bool) (one : Exchange) → IsFreeWord up one.request one.word → says_down one.word ≡ true → up ≡ false
+downs up one free is = of one.word free is
   where
-    of : (word : Word) → IsFreeWord one.request word → loses one.request word ≡ true → ⊥
+    of : (word : Word) → IsFreeWord up one.request word → says_down word ≡ true → up ≡ false
     of (Lacked why) free is = absurd free
-    of (Replied reply.Lost) free is = false≢true (sym free.kept)
-    of (Replied reply.Down) free is = absurd (false≢true (sym free.up))
+    of (Replied reply.Down) free is = down_is up free.down
     of (Replied _) free is = absurd (false≢true is)
 
-module _ (past : List Exchange) (free : AllFree past) where
-  none_was : (server : ℕ) (kind : Request → Word → Bool) → ((one : Exchange) → IsFreeWord one.request one.word → kind one.request one.word ≡ true → ⊥) → Was past server kind → ⊥
+-- or lost locks
+lost : (up : Bool) (one : Exchange) → IsFreeWord up one.request one.word → loses one.request one.word ≡ true → ⊥
+lost up one free is = of one.word free is
+  where
+    of : (word : Word) → IsFreeWord up one.request word → loses one.request word ≡ true → ⊥
+    of (Lacked why) free is = absurd free
+    of (Replied reply.Lost) free is = false≢true (sym free.kept)
+    of (Replied reply.Down) free is = false≢true (sym (down_is up free.down) ∙ free.stood is)
+    of (Replied _) free is = absurd (false≢true is)
+
+overruled : (up : Bool) (one : Exchange) → IsFreeWord up one.request one.word → (is_decide one.request && says_aborted one.word) ≡ true → ⊥
+overruled up one free is = let parts = and_parts (is_decide one.request) (says_aborted one.word) is in of one.word free parts.0 parts.1
+  where
+    of : (word : Word) → IsFreeWord up one.request word → is_decide one.request ≡ true → says_aborted word ≡ true → ⊥
+    of (Lacked why) free decide is = absurd free
+    of (Replied (reply.Verdict verdict.Aborted)) free decide is = free.decides decide refl
+    of (Replied _) free decide is = false≢true is
+
+-- nobody was busy
+never_busy : (up : Bool) (one : Exchange) → IsFreeWord up one.request one.word → busy_at one.server (heard_in one.request one.word) ≡ None
+never_busy up one free = of one.word free
+  where
+    downs' : (b : Bool) → busy_at one.server (cond b (Some told.Down) None) ≡ None
+    downs' true = refl
+    downs' false = refl
+
+    of : (word : Word) → IsFreeWord up one.request word → busy_at one.server (heard_in one.request word) ≡ None
+    of (Lacked why) free = absurd free
+    of (Replied (reply.Busy holder prepared)) free = absurd (false≢true (sym free.busy))
+    of (Replied (reply.Held prefix dver)) free = refl
+    of (Replied reply.Down) free = downs' (is_poll one.request)
+    of (Replied reply.Lost) free = refl
+    of (Replied (reply.Given dver content)) free = refl
+    of (Replied reply.Prepared) free = refl
+    of (Replied (reply.Verdict v)) free = refl
+    of (Replied reply.Done) free = refl
+    of (Replied (reply.Locked locks)) free = refl
+
+none_busy : (up : ℕ → Bool) (suite : ℕ) (past : List Exchange) → AllFree up past → first_busy_in suite past ≡ None
+none_busy up suite [] free = refl
+none_busy up suite (one ∷ past) free =
+    ap (λ first. first_of first (first_busy_in suite past)) (of (locks suite one.request)) ∙ none_busy up suite past (λ other has. free other (inr has))
+  where
+    of : (b : Bool) → cond b (busy_at one.server (heard_in one.request one.word)) None ≡ None
+    of true = never_busy (up one.server) one (free one (inl refl))
+    of false = refl
+
+-- ---- causes
+
+-- a Decide that was told that the home is down
+pub record SaysDown (up : ℕ → Bool) (past : List Exchange) : Type 0 where
+  pub one : Exchange
+  pub there : Has past one
+  pub decide : is_decide one.request ≡ true
+  pub down : up one.server ≡ false
+
+-- why a transaction may end undecided to which all replies were free: too few votes were up, or its home is down
+abbrev pub MayCause : Fixed → (ℕ → Bool) → Agent → Job → List agents.Event → Cause → Type 0
+MayCause fixed up before job' told (cause.Unavailable suite got needed) = IsShort fixed before job' told suite got needed None
+MayCause fixed up before job' told cause.HomeDown = SaysDown up (of_job fixed before job' told)
+MayCause fixed up before job' told (cause.Busy server holder) = ⊥
+MayCause fixed up before job' told (cause.Lost server) = ⊥
+MayCause fixed up before job' told cause.Overruled = ⊥
+MayCause fixed up before job' told (cause.Full server) = ⊥
+MayCause fixed up before job' told cause.Memory = ⊥
+
+module _ (fixed : Fixed) (up : ℕ → Bool) (before : Agent) (caller : Identity) (site : ℕ) (ops : List Op) (told' : List agents.Event) (free : AllFree up (of_job fixed before (Transaction caller site ops) told')) where
+  abbrev past : List Exchange
+  past = of_job fixed before (Transaction caller site ops) told'
+
+  none_was : (server : ℕ) (kind : Request → Word → Bool) → ((one : Exchange) → IsFreeWord (up one.server) one.request one.word → kind one.request one.word ≡ true → ⊥) → Was past server kind → ⊥
   none_was server kind none was = none was.one (free was.one (has_from past was.one was.there)) was.is
 
-  none_lost : (job : Job) (server : ℕ) → WasLost past job server → ⊥
-  none_lost (Transaction caller site ops) server was = none_was server loses lost was
-  none_lost (Sweep swept) server was = none_was server (λ asked word. says_down word) downs was.1
+  all_served : (why : Why) (server : ℕ) → DidNotServe past (Transaction caller site ops) why server → ⊥
+  all_served why server was = none_was server (stops why) (λ one free is. lacks (up one.server) why one free (and_parts (not (is_finish one.request)) (is_lack why one.word) is).1) was
 
-  all_served : (job : Job) (why : Why) (server : ℕ) → DidNotServe past job why server → ⊥
-  all_served (Transaction caller site ops) why server was = none_was server (stops why) (λ one free is. lacks why one free (and_parts (not (is_finish one.request)) (is_lack why one.word) is).1) was
-  all_served (Sweep swept) why server was = none_was server (λ asked word. is_lack why word) (lacks why) was
+  pub few_causes : (cause' : Cause) → IsCaused fixed before (Transaction caller site ops) told' cause' → MayCause fixed up before (Transaction caller site ops) told' cause'
+  few_causes (cause.Unavailable suite got needed) caused = caused
+  few_causes (cause.Busy server holder) caused = absurd (none-some (server, holder) (sym (caused.3.first_busy ∙ none_busy up caused.0 past free)))
+  few_causes (cause.Lost server) caused = none_was server loses (λ one free is. lost (up one.server) one free is) caused
+  few_causes cause.Overruled caused = none_was caused.0 (λ asked word. is_decide asked && says_aborted word) (λ one free is. overruled (up one.server) one free is) caused.1
+  few_causes cause.HomeDown caused =
+      let one = caused.1.one in
+      let has = has_from past one caused.1.there in
+      let parts = and_parts (is_decide one.request) (says_down one.word) caused.1.is in
+      record { one = one; there = has; decide = parts.0; down = downs (up one.server) one (free one has) parts.1 }
+  few_causes (cause.Full server) caused = all_served lack.Full server caused
+  few_causes cause.Memory caused = all_served lack.Memory caused.0 caused.1
 
-module _ (fixed : Fixed) (c0 : IsValid fixed.service.c0) (before : Agent) (job : Job) (sets : JobGivesValidVotes job) (told' : List agents.Event) (free : AllFree (of_job fixed before job told')) (caches : AllValid fixed (begin fixed before job) told') where
-  abbrev past : List Exchange
-  past = of_job fixed before job told'
+-- all that was told fits
+pub free_fit : (up : ℕ → Bool) (past : List Exchange) → AllFree up past → all_fit past ≡ true
+free_fit up [] free = refl
+free_fit up (one ∷ past) free = ap (λ b. b && all_fit past) (of one.word (free one (inl refl))) ∙ free_fit up past (λ other has. free other (inr has))
+  where
+    of : (word : Word) → IsFreeWord (up one.server) one.request word → fits_word one.request word ≡ true
+    of (Replied said) free = free.fit
+    of (Lacked why) free = absurd free
 
-  every_held : (suite : ℕ) (mode : LockMode) (rep : Representative) → (has_said past suite (holding mode) rep.0 ≡ true) ⊎ (has_said past suite refusing rep.0 ≡ true) → has_said past suite (holding mode) rep.0 ≡ true
-  every_held suite mode rep either = either_held (has_said past suite (holding mode) rep.0) (has_said past suite refusing rep.0) (nobody_refused past suite rep.0 free) either
+-- ---- where all servers are up it does not end undecided
 
-  begins_valid : (suite : ℕ) (start : Prefix) → IsStart fixed before job told' suite start → IsValid start.votes
+module _ (fixed : Fixed) (c0 : IsValid fixed.service.c0) (before : Agent) (caller : Identity) (site : ℕ) (ops : List Op) (sets : JobGivesValidVotes (Transaction caller site ops)) (told' : List agents.Event)
+    (free : AllFree all_up (of_job fixed before (Transaction caller site ops) told')) (caches : AllValid fixed (begin fixed before (Transaction caller site ops)) told') where
+  abbrev transaction : Job
+  transaction = Transaction caller site ops
+
+  abbrev all_told : List Exchange
+  all_told = of_job fixed before transaction told'
+
+  every_held : (suite : ℕ) (mode : LockMode) (rep : Representative) → (has_said all_told suite (holding mode) rep.0 ≡ true) ⊎ (has_said all_told suite refusing rep.0 ≡ true) → has_said all_told suite (holding mode) rep.0 ≡ true
+  every_held suite mode rep either = either_held (has_said all_told suite (holding mode) rep.0) (has_said all_told suite refusing rep.0) (nobody_refused all_told suite rep.0 free) either
+
+  begins_valid : (suite : ℕ) (start : Prefix) → IsStart fixed before transaction told' suite start → IsValid start.votes
   begins_valid suite start is =
       subst (λ (prefix : Prefix). IsValid prefix.votes) (sym is.from)
-      (start_valid fixed (task_of before is.caller is.site is.ops) (after_all fixed (begin fixed before job) is.before).cache suite c0
-      (valid_at fixed (begin fixed before job) is.before is.later (subst (AllValid fixed (begin fixed before job)) is.parts caches)))
+      (start_valid fixed (task_of before is.caller is.site is.ops) (after_all fixed (begin fixed before transaction) is.before).cache suite c0
+      (valid_at fixed (begin fixed before transaction) is.before is.later (subst (AllValid fixed (begin fixed before transaction)) is.parts caches)))
 
-  none_short : (suite got needed : ℕ) (busy : Option (ℕ × ℕ)) → IsShort fixed before job told' suite got needed busy → ⊥
+  none_short : (suite got needed : ℕ) (busy : Option (ℕ × ℕ)) → IsShort fixed before transaction told' suite got needed busy → ⊥
   none_short suite got needed busy short =
-      let all : votes_in short.votes.reps (has_said past suite (holding short.mode)) ≡ total_votes short.votes.reps =
-      all_votes short.votes.reps (has_said past suite (holding short.mode)) (λ rep has some. every_held suite short.mode rep (short.none_left rep (contains_from short.votes.reps rep has) some)) in
+      let all : votes_in short.votes.reps (has_said all_told suite (holding short.mode)) ≡ total_votes short.votes.reps =
+      all_votes short.votes.reps (has_said all_told suite (holding short.mode)) (λ rep has some. every_held suite short.mode rep (short.none_left rep (contains_from short.votes.reps rep has) some)) in
       let valid : IsValid short.votes = elim (short.count) [
-        | inl is ↦ subst IsValid (sym is.0) (newest_valid short.start (told_of suite [] past) (begins_valid suite short.start short.gathered) (told_valid suite [] past tt free))
-        | inr set ↦ set_votes_valid fixed c0 before job sets told' suite short.votes set.1
+        | inl is ↦ subst IsValid (sym is.0) (newest_valid short.start (told_of suite [] all_told) (begins_valid suite short.start short.gathered) (told_valid suite [] all_told tt free))
+        | inr set ↦ set_votes_valid fixed c0 before transaction sets told' suite short.votes set.1
       ] in
       let some = enough short.mode short.votes valid in
       let had = short.had in
@@ -282,39 +394,22 @@ module _ (fixed : Fixed) (c0 : IsValid fixed.service.c0) (before : Agent) (job :
       let few = short.too_few in
       absurd (omega (arith, some, had, all, wanting, few))
 
-  none_caused : (cause' : Cause) → IsCaused fixed before job told' cause' → ⊥
-  none_caused (cause.Unavailable suite got needed) caused = none_short suite got needed None caused
-  none_caused (cause.Busy server holder) caused = none_short caused.0 caused.1 caused.2 (Some (server, holder)) caused.3
-  none_caused (cause.Lost server) caused = none_lost past free job server caused
-  none_caused cause.Overruled caused = overruled caused.1.one (free caused.1.one (has_from past caused.1.one caused.1.there)) caused.1.is
-    where
-      overruled : (one : Exchange) → IsFreeWord one.request one.word → (is_decide one.request && says_aborted one.word) ≡ true → ⊥
-      overruled one free is = let parts = and_parts (is_decide one.request) (says_aborted one.word) is in of one.word free parts.0 parts.1
-        where
-          of : (word : Word) → IsFreeWord one.request word → is_decide one.request ≡ true → says_aborted word ≡ true → ⊥
-          of (Lacked why) free decide is = absurd free
-          of (Replied (reply.Verdict verdict.Aborted)) free decide is = free.decides decide refl
-          of (Replied _) free decide is = false≢true is
-  none_caused cause.HomeDown caused =
-      none_was past free caused.0 (λ asked word. is_decide asked && says_down word) (λ one free is. downs one free (and_parts (is_decide one.request) (says_down one.word) is).1) caused.1
-  none_caused (cause.Full server) caused = all_served past free job lack.Full server caused
-  none_caused cause.Memory caused = all_served past free job lack.Memory caused.0 caused.1
+  none_caused : (cause' : Cause) → MayCause fixed all_up before transaction told' cause' → ⊥
+  none_caused (cause.Unavailable suite got needed) may = none_short suite got needed None may
+  none_caused cause.HomeDown may = false≢true (sym may.down)
+  none_caused (cause.Busy server holder) may = may
+  none_caused (cause.Lost server) may = may
+  none_caused cause.Overruled may = may
+  none_caused (cause.Full server) may = may
+  none_caused cause.Memory may = may
 
--- all that was told fits
-free_fit : (past : List Exchange) → AllFree past → all_fit past ≡ true
-free_fit [] free = refl
-free_fit (one ∷ past) free = ap (λ b. b && all_fit past) (of one.word (free one (inl refl))) ∙ free_fit past (λ other has. free other (inr has))
-  where
-    of : (word : Word) → IsFreeWord one.request word → fits_word one.request word ≡ true
-    of (Replied said) free = free.fit
-    of (Lacked why) free = absurd free
-
--- it does not end undecided
-pub never_undecided : (fixed : Fixed) → IsValid fixed.service.c0 → (agent : Agent) (asked : ℕ × Request) (said : Reply) (cause : Cause) → next_of fixed agent ≡ Some asked → IsFree asked.1 said → Since fixed agent
+pub never_undecided : (fixed : Fixed) → IsValid fixed.service.c0 → (agent : Agent) (asked : ℕ × Request) (said : Reply) (cause : Cause) → next_of fixed agent ≡ Some asked → IsFree true asked.1 said → Since fixed agent
     → HasValidVotes (take fixed agent (Replied said)).agent.cache → (take fixed agent (Replied said)).ending ≡ Some (Undecided cause) → ⊥
 never_undecided fixed c0 agent asked said cause next free since cache end' =
+    let job = Transaction since.caller since.site since.ops in
     let told' = since.told ++ Take (Replied said) ∷ [] in
-    let free' = free_with fixed agent asked said next free since in
-    let caches = valid_more fixed (begin fixed since.before since.job) since.told (Take (Replied said)) since.caches (subst (λ agent. HasValidVotes (take fixed agent (Replied said)).agent.cache) since.is cache) in
-    none_caused fixed c0 since.before since.job since.sets told' free' caches cause
-    (ends_are_caused fixed since.before since.job since.told (Replied said) cause since.idle (free_fit (of_job fixed since.before since.job told') free') (subst (λ agent. (take fixed agent (Replied said)).ending ≡ Some (Undecided cause)) since.is end'))
+    let free' = free_with fixed agent since asked said next free in
+    let caches = valid_more fixed (begin fixed since.before job) since.told (Take (Replied said)) since.caches (subst (λ agent. HasValidVotes (take fixed agent (Replied said)).agent.cache) since.is cache) in
+    none_caused fixed c0 since.before since.caller since.site since.ops since.sets told' free' caches cause
+    (few_causes fixed all_up since.before since.caller since.site since.ops told' free' cause
+    (ends_are_caused fixed since.before job since.told (Replied said) cause since.idle (free_fit all_up (of_job fixed since.before job told') free') (subst (λ agent. (take fixed agent (Replied said)).ending ≡ Some (Undecided cause)) since.is end')))

@@ -1,7 +1,6 @@
--- As long as one transaction alone has a job and no server crashes, the locks that it was told of stand, until it tells how it ended.
-use Rattle.std.proofs.Common.{◌≡◌, inl, inr, ℕ, true, false, cond, List, [], ◌∷◌, ◌++◌, Option, Some, None, refl, sym, ap, subst, ◌∙◌}
-use Rattle.std.specs.Prelude.{◌*◌, ◌+◌, slice_get, slice_set, nat_lt, ◌&&◌}
-use Rattle.std.proofs.lemmas.Option.{none-some}
+-- As long as one transaction alone asks servers and none crashes, the locks that it was told of stand, until it tells how it ended.
+use Rattle.std.proofs.Common.{◌≡◌, inl, inr, ℕ, Bool, true, false, cond, List, [], ◌∷◌, ◌++◌, Option, Some, None, refl, sym, ap, subst, ◌∙◌}
+use Rattle.std.specs.Prelude.{slice_get, slice_set}
 use Rattle.suite_prefix.specs.SettingsRules.{Opening}
 use Rattle.rep_core.specs.declared.request.Request.{Request}
 use Rattle.rep_core.specs.declared.request.Request.TheVariants as request
@@ -23,17 +22,15 @@ use Rattle.txn_core.specs.Writing.{parts_at}
 use Rattle.txn_core.specs.Doing.{Fixed, Task, home_of, Phase, Gathering, Fetching, Widening, Preparing, Deciding, Finishing, Round, Doing, Running, Rounding, After, GoesOn, Ends}
 use Rattle.txn_core.specs.Sweeps as sweep
 use Rattle.txn_core.specs.Transactions.{tell_end, after_word, request_in, changes_of, decision_of}
-use Rattle.txn_core.specs.Agents.{Agent, fixed_of, is_idle, has_sense, max_jobs, next_in, next_of, left, take_in, take, begin, started, forget}
+use Rattle.txn_core.specs.Agents.{Agent, fixed_of, next_in, next_of, left, take_in, take, begin, forget}
 use Rattle.txn_core.proofs.Asks.{asks_same, asked_as, fetched_as}
 use Rattle.run_core.specs.declared.event.Event.{Event}
 use Rattle.run_core.specs.declared.event.Event.TheVariants.{Begin, Step, Crash, Return, Forget, Lack}
 use Rattle.run_core.specs.Worlds as worlds
 use Rattle.run_core.specs.Worlds.{Actor, server_at, actor_at, serve, answered, becomes, asks_at, asks, steps_once, lacks_for, lacks, operated, operates, step}
-use Rattle.run_core.specs.Decisions.{Decided}
-use Rattle.run_core.specs.declared.done.Outcome.{Outcome}
 use Rattle.run_laws.specs.Numbers.{begins_now}
 use Rattle.run_laws.proofs.Places.{at_puts}
-use Rattle.run_laws.proofs.Worlds.{Holds, puts_in}
+use Rattle.run_laws.proofs.Worlds.{puts_in}
 use Rattle.suite_machine.specs.Machine.{World}
 use Rattle.suite_machine.specs.Events as machine
 use Rattle.suite_machine.specs.Events.{run}
@@ -41,10 +38,9 @@ use Rattle.server_moves.specs.Moves.{moves}
 use Rattle.server_moves.specs.Laws.{beginning}
 use Rattle.run_machine.specs.Deciding.{decision_by, own_events}
 use Rattle.run_machine.specs.Machines.{home_in, word_events, begin_events, answered_events, asked_at_events, asked_events, step_events, lacks_for_events, lack_events, operated_events, operator_events, moved}
-use Rattle.run_alone.specs.Alone.{begins_job}
-use Rattle.run_alone.specs.Undisturbed.{is_crash}
 use Rattle.run_alone.proofs.Turns.{with_job}
-use Rattle.run_alone.proofs.Clear.{Clear, is_turn}
+use Rattle.run_alone.proofs.Walks.{begun_same}
+use Rattle.run_alone.proofs.Owns.{IsCalm}
 use Rattle.run_alone.proofs.Standing.{Stands, AllSpare, all_spare-append, stands_all, spare_begun, spare_own, spare_decision, releases, spare_moves}
 
 -- ---- an agent
@@ -136,7 +132,7 @@ module _ (fixed : Fixed) (agent : Agent) (word : Word) (asked : ℕ × Request) 
 abbrev pub AtStands : World → worlds.World → ℕ → ℕ → Type 0
 AtStands w world t turn = (actor : Actor) → actor_at world turn ≡ Some actor → DoingStands w t actor.agent.doing
 
-module _ (given : Opening) (t turn : ℕ) (world : worlds.World) (ds : List Decided) (past : List Outcome) (holds : Holds (fixed_of given) world ds past) (clear : Clear world t turn) (z : ℕ) (w : World) (stands : AtStands w world t turn) where
+module _ (given : Opening) (up : ℕ → Bool) (t turn : ℕ) (world : worlds.World) (z : ℕ) (w : World) (stands : AtStands w world t turn) where
   abbrev fixed : Fixed
   fixed = fixed_of given
 
@@ -147,47 +143,40 @@ module _ (given : Opening) (t turn : ℕ) (world : worlds.World) (ds : List Deci
   spared events spares = doing_later w (after events) t (stands_all (beginning z given) w events t spares)
 
   -- another agent stands at a number, with the same job
-  same_stands : (events : List machine.Event) → AllSpare events → (i : ℕ) (actor new : Actor) → actor_at world i ≡ Some actor → new.agent.doing ≡ actor.agent.doing → (found : Actor) → slice_get (slice_set world.agents i new) turn ≡ Some found → DoingStands (after events) t found.agent.doing
+  same_stands : (events : List machine.Event) → AllSpare events → (i : ℕ) (actor new : Actor) → actor_at world i ≡ Some actor → (i ≡ turn → new.agent.doing ≡ actor.agent.doing) → (found : Actor) → slice_get (slice_set world.agents i new) turn ≡ Some found → DoingStands (after events) t found.agent.doing
   same_stands events spares i actor new is same found there =
       elim (at_puts (slice_get world.agents) (slice_get (slice_set world.agents i new)) i actor new (puts_in world.agents i actor new is) turn found there) [
         | inl here ↦
-            subst (DoingStands (after events) t) (sym (ap (λ (actor : Actor). actor.agent.doing) here.is ∙ same))
+            subst (DoingStands (after events) t) (sym (ap (λ (actor : Actor). actor.agent.doing) here.is ∙ same (sym here.at)))
             (spared events spares actor.agent.doing (stands actor (ap (actor_at world) here.at ∙ is)))
         | inr elsewhere ↦ spared events spares found.agent.doing (stands found elsewhere.was)
       ]
 
   -- an agent took a word of what it asked
   took_at : (events : List machine.Event) (i : ℕ) (actor : Actor) (asked : ℕ × Request) (word : Word) (stamp : ℕ) → actor_at world i ≡ Some actor → next_of fixed actor.agent ≡ Some asked → (releases asked.1 ≡ false → AllSpare events)
+      → ((i ≡ turn → ⊥) → AllSpare events)
       → (found : Actor) → slice_get (slice_set world.agents i (worlds.moved actor stamp (take fixed actor.agent word))) turn ≡ Some found → DoingStands (after events) t found.agent.doing
-  took_at events i actor asked word stamp is next spares found there =
+  took_at events i actor asked word stamp is next spares apart found there =
       let new = worlds.moved actor stamp (take fixed actor.agent word) in
-      let at = is_turn given t turn world ds past holds clear i actor asked is next in
       elim (at_puts (slice_get world.agents) (slice_get (slice_set world.agents i new)) i actor new (puts_in world.agents i actor new is) turn found there) [
         | inl here ↦
             subst (λ (actor : Actor). DoingStands (after events) t actor.agent.doing) (sym here.is)
             (subst (λ asked. DoingStands (after events) t (take_in fixed actor.agent word actor.agent.doing asked).agent.doing) (sym next)
-            (took_stands fixed actor.agent word asked w (after events) t (λ none. stands_all (beginning z given) w events t (spares none)) actor.agent.doing refl next (stands actor (ap (actor_at world) (sym at) ∙ is))))
-        | inr elsewhere ↦ absurd (elsewhere.apart (sym at))
+            (took_stands fixed actor.agent word asked w (after events) t (λ none. stands_all (beginning z given) w events t (spares none)) actor.agent.doing refl next (stands actor (ap (actor_at world) here.at ∙ is))))
+        | inr elsewhere ↦ spared events (apart (λ at. elsewhere.apart (sym at))) found.agent.doing (stands found elsewhere.was)
       ]
 
   -- ---- each event
 
-  begin_stands : (i : ℕ) (job : Job) (found : Option Actor) → actor_at world i ≡ found → with_job job (begins_now fixed i job found) ≡ None
+  begin_stands : (i : ℕ) (job : Job) (found : Option Actor) → actor_at world i ≡ found → (i ≡ turn → with_job job (begins_now fixed i job found) ≡ None)
       → AtStands (after (begin_events given z job found)) (becomes world i (λ agent. begin fixed agent job) found).world t turn
   begin_stands i job None is none = λ found there. stands found there
   begin_stands i job (Some actor) is none = λ found.
-      same_stands (begin_events given z job (Some actor)) (spare_begun z actor.agent.doing (begin fixed actor.agent job).doing) i actor (record actor { agent = begin fixed actor.agent job }) is same found
-    where
-      same : (begin fixed actor.agent job).doing ≡ actor.agent.doing
-      same = elim (is_idle actor.agent.doing && has_sense fixed job && nat_lt actor.agent.count max_jobs) as
-          (λ b. with_job job (cond b (Some (64 * actor.agent.count + i)) None) ≡ None → (cond b (record (started fixed actor.agent job) { count = actor.agent.count + 1 }) actor.agent).doing ≡ actor.agent.doing) [
-            | true ↦ λ none. absurd (none-some (64 * actor.agent.count + i, job) (sym none))
-            | false ↦ λ _. refl
-          ] none
+      same_stands (begin_events given z job (Some actor)) (spare_begun z actor.agent.doing (begin fixed actor.agent job).doing) i actor (record actor { agent = begin fixed actor.agent job }) is (λ at. begun_same given i job actor (none at)) found
 
   forget_stands : (i site : ℕ) (found : Option Actor) → actor_at world i ≡ found → AtStands w (becomes world i (λ agent. forget agent site) found).world t turn
   forget_stands i site None is = λ found there. stands found there
-  forget_stands i site (Some actor) is = λ found. same_stands [] tt i actor (record actor { agent = forget actor.agent site }) is refl found
+  forget_stands i site (Some actor) is = λ found. same_stands [] tt i actor (record actor { agent = forget actor.agent site }) is (λ at. refl) found
 
   operator_stands : (server : ℕ) (asked : Request) → releases asked ≡ false → (found : Option State) → AtStands (after (operator_events given z w server asked found)) (operates world server asked found).world t turn
   operator_stands server asked none None = λ found there. stands found there
@@ -201,14 +190,14 @@ module _ (given : Opening) (t turn : ℕ) (world : worlds.World) (ds : List Deci
       stamped : Stamped Request
       stamped = record { stamp = 0; value = asked }
 
-  served_stands : (i : ℕ) (actor : Actor) (asked : ℕ × Request) (st : State) → actor_at world i ≡ Some actor → next_of fixed actor.agent ≡ Some asked
+  served_stands : (i : ℕ) (actor : Actor) (asked : ℕ × Request) (st : State) → actor_at world i ≡ Some actor → next_of fixed actor.agent ≡ Some asked → i ≡ turn
       → AtStands (after (answered_events given z w actor (serve asked.0 st (record { stamp = actor.stamp; value = asked.1 })))) (answered fixed world i actor st (serve asked.0 st (record { stamp = actor.stamp; value = asked.1 }))).world t turn
-  served_stands i actor asked st is next =
+  served_stands i actor asked st is next turns =
       elim (is_full st stamped) as (λ b. AtStands (after (answered_events given z w actor (cond b None (Some (record { server = asked.0; request = stamped; reply = answer_of st stamped })))))
       (answered fixed world i actor st (cond b None (Some (record { server = asked.0; request = stamped; reply = answer_of st stamped })))).world t turn) [
-        | true ↦ λ found. took_at (word_events given z actor (Lacked lack.Full)) i actor asked (Lacked lack.Full) actor.stamp is next (λ _. spare_own z actor.agent.doing (take fixed actor.agent (Lacked lack.Full))) found
+        | true ↦ λ found. took_at (word_events given z actor (Lacked lack.Full)) i actor asked (Lacked lack.Full) actor.stamp is next (λ _. spare_own z actor.agent.doing (take fixed actor.agent (Lacked lack.Full))) (λ apart. absurd (apart turns)) found
         | false ↦ λ found. took_at (first ++ own) i actor asked (Replied said) (answer_of st stamped).stamp is next
-            (λ none. all_spare-append first own (spare_moves z (home_in given) (decision_by z w actor.agent.doing) (spare_decision z w actor.agent.doing) asked.0 w asked.1 said none) (spare_own z actor.agent.doing (take fixed actor.agent (Replied said)))) found
+            (λ none. all_spare-append first own (spare_moves z (home_in given) (decision_by z w actor.agent.doing) (spare_decision z w actor.agent.doing) asked.0 w asked.1 said none) (spare_own z actor.agent.doing (take fixed actor.agent (Replied said)))) (λ apart. absurd (apart turns)) found
       ]
     where
       stamped : Stamped Request
@@ -223,31 +212,31 @@ module _ (given : Opening) (t turn : ℕ) (world : worlds.World) (ds : List Deci
       own : List machine.Event
       own = own_events z actor.agent.doing (take fixed actor.agent (Replied said))
 
-  at_stands : (i : ℕ) (actor : Actor) (asked : ℕ × Request) → actor_at world i ≡ Some actor → next_of fixed actor.agent ≡ Some asked → (found : Option State) → AtStands (after (asked_at_events given z w actor asked found)) (asks_at fixed world i actor asked found).world t turn
-  at_stands i actor asked is next None = λ found there. stands found there
-  at_stands i actor asked is next (Some st) = served_stands i actor asked st is next
+  at_stands : (i : ℕ) (actor : Actor) (asked : ℕ × Request) → actor_at world i ≡ Some actor → next_of fixed actor.agent ≡ Some asked → i ≡ turn → (found : Option State) → AtStands (after (asked_at_events given z w actor asked found)) (asks_at fixed world i actor asked found).world t turn
+  at_stands i actor asked is next turns None = λ found there. stands found there
+  at_stands i actor asked is next turns (Some st) = served_stands i actor asked st is next turns
 
-  asks_stands : (i : ℕ) (actor : Actor) → actor_at world i ≡ Some actor → (asked : Option (ℕ × Request)) → next_of fixed actor.agent ≡ asked → AtStands (after (asked_events given z w world actor asked)) (asks fixed world i actor asked).world t turn
-  asks_stands i actor is None next = λ found there. stands found there
-  asks_stands i actor is (Some asked) next = at_stands i actor asked is next (server_at world asked.0)
+  asks_stands : (i : ℕ) → IsCalm given up turn world (Step i) → (actor : Actor) → actor_at world i ≡ Some actor → (asked : Option (ℕ × Request)) → next_of fixed actor.agent ≡ asked → AtStands (after (asked_events given z w world actor asked)) (asks fixed world i actor asked).world t turn
+  asks_stands i calm actor is None next = λ found there. stands found there
+  asks_stands i calm actor is (Some asked) next = at_stands i actor asked is next (calm actor asked is next) (server_at world asked.0)
 
-  step_stands : (i : ℕ) (found : Option Actor) → actor_at world i ≡ found → AtStands (after (step_events given z w world found)) (steps_once fixed world i found).world t turn
-  step_stands i None is = λ found there. stands found there
-  step_stands i (Some actor) is = asks_stands i actor is (next_of fixed actor.agent) refl
+  step_stands : (i : ℕ) → IsCalm given up turn world (Step i) → (found : Option Actor) → actor_at world i ≡ found → AtStands (after (step_events given z w world found)) (steps_once fixed world i found).world t turn
+  step_stands i calm None is = λ found there. stands found there
+  step_stands i calm (Some actor) is = asks_stands i calm actor is (next_of fixed actor.agent) refl
 
   lacks_stands : (i : ℕ) (why : Why) (actor : Actor) → actor_at world i ≡ Some actor → (asked : Option (ℕ × Request)) → next_of fixed actor.agent ≡ asked → AtStands (after (lacks_for_events given z actor (Lacked why) asked)) (lacks_for fixed world i actor (Lacked why) asked).world t turn
   lacks_stands i why actor is None next = λ found there. stands found there
-  lacks_stands i why actor is (Some asked) next = λ found. took_at (word_events given z actor (Lacked why)) i actor asked (Lacked why) actor.stamp is next (λ _. spare_own z actor.agent.doing (take fixed actor.agent (Lacked why))) found
+  lacks_stands i why actor is (Some asked) next = λ found. took_at (word_events given z actor (Lacked why)) i actor asked (Lacked why) actor.stamp is next (λ _. spare_own z actor.agent.doing (take fixed actor.agent (Lacked why))) (λ _. spare_own z actor.agent.doing (take fixed actor.agent (Lacked why))) found
 
   lack_stands : (i : ℕ) (why : Why) (found : Option Actor) → actor_at world i ≡ found → AtStands (after (lack_events given z (Lacked why) found)) (lacks fixed world i (Lacked why) found).world t turn
   lack_stands i why None is = λ found there. stands found there
   lack_stands i why (Some actor) is = lacks_stands i why actor is (next_of fixed actor.agent) refl
 
-  -- every event, as long as no server crashes and no job begins
-  pub event_stands : (event : Event) → is_crash event ≡ false → begins_job given world event ≡ None → AtStands (moved given z w world event) (step fixed world event).world t turn
-  event_stands (Begin i job) other none = begin_stands i job (actor_at world i) refl none
-  event_stands (Step i) other none = step_stands i (actor_at world i) refl
-  event_stands (Crash server) other none = cc
-  event_stands (Return server) other none = operator_stands server request.Return refl (server_at world server)
-  event_stands (Forget i site) other none = forget_stands i site (actor_at world i) refl
-  event_stands (Lack i why) other none = lack_stands i why (actor_at world i) refl
+  -- every calm event
+  pub event_stands : (event : Event) → IsCalm given up turn world event → AtStands (moved given z w world event) (step fixed world event).world t turn
+  event_stands (Begin i job) calm = begin_stands i job (actor_at world i) refl calm
+  event_stands (Step i) calm = step_stands i calm (actor_at world i) refl
+  event_stands (Crash server) calm = absurd calm
+  event_stands (Return server) calm = operator_stands server request.Return refl (server_at world server)
+  event_stands (Forget i site) calm = forget_stands i site (actor_at world i) refl
+  event_stands (Lack i why) calm = lack_stands i why (actor_at world i) refl

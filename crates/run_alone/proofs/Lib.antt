@@ -6,6 +6,7 @@ pub mod Endings
 pub mod Same
 pub mod Worked
 pub mod Own
+pub mod Owns
 pub mod Clear
 pub mod Votes
 pub mod Walks
@@ -26,7 +27,10 @@ pub mod Grown
 pub mod Whole
 pub mod Fits
 pub mod Replied
+pub mod Lefts
 pub mod Requests
-pub mod NeverLost
+pub mod Untold
+pub mod Goes
+pub mod Undisturbed
 pub mod Decided
 pub mod Alike

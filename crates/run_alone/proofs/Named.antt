@@ -384,14 +384,10 @@ all_named given accepted events =
     let B : ℕ → Type 0 = Begun (agent_at (run given events)) in
     run_named B (fixed_of given) events (opening given) [] [] (holds_at_first given accepted) (λ t begun. begun) (λ s st at. opened B given 0 given.servers s st at) (idle_sweeps B given)
 
--- no server has a record of a transaction that begins only now
-pub no_record : (given : Opening) → IsAccepted given → (events : List Event) (i t : ℕ) (job : Job) → begins_job given (run given events) (Begin i job) ≡ Some (t, job)
-    → (s : ℕ) (st : State) → server_at (run given events) s ≡ Some st → (v : Verdict) → record_of st t ≡ Some v → ⊥
-no_record given accepted events i t job begins s st at v is = of (actor_at (run given events) i) refl begins
+-- a transaction that begins only now was not begun before
+not_begun : (given : Opening) → IsAccepted given → (events : List Event) (i t : ℕ) (job : Job) → begins_job given (run given events) (Begin i job) ≡ Some (t, job) → Begun (agent_at (run given events)) t → ⊥
+not_begun given accepted events i t job begins begun = of (actor_at (run given events) i) refl begins
   where
-    begun : Begun (agent_at (run given events)) t
-    begun = (all_named given accepted events s st at).records t v is
-
     holds : Holds (fixed_of given) (run given events) (decisions given events) (ended given events)
     holds = holds_of given accepted events
 
@@ -409,3 +405,13 @@ no_record given accepted events i t job begins s st at v is = of (actor_at (run 
               omega (arith, before, count, place)
           | false ↦ λ begins. none-some (t, job) begins
         ] begins
+
+-- no server has a record of it, nor a lock
+pub no_record : (given : Opening) → IsAccepted given → (events : List Event) (i t : ℕ) (job : Job) → begins_job given (run given events) (Begin i job) ≡ Some (t, job)
+    → (s : ℕ) (st : State) → server_at (run given events) s ≡ Some st → (v : Verdict) → record_of st t ≡ Some v → ⊥
+no_record given accepted events i t job begins s st at v is = not_begun given accepted events i t job begins ((all_named given accepted events s st at).records t v is)
+
+pub no_lock : (given : Opening) → IsAccepted given → (events : List Event) (i t : ℕ) (job : Job) → begins_job given (run given events) (Begin i job) ≡ Some (t, job)
+    → (s : ℕ) (st : State) → server_at (run given events) s ≡ Some st → (lock : Lock) → Has st.locks lock → lock.t ≡ t → ⊥
+no_lock given accepted events i t job begins s st at lock has same =
+    not_begun given accepted events i t job begins (subst (Begun (agent_at (run given events))) same ((all_named given accepted events s st at).locks lock has))

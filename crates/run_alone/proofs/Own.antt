@@ -1,5 +1,5 @@
--- A server at which one transaction alone has locks, and that is up.
-use Rattle.std.proofs.Common.{◌≡◌, ⊎_elim, inl, inr, ℕ, Bool, true, false, cond, List, [], ◌∷◌, Option, Some, None, refl, sym, ap, ◌∙◌, arith}
+-- A server at which one transaction alone has locks, and that is up; or that is down and has none of it.
+use Rattle.std.proofs.Common.{◌≡◌, ⊎_elim, inl, inr, ℕ, Bool, true, false, cond, List, [], ◌∷◌, Option, Some, None, refl, sym, ap, subst, ◌∙◌, arith}
 use Rattle.std.specs.Prelude.{◌==◌, ◌&&◌, ◌||◌, not, find, filter, map}
 use Rattle.std.proofs.lemmas.Bool.{false≢true}
 use Rattle.std.proofs.lemmas.Bool.Decides.{nat_tests}
@@ -14,14 +14,23 @@ use Rattle.rep_core.specs.Fits.{is_busy, is_down}
 use Rattle.rep_core.specs.Locks.{conflicts, in_the_way, has_lock, locked, raised, raised_lock, with_lock, before, prepared_lock, is_own}
 use Rattle.rep_core.specs.Store.{copy_of}
 use Rattle.rep_core.specs.State.{State}
-use Rattle.rep_core.specs.Service.{reply_of, reply_up, reply_down, locking_reply, stands_prepared, can_prepare}
-use Rattle.rep_core.specs.Serving.{step}
+use Rattle.rep_core.specs.Service.{reply_of, reply_up, reply_down, after, after_up, after_down, locking_reply, stands_prepared, can_prepare}
+use Rattle.rep_core.specs.Serving.{is_full, served, step}
 use Rattle.rep_core.proofs.Members.{Has, has_filter, has_between, has_map, any_has}
 use Rattle.rep_core.proofs.Ways.{Ways, by_step}
 
 -- all locks are of this transaction
 abbrev pub AreOwn : ℕ → List Lock → Type 0
 AreOwn t locks = (lock : Lock) → Has locks lock → lock.t ≡ t
+
+-- none is
+abbrev pub AreOthers : ℕ → List Lock → Type 0
+AreOthers t locks = (lock : Lock) → Has locks lock → lock.t ≡ t → ⊥
+
+-- a server that is up has locks of this transaction alone; one that is down has none of it
+abbrev pub IsOwnAt : Bool → ℕ → State → Type 0
+IsOwnAt true t st = (st.up ≡ true) × AreOwn t st.locks
+IsOwnAt false t st = (st.up ≡ false) × AreOthers t st.locks
 
 -- a lock is asked for in its name alone
 abbrev pub PollsFor : ℕ → Request → Type 0
@@ -31,6 +40,10 @@ PollsFor t other = Unit {0}
 abbrev pub is_crash : Request → Bool
 is_crash request.Crash = true
 is_crash other = false
+
+abbrev pub is_return : Request → Bool
+is_return request.Return = true
+is_return other = false
 
 own_filter : (t : ℕ) (p : Lock → Bool) (locks : List Lock) → AreOwn t locks → AreOwn t (filter p locks)
 own_filter t p locks own lock has = own lock (has_filter p locks lock has).0
@@ -99,6 +112,46 @@ own_stays t st asked polls own = by_step st (StaysOwn t) (own_ways t st own) (λ
 pub up_stays : (st : State) (asked : Stamped Request) → is_crash asked.value ≡ false → st.up ≡ true → (step st asked).up ≡ true
 up_stays st asked other up = by_step st StaysUp (up_ways st up) (λ asked new stamp stays. stays) asked other
 
+-- a server that is down changes nothing, as long as it does not return
+down_same : (st : State) (asked : Request) → is_return asked ≡ false → after_down st asked ≡ st
+down_same st (request.Poll t suite mode) other = refl
+down_same st (request.Upgrade t suite) other = refl
+down_same st (request.Fetch t suite) other = refl
+down_same st (request.Prepare t parts) other = refl
+down_same st (request.Decide t decision) other = refl
+down_same st (request.Resolve t) other = refl
+down_same st (request.Finish t verdict) other = refl
+down_same st (request.Break t suite) other = refl
+down_same st request.Locks other = refl
+down_same st request.Crash other = refl
+down_same st request.Return other = absurd (false≢true (sym other))
+
+down_after : (st : State) (asked : Request) → is_return asked ≡ false → st.up ≡ false → after st asked ≡ st
+down_after st asked other down = ap (λ b. cond b (after_up st asked) (after_down st asked)) down ∙ down_same st asked other
+
+down_stays : (t : ℕ) (st : State) (asked : Stamped Request) → is_return asked.value ≡ false → IsOwnAt false t st → IsOwnAt false t (step st asked)
+down_stays t st asked other was =
+    let same = down_after st asked.value other was.0 in
+    elim (is_full st asked) as (λ b. IsOwnAt false t (cond b st (served st asked))) [
+      | true ↦ was
+      | false ↦ (ap (λ (st : State). st.up) same ∙ was.0, subst (λ (st : State). AreOthers t st.locks) (sym same) was.1)
+    ]
+
+-- so it stays of each server
+pub own_at_stays : (b : Bool) (t : ℕ) (st : State) (asked : Stamped Request) → PollsFor t asked.value → is_crash asked.value ≡ false → (b ≡ false → is_return asked.value ≡ false) → IsOwnAt b t st → IsOwnAt b t (step st asked)
+own_at_stays true t st asked polls other stays was = (up_stays st asked other was.0, own_stays t st asked polls was.1)
+own_at_stays false t st asked polls other stays was = down_stays t st asked (stays refl) was
+
+-- and each is up as it was
+pub up_as : (b : Bool) (t : ℕ) (st : State) → IsOwnAt b t st → st.up ≡ b
+up_as true t st was = was.0
+up_as false t st was = was.0
+
+-- where it has a lock the server is up
+pub up_where : (b : Bool) (t : ℕ) (st : State) → IsOwnAt b t st → (lock : Lock) → Has st.locks lock → lock.t ≡ t → b ≡ true
+up_where true t st was lock has same = refl
+up_where false t st was lock has same = absurd (was.1 lock has same)
+
 -- ---- what such a server replies
 
 none_found : (p : Lock → Bool) (locks : List Lock) → ((lock : Lock) → Has locks lock → p lock ≡ false) → find p locks ≡ None
@@ -161,3 +214,29 @@ not_down st asked up = ap (λ b. is_down (cond b (reply_up st asked) (reply_down
     of request.Locks = refl
     of request.Crash = refl
     of request.Return = refl
+
+-- one that is down is down to all that an agent asks
+down_replies : (asked : Request) → is_return asked ≡ false → reply_down asked ≡ reply.Down
+down_replies (request.Poll t suite mode) other = refl
+down_replies (request.Upgrade t suite) other = refl
+down_replies (request.Fetch t suite) other = refl
+down_replies (request.Prepare t parts) other = refl
+down_replies (request.Decide t decision) other = refl
+down_replies (request.Resolve t) other = refl
+down_replies (request.Finish t verdict) other = refl
+down_replies (request.Break t suite) other = refl
+down_replies request.Locks other = refl
+down_replies request.Crash other = refl
+down_replies request.Return other = absurd (false≢true (sym other))
+
+pub replies_down : (st : State) (asked : Request) → is_return asked ≡ false → st.up ≡ false → reply_of st asked ≡ reply.Down
+replies_down st asked other down = ap (λ b. cond b (reply_up st asked) (reply_down asked)) down ∙ down_replies asked other
+
+-- the transaction is not told Busy, and Down by those alone that are down
+pub not_busy_at : (b : Bool) (t : ℕ) (st : State) (asked : Request) → is_return asked ≡ false → PollsFor t asked → IsOwnAt b t st → is_busy (reply_of st asked) ≡ false
+not_busy_at true t st asked other polls own = not_busy t st asked own.0 polls own.1
+not_busy_at false t st asked other polls own = ap is_busy (replies_down st asked other own.0)
+
+pub down_at : (b : Bool) (t : ℕ) (st : State) (asked : Request) → is_return asked ≡ false → IsOwnAt b t st → is_down (reply_of st asked) ≡ not b
+down_at true t st asked other own = not_down st asked own.0
+down_at false t st asked other own = ap is_down (replies_down st asked other own.0)

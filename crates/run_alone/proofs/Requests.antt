@@ -1,10 +1,11 @@
--- What a transaction asks is not answered Lost, where the locks that it was told of stand.
-use Rattle.std.proofs.Common.{◌≡◌, inl, inr, ℕ, true, false, List, [], ◌∷◌, map, Option, Some, None, is_some, refl, sym, ap, subst, ◌∙◌}
-use Rattle.std.specs.Prelude.{◌&&◌, not, filter}
+-- What a transaction asks finds the lock that it stands on, where the locks that it was told of stand: so it is not answered Lost.
+use Rattle.std.proofs.Common.{◌≡◌, inl, inr, ℕ, true, false, cond, List, [], ◌∷◌, map, Option, Some, None, is_some, refl, sym, ap, subst, ◌∙◌, arith}
+use Rattle.std.specs.Prelude.{◌==◌, ◌&&◌, not, filter}
 use Rattle.std.specs.List.{list_all}
 use Rattle.std.specs.List.Sorted.{IsStrictlySortedBy}
 use Rattle.std.specs.Ordering.{nat_cmp}
 use Rattle.std.proofs.lemmas.Bool.{and_from, false≢true}
+use Rattle.std.proofs.lemmas.Bool.Decides.{nat_tests}
 use Rattle.std.proofs.lemmas.Option.{same_Some}
 use Rattle.vote_core.specs.Validity.{IsValid}
 use Rattle.suite_prefix.specs.SettingsRules.{Opening}
@@ -18,24 +19,30 @@ use Rattle.rep_core.specs.declared.request.Part.{Part}
 use Rattle.rep_core.specs.declared.request.Request.{Request}
 use Rattle.rep_core.specs.declared.request.Request.TheVariants as request
 use Rattle.rep_core.specs.Fits.{is_lost}
-use Rattle.rep_core.specs.Locks.{is_own, lock_at, has_lock_for}
+use Rattle.rep_core.specs.declared.lock.Lock.{Lock}
+use Rattle.rep_core.specs.Locks.{is_own, lock_at, has_lock, has_lock_for}
 use Rattle.rep_core.specs.Store.{copy_of, goes_with, is_sound_part, lists_twice}
 use Rattle.rep_core.specs.State.{State}
-use Rattle.rep_core.specs.Service.{can_prepare, reply_of}
-use Rattle.rep_core.proofs.Members.{Has, has_filter, has_map, has_any}
+use Rattle.rep_core.specs.Service.{can_prepare, reply_up, reply_down, reply_of}
+use Rattle.rep_core.proofs.Members.{Has, has_filter, has_map, has_any, any_has}
 use Rattle.rep_core.proofs.Finding.{find_some}
 use Rattle.rep_core.proofs.IntentionLookups.{get_has}
 use Rattle.suite_collect.specs.Telling.{holds}
 use Rattle.suite_collect.specs.Collecting.{Poll, Upgrade, Next, Ask, Current, Short, next}
-use Rattle.txn_core.specs.Suites.{First, Suite, suite_of, holds_lock, holds_exclusively, lock_mode, known_of, told_in, told_at}
+use Rattle.txn_core.specs.Suites.{First, Suite, suite_of, has_locks, holds_lock, holds_exclusively, lock_mode, known_of, told_in, told_at}
 use Rattle.txn_core.specs.Writing.{change_of, take_of_changed, part_of, parts_at}
 use Rattle.txn_core.specs.Doing.{Fixed, home_of, Outcome, Phase, Gathering, Fetching, Widening, Preparing, Deciding, Finishing, Course, Running}
 use Rattle.txn_core.specs.Transactions.{asked_by, asked_for, fetched_at, fetched_for, request_in, changes_of, decision_of}
 use Rattle.txn_core.specs.Agents.{Agent, fixed_of, next_in, next_of, is_idle}
+use Rattle.txn_core.specs.Laws.{is_prepare}
+use Rattle.txn_core.specs.Undecided.{stands_on_locks}
+use Rattle.txn_core.proofs.Asks.{asks_same, asked_as, fetched_as}
 use Rattle.txn_core.proofs.Locks.{a_prepare_rises}
 use Rattle.run_core.specs.declared.event.Event.{Event}
 use Rattle.run_core.specs.Worlds as worlds
 use Rattle.run_core.specs.Worlds.{Actor, server_at, actor_at}
+use Rattle.run_laws.specs.Naming.{names}
+use Rattle.run_laws.proofs.Asking.{asks_in_its_name}
 use Rattle.suite_machine.specs.Registers.{IsKnown, row, WasPrefix}
 use Rattle.suite_machine.specs.Machine.{Told, World}
 use Rattle.suite_machine.specs.Conditions as conditions
@@ -62,8 +69,43 @@ use Rattle.run_alone.proofs.Sets.{known_small}
 use Rattle.run_alone.proofs.Courses.{AreSmall}
 use Rattle.run_alone.proofs.Grown.{own_of}
 use Rattle.run_alone.proofs.Whole.{Carried}
+use Rattle.run_alone.proofs.Lefts.{LeftHold, HoldsIn, prepares_where_it_holds}
 use Rattle.run_alone.proofs.Fits.{changed_goes, part_fits}
 use Rattle.run_alone.proofs.Replied.{upgrade_not, fetch_not, prepare_not, polled_not, decide_not, finish_not, HasLock, held_lock, has_found, serves_as, all_of, rising_once, unlogged, unanswered}
+
+-- what a request of a transaction wants of a server: the lock that it stands on, or that it can be prepared
+abbrev pub Finds : State → Request → Type 0
+Finds st (request.Upgrade t suite) = has_lock t suite st.locks ≡ true
+Finds st (request.Fetch t suite) = has_lock t suite st.locks ≡ true
+Finds st (request.Prepare t parts) = can_prepare st t parts ≡ true
+Finds st (request.Poll t suite mode) = Unit {0}
+Finds st (request.Decide t decision) = Unit {0}
+Finds st (request.Resolve t) = Unit {0}
+Finds st (request.Finish t verdict) = Unit {0}
+Finds st (request.Break t suite) = Unit {0}
+Finds st request.Locks = Unit {0}
+Finds st request.Crash = Unit {0}
+Finds st request.Return = Unit {0}
+
+-- so it is not answered Lost
+never_lost : (st : State) (asked : Request) → Finds st asked → is_lost (reply_of st asked) ≡ false
+never_lost st (request.Upgrade t suite) finds = upgrade_not st t suite finds
+never_lost st (request.Fetch t suite) finds = fetch_not st t suite finds
+never_lost st (request.Prepare t parts) finds = prepare_not st t parts finds
+never_lost st (request.Poll t suite mode) finds = polled_not st t suite mode
+never_lost st (request.Decide t decision) finds = decide_not st t decision
+never_lost st (request.Finish t verdict) finds = finish_not st t verdict
+never_lost st (request.Resolve t) finds = elim (st.up) as (λ b. is_lost (cond b (reply_up st (request.Resolve t)) (reply_down (request.Resolve t))) ≡ false) [ true ↦ refl | false ↦ refl ]
+never_lost st (request.Break t suite) finds = elim (st.up) as (λ b. is_lost (cond b (reply_up st (request.Break t suite)) (reply_down (request.Break t suite))) ≡ false) [ true ↦ refl | false ↦ refl ]
+never_lost st request.Locks finds = elim (st.up) as (λ b. is_lost (cond b (reply_up st request.Locks) (reply_down request.Locks)) ≡ false) [ true ↦ refl | false ↦ refl ]
+never_lost st request.Crash finds = elim (st.up) as (λ b. is_lost (cond b (reply_up st request.Crash) (reply_down request.Crash)) ≡ false) [ true ↦ refl | false ↦ refl ]
+never_lost st request.Return finds = elim (st.up) as (λ b. is_lost (cond b (reply_up st request.Return) (reply_down request.Return)) ≡ false) [ true ↦ refl | false ↦ refl ]
+
+-- the server has some lock of the transaction
+pub record HasSome (t : ℕ) (st : State) : Type 0 where
+  pub lock : Lock
+  pub has : Has st.locks lock
+  pub of_it : lock.t ≡ t
 
 -- ---- a request
 
@@ -92,9 +134,8 @@ module _ (given : Opening) (c0 : IsValid given.c0) (world : worlds.World) (event
   all_stand (Deciding outcome) stands = tt
   all_stand (Finishing servers v ending) stands = tt
 
-  -- not lost
-  abbrev Goal : ℕ × Request → Type 0
-  Goal asked = (st : State) → server_at world asked.0 ≡ Some st → is_lost (reply_of st asked.1) ≡ false
+  abbrev pub Goal : ℕ × Request → Type 0
+  Goal asked = (st : State) → server_at world asked.0 ≡ Some st → Finds st asked.1
 
   agreed : (z : ℕ) → Agrees (told_to (machines z) t) (told_at course.suites z)
   agreed z = let here : DoingAgrees z (machines z) (Some (Running course)) = subst (DoingAgrees z (machines z)) running ((now.whole z).together.agrees number actor there) in here
@@ -122,11 +163,11 @@ module _ (given : Opening) (c0 : IsValid given.c0) (world : worlds.World) (event
   collects phase suite asked in' stands is = of (suite_of course.suites suite) is
     where
       by : (after : Next) → asked_by course.task suite after ≡ Some asked → Goal asked
-      by (Ask who (Poll mode)) same = subst Goal (same_Some (who, request.Poll t suite mode) asked same) (λ st at. polled_not st t suite mode)
+      by (Ask who (Poll mode)) same = subst Goal (same_Some (who, request.Poll t suite mode) asked same) (λ st at. tt)
       by (Ask who Upgrade) same =
           let pair = same_Some (who, request.Upgrade t suite) asked same in
-          subst Goal pair (λ st at. upgrade_not st t suite (has_found st.locks t suite _ (lock_there suite who st (stands suite) at
-          (upgrade_told suite (machines suite) fixed course.task course.suites who (in_course suite).told phase t suite (in' ∙ is ∙ ap Some (sym pair)) refl))))
+          subst Goal pair (λ st at. has_found st.locks t suite _ (lock_there suite who st (stands suite) at
+          (upgrade_told suite (machines suite) fixed course.task course.suites who (in_course suite).told phase t suite (in' ∙ is ∙ ap Some (sym pair)) refl)))
       by (Current prefix dver members) same = cc
       by (Short had wanting busy) same = cc
 
@@ -148,7 +189,7 @@ module _ (given : Opening) (c0 : IsValid given.c0) (world : worlds.World) (event
           let had = (suite_was suite (beginning suite given) (machines suite) actor.agent course found ((now.whole suite).together.fits number actor there) running is).first first was in
           let told = had.source some in
           subst Goal (same_Some (first.source, request.Fetch t suite) asked same)
-          (λ st at. fetch_not st t suite (has_found st.locks t suite _ (lock_there suite first.source st (stands suite) at (ap is_some told.is))))
+          (λ st at. has_found st.locks t suite _ (lock_there suite first.source st (stands suite) at (ap is_some told.is)))
 
   -- ---- preparing
 
@@ -237,11 +278,81 @@ module _ (given : Opening) (c0 : IsValid given.c0) (world : worlds.World) (event
   by_phase (Preparing (server ∷ left) outcome) phase stood asked is =
       let sent = parts_at course.suites (changes_of outcome) server in
       subst Goal (same_Some (server, request.Prepare t sent) asked is)
-      (λ st at. prepare_not st t sent (can server left outcome phase stood st at (ap (next_in fixed) running ∙ ap (request_in fixed course.task course.suites) phase)))
+      (λ st at. can server left outcome phase stood st at (ap (next_in fixed) running ∙ ap (request_in fixed course.task course.suites) phase))
   by_phase (Deciding outcome) phase stood asked is =
-      subst Goal (same_Some (home_of fixed.service t, request.Decide t (decision_of course.task outcome)) asked is) (λ st at. decide_not st t (decision_of course.task outcome))
+      subst Goal (same_Some (home_of fixed.service t, request.Decide t (decision_of course.task outcome)) asked is) (λ st at. tt)
   by_phase (Finishing [] v ending) phase stood asked is = cc
-  by_phase (Finishing (server ∷ left) v ending) phase stood asked is = subst Goal (same_Some (server, request.Finish t v) asked is) (λ st at. finish_not st t v)
+  by_phase (Finishing (server ∷ left) v ending) phase stood asked is = subst Goal (same_Some (server, request.Finish t v) asked is) (λ st at. tt)
 
-  pub not_lost : (asked : ℕ × Request) → next_of fixed actor.agent ≡ Some asked → Goal asked
-  not_lost asked next = by_phase course.phase refl (all_stand course.phase stands) asked (ap (next_in fixed) (sym running) ∙ next)
+  pub finds : (asked : ℕ × Request) → next_of fixed actor.agent ≡ Some asked → Goal asked
+  finds asked next = by_phase course.phase refl (all_stand course.phase stands) asked (ap (next_in fixed) (sym running) ∙ next)
+
+  pub not_lost : (asked : ℕ × Request) → next_of fixed actor.agent ≡ Some asked → (st : State) → server_at world asked.0 ≡ Some st → is_lost (reply_of st asked.1) ≡ false
+  not_lost asked next st at = never_lost st asked.1 (finds asked next st at)
+
+  -- ---- where it stands on a lock, the server has some of it
+
+  own_lock : (named suite : ℕ) (st : State) → named ≡ t → has_lock named suite st.locks ≡ true → HasSome t st
+  own_lock named suite st same has =
+      let is = any_has (is_own named suite) st.locks has in
+      record { lock = is.0; has = is.1; of_it = equal is.0 is.2 ∙ same }
+    where
+      equal : (lock : Lock) → is_own named suite lock ≡ true → lock.t ≡ named
+      equal lock is = grind (arith, nat_tests)
+
+  -- a Prepare is sent where it was told of a lock
+  held_at : (server : ℕ) (st : State) → ((z : ℕ) → Stands (machines z) t) → server_at world server ≡ Some st → has_locks course.suites server ≡ true → HasSome t st
+  held_at server st stood at held =
+      let one = any_has (λ (one : ℕ × Suite). holds_lock one.1 server) course.suites held in
+      let z = one.0.0 in
+      let found : suite_of course.suites z ≡ Some one.0.1 = get_has course.suites z one.0.1 (in_course 0).ordered one.1 in
+      let lock = lock_there z server st (stood z) at ((agreed z).held server ∙ ap (λ o. holds Shared (told_in o) server) found ∙ one.2) in
+      let there = find_some (is_own t z) st.locks lock.lock lock.is in
+      record { lock = lock.lock; has = there.0; of_it = equal lock.lock z there.1 }
+    where
+      equal : (lock : Lock) (z : ℕ) → is_own t z lock ≡ true → lock.t ≡ t
+      equal lock z is = grind (arith, nat_tests)
+
+  left_holds : IdleOr fixed actor.agent → LeftHold course.suites course.phase
+  left_holds (inl idle) = absurd (false≢true (ap is_idle (sym running) ∙ idle))
+  left_holds (inr is) = subst HoldsIn (ap (λ (agent : Agent). agent.doing) (sym is.is) ∙ running) (prepares_where_it_holds fixed is.before is.job is.told is.idle)
+
+  prepare_some : (phase : Phase) → LeftHold course.suites phase → PhasesStand phase → (asked : ℕ × Request) → request_in fixed course.task course.suites phase ≡ Some asked → is_prepare asked.1 ≡ true → (st : State) → server_at world asked.0 ≡ Some st → HasSome t st
+  prepare_some (Gathering number) holds stood asked is prepare = absurd (false≢true (sym (asked_as is_prepare false course.task number (suite_of course.suites number) asked.0 asked.1 (λ mode. refl) refl is) ∙ prepare))
+  prepare_some (Fetching number) holds stood asked is prepare = absurd (false≢true (sym (fetched_as is_prepare false course.task number (suite_of course.suites number) asked.0 asked.1 refl is) ∙ prepare))
+  prepare_some (Widening [] granted) holds stood asked is prepare = cc
+  prepare_some (Widening (number ∷ left) granted) holds stood asked is prepare =
+      absurd (false≢true (sym (asked_as is_prepare false course.task number (suite_of course.suites number) asked.0 asked.1 (λ mode. refl) refl is) ∙ prepare))
+  prepare_some (Preparing [] outcome) holds stood asked is prepare = cc
+  prepare_some (Preparing (server ∷ left) outcome) holds stood asked is prepare =
+      subst (λ (asked : ℕ × Request). (st : State) → server_at world asked.0 ≡ Some st → HasSome t st) (same_Some (server, request.Prepare t (parts_at course.suites (changes_of outcome) server)) asked is)
+      (λ st at. held_at server st stood at (holds server (inl refl)))
+  prepare_some (Deciding outcome) holds stood asked is prepare =
+      absurd (false≢true (ap is_prepare (asks_same (home_of fixed.service t) asked.0 (request.Decide t (decision_of course.task outcome)) asked.1 is) ∙ prepare))
+  prepare_some (Finishing [] v ending) holds stood asked is prepare = cc
+  prepare_some (Finishing (server ∷ left) v ending) holds stood asked is prepare = absurd (false≢true (ap is_prepare (asks_same server asked.0 (request.Finish t v) asked.1 is) ∙ prepare))
+
+  -- whatever stands on a lock
+  by_request : (server : ℕ) (asked : Request) → next_of fixed actor.agent ≡ Some (server, asked) → names t asked ≡ true → stands_on_locks asked ≡ true → (st : State) → server_at world server ≡ Some st → Finds st asked → HasSome t st
+  by_request server (request.Upgrade named suite) next is on st at finds = own_lock named suite st (named_so named is) finds
+    where
+      named_so : (named : ℕ) → (named == t) ≡ true → named ≡ t
+      named_so named is = grind (arith, nat_tests)
+  by_request server (request.Fetch named suite) next is on st at finds = own_lock named suite st (named_so named is) finds
+    where
+      named_so : (named : ℕ) → (named == t) ≡ true → named ≡ t
+      named_so named is = grind (arith, nat_tests)
+  by_request server (request.Prepare named parts) next is on st at finds =
+      prepare_some course.phase (left_holds ((now.whole 0).together.jobs number actor there)) (all_stand course.phase stands) (server, request.Prepare named parts) (ap (next_in fixed) (sym running) ∙ next) refl st at
+  by_request server (request.Poll named suite mode) next is on st at finds = absurd (false≢true on)
+  by_request server (request.Decide named decision) next is on st at finds = absurd (false≢true on)
+  by_request server (request.Resolve named) next is on st at finds = absurd (false≢true on)
+  by_request server (request.Finish named verdict) next is on st at finds = absurd (false≢true on)
+  by_request server (request.Break named suite) next is on st at finds = absurd (false≢true on)
+  by_request server request.Locks next is on st at finds = absurd (false≢true on)
+  by_request server request.Crash next is on st at finds = absurd (false≢true on)
+  by_request server request.Return next is on st at finds = absurd (false≢true on)
+
+  pub stands_where : (asked : ℕ × Request) → next_of fixed actor.agent ≡ Some asked → stands_on_locks asked.1 ≡ true → (st : State) → server_at world asked.0 ≡ Some st → HasSome t st
+  stands_where asked next on st at =
+      by_request asked.0 asked.1 next (asks_in_its_name fixed course.task course.suites course.phase asked.0 asked.1 (ap (next_in fixed) (sym running) ∙ next)) on st at (finds asked next st at)

@@ -1,6 +1,6 @@
--- A transaction that begins where every agent is idle, every server is up and no lock is left: what holds as long as nothing disturbs it, and how it ends.
-use Rattle.std.proofs.Common.{◌≡◌, ℕ, zero, suc, ◌+◌, true, false, cond, List, [], ◌∷◌, Option, Some, None, refl, sym, ap, subst, ◌∙◌, arith}
-use Rattle.std.specs.Prelude.{◌*◌, ◌-◌, ◌||◌, slice_get}
+-- What is known of every run, which replies are free, and how a transaction ends that does not end undecided.
+use Rattle.std.proofs.Common.{◌≡◌, ℕ, zero, suc, ◌+◌, Bool, true, false, cond, List, [], ◌∷◌, Option, Some, None, refl, sym, ap, subst, ◌∙◌}
+use Rattle.std.specs.Prelude.{◌||◌, slice_get}
 use Rattle.std.proofs.lemmas.Bool.{false≢true}
 use Rattle.std.proofs.lemmas.Option.{none-some, same_Some}
 use Rattle.vote_core.specs.Validity.{IsValid}
@@ -29,29 +29,24 @@ use Rattle.txn_core.specs.declared.ending.Ending.TheVariants.{Undecided}
 use Rattle.txn_core.specs.declared.word.Word.TheVariants.{Replied}
 use Rattle.txn_core.specs.Doing.{Fixed, Course, Doing, Running, Rounding, After, GoesOn, Ends}
 use Rattle.txn_core.specs.Transactions.{after_word, ending_by}
-use Rattle.txn_core.specs.Laws.{is_decide, said_by}
-use Rattle.txn_core.specs.Agents.{Agent, fixed_of, is_idle, next_in, next_of, left, end_of, take_in, take}
+use Rattle.txn_core.specs.Undecided.{stands_on_locks}
+use Rattle.txn_core.specs.Agents.{Agent, fixed_of, is_idle, next_in, left, end_of, take_in}
 use Rattle.run_core.specs.declared.event.Event.{Event}
 use Rattle.run_core.specs.declared.event.Event.TheVariants.{Begin, Step, Crash, Return, Forget, Lack}
-use Rattle.run_core.specs.declared.done.Served.{Served}
 use Rattle.run_core.specs.declared.done.Outcome.{Outcome}
-use Rattle.run_core.specs.Worlds.{Actor, World, opening, servers_from, server_at, actor_at, outcome_of, step}
+use Rattle.run_core.specs.Worlds.{Actor, World, opening, servers_from, server_at, actor_at, step}
 use Rattle.run_core.specs.Runs.{after, run}
 use Rattle.run_core.specs.Decisions.{Decided}
-use Rattle.run_laws.specs.Numbers.{number_of}
-use Rattle.run_laws.proofs.Agents.{IsAt}
-use Rattle.run_laws.proofs.Words.{Leaves, leaves_word}
-use Rattle.run_laws.proofs.Worlds.{agent_of, Holds}
-use Rattle.run_alone.specs.Alone.{begins_job}
+use Rattle.run_laws.specs.Naming.{names}
+use Rattle.run_laws.proofs.Words.{Leaves}
+use Rattle.run_laws.proofs.Worlds.{Holds}
 use Rattle.run_alone.specs.Undisturbed.{is_crash, disturbs, is_decided}
-use Rattle.run_alone.proofs.Own.{not_busy, not_down}
-use Rattle.run_alone.proofs.Turns.{doing_of, doing_at}
-use Rattle.run_alone.proofs.Clear.{IsMine, Clear, polls_named, names_mine, is_mine, event_clear}
+use Rattle.run_alone.proofs.Own.{IsOwnAt, is_return, up_as, not_busy_at, down_at, replies_down}
+use Rattle.run_alone.proofs.Owns.{IsMine, polls_named, never_returns}
 use Rattle.run_alone.proofs.Votes.{HasValidVotes}
-use Rattle.run_alone.proofs.Exchanged.{TellsValid, IsFree, Since, since_forget, since_take, never_undecided}
-use Rattle.run_alone.proofs.Unswept.{is_resolve, never_resolves, Unswept, stays_unswept, not_aborted}
+use Rattle.run_alone.proofs.Exchanged.{TellsValid, IsFree}
+use Rattle.run_alone.proofs.Unswept.{Unswept, not_aborted}
 use Rattle.run_alone.proofs.Walks.{AllServers, event_servers}
-use Rattle.run_alone.proofs.Went.{Went, Stayed, Forgot, Took, Moves, event_moves}
 
 -- ---- servers are consistent
 
@@ -99,6 +94,23 @@ up_valid st valid request.Return = tt
 tells_valid : (st : State) (asked : Request) → st.up ≡ true → ((suite : ℕ) → IsValid (copy_of st.store suite).prefix.votes) → TellsValid (reply_of st asked)
 tells_valid st asked up valid = subst (λ b. TellsValid (cond b (reply_up st asked) (reply_down asked))) (sym up) (up_valid st valid asked)
 
+tells_valid_at : (b : Bool) (st : State) (asked : Request) → is_return asked ≡ false → st.up ≡ b → ((suite : ℕ) → IsValid (copy_of st.store suite).prefix.votes) → TellsValid (reply_of st asked)
+tells_valid_at true st asked other up valid = tells_valid st asked up valid
+tells_valid_at false st asked other down valid = subst TellsValid (sym (replies_down st asked other down)) tt
+
+-- a reply to a transaction is free, where it is not Lost and what stands on a lock is asked where the server is up
+pub free_reply : (b : Bool) (t : ℕ) (st : State) (asked : Request) → names t asked ≡ true → IsOwnAt b t st → IsConsistent st → ((suite : ℕ) → IsValid (copy_of st.store suite).prefix.votes) → Unswept t st → is_lost (reply_of st asked) ≡ false
+    → (stands_on_locks asked ≡ true → b ≡ true) → IsFree b asked (reply_of st asked)
+free_reply b t st asked named own sound valid unswept kept stood = record {
+  busy = not_busy_at b t st asked (never_returns t asked named) (polls_named t asked named) own;
+  down = down_at b t st asked (never_returns t asked named) own;
+  kept = kept;
+  fit = reply_fits st asked sound.sound;
+  valid = tells_valid_at b st asked (never_returns t asked named) (up_as b t st own) valid;
+  decides = not_aborted t st asked unswept named;
+  stood = stood;
+}
+
 -- ---- endings
 
 decided_by : (v : Verdict) (cause : Cause) → ((cause' : Cause) → ending_by v cause ≡ Undecided cause' → ⊥) → is_decided (ending_by v cause) ≡ true
@@ -107,14 +119,14 @@ decided_by (verdict.Refused refusal) cause none = refl
 decided_by verdict.Aborted cause none = absurd (none cause refl)
 
 -- a transaction that does not end undecided is decided
-after_decided : (course : Course) (v : Verdict) (after : After Course) (ending : Ending) → Leaves course.task v after → end_of after ≡ Some ending → ((cause : Cause) → ending ≡ Undecided cause → ⊥) → is_decided ending ≡ true
+pub after_decided : (course : Course) (v : Verdict) (after : After Course) (ending : Ending) → Leaves course.task v after → end_of after ≡ Some ending → ((cause : Cause) → ending ≡ Undecided cause → ⊥) → is_decided ending ≡ true
 after_decided course v (GoesOn more) ending leaves is none = absurd (none-some ending is)
 after_decided course v (Ends other) ending leaves is none =
     let as' : ending ≡ ending_by v leaves.0 = sym (same_Some other ending is) ∙ leaves.1 in
     ap is_decided as' ∙ decided_by v leaves.0 (λ cause same. none cause (as' ∙ same))
 
 -- who took a word and did not end goes on
-goes_on : (fixed : Fixed) (agent : Agent) (said : Reply) (doing : Option Doing) (asked : ℕ × Request) → next_in fixed doing ≡ Some asked → (t : ℕ) → IsMine t doing → (take_in fixed agent (Replied said) doing (Some asked)).ending ≡ None
+pub goes_on : (fixed : Fixed) (agent : Agent) (said : Reply) (doing : Option Doing) (asked : ℕ × Request) → next_in fixed doing ≡ Some asked → (t : ℕ) → IsMine t doing → (take_in fixed agent (Replied said) doing (Some asked)).ending ≡ None
     → is_idle (take_in fixed agent (Replied said) doing (Some asked)).agent.doing ≡ false
 goes_on fixed agent said None asked next t mine none = absurd (none-some asked next)
 goes_on fixed agent said (Some (Rounding round)) asked next t mine none = absurd mine
@@ -134,14 +146,6 @@ pub record Facts (given : Opening) (world : World) : Type 0 where
   pub copies : (s : ℕ) (st : State) → server_at world s ≡ Some st → (suite : ℕ) → IsValid (copy_of st.store suite).prefix.votes
   pub caches : (i : ℕ) (actor : Actor) → actor_at world i ≡ Some actor → HasValidVotes actor.agent.cache
 
-pub record At (given : Opening) (t turn : ℕ) (world : World) : Type 0 where
-  pub clear : Clear world t turn
-  pub all : AllConsistent world
-  pub unswept : AllServers (Unswept t) world
-  pub actor : Actor
-  pub there : actor_at world turn ≡ Some actor
-  pub since : Since (fixed_of given) actor.agent
-
 pub no_crash : (given : Opening) (world : World) (event : Event) → disturbs given world event ≡ false → is_crash event ≡ false
 no_crash given world (Crash server) calm = absurd (false≢true (sym calm))
 no_crash given world (Begin i job) calm = refl
@@ -149,118 +153,3 @@ no_crash given world (Step i) calm = refl
 no_crash given world (Return server) calm = refl
 no_crash given world (Forget i site) calm = refl
 no_crash given world (Lack i why) calm = refl
-
-module _ (given : Opening) (c0 : IsValid given.c0) (t turn : ℕ) (world : World) (facts : Facts given world) (at : At given t turn world)
-    (kept : (what : Served) → (step (fixed_of given) world (Step turn)).done.served ≡ Some what → is_lost what.reply.value ≡ false)
-    (event : Event) (calm : disturbs given world event ≡ false) (none : begins_job given world event ≡ None) where
-  abbrev fixed : Fixed
-  fixed = fixed_of given
-
-  mine : IsMine t at.actor.agent.doing
-  mine = subst (IsMine t) (ap doing_of at.there) at.clear.mine
-
-  -- a reply to the transaction is free
-  reply_free : (asked : ℕ × Request) (st : State) (what : Served) → next_of fixed at.actor.agent ≡ Some asked → server_at world asked.0 ≡ Some st → (step fixed world (Step turn)).done.served ≡ Some what → what.reply.value ≡ reply_of st asked.1 → IsFree asked.1 (reply_of st asked.1)
-  reply_free asked st what next there served is =
-      let own = at.clear.servers asked.0 st there in
-      let named = names_mine fixed t at.actor.agent.doing asked mine next in
-      record {
-        busy = not_busy t st asked.1 own.0 (polls_named t asked.1 named) own.1;
-        up = not_down st asked.1 own.0;
-        fit = reply_fits st asked.1 (at.all asked.0 st there).sound;
-        valid = tells_valid st asked.1 own.0 (facts.copies asked.0 st there);
-        decides = not_aborted t st asked.1 (at.unswept asked.0 st there) named;
-        kept = subst (λ said. is_lost said ≡ false) is (kept what served);
-      }
-
-  moves : Moves given t turn world facts.ds facts.past facts.holds at.clear at.actor at.there (step fixed world event)
-  moves = event_moves given t turn world facts.ds facts.past facts.holds at.clear at.actor at.there event calm none
-
-  asks_none : (i : ℕ) (actor : Actor) (asked : ℕ × Request) → actor_at world i ≡ Some actor → next_of fixed actor.agent ≡ Some asked → is_resolve asked.1 ≡ false
-  asks_none i actor asked is next = of actor.agent.doing next (is_mine given t turn world facts.ds facts.past facts.holds at.clear i actor asked is next)
-    where
-      of : (doing : Option Doing) → next_in fixed doing ≡ Some asked → IsMine t doing → is_resolve asked.1 ≡ false
-      of None next own = absurd (none-some asked next)
-      of (Some (Rounding round)) next own = absurd own
-      of (Some (Running course)) next own = never_resolves fixed course.task course.suites course.phase asked.0 asked.1 next
-
-  -- it still holds after the event
-  pub next_at : Facts given (step fixed world event).world → At given t turn (step fixed world event).world
-  next_at later = record {
-    clear = event_clear given t turn world facts.ds facts.past facts.holds at.clear event (no_crash given world event calm) none;
-    all = event_all fixed world at.all event;
-    unswept = event_servers fixed (Unswept t) (λ asked. is_resolve asked ≡ false) (stays_unswept t) refl refl world asks_none at.unswept event;
-    actor = moves.0;
-    there = moves.1;
-    since = of moves.2;
-  }
-    where
-      cache : HasValidVotes moves.0.agent.cache
-      cache = later.caches turn moves.0 moves.1
-
-      of : Went fixed world turn at.actor moves.0.agent (step fixed world event).done.outcome → Since fixed moves.0.agent
-      of (Stayed same out) = subst (Since fixed) (sym same) at.since
-      of (Forgot site same out) = subst (Since fixed) (sym same) (since_forget fixed at.actor.agent site (subst (λ (agent : Agent). HasValidVotes agent.cache) same cache) at.since)
-      of (Took asked st what next there served is same out) =
-          subst (Since fixed) (sym same)
-          (since_take fixed at.actor.agent asked (reply_of st asked.1) next (reply_free asked st what next there served is) (subst (λ (agent : Agent). HasValidVotes agent.cache) same cache) at.since)
-
-  -- how it ends, if it does
-  outcome_ending : (ending : Option Ending) (job : Outcome) → outcome_of turn at.actor ending ≡ Some job → (ending ≡ Some job.ending) × (number_of job ≡ 64 * (at.actor.agent.count - 1) + turn)
-  outcome_ending None job is = absurd (none-some job is)
-  outcome_ending (Some ending) job is = let same = same_Some _ job is in (ap (λ (job : Outcome). Some job.ending) same, sym (ap number_of same))
-
-  -- its number
-  number_is : (asked : ℕ × Request) → next_of fixed at.actor.agent ≡ Some asked → 64 * (at.actor.agent.count - 1) + turn ≡ t
-  number_is asked next = of at.actor.agent.doing next mine (facts.holds.agents.at turn at.actor.agent (ap agent_of at.there))
-    where
-      of : (doing : Option Doing) → next_in fixed doing ≡ Some asked → IsMine t doing → IsAt facts.ds turn at.actor.agent.count doing → 64 * (at.actor.agent.count - 1) + turn ≡ t
-      of None next own stands = absurd (none-some asked next)
-      of (Some (Rounding round)) next own stands = absurd own
-      of (Some (Running course)) next own stands = let numbered = stands.numbered in let last = stands.last in omega (arith, numbered, last, own)
-
-  take_decided : (asked : ℕ × Request) (said : Reply) → next_of fixed at.actor.agent ≡ Some asked → (ending : Ending) → (take fixed at.actor.agent (Replied said)).ending ≡ Some ending → ((cause : Cause) → ending ≡ Undecided cause → ⊥) → is_decided ending ≡ true
-  take_decided asked said next ending is none' =
-      of at.actor.agent.doing next mine (facts.holds.agents.at turn at.actor.agent (ap agent_of at.there)) (subst (λ o. (take_in fixed at.actor.agent (Replied said) at.actor.agent.doing o).ending ≡ Some ending) next is)
-    where
-      of : (doing : Option Doing) → next_in fixed doing ≡ Some asked → IsMine t doing → IsAt facts.ds turn at.actor.agent.count doing → (take_in fixed at.actor.agent (Replied said) doing (Some asked)).ending ≡ Some ending → is_decided ending ≡ true
-      of None next own stands is = absurd (none-some asked next)
-      of (Some (Rounding round)) next own stands is = absurd own
-      of (Some (Running course)) next own stands is =
-          after_decided course (cond (is_decide asked.1) (said_by (Replied said) stands.said) stands.said) (after_word fixed course at.actor.agent.cache asked.0 asked.1 (Replied said)).after ending
-          (leaves_word fixed course.task at.actor.agent.cache course.suites course.phase asked.0 asked.1 (Replied said) stands.said next stands.tells) is none'
-
-  pub ends_decided : Facts given (step fixed world event).world → (job : Outcome) → (step fixed world event).done.outcome ≡ Some job → (number_of job ≡ t) × (is_decided job.ending ≡ true)
-  ends_decided later job is = of moves.2
-    where
-      of : Went fixed world turn at.actor moves.0.agent (step fixed world event).done.outcome → (number_of job ≡ t) × (is_decided job.ending ≡ true)
-      of (Stayed same out) = absurd (none-some job (sym out ∙ is))
-      of (Forgot site same out) = absurd (none-some job (sym out ∙ is))
-      of (Took asked st what next there served told same out) =
-          let ended = outcome_ending (take fixed at.actor.agent (Replied (reply_of st asked.1))).ending job (sym out ∙ is) in
-          let cache = subst (λ (agent : Agent). HasValidVotes agent.cache) same (later.caches turn moves.0 moves.1) in (
-            ended.1 ∙ number_is asked next,
-            take_decided asked (reply_of st asked.1) next job.ending ended.0
-                (λ cause undecided. never_undecided fixed c0 at.actor.agent asked (reply_of st asked.1) cause next (reply_free asked st what next there served told) at.since cache (ended.0 ∙ ap Some undecided)),
-          )
-
-  -- and who did not end still runs
-  no_ending : (ending : Option Ending) → outcome_of turn at.actor ending ≡ None → ending ≡ None
-  no_ending None is = refl
-  no_ending (Some ending) is = absurd (none-some _ (sym is))
-
-  pub still_runs : is_idle (doing_at world turn) ≡ false → (step fixed world event).done.outcome ≡ None → is_idle (doing_at (step fixed world event).world turn) ≡ false
-  still_runs runs' is = ap (λ found. is_idle (doing_of found)) moves.1 ∙ of moves.2
-    where
-      runs : is_idle at.actor.agent.doing ≡ false
-      runs = ap (λ found. is_idle (doing_of found)) (sym at.there) ∙ runs'
-
-      of : Went fixed world turn at.actor moves.0.agent (step fixed world event).done.outcome → is_idle moves.0.agent.doing ≡ false
-      of (Stayed same out) = ap (λ (agent : Agent). is_idle agent.doing) same ∙ runs
-      of (Forgot site same out) = ap (λ (agent : Agent). is_idle agent.doing) same ∙ runs
-      of (Took asked st what next there served told same out) =
-          let said = reply_of st asked.1 in
-          let none = no_ending (take fixed at.actor.agent (Replied said)).ending (sym out ∙ is) in
-          ap (λ (agent : Agent). is_idle agent.doing) same
-          ∙ ap (λ o. is_idle (take_in fixed at.actor.agent (Replied said) at.actor.agent.doing o).agent.doing) next
-          ∙ goes_on fixed at.actor.agent said at.actor.agent.doing asked next t mine (sym (ap (λ o. (take_in fixed at.actor.agent (Replied said) at.actor.agent.doing o).ending) next) ∙ none)

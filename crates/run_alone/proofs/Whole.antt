@@ -12,7 +12,7 @@ use Rattle.run_core.specs.Decisions.{decided}
 use Rattle.suite_machine.specs.Registers.{row}
 use Rattle.suite_machine.specs.Machine.{World, begun}
 use Rattle.server_moves.specs.Laws.{beginning}
-use Rattle.run_machine.specs.Machines.{moved}
+use Rattle.run_machine.specs.Machines.{moved, machine_from, machine_of}
 use Rattle.run_machine.specs.Owed.{Owed, AreOwed}
 use Rattle.run_machine.proofs.Kept.{actor_opens}
 use Rattle.one_table.proofs.Logs.{event_log}
@@ -60,15 +60,6 @@ carried_next given c0 machines world event events now = record {
   votes = now.votes.1;
 }
 
--- some machines are so
-abbrev pub IsCarried : Opening → worlds.World → List Event → Type 0
-IsCarried given world events = (machines : ℕ → World) × Carried given machines world events
-
-carried_from : (given : Opening) → IsValid given.c0 → (machines : ℕ → World) (world : worlds.World) (events later : List Event) → Carried given machines world (events ++ later) → IsCarried given (after (fixed_of given) world events) later
-carried_from given c0 machines world [] later now = (machines, now)
-carried_from given c0 machines world (event ∷ events) later now =
-    carried_from given c0 (next_machines given machines world event) (step (fixed_of given) world event).world events later (carried_next given c0 machines world event (events ++ later) now)
-
 opens_carried : (given : Opening) (events : List Event) → CanBe given events → Carried given (λ z. begun (beginning z given)) (worlds.opening given) events
 opens_carried given events can = record {
   whole = λ z. record {
@@ -81,6 +72,12 @@ opens_carried given events can = record {
   votes = can.votes;
 }
 
--- so it is after each run that goes on as it can
-pub carried_after : (given : Opening) (events later : List Event) → CanBe given (events ++ later) → IsCarried given (run given events) later
-carried_after given events later can = carried_from given can.c0 (λ z. begun (beginning z given)) (worlds.opening given) events later (opens_carried given (events ++ later) can)
+-- so it is after each run that goes on as it can, with the run's own machines
+carried_at : (given : Opening) → IsValid given.c0 → (machines : ℕ → World) (world : worlds.World) (events later : List Event) → Carried given machines world (events ++ later)
+    → Carried given (λ z. machine_from given z (machines z) world events) (after (fixed_of given) world events) later
+carried_at given c0 machines world [] later now = now
+carried_at given c0 machines world (event ∷ events) later now =
+    carried_at given c0 (next_machines given machines world event) (step (fixed_of given) world event).world events later (carried_next given c0 machines world event (events ++ later) now)
+
+pub carried_by : (given : Opening) (events later : List Event) → CanBe given (events ++ later) → Carried given (λ z. machine_of given z events) (run given events) later
+carried_by given events later can = carried_at given can.c0 (λ z. begun (beginning z given)) (worlds.opening given) events later (opens_carried given (events ++ later) can)
