@@ -32,7 +32,6 @@ use Rattle.run_core.specs.declared.done.Outcome.{Outcome}
 use Rattle.run_core.specs.Worlds.{Actor, World, server_at, actor_at, has_no_job, becomes, outcome_of, step}
 use Rattle.run_core.specs.Runs.{run}
 use Rattle.run_laws.specs.Numbers.{begins_now}
-use Rattle.run_laws.specs.Claims.{ended}
 use Rattle.run_laws.proofs.Places.{same_or}
 use Rattle.run_laws.proofs.Turns.{step_is}
 use Rattle.run_laws.proofs.Worlds.{puts_in}
