@@ -5,10 +5,12 @@ Runs every file of examples/ as it is played by its row, and the rows of transac
 is the one that `./suites` runs (a checked build where nothing is proved), or the one that is named. Status 1 where an
 answer differs.
 
-cut:    the input without the lines that say nothing, cut at each byte: status 0, and for `table` and `play`, where it is cut
-        at the end of a line, a beginning of the full output; or status 3 with one line that tells a fault.
+cut:    the input without the lines that say nothing, cut at each byte: status 3 and just the fault that the rules of
+        docs/FAULTS.md give this cut (tests/reading.py), or, where they give none, status 0 and what the row's output says of
+        the lines that are left whole. Of a line that was cut is known how many lines it prints, and of a list the permissions.
 failed: each read of standard input and each write of standard output fails in turn (`cc`), also with a long script that is
-        read and written in pieces: status 6, and a beginning of the output.
+        read and written in pieces: status 6, nothing printed after a read that failed, and before a write that failed a
+        beginning of the row's output, the longer the more writes went well, and nothing before the first.
 """
 import collections
 import os
@@ -19,8 +21,11 @@ import time
 from concurrent.futures import ThreadPoolExecutor
 
 import played
+import reading
 
 HERE = os.path.dirname(os.path.abspath(__file__))
+# Looks at each so many-th byte alone, where the variable says so.
+EVERY = int(os.environ.get("EVERY", "1"))
 
 
 def long_row():
@@ -36,14 +41,54 @@ def ran(program, row, given, environment=None):
     return done.returncode, done.stdout, done.stderr
 
 
+def steps_of(output):
+    """How many steps each job of a run of `play` took, by its agent and number."""
+    words = [line.split() for line in output.decode().splitlines()]
+    return {tuple(word[0].split(".")): int(word[1]) for word in words if "." in word[0]}
+
+
+def count_played(lines, output):
+    """How many lines of its output some lines of a script of `play` print."""
+    steps, begun, left, count, printed = steps_of(output), collections.Counter(), {}, 0, output.decode().splitlines()
+    for words in (line.split() for line in lines):
+        if words[0] in ("begin", "sweep") and not left.get(words[1]):
+            left[words[1]] = steps.get((words[1], str(begun[words[1]])), float("inf"))
+            begun[words[1]] += 1
+        elif words[0] in ("run", "step") and left.get(words[1]):
+            left[words[1]] -= min(left[words[1]], int(words[2]) if len(words) > 2 else 1 if words[0] == "step" else left[words[1]])
+            count += left[words[1]] == 0
+        elif words[0] == "audit":
+            count += 1 + (int(printed[count].split()[2]) if count < len(printed) else 0)
+    return count
+
+
+def is_output(row, given, output):
+    """Whether an input without a fault, which is the front of a row's, may have this output."""
+    command, known, told = row["words"][0], row["output"].splitlines(True), output.splitlines(True)
+    lines = given.decode().splitlines()
+    if command == b"acl":
+        perms = lines[-1].split(":")[-1]
+        last = "other::" + "".join(mark if mark in perms else "-" for mark in "rwx") + "\n"
+        return told == [*known[:-1], last.encode()]
+    if command == b"play":
+        return output == b"".join(known[: count_played(lines, row["output"])])
+    jobs = [line for line in lines if line.split()[0] in ("do", "sweep")]
+    whole = len(jobs) - (not given.endswith(b"\n") and lines[-1:] == jobs[-1:])
+    right = told[:whole] == known[:whole] and [line.split()[0] for line in told[: len(jobs)]] == [b"%d" % place for place in range(len(jobs))]
+    if command == b"table":
+        return right and len(told) == len(jobs)
+    return right and told[len(jobs) :] == [b"certified %d steps\n" % sum(int(line.split()[1]) for line in told[: len(jobs)])]
+
+
 def cut_at(program, row, given, end):
     """What is wrong where the input ends there, and the status."""
     status, output, errors = ran(program, row, given[:end])
-    whole = status == 0 and output.count(b"\n") <= row["output"].count(b"\n")
-    if row["words"][0] in (b"table", b"play") and given[end - 1 : end] == b"\n":
-        whole = whole and row["output"].startswith(output)
-    told = status == 3 and output.startswith(b"fault ") and output.count(b"\n") == 1 and output.endswith(b"\n")
-    return status, not errors and (whole or told), end
+    fault = reading.fault([word.decode() for word in row["words"]], given[:end].decode())
+    if fault:
+        right = (status, output) == (3, f"fault {fault}\n".encode())
+    else:
+        right = status == 0 and is_output(row, given[:end], output)
+    return status, right and not errors, end
 
 
 def cut(program, rows):
@@ -51,18 +96,18 @@ def cut(program, rows):
     with ThreadPoolExecutor(len(os.sched_getaffinity(0))) as pool:
         for row in rows:
             given = played.said(row["input"])
-            for status, right, end in pool.map(lambda end: cut_at(program, row, given, end), range(len(given) + 1)):
+            for status, right, end in pool.map(lambda end: cut_at(program, row, given, end), range(0, len(given) + 1, EVERY)):
                 statuses[status] += 1
                 if not right:
                     wrong.append(f"{row['title']}: cut at {end}: status {status}")
     told = ", ".join(f"{count} times status {status}" for status, count in sorted(statuses.items()))
-    print(f"cut: {len(rows)} inputs at each byte: {told}; {time.monotonic() - begun:.1f} s")
+    print(f"cut: {len(rows)} inputs at each {'byte' if EVERY == 1 else f'{EVERY}th byte'}: {told}; {time.monotonic() - begun:.1f} s")
     return wrong
 
 
 def failing(program, row, library, name):
     """How many calls of a stream there are, each of which failed once, and what is wrong."""
-    calls, wrong = 0, []
+    calls, wrong, before = 0, [], -1
     with tempfile.TemporaryDirectory() as folder:
         mark = os.path.join(folder, "mark")
         while True:
@@ -72,7 +117,8 @@ def failing(program, row, library, name):
                 return calls, wrong
             os.remove(mark)
             calls += 1
-            begins = row["output"].startswith(output) and len(output) < len(row["output"])
+            begins = row["output"].startswith(output) and before < len(output) < len(row["output"]) and (calls > 1 or not output)
+            before = len(output)
             if (status, errors) != (6, b"") or not (begins if name == "FAIL_WRITE" else output == b""):
                 wrong.append(f"{row['title']}: {name} {calls}: status {status}")
 

@@ -1,33 +1,38 @@
 #!/usr/bin/env python3
-"""tests/lies.py JUDGE [CASES [SEED]]
+"""tests/lies.py [CASES [SEED]]
 
-Has jobs carried out by agents in threads, as `serve` does, and tells lies about what servers served and what agents did:
-a hundred thousand seeded cases (CASES another number) over several scripts, each with one lie or two, of 23 kinds. Each
-case is judged by `certify`, and by another program, the judge, which has to say the same; and that the run as it was is
-one. Builds a program for it (tests/scratch.py, tests/programs/liar.rt.txt), which needs `rt`. Status 1 where they differ.
-
-The judge is a second implementation of servers and agents, which is no part of this repository. It is called as
-`JUDGE serve --agents N` with the script as standard input, and the variable LIES names a file of what the liar printed:
-the agents in the order in which they asked (`order`), the jobs that each began (`jobs`), the run and the cases. It makes the
-run of that order by one thread, tells the same lies, and prints the lines `run` and `case` with verdicts of its own.
+Has jobs carried out by agents in threads, as `serve` does, with servers that fall down and caches that are forgotten on
+the way, and tells lies about what servers served and what agents did: a hundred thousand seeded cases (CASES another
+number) over several scripts, each with one lie or two, of 27 kinds. A lie may leave a run that could have been, so its kind
+is no verdict: each case is judged by `certify`, and by tests/judging.py, which has `trace` play what the case tells and
+compares; and both have to say the same, also what was decided. Builds a program for it (tests/scratch.py,
+tests/programs/liar.rt.txt), which needs `rt`. Status 1 where they differ.
 """
 import collections
+import itertools
 import os
 import random
 import subprocess
 import sys
 import tempfile
 import time
+from concurrent.futures import ThreadPoolExecutor
 
+import judging
 import played
 import scratch
 
-CRATES = ["agent_pool", "byte_streams", "rep_core", "run_certify", "run_core", "server_lock", "suite_prefix", "suite_serve", "txn_core"]
+CRATES = ["agent_pool", "byte_streams", "rep_core", "run_certify", "run_core", "script_text", "server_lock", "suite_content",
+          "suite_play", "suite_prefix", "suite_serve", "txn_core", "vote_core"]
+MODULES = [os.path.join("tests", "programs", f"{name}.rt.txt") for name in ("lies", "story", "telling")]
+MODULES += [os.path.join("crates", "trace", "src", f"{name}.rt") for name in ("asked", "told", "words")]
 KINDS = """a reply that tells of a lock lost, the reply of another item, an item left out, an item doubled, a stamp a little off,
-a request's stamp a little off, another agent, two items exchanged, the request of another item, an item put to another server,
-two servers exchanged, a last item left out with all that its agent did from there on, an entry left out, an entry doubled,
-two entries exchanged, an entry's stamp a little off, another server in an entry, the end of another job, another job begun,
-entries cut off, an agent that stops with its last items gone, two agents exchanged, a job begun besides"""
+a request's stamp a little off, another agent or the operator, two items exchanged, the request of another item, an item put to
+another server, two servers exchanged, a last item left out with all that its agent did from there on, the operator asks once
+more, the operator asks for the opposite, an entry left out, an entry doubled, two entries exchanged, an entry's stamp a little
+off, another server in an entry, the end of another job, another job begun, entries cut off, an agent that stops with its last
+items gone, two agents exchanged, a job begun besides, a cache forgotten, a server that lacked something"""
+BATCH = 64
 
 
 def example(name):
@@ -35,7 +40,7 @@ def example(name):
         return file.read()
 
 
-def mixed(seed, head, folders, agents, count):
+def mixed(seed, head, folders, count):
     """Jobs that are in one another's way: so many, of three users, on a few files."""
     chance = random.Random(seed)
     lines = list(head)
@@ -62,69 +67,105 @@ def mixed(seed, head, folders, agents, count):
 
 
 def scripts():
-    """Scripts of jobs, each with its name and a number of agents."""
+    """Scripts of jobs, each with its name, a number of agents, and what happens before which job that all agents do."""
     three = ["servers 3", "votes 1,1,1/2/2", "root 1000 100 777", "cache 0 0 0"]
     caches = ["servers 4", "votes 1,1,1,1/2/3", "root 1000 100 775", "cache 64 32 4"]
     uneven = ["servers 5", "votes 2,1,0,1,1/2/4", "root 1000 100 777", "cache 4096 4096 16"]
     return [
-        ("files.script", 4, example("files.script")),
-        ("sweepers.script", 2, example("sweepers.script")),
-        ("three servers", 4, mixed(1, three, [], 4, 24)),
-        ("small caches", 3, mixed(2, caches, ["d"], 3, 20)),
-        ("uneven votes", 8, mixed(3, uneven, ["d", "e"], 8, 24)),
+        ("files.script", 4, [], example("files.script")),
+        ("sweepers.script", 2, [], example("sweepers.script")),
+        ("three servers", 4, [(6, "crash 0 0"), (12, "return 0 0"), (20, "crash 2 0")], mixed(1, three, [], 24)),
+        ("small caches", 3, [(5, "forget 1 0"), (9, "crash 3 0"), (9, "forget 0 1"), (15, "return 3 0")], mixed(2, caches, ["d"], 20)),
+        ("uneven votes", 8, [(8, "forget 3 2"), (12, "crash 1 0"), (18, "return 1 0")], mixed(3, uneven, ["d", "e"], 24)),
     ]
 
 
-def judged(liar, judge, agents, script, cases, seed):
-    """What the liar printed, and what the judge makes of it."""
-    given = f"{agents} {seed} {cases}\n{script}"
-    told = subprocess.run([liar], input=given.encode(), stdout=subprocess.PIPE)
-    if told.returncode != 0:
-        sys.exit(f"the liar ended with status {told.returncode}")
-    with tempfile.NamedTemporaryFile() as lies:
-        lies.write(told.stdout)
-        lies.flush()
-        words = [judge, "serve", "--agents", str(agents)]
-        answer = subprocess.run(words, input=script.encode(), stdout=subprocess.PIPE, env={**os.environ, "LIES": lies.name})
-    if answer.returncode != 0:
-        sys.exit(f"the judge ended with status {answer.returncode}")
-    return told.stdout.decode().splitlines(), answer.stdout.decode().splitlines()
+def deeds(script, given):
+    """What happens before which job, as the liar reads it."""
+    above = script.partition("\ntogether")[0].split("\n")
+    alone = sum(line.startswith(("do ", "sweep ")) for line in above)
+    return " ".join(f"{alone + place} {deed}" for place, deed in given)
+
+
+def cases_of(lines):
+    """The cases that the liar prints, each with its lies, its lists and what is certified."""
+    lies, lists, decided, own = None, {}, [], None
+    for line in lines:
+        word, _, rest = line.rstrip("\n").partition(" ")
+        if word == "case":
+            lies, lists, decided = rest.split(), {}, []
+        elif word in ("history", "transcript"):
+            own = lists.setdefault((word, int(rest)), [])
+        elif word == "decided":
+            decided.append(judging.decision(rest))
+        elif word in ("certified", "mismatch"):
+            yield lies, lists, decided if word == "certified" else None
+        else:
+            own.append(judging.element(line.rstrip("\n")))
+
+
+def told(liar, agents, seed, cases, parts):
+    """The cases of a script, as the liar prints them."""
+    script, given = parts
+    with tempfile.TemporaryFile() as text:
+        text.write(f"{agents} {seed} {cases}\n{deeds(script, given)}\n{script}".encode())
+        text.seek(0)
+        with subprocess.Popen([liar], stdin=text, stdout=subprocess.PIPE, encoding="utf-8") as process:
+            yield from cases_of(process.stdout)
+    if process.returncode != 0:
+        sys.exit(f"the liar ended with status {process.returncode}")
+
+
+class Tally:
+    """What came of cases: how many of each kind of lie, and which differ."""
+
+    def __init__(self):
+        self.all, self.kinds, self.differ = collections.Counter(), collections.Counter(), 0
+
+    def take(self, name, lies, own, other):
+        verdict = "a run" if own is not None else "found out"
+        if other.verdict in ("unsaid", "open"):
+            verdict = other.verdict
+        elif (other.decided if other.verdict == "a run" else None) != own:
+            self.differ += 1
+            print(f"{name}: case {' '.join(lies)}: certify says {'a run' if own is not None else 'mismatch'}, the judge {other.verdict}: {other.why}")
+        self.all[verdict] += 1
+        if len(lies) == 4:
+            self.kinds[int(lies[0]), verdict] += 1
+
+
+def judge_script(liar, tally, cases, seed, row):
+    """Judges the cases of a script."""
+    name, agents, given, script = row
+    begun, before = time.monotonic(), collections.Counter(tally.all)
+    stream = told(liar, agents, seed, cases, (script, given))
+    _, lists, decided = next(stream)
+    whole = judging.Judge(script, agents, lists)
+    first = whole.judge({})
+    if first.verdict != "a run" or first.decided != decided:
+        tally.differ += 1
+        print(f"{name}: of the run as it is the judge says {first.verdict}: {first.why}")
+    with ThreadPoolExecutor(len(os.sched_getaffinity(0))) as pool:
+        while batch := list(itertools.islice(stream, BATCH)):
+            for (lies, _, own), other in zip(batch, pool.map(lambda one: whole.judge(one[1]), batch)):
+                tally.take(name, lies, own, other)
+    counts = tally.all - before
+    print(f"{name}: {agents} agents, {whole.size} items, {len(decided)} decided; {', '.join(f'{count} {what}' for what, count in sorted(counts.items()))};"
+          f" {time.monotonic() - begun:.1f} s", flush=True)
 
 
 def main():
-    if len(sys.argv) < 2:
-        sys.exit(__doc__.splitlines()[0])
-    judge = os.path.abspath(sys.argv[1])
-    cases = int(sys.argv[2]) if len(sys.argv) > 2 else 100_000
-    seed = int(sys.argv[3]) if len(sys.argv) > 3 else 1
-    liar, differ, all_runs = scratch.built("liar", CRATES), 0, collections.Counter()
-    kinds = [kind.strip() for kind in KINDS.replace("\n", " ").split(",")]
-    by_kind = collections.Counter()
-    for name, agents, script in scripts():
-        begun = time.monotonic()
-        share = cases // len(scripts())
-        own, other = judged(liar, judge, agents, script, share, seed)
-        items = len(own[0].split()) - 1
-        verdicts = [line for line in own if line.startswith(("run", "case"))]
-        if verdicts[0].endswith("mismatch") or len(verdicts) != len(other):
-            differ += 1
-            print(f"{name}: {verdicts[0]}; {len(verdicts)} verdicts, {len(other)} of the judge")
-        for mine, theirs in zip(verdicts, other):
-            if mine != theirs:
-                differ += 1
-                print(f"{name}: {mine}\n{' ' * len(name)}  {theirs}")
-        counts = collections.Counter("found out" if line.endswith("mismatch") else "a run" for line in verdicts[1:])
-        for line in verdicts[1:]:
-            words = line.split(" : ")[0].split()[1:]
-            if len(words) == 4:
-                by_kind[kinds[int(words[0])], line.endswith("mismatch")] += 1
-        all_runs += counts
-        print(f"{name}: {agents} agents, {items} items, {verdicts[0]}; {share} cases: {counts['found out']} found out,"
-              f" {counts['a run']} a run; {time.monotonic() - begun:.1f} s")
-    for kind in kinds:
-        print(f"  {kind}: {by_kind[kind, True]} found out, {by_kind[kind, False]} a run")
-    print(f"{sum(all_runs.values())} cases: {all_runs['found out']} found out, {all_runs['a run']} a run, {differ} differ")
-    return 1 if differ else 0
+    cases = int(sys.argv[1]) if len(sys.argv) > 1 else 100_000
+    seed = int(sys.argv[2]) if len(sys.argv) > 2 else 1
+    liar, tally = scratch.built("liar", CRATES, MODULES), Tally()
+    for row in scripts():
+        judge_script(liar, tally, cases // len(scripts()), seed, row)
+    for number, kind in enumerate(kind.strip() for kind in KINDS.replace("\n", " ").split(",")):
+        print(f"  {kind}: {tally.kinds[number, 'found out']} found out, {tally.kinds[number, 'a run']} a run,"
+              f" {tally.kinds[number, 'unsaid']} unsaid, {tally.kinds[number, 'open']} open")
+    print(f"{sum(tally.all.values())} cases: {tally.all['found out']} found out, {tally.all['a run']} a run, {tally.all['unsaid']} that no script"
+          f" can say, {tally.all['open']} that the words leave open; {tally.differ} differ")
+    return 1 if tally.differ else 0
 
 
 if __name__ == "__main__":

@@ -3,69 +3,108 @@
 #
 # Runs the built program with these words and this file as standard input: once as it is, and then with its first,
 # its second, .. allocation refused, until none is left to refuse. Each answer has to be the full output with its
-# status, or status 4 with `fault memory` after a beginning of the output; never another. Then the same, where
-# every allocation from that one on is refused. Status 1 where an answer differs.
+# status, or status 4 with `fault memory` after a beginning of the output that ends with a line; never another. Then the
+# same, where every allocation from that one on is refused. Status 1 where an answer differs, and where no allocation
+# was refused.
+#
+# The full output is the one that a row of crates/rows has for this file and these words, where there is one; else it is
+# what the program prints with ample memory. Of `trace` the lines of `play` have to be those of the row.
 #
 # Under `serve` a refusal ends a job otherwise, and later ones with it, and chance decides whose allocation is refused:
-# there the answer has to be status 0, with a line a job and what is certified, or status 4; never a mismatch.
+# there tests/served.awk says which lines are allowed; never a mismatch.
 #
 # The first word `trace` stands for the program of `./suites trace`, which takes the words behind it.
 #
 # Without words: every command on every file of examples/, and what else the command line has, with counts at the end.
-# SUITES and TRACE name other programs, MOST another number of allocations to look at (default 2000), AGENTS of agents
-# (default 4).
+# SUITES and TRACE name other programs, MOST another number of allocations to look at (default 2000), EVERY looks at each
+# so many-th of them, AGENTS is another number of agents (default 4), ONLY a part of the files' names.
 set -u
 here=$(cd "$(dirname "$0")/.." && pwd)
 program=${SUITES:-$here/crates/suites/out/suites}
 tracer=${TRACE:-$here/crates/trace/out/trace}
-most=${MOST:-2000}
+most=${MOST:-2000} every=${EVERY:-1}
 [ $# -ne 1 ] && [ -x "$program" ] && { [ "${2-trace}" != trace ] || [ -x "$tracer" ]; } || { sed -n '2s/^# /usage: /p' "$0" >&2; exit 2; }
 work=$(mktemp -d) || exit 2
 trap 'rm -rf "$work"' EXIT
 
 cc -O1 -shared -fPIC -o "$work/refuse.so" "$here/tests/refuse.c" -ldl 2> "$work/cc" || { cat "$work/cc" >&2; exit 2; }
 printf 'fault memory\n' > "$work/memory"
-commands=0 refused=0 memories=0 wholes=0 others=0 differ=0
+commands=0 rows=0 refused=0 memories=0 wholes=0 others=0 differ=0
 
-# Whether the answer in $work/given, with the status $1, is one of those that are allowed.
+# Writes the output of the row that plays this file with these words into $work/row; of `serve`, with any number of agents.
+has_row() {
+    python3 - "$here/tests" "$@" > "$work/row" << 'END'
+import sys
+sys.path.insert(0, sys.argv[1])
+import played
+with open(sys.argv[2], "rb") as file:
+    given = file.read()
+words = [b"play" if word == "trace" else word.encode() for word in sys.argv[3:]]
+found = [row for row in played.rows() if row["input"] == given and (row["words"] == words or words[0] == b"serve" == row["words"][:1][0])]
+found.sort(key=lambda row: row["words"] != words)
+if not found or given == b"" and words == [b"play"] != sys.argv[3:4]:
+    sys.exit(1)
+sys.stdout.buffer.write(found[0]["output"])
+END
+}
+
+# Whether the full output is that of the row, as far as the row tells it.
+is_known() {
+    case $1 in
+    trace) grep -v '^[>= ]' "$work/full" | cmp -s - "$work/row" ;;
+    serve) awk -v agents="$agents" -v sure=1 -f "$here/tests/served.awk" "$2" "$work/row" "$work/full" ;;
+    *) cmp -s "$work/full" "$work/row" ;;
+    esac
+}
+
+# Whether the answer in $work/given, with the status $1, is one of those that are allowed; $2 allocations were refused.
 is_allowed() {
     [ -s "$work/errors" ] && return 1
     [ "$1" -eq "$full_status" ] && cmp -s "$work/given" "$work/full" && return 0
-    [ "$served" -eq 1 ] && { is_served "$1"; return; }
-    [ "$1" -eq 4 ] || return 1
-    size=$(($(wc -c < "$work/given")))
-    tail -c 13 "$work/given" | cmp -s - "$work/memory" && size=$((size - 13))
-    [ "$size" -lt $(($(wc -c < "$work/full"))) ] && cmp -s -n "$size" "$work/given" "$work/full"
+    if [ "$1" -eq 4 ]; then
+        tail -c 13 "$work/given" | cmp -s - "$work/memory" || return 1
+        size=$(($(wc -c < "$work/given") - 13))
+        head -c "$size" "$work/given" > "$work/front"
+        [ "$size" -eq 0 ] || [ "$(tail -c 1 "$work/front" | od -An -tx1)" = ' 0a' ] || return 1
+    fi
+    if [ "$served" -eq 1 ]; then
+        [ "$1" -eq 4 ] && set -- 4 "$2" "$work/front" || set -- "$1" "$2" "$work/given"
+        [ "$1" -eq 4 ] || [ "$1" -eq 0 ] || return 1
+        awk -v agents="$agents" -v status="$1" -v reach="$2" -f "$here/tests/served.awk" "$input" "$work/row" "$3"
+        return
+    fi
+    [ "$1" -eq 4 ] && [ "$size" -lt $(($(wc -c < "$work/full"))) ] && cmp -s -n "$size" "$work/given" "$work/full"
 }
 
-# The same, where jobs may end otherwise: all lines are there, or those up to a fault, if that could be written.
-is_served() {
-    lines=$(($(wc -l < "$work/given")))
-    if [ "$1" -eq 0 ]; then
-        [ "$lines" -eq $(($(wc -l < "$work/full"))) ] && tail -n 1 "$work/given" | grep -qx 'certified [0-9]* steps' || return 1
-        lines=$((lines - 1))
-    else
-        [ "$1" -eq 4 ] || return 1
-        tail -c 13 "$work/given" | cmp -s - "$work/memory" && lines=$((lines - 1))
-    fi
-    head -n "$lines" "$work/given" | awk '$1 != NR - 1 || $3 !~ /^(answered|denied|refused|undecided|swept)$/ { exit 1 }'
+# Tells an answer that differs.
+tell() {
+    differ=$((differ + 1))
+    echo "$*: status $status: $(tail -c 200 "$work/given") $(head -c 200 "$work/errors")"
 }
 
 # Runs the words $2.. with the input $1, and with each allocation refused in turn.
 refuse_each() {
-    input=$1 served=0
+    input=$1 served=0 agents=1
     shift
     words=$*
+    known=0
+    has_row "$input" "$@" && known=1
     case $1 in
-    serve) served=1 && set -- "$program" "$@" ;;
+    serve) served=1 agents=$3 && set -- "$program" "$@" ;;
     trace) shift && set -- "$tracer" "$@" ;;
     *) set -- "$program" "$@" ;;
     esac
     "$@" < "$input" > "$work/full" 2> "$work/errors"
-    full_status=$?
-    commands=$((commands + 1))
+    full_status=$? status=$?
+    commands=$((commands + 1)) rows=$((rows + known))
+    if [ "$known" -eq 0 ]; then
+        cp "$work/full" "$work/row"
+    elif ! is_known "${words%% *}" "$input"; then
+        cp "$work/full" "$work/given"
+        tell "$words < ${input##*/}: with ample memory not what the row says"
+    fi
     for reach in one all; do
-        number=1 whole=0 memory=0 other=0
+        number=1 tried=0 whole=0 memory=0 other=0
         while [ "$number" -le "$most" ]; do
             last=$number
             [ "$reach" = all ] && last=999999999
@@ -74,9 +113,9 @@ refuse_each() {
                 "$@" < "$input" > "$work/given" 2> "$work/errors"
             status=$?
             [ -e "$work/mark" ] || break
-            if ! is_allowed "$status"; then
-                differ=$((differ + 1))
-                echo "$words: allocation $number ($reach): status $status: $(head -c 200 "$work/given") $(head -c 200 "$work/errors")"
+            tried=$((tried + 1))
+            if ! is_allowed "$status" "$reach"; then
+                tell "$words < ${input##*/}: allocation $number ($reach)"
             elif [ "$status" -eq 4 ]; then
                 memory=$((memory + 1))
             elif cmp -s "$work/given" "$work/full"; then
@@ -84,19 +123,20 @@ refuse_each() {
             else
                 other=$((other + 1))
             fi
-            number=$((number + 1))
+            number=$((number + every))
         done
         told="$memory times status 4, $whole times the full output"
         [ "$served" -eq 1 ] && told="$told, $other times other ends of jobs"
-        echo "$words < ${input##*/}: $reach refused: $((number - 1)) allocations, $told"
-        refused=$((refused + number - 1)) memories=$((memories + memory)) wholes=$((wholes + whole)) others=$((others + other))
+        echo "$words < ${input##*/}: $reach refused: $tried allocations, $told"
+        [ "$tried" -gt 0 ] || tell "$words < ${input##*/}: no allocation was refused ($reach)"
+        refused=$((refused + tried)) memories=$((memories + memory)) wholes=$((wholes + whole)) others=$((others + other))
     done
 }
 
 if [ $# -ge 2 ]; then
     refuse_each "$@"
 else
-    for input in "$here"/examples/*/*; do
+    for input in "$here"/examples/*/*"${ONLY-}"*; do
         folder=${input%/*}
         case ${folder##*/} in
         acl) refuse_each "$input" acl user:lisa=1001 ;;
@@ -108,11 +148,13 @@ else
         *) refuse_each "$input" "${folder##*/}" ;;
         esac
     done
-    echo 'g:toolies:rw,u:lisa:rw,u::wr,g::r,o::r,m::r' > "$work/list"
-    refuse_each "$work/list" acl user:lisa=1001 group:toolies=200
-    for command in acl table play 'serve --agents 1' trace 'acl no' 'acl --help' --help no 'trace no' 'trace --help'; do
-        refuse_each /dev/null $command
-    done
-    echo "$commands commands, $refused refusals: $memories times status 4, $wholes times the full output, $others times other ends of jobs, $differ differ"
+    if [ -z "${ONLY-}" ]; then
+        echo 'g:toolies:rw,u:lisa:rw,u::wr,g::r,o::r,m::r' > "$work/list"
+        refuse_each "$work/list" acl user:lisa=1001 group:toolies=200
+        for command in acl table play 'serve --agents 1' trace 'acl no' 'acl --help' --help no 'trace no' 'trace --help'; do
+            refuse_each /dev/null $command
+        done
+    fi
+    echo "$commands commands, $rows with a row, $refused refusals: $memories times status 4, $wholes times the full output, $others times other ends of jobs, $differ differ"
 fi
 [ "$differ" -eq 0 ]

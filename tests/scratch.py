@@ -34,10 +34,10 @@ def below(names, needs):
     return sorted(found)
 
 
-def sum_of(source, crates):
+def sum_of(sources, crates):
     """The sum of all that a program is made from."""
     total = hashlib.sha256()
-    paths = [source]
+    paths = list(sources)
     for name in crates:
         for part in PARTS:
             for place, _, files in os.walk(os.path.join(TOP, "crates", name, part)):
@@ -48,13 +48,15 @@ def sum_of(source, crates):
     return total.hexdigest()
 
 
-def built(program, direct):
-    """The path of a program of tests/programs that names these crates, built where it is not there."""
-    source = os.path.join(TOP, "tests", "programs", f"{program}.rt.txt")
+def built(program, direct, modules=()):
+    """The path of a program of tests/programs that names these crates, built where it is not there. Its modules are files too."""
+    sources = {"main": os.path.join("tests", "programs", f"{program}.rt.txt")}
+    sources.update({os.path.basename(path).split(".")[0]: path for path in modules})
+    sources = {name: os.path.join(TOP, path) for name, path in sources.items()}
     needs = needs_of_crates()
     crates = below(direct, needs)
     target, mark = os.path.join(TOP, "out", program), os.path.join(TOP, "out", f"{program}.sum")
-    wanted = sum_of(source, crates)
+    wanted = sum_of(sources.values(), crates)
     if os.path.exists(target) and os.path.exists(mark):
         with open(mark, encoding="utf-8") as file:
             if file.read() == wanted:
@@ -70,7 +72,8 @@ def built(program, direct):
                     shutil.copytree(folder, os.path.join(copy, "crates", name, part))
         own = os.path.join(copy, "crates", program, "src")
         os.makedirs(own)
-        shutil.copy(source, os.path.join(own, "main.rt"))
+        for name, source in sources.items():
+            shutil.copy(source, os.path.join(own, f"{name}.rt"))
         shutil.copy(os.path.join(TOP, "HANDLES"), copy)
         with open(os.path.join(copy, "crates.txt"), "w", encoding="utf-8") as list_of_crates:
             lines = [f"{name}: {' '.join(needs[name])}\n" for name in crates]
