@@ -1,17 +1,19 @@
 -- What an agent leaves in its transcript for a job.
-use Rattle.std.proofs.Common.{◌≡◌, ◌⊎◌, inl, inr, ℕ, ◌+◌, ◌-◌, ◌<◌, ◌≤◌, List, [], ◌∷◌, ◌++◌, true, false, refl, ap, ◌∙◌, sym, subst, arith, length, append_assoc, append-nil}
-use Rattle.std.specs.Prelude.{◌&&◌, nat_lt, Option, Some, None, Result, Ok, Err, IfOk}
+use Rattle.std.proofs.Common.{◌≡◌, ◌≢◌, ◌⊎◌, inl, inr, ℕ, ◌+◌, ◌-◌, ◌<◌, ◌≤◌, List, [], ◌∷◌, ◌++◌, true, false, refl, ap, ◌∙◌, sym, subst, arith, length, append_assoc, append-nil}
+use Rattle.std.specs.Prelude.{◌&&◌, nat_lt, IsTrue, Option, Some, None, Result, Ok, Err, IfOk}
 use Rattle.std.proofs.lemmas.List.{length-append}
 use Rattle.std.proofs.lemmas.Option.{same_Some}
 use Rattle.rep_core.specs.declared.reply.Reply.{Reply}
 use Rattle.rep_core.specs.declared.request.Request.{Request}
 use Rattle.rep_core.specs.declared.stamped.Stamped.{Stamped}
+use Rattle.rep_core.specs.Fits.{fits}
 use Rattle.server_lock.specs.declared.miss.Miss.{Miss}
 use Rattle.server_lock.specs.declared.miss.Miss.TheVariants.{Lack, Stale}
 use Rattle.server_lock.specs.Passes.{Held, after_reply, front_at, sent_stamp}
 use Rattle.std.proofs.lemmas.Bool.{and_parts}
 use Rattle.txn_core.specs.Doing.{Fixed}
-use Rattle.txn_core.specs.Agents.{Agent, begins as begins_job, has_sense, is_idle, max_jobs, next_of}
+use Rattle.txn_core.specs.declared.ending.Ending.{Ending}
+use Rattle.txn_core.specs.Agents.{Agent, Taken, begin, begins as begins_job, has_sense, is_idle, max_jobs, next_of, take}
 use Rattle.txn_core.specs.Standing.{Standing}
 use Rattle.txn_core.specs.declared.job.Job.{Job}
 use Rattle.run_certify.specs.declared.entry.Entry.{Entry}
@@ -20,7 +22,7 @@ use Rattle.agent_pool.specs.declared.asking.Came.{Came}
 use Rattle.agent_pool.specs.declared.asking.Came.TheVariants as came
 use Rattle.agent_pool.specs.declared.asking.Told.{Told}
 use Rattle.agent_pool.specs.code.Steps.{AsksNobody, CannotGoOn, DidJob, DidMore, HasSeen, Hears, Leaves, RanTo, end_entry, told_by}
-use Rattle.agent_pool.specs.Transcripts.{Played, AreAsks, GoesOn, IsLonger, begins, is_ask, number_of}
+use Rattle.agent_pool.specs.Transcripts.{Played, AreAsks, At, Does, GoesOn, IsLonger, Leads, after_word, at_rest, begins, is_ask, number_of}
 use Rattle.agent_pool.proofs.Begins.{begins-append, goes-append}
 
 asks-append : (xs ys : List Entry) → AreAsks xs → AreAsks ys → AreAsks (xs ++ ys)
@@ -46,9 +48,40 @@ longer_longer a b c x y = record {
 abbrev pub longer_same : (a : Played) → IsLonger a a
 longer_same a = record { fixed = refl; number = refl; rest = []; entries = sym (append-nil a.entries) }
 
+-- ---- what the agent function makes of it
+
+pub leads-append : (fixed : Fixed) (a b c : At) (xs ys : List Entry) → Leads fixed a xs b → Leads fixed b ys c → Leads fixed a (xs ++ ys) c
+leads-append fixed a b c [] ys x y = subst (λ (q : At). Leads fixed q ys c) x y
+leads-append fixed a b c (e ∷ xs) ys x y = (x.0, x.1, leads-append fixed x.0 b c xs ys x.2 y)
+
+-- the same agent, which did more, and still more
+pub leads_longer : (a b c : Played) (x : IsLonger a b) (y : IsLonger b c) → Leads a.agent.fixed (at_rest a.agent.state) x.rest (at_rest b.agent.state) → Leads b.agent.fixed (at_rest b.agent.state) y.rest (at_rest c.agent.state)
+    → Leads a.agent.fixed (at_rest a.agent.state) (x.rest ++ y.rest) (at_rest c.agent.state)
+leads_longer a b c x y first second =
+    leads-append a.agent.fixed (at_rest a.agent.state) (at_rest b.agent.state) (at_rest c.agent.state) x.rest y.rest first
+    (subst (λ (f : Fixed). Leads f (at_rest b.agent.state) y.rest (at_rest c.agent.state)) x.fixed second)
+
+same_rest : (a b : Standing) → b ≡ a → at_rest b.state ≡ at_rest a.state
+same_rest a b same = ap (λ (s : Standing). at_rest s.state) same
+
+-- what is written down of an answer is what the agent does, which asked and is told
+pub does_told : (fixed : Fixed) (agent : Agent) (server : ℕ) (request : Request) (reply : Result (Stamped Reply) Miss) (told : Told) → told_by server reply ≡ Some told → next_of fixed agent ≡ Some (server, request)
+    → IfOk reply (λ reply. IsTrue (fits request reply.value)) → Does fixed (at_rest agent) told.entry (after_word fixed (at_rest agent) told.word)
+does_told fixed agent server request (Ok reply) told is asks suits =
+    subst (λ (t : Told). Does fixed (at_rest agent) t.entry (after_word fixed (at_rest agent) t.word)) (same_Some _ told is) (request, reply.value, refl, asks, suits, refl)
+does_told fixed agent server request (Err (Lack lack)) told is asks suits =
+    subst (λ (t : Told). Does fixed (at_rest agent) t.entry (after_word fixed (at_rest agent) t.word)) (same_Some _ told is) (request, refl, asks, refl)
+does_told fixed agent server request (Err Stale) told is asks suits = cc
+
+abbrev at_of : Agent → Option Ending → At
+at_of agent ending = record { agent = agent; due = ending }
+
+took : (taken : Taken) (agent : Agent) (ending : Option Ending) → agent ≡ taken.agent → taken.ending ≡ ending → at_of taken.agent taken.ending ≡ at_of agent ending
+took taken agent ending is gives = let back = sym is in λ i. record { agent = back i; due = gives i }
+
 -- it did nothing yet
 pub did_nothing : (servers begun : ℕ) (a : Played) (p : Held) → DidMore servers begun a a p p came.On
-did_nothing servers begun a p = record { longer = longer_same a; went = refl; leaves = tt; stuck = λ e. cc }
+did_nothing servers begun a p = record { longer = longer_same a; went = refl; leads = λ n. refl; leaves = tt; stuck = λ e. cc }
 
 leaves_on : (begun : ℕ) (a b c : Played) (rest more : List Entry) (what : Came) → number_of b ≡ number_of a → b.entries ≡ a.entries ++ rest → AreAsks rest → Leaves begun b more c what → Leaves begun a (rest ++ more) c what
 leaves_on begun a b c rest more came.On number is all after = asks-append rest more all after
@@ -78,6 +111,7 @@ pub did_more : (servers begun : ℕ) (a b c : Played) (p q r : Held) (what : Cam
 did_more servers begun a b c p q r what x y = record {
   longer = longer_longer a b c x.longer y.longer;
   went = goes-append x.longer.rest y.longer.rest p q r x.went y.went;
+  leads = λ n. leads_longer a b c x.longer y.longer (x.leads (λ e. cc)) (y.leads n);
   leaves = leaves_on begun a b c x.longer.rest y.longer.rest what x.longer.number x.longer.entries x.leaves y.leaves;
   stuck = y.stuck;
 }
@@ -94,29 +128,54 @@ told_asks server (Ok reply) told is = ap (λ (t : Told). is_ask t.entry) (sym (s
 told_asks server (Err (Lack lack)) told is = ap (λ (t : Told). is_ask t.entry) (sym (same_Some _ told is))
 told_asks server (Err Stale) told is = cc
 
+-- what an agent does that is told something
+abbrev DoesTold : Told → Standing → Type 0
+DoesTold told agent = Does agent.fixed (at_rest agent.state) told.entry (after_word agent.fixed (at_rest agent.state) told.word)
+
 -- an agent heard, and what it had done before is counted
-pub heard : (servers begun : ℕ) (told : Told) (old new : Played) (p q : Held) (what : Came) → old.agent.state.count ≡ begins old.entries → is_ask told.entry ≡ true → GoesOn (told.entry ∷ []) p q
+pub heard : (servers begun : ℕ) (told : Told) (old new : Played) (p q : Held) (what : Came) → old.agent.state.count ≡ begins old.entries → is_ask told.entry ≡ true → GoesOn (told.entry ∷ []) p q → DoesTold told old.agent
     → Hears (number_of old) begun told old.agent old.entries new.agent new.entries what → DidMore servers begun old new p q what
-heard servers begun told old new p q came.On counted asks goes h = record { longer = record { fixed = h.0; number = h.1; rest = told.entry ∷ []; entries = h.3 }; went = goes; leaves = (asks, tt); stuck = λ e. cc }
-heard servers begun told old new p q came.Stuck counted asks goes h = absurd h.3
-heard servers begun told old new p q came.Lacked counted asks goes h = record { longer = record { fixed = h.0; number = h.1; rest = told.entry ∷ []; entries = h.3 }; went = goes; leaves = (asks, tt); stuck = λ e. cc }
-heard servers begun told old new p q (came.Ended ran) counted asks goes h =
+heard servers begun told old new p q came.On counted asks goes does h =
+    let is : after_word old.agent.fixed (at_rest old.agent.state) told.word ≡ at_rest new.agent.state = took (take old.agent.fixed old.agent.state told.word) new.agent.state None h.3.1.0 h.3.1.1 in
+    record {
+      longer = record { fixed = h.0; number = h.1; rest = told.entry ∷ []; entries = h.3.0 };
+      went = goes;
+      leads = λ n. (at_rest new.agent.state, subst (λ (q : At). Does old.agent.fixed (at_rest old.agent.state) told.entry q) is does, refl);
+      leaves = (asks, tt);
+      stuck = λ e. cc;
+    }
+heard servers begun told old new p q came.Stuck counted asks goes does h = absurd h.3
+heard servers begun told old new p q came.Lacked counted asks goes does h = record {
+  longer = record { fixed = h.0; number = h.1; rest = told.entry ∷ []; entries = h.3 };
+  went = goes;
+  leads = λ n. absurd (n refl);
+  leaves = (asks, tt);
+  stuck = λ e. cc;
+}
+heard servers begun told old new p q (came.Ended ran) counted asks goes does h =
     let on = h.3 in
     let ending = on.0 in
+    let due : At = record { agent = new.agent.state; due = Some ending } in
+    let is : after_word old.agent.fixed (at_rest old.agent.state) told.word ≡ due = took (take old.agent.fixed old.agent.state told.word) new.agent.state (Some ending) on.5.0 on.5.1 in
     let end = end_entry (number_of old) ran.count (length old.entries + 1 - begun) ending in
     record {
       longer = record { fixed = h.0; number = h.1; rest = told.entry ∷ end ∷ []; entries = on.1 };
       went = goes-append (told.entry ∷ []) (end ∷ []) p q q goes refl;
+      leads = λ n. (
+        due,
+        subst (λ (q : At). Does old.agent.fixed (at_rest old.agent.state) told.entry q) is does,
+        (at_rest new.agent.state, (refl, sym h.1, on.3 ∙ ap (λ (n : ℕ). n - 1) (sym h.2), refl), refl),
+      );
       leaves = (told.entry ∷ [], ending, (asks, tt), refl, on.2, on.3 ∙ ap (λ n. n - 1) counted, on.4);
       stuck = λ e. cc;
     }
 
 ran_to : (job : Job) (old mid new : Played) (rest : List Entry) (what : Came) → number_of mid ≡ number_of old → mid.entries ≡ old.entries ++ Begun job ∷ [] → number_of new ≡ number_of mid → new.entries ≡ mid.entries ++ rest
-    → Leaves (length mid.entries) mid rest new what → has_sense new.agent.fixed job ≡ true → RanTo job old new what
-ran_to job old mid new rest came.On same began number more leaves sense = tt
-ran_to job old mid new rest came.Stuck same began number more leaves sense = tt
-ran_to job old mid new rest came.Lacked same began number more leaves sense = tt
-ran_to job old mid new rest (came.Ended ran) same began number more leaves sense =
+    → Leaves (length mid.entries) mid rest new what → (what ≢ came.Lacked → Leads new.agent.fixed (at_rest old.agent.state) (Begun job ∷ rest) (at_rest new.agent.state)) → has_sense new.agent.fixed job ≡ true → RanTo job old new what
+ran_to job old mid new rest came.On same began number more leaves leads sense = tt
+ran_to job old mid new rest came.Stuck same began number more leaves leads sense = tt
+ran_to job old mid new rest came.Lacked same began number more leaves leads sense = tt
+ran_to job old mid new rest (came.Ended ran) same began number more leaves leads sense =
     let asked = leaves.0 in
     let ending = leaves.1 in
     let steps : length mid.entries + length asked - length mid.entries ≡ length asked = omega arith in
@@ -133,7 +192,19 @@ ran_to job old mid new rest (came.Ended ran) same began number more leaves sense
     let b = begins-append asked (end ∷ []) in
     let long = ap length began ∙ length-append old.entries (Begun job ∷ []) in
     let count : ran.count ≡ begins old.entries = leaves.5 ∙ omega arith in (
-      record { before = old.entries; asked = asked; after = []; ending = ending; split = split; count = sym count; asks = leaves.2; at = (let at = leaves.4 in omega arith) },
+      record {
+        before = old.entries;
+        asked = asked;
+        after = [];
+        ending = ending;
+        split = split;
+        count = sym count;
+        asks = leaves.2;
+        at = (let at = leaves.4 in omega arith);
+        start = old.agent.state;
+        end = new.agent.state;
+        leads = subst (λ (es : List Entry). Leads new.agent.fixed (at_rest old.agent.state) (Begun job ∷ es) (at_rest new.agent.state)) rests (leads (λ e. cc));
+      },
       count,
       omega arith,
       leaves.6,
@@ -146,20 +217,28 @@ begins_sense fixed agent job is = (and_parts (is_idle agent.doing) (has_sense fi
 
 -- a job was begun, and then more was done for it
 pub did_job : (servers : ℕ) (job : Job) (old mid new : Played) (p q : Held) (what : Came) → mid.agent.fixed ≡ old.agent.fixed → number_of mid ≡ number_of old → mid.entries ≡ old.entries ++ Begun job ∷ []
-    → begins_job old.agent.fixed old.agent.state job ≡ true → DidMore servers (length mid.entries) mid new p q what → DidJob servers job old new p q what
-did_job servers job old mid new p q what fixed same began begins more = record {
-  longer = longer_longer old mid new (record { fixed = fixed; number = same; rest = Begun job ∷ []; entries = began }) more.longer;
-  went = more.went;
-  ran = ran_to job old mid new more.longer.rest what same began more.longer.number more.longer.entries more.leaves
-      (subst (λ (f : Fixed). has_sense f job ≡ true) (sym (more.longer.fixed ∙ fixed)) (begins_sense old.agent.fixed old.agent.state job begins));
-  stuck = λ e. inr (more.stuck e);
-}
+    → begins_job old.agent.fixed old.agent.state job ≡ true → mid.agent.state ≡ begin old.agent.fixed old.agent.state job → DidMore servers (length mid.entries) mid new p q what → DidJob servers job old new p q what
+did_job servers job old mid new p q what fixed same began begins starts more =
+    let rest = more.longer.rest in
+    let does : Leads old.agent.fixed (at_rest old.agent.state) (Begun job ∷ []) (at_rest mid.agent.state) = (at_rest mid.agent.state, (refl, begins, ap at_rest starts), refl) in
+    let leads : what ≢ came.Lacked → Leads old.agent.fixed (at_rest old.agent.state) (Begun job ∷ rest) (at_rest new.agent.state) =
+    λ n. leads_longer old mid new (record { fixed = fixed; number = same; rest = Begun job ∷ []; entries = began }) more.longer does (more.leads n) in
+    record {
+      longer = longer_longer old mid new (record { fixed = fixed; number = same; rest = Begun job ∷ []; entries = began }) more.longer;
+      went = more.went;
+      leads = leads;
+      ran = ran_to job old mid new rest what same began more.longer.number more.longer.entries more.leaves
+          (λ n. subst (λ (f : Fixed). Leads f (at_rest old.agent.state) (Begun job ∷ rest) (at_rest new.agent.state)) (sym (more.longer.fixed ∙ fixed)) (leads n))
+          (subst (λ (f : Fixed). has_sense f job ≡ true) (sym (more.longer.fixed ∙ fixed)) (begins_sense old.agent.fixed old.agent.state job begins));
+      stuck = λ e. inr (more.stuck e);
+    }
 
 -- nothing was done, and the agent cannot go on
 pub did_stick : (servers begun : ℕ) (a b : Played) (p q : Held) → b.agent ≡ a.agent → b.entries ≡ a.entries → q ≡ p → CannotGoOn servers a p → DidMore servers begun a b p q came.Stuck
 did_stick servers begun a b p q agent entries pass why = record {
   longer = record { fixed = ap (λ (s : Standing). s.fixed) agent; number = ap (λ (s : Standing). s.state.index) agent; rest = []; entries = entries ∙ sym (append-nil a.entries) };
   went = pass;
+  leads = λ n. same_rest a.agent b.agent agent;
   leaves = tt;
   stuck = λ e. subst (λ (r : Held). CannotGoOn servers b r) (sym pass)
       (subst (λ (s : Standing). AsksNobody servers (next_of s.fixed s.state) ⊎ HasSeen p (next_of s.fixed s.state)) (sym agent) why);
@@ -169,6 +248,7 @@ pub did_lack : (servers begun : ℕ) (a b : Played) (p : Held) → b.agent ≡ a
 did_lack servers begun a b p agent entries = record {
   longer = record { fixed = ap (λ (s : Standing). s.fixed) agent; number = ap (λ (s : Standing). s.state.index) agent; rest = []; entries = entries ∙ sym (append-nil a.entries) };
   went = refl;
+  leads = λ n. absurd (n refl);
   leaves = tt;
   stuck = λ e. cc;
 }
@@ -177,6 +257,7 @@ pub no_job : (servers : ℕ) (job : Job) (a b : Played) (p : Held) → b ≡ a �
 no_job servers job a b p same not = record {
   longer = record { fixed = ap (λ (p : Played). p.agent.fixed) same; number = ap (λ (p : Played). number_of p) same; rest = []; entries = ap (λ (p : Played). p.entries) same ∙ sym (append-nil a.entries) };
   went = refl;
+  leads = λ n. ap (λ (p : Played). at_rest p.agent.state) same;
   ran = tt;
   stuck = λ e. inl (ap (λ (p : Played). begins_job p.agent.fixed p.agent.state job) same ∙ not);
 }
@@ -185,15 +266,16 @@ pub lacked_job : (servers : ℕ) (job : Job) (a b : Played) (p : Held) → b ≡
 lacked_job servers job a b p same = record {
   longer = record { fixed = ap (λ (p : Played). p.agent.fixed) same; number = ap (λ (p : Played). number_of p) same; rest = []; entries = ap (λ (p : Played). p.entries) same ∙ sym (append-nil a.entries) };
   went = refl;
+  leads = λ n. absurd (n refl);
   ran = tt;
   stuck = λ e. cc;
 }
 
 -- the same as `heard`, where the fields are named apart
 pub heard_in : (servers begun number : ℕ) (told : Told) (old new : Played) (agent : Standing) (entries : List Entry) (p q : Held) (what : Came) → agent ≡ old.agent → entries ≡ old.entries → number ≡ number_of old → old.agent.state.count ≡ begins old.entries
-    → is_ask told.entry ≡ true → GoesOn (told.entry ∷ []) p q → Hears number begun told agent entries new.agent new.entries what → DidMore servers begun old new p q what
-heard_in servers begun number told old new agent entries p q what a e n counted asks goes h =
-    heard servers begun told old new p q what counted asks goes
+    → is_ask told.entry ≡ true → GoesOn (told.entry ∷ []) p q → DoesTold told agent → Hears number begun told agent entries new.agent new.entries what → DidMore servers begun old new p q what
+heard_in servers begun number told old new agent entries p q what a e n counted asks goes does h =
+    heard servers begun told old new p q what counted asks goes (subst (λ (s : Standing). DoesTold told s) a does)
     (subst (λ (m : ℕ). Hears m begun told old.agent old.entries new.agent new.entries what) n
     (subst (λ (es : List Entry). Hears number begun told old.agent es new.agent new.entries what) e (subst (λ (s : Standing). Hears number begun told s entries new.agent new.entries what) a h)))
 
@@ -205,7 +287,7 @@ ask_first (Forgot site) entries asks = cc
 ask_first (Ended outcome) entries asks = cc
 
 pub heard_begins : (number begun : ℕ) (told : Told) (old : Standing) (entries : List Entry) (new : Standing) (more : List Entry) (what : Came) → is_ask told.entry ≡ true → Hears number begun told old entries new more what → begins more ≡ begins entries
-heard_begins number begun told old entries new more came.On asks h = ap begins h.3 ∙ begins-append entries (told.entry ∷ []) ∙ (let one = ask_first told.entry [] asks in omega arith)
+heard_begins number begun told old entries new more came.On asks h = ap begins h.3.0 ∙ begins-append entries (told.entry ∷ []) ∙ (let one = ask_first told.entry [] asks in omega arith)
 heard_begins number begun told old entries new more came.Stuck asks h = absurd h.3
 heard_begins number begun told old entries new more came.Lacked asks h = ap begins h.3 ∙ begins-append entries (told.entry ∷ []) ∙ (let one = ask_first told.entry [] asks in omega arith)
 heard_begins number begun told old entries new more (came.Ended ran) asks h =

@@ -22,9 +22,9 @@ pub pool_is : (jobs : List NamedJob) (was : List Played) (old left : List Held) 
     → AllZip (IsWorkOf jobs) seats worked → IfOk result (IsGathered jobs worked left) → IfOk result (IsPoolOf jobs was old)
 pool_is jobs was old left seats worked (Err fault) distinct seated work is = tt
 pool_is jobs was old left seats worked (Ok pool) distinct seated work is = record {
-  agents = subst (λ (players : List Played). AllZip (WentOn old pool.passes.items) was players) (sym is.agents) (all_went jobs old left pool.passes.items was seats worked distinct seated work is.passes);
+  agents = subst (λ (players : List Played). AllZip (WentOn old pool.passes.items) was players) (sym is.agents) (all_went jobs old left pool.passes.items was seats worked distinct seated work is.ran is.passes);
   idle = subst (λ (players : List Played). All IsIdle players) (sym is.agents) (all_idle jobs seats worked work is.ran);
-  others = others_back jobs old left pool.passes.items was seats worked seated work is.passes;
+  others = others_back jobs old left pool.passes.items was seats worked seated work is.ran is.passes;
   each = subst (λ (players : List Played). AreOutcomes was players jobs pool.outcomes.items) (sym is.agents)
       (subst (λ (sat : List Played). AreOutcomes sat (players_of worked) jobs pool.outcomes.items) (sits_same old left was seats seated.each) (is.each seats work));
   apart = is.apart;

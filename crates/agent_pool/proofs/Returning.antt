@@ -1,8 +1,8 @@
 -- The passes that come back.
-use Rattle.std.proofs.Common.{◌≡◌, ℕ, List, [], ◌∷◌, ◌++◌, refl, ap, ◌∙◌, sym, append-nil}
-use Rattle.std.specs.Prelude.{Option, Some}
+use Rattle.std.proofs.Common.{◌≡◌, ℕ, List, [], ◌∷◌, ◌++◌, refl, ap, ◌∙◌, sym, subst, append-nil}
+use Rattle.std.specs.Prelude.{All, Option, Some, None}
 use Rattle.std.specs.List.{AllZip}
-use Rattle.std.proofs.lemmas.List.Elements.{filter-append}
+use Rattle.std.proofs.lemmas.List.Elements.{All-head, All-tail, filter-append}
 use Rattle.server_lock.specs.Counts.{passes_by}
 use Rattle.server_lock.specs.Passes.{Held, after_item}
 use Rattle.run_certify.specs.declared.entry.Entry.{Entry}
@@ -11,10 +11,11 @@ use Rattle.agent_pool.specs.declared.work.Seat.{Seat}
 use Rattle.agent_pool.specs.declared.work.Worked.{Worked}
 use Rattle.agent_pool.specs.declared.workshop.NamedJob.{NamedJob}
 use Rattle.agent_pool.specs.code.Filled.{passes_of, players_of}
+use Rattle.agent_pool.specs.code.Gathering.{AllRan}
 use Rattle.agent_pool.specs.Seats.{AreDistinct, IsOther, WentOn, numbers_of, passes_for}
 use Rattle.agent_pool.specs.code.Seated.{AreSeated, IsSeated}
 use Rattle.agent_pool.specs.code.Starts.{IsWorkOf}
-use Rattle.agent_pool.specs.Transcripts.{Played, GoesOn, number_of}
+use Rattle.agent_pool.specs.Transcripts.{Played, GoesOn, Leads, at_rest, number_of}
 use Rattle.agent_pool.proofs.Seating.{AreApartFrom, apart_from, other_cons, own_cons}
 
 goes_agent : (entries : List Entry) (a b : Held) → GoesOn entries a b → b.agent ≡ a.agent
@@ -25,10 +26,11 @@ goes_agent (Lacked server lack ∷ es) a b goes = goes_agent es a b goes
 goes_agent (Forgot site ∷ es) a b goes = goes_agent es a b goes
 goes_agent (Ended outcome ∷ es) a b goes = goes_agent es a b goes
 
--- an agent that sat down, and what it did
+-- an agent that sat down, and what it did; it ran whatever it took
 record Sat (jobs : List NamedJob) (old left : List Held) (player : Played) (seat : Seat) (worked : Worked) : Type 0 where
   seated : IsSeated old left player seat
   work : IsWorkOf jobs seat worked
+  ran : worked.halt ≡ None
 
 sat_agent : (jobs : List NamedJob) (old left : List Held) (player : Played) (seat : Seat) (worked : Worked) → Sat jobs old left player seat worked → worked.pass.agent ≡ Some (number_of player)
 sat_agent jobs old left player seat worked sat = goes_agent sat.work.longer.rest seat.pass worked.pass sat.work.went ∙ sat.seated.of
@@ -39,13 +41,16 @@ AllSat jobs old left [] [] [] = Unit {0}
 AllSat jobs old left (p ∷ players) (s ∷ seats) (w ∷ worked) = Sat jobs old left p s w × AllSat jobs old left players seats worked
 AllSat jobs old left _ _ _ = ⊥
 
-all_sat : (jobs : List NamedJob) (old left : List Held) (players : List Played) (seats : List Seat) (worked : List Worked) → AllZip (IsSeated old left) players seats → AllZip (IsWorkOf jobs) seats worked → AllSat jobs old left players seats worked
-all_sat jobs old left [] [] [] a b = tt
-all_sat jobs old left [] [] (w ∷ worked) a b = absurd b
-all_sat jobs old left [] (s ∷ seats) worked a b = absurd a
-all_sat jobs old left (p ∷ players) [] worked a b = absurd a
-all_sat jobs old left (p ∷ players) (s ∷ seats) [] a b = absurd b
-all_sat jobs old left (p ∷ players) (s ∷ seats) (w ∷ worked) a b = (record { seated = a.0; work = b.0 }, all_sat jobs old left players seats worked a.1 b.1)
+all_sat : (jobs : List NamedJob) (old left : List Held) (players : List Played) (seats : List Seat) (worked : List Worked) → AllZip (IsSeated old left) players seats → AllZip (IsWorkOf jobs) seats worked → AllRan worked → AllSat jobs old left players seats worked
+all_sat jobs old left [] [] [] a b ran = tt
+all_sat jobs old left [] [] (w ∷ worked) a b ran = absurd b
+all_sat jobs old left [] (s ∷ seats) worked a b ran = absurd a
+all_sat jobs old left (p ∷ players) [] worked a b ran = absurd a
+all_sat jobs old left (p ∷ players) (s ∷ seats) [] a b ran = absurd b
+all_sat jobs old left (p ∷ players) (s ∷ seats) (w ∷ worked) a b ran = (
+  record { seated = a.0; work = b.0; ran = All-head (λ (one : Worked). one.halt ≡ None) w worked ran },
+  all_sat jobs old left players seats worked a.1 b.1 (All-tail (λ (one : Worked). one.halt ≡ None) w worked ran),
+)
 
 -- none of these passes is another asker's
 none_of : (jobs : List NamedJob) (old left : List Held) (asker : Option ℕ) (players : List Played) (seats : List Seat) (worked : List Worked) → AllSat jobs old left players seats worked → IsOther players asker → passes_by asker (passes_of worked) ≡ []
@@ -94,6 +99,7 @@ went_one jobs old left new p s w sat is =
         rest = longer.rest;
         entries = longer.entries ∙ ap (λ (q : Played). q.entries ++ longer.rest) sits;
       };
+      leads = subst (λ (q : Played). Leads q.agent.fixed (at_rest q.agent.state) longer.rest (at_rest w.player.agent.state)) sits (sat.work.leads sat.ran);
       others = passes_for (number_of p) left;
       pass = s.pass;
       later = w.pass;
@@ -115,14 +121,14 @@ went_all jobs old left back new (p ∷ players) (s ∷ seats) (w ∷ worked) is 
 )
 
 pub all_went : (jobs : List NamedJob) (old left new : List Held) (players : List Played) (seats : List Seat) (worked : List Worked) → AreDistinct (numbers_of players) → AreSeated old left players seats → AllZip (IsWorkOf jobs) seats worked
-    → new ≡ left ++ passes_of worked → AllZip (WentOn old new) players (players_of worked)
-all_went jobs old left new players seats worked distinct seated work is =
-    let all = all_sat jobs old left players seats worked seated.each work in
+    → AllRan worked → new ≡ left ++ passes_of worked → AllZip (WentOn old new) players (players_of worked)
+all_went jobs old left new players seats worked distinct seated work ran is =
+    let all = all_sat jobs old left players seats worked seated.each work ran in
     went_all jobs old left (passes_of worked) new players seats worked is all (all_come jobs old left players seats worked all (apart_from players distinct))
 
-pub others_back : (jobs : List NamedJob) (old left new : List Held) (players : List Played) (seats : List Seat) (worked : List Worked) → AreSeated old left players seats → AllZip (IsWorkOf jobs) seats worked → new ≡ left ++ passes_of worked
+pub others_back : (jobs : List NamedJob) (old left new : List Held) (players : List Played) (seats : List Seat) (worked : List Worked) → AreSeated old left players seats → AllZip (IsWorkOf jobs) seats worked → AllRan worked → new ≡ left ++ passes_of worked
     → (asker : Option ℕ) → IsOther players asker → passes_by asker new ≡ passes_by asker old
-others_back jobs old left new players seats worked seated work is asker other =
+others_back jobs old left new players seats worked seated work ran is asker other =
     ap (λ zs. passes_by asker zs) is ∙ filter-append _ left (passes_of worked)
-    ∙ ap (λ zs. passes_by asker left ++ zs) (none_of jobs old left asker players seats worked (all_sat jobs old left players seats worked seated.each work) other)
+    ∙ ap (λ zs. passes_by asker left ++ zs) (none_of jobs old left asker players seats worked (all_sat jobs old left players seats worked seated.each work ran) other)
     ∙ append-nil (passes_by asker left) ∙ seated.others asker other

@@ -6,6 +6,7 @@ use Rattle.std.proofs.lemmas.Option.{same_Some}
 use Rattle.txn_core.specs.Agents.{has_sense}
 use Rattle.txn_core.specs.Doing.{Fixed}
 use Rattle.txn_core.specs.declared.job.Job.{Job}
+use Rattle.run_certify.specs.declared.entry.Entry.{Entry}
 use Rattle.run_certify.specs.declared.entry.Entry.TheVariants.{Begun}
 use Rattle.agent_pool.specs.declared.asking.Came.TheVariants as came
 use Rattle.agent_pool.specs.declared.work.Done.{Done}
@@ -16,12 +17,12 @@ use Rattle.agent_pool.specs.declared.workshop.NamedJob.{NamedJob}
 use Rattle.agent_pool.specs.code.Starts.{IsWorkOf}
 use Rattle.agent_pool.specs.code.Steps.{DidJob, end_entry}
 use Rattle.agent_pool.specs.Pools.{job_numbers}
-use Rattle.agent_pool.specs.Transcripts.{Played, GoesOn, IsIdle, IsLonger, IsTold, begins, number_of}
+use Rattle.agent_pool.specs.Transcripts.{Played, GoesOn, IsIdle, IsLonger, IsTold, Leads, at_rest, begins, number_of}
 use Rattle.agent_pool.specs.code.Working.{AllDone, IsDone, IsHalted, RiseBetween}
 use Rattle.agent_pool.proofs.Begins.{begins-append, goes-append}
-use Rattle.agent_pool.proofs.Leaving.{longer_longer}
+use Rattle.agent_pool.proofs.Leaving.{leads_longer, longer_longer}
 
-told_longer : (a b : Played) (job : Job) (count at : ℕ) → IsLonger a b → IsTold a job count at → IsTold b job count at
+pub told_longer : (a b : Played) (job : Job) (count at : ℕ) → IsLonger a b → IsTold a job count at → IsTold b job count at
 told_longer a b job count at longer told =
     let end = end_entry (number_of a) count (length told.asked) told.ending in
     let same : end ≡ end_entry (number_of b) count (length told.asked) told.ending = ap (λ n. end_entry n count (length told.asked) told.ending) (sym longer.number) in
@@ -38,6 +39,11 @@ told_longer a b job count at longer told =
       count = told.count;
       asks = told.asks;
       at = told.at;
+      start = told.start;
+      end = told.end;
+      leads =
+          subst (λ (e : Entry). Leads b.agent.fixed (at_rest told.start) (Begun job ∷ (told.asked ++ e ∷ [])) (at_rest told.end)) same
+          (subst (λ (f : Fixed). Leads f (at_rest told.start) (Begun job ∷ (told.asked ++ end ∷ [])) (at_rest told.end)) (sym longer.fixed) told.leads);
     }
 
 done_longer : (jobs : List NamedJob) (began : ℕ) (a b : Played) (ds : List Done) → IsLonger a b → AllDone jobs began a ds → AllDone jobs began b ds
@@ -72,6 +78,7 @@ works_first jobs seat w player pass none ran idle = record {
   done = subst (λ ds. AllDone jobs (begins seat.player.entries) w.player ds) (sym none) tt;
   rise = subst (λ ds. RiseBetween (begins seat.player.entries) ds (begins w.player.entries)) (sym none) (let e = ap (λ (p : Played). begins p.entries) player in omega arith);
   halted = subst (λ h. IsHalted jobs w.player h) (sym ran) (subst (λ (p : Played). IsIdle p) (sym player) idle);
+  leads = λ all. ap (λ (p : Played). at_rest p.agent.state) player;
   once = λ all. let same = ap (λ (p : Played). begins p.entries) player in let few = ap length none in omega arith;
 }
 
@@ -87,6 +94,7 @@ works_longer jobs seat w v why longer old went same is halted =
       done = subst (λ ds. AllDone jobs (begins seat.player.entries) v.player ds) (sym same) (done_longer jobs (begins seat.player.entries) w.player v.player w.done.items longer old.done);
       rise = subst (λ ds. RiseBetween (begins seat.player.entries) ds (begins v.player.entries)) (sym same) (rise_longer (begins seat.player.entries) (begins w.player.entries) (begins v.player.entries) w.done.items old.rise (omega arith));
       halted = subst (λ h. IsHalted jobs v.player h) (sym is) halted;
+      leads = λ all. let bad : Some why ≡ None = sym is ∙ all in absurd (cc);
       once = λ all. let bad : Some why ≡ None = sym is ∙ all in cc;
     }
 
@@ -122,6 +130,7 @@ works_more servers jobs seat w v d named old did same there before ran =
           (subst (λ n. RiseBetween (begins seat.player.entries) (w.done.items ++ d ∷ []) n) (sym did.ran.2)
           (rise_more (begins seat.player.entries) (begins w.player.entries) w.done.items d old.rise (let e = did.ran.1 in omega arith)));
       halted = subst (λ h. IsHalted jobs v.player h) (sym ran) did.ran.3;
+      leads = λ all. leads_longer seat.player w.player v.player old.longer longer (old.leads before) (did.leads (λ e. cc));
       once = λ all.
           let all_done = ap length same ∙ length-append w.done.items (d ∷ []) in
           let were = old.once before in

@@ -2,7 +2,7 @@
 use Rattle.std.specs.Prelude.{◌≡◌, ◌≢◌, ℕ, List, [], ◌∷◌, ◌++◌, All, map, slice_get, Option, Some}
 use Rattle.server_lock.specs.Counts.{passes_by}
 use Rattle.server_lock.specs.Passes.{Held}
-use Rattle.agent_pool.specs.Transcripts.{Played, GoesOn, IsIdle, IsLonger, number_of}
+use Rattle.agent_pool.specs.Transcripts.{Played, GoesOn, IsIdle, IsLonger, Leads, at_rest, number_of}
 
 -- no number stands twice
 abbrev pub AreDistinct : List ℕ → Type 0
@@ -30,9 +30,10 @@ abbrev pub IsOther : List Played → Option ℕ → Type 0
 IsOther [] asker = Unit {0}
 IsOther (player ∷ players) asker = (asker ≢ Some (number_of player)) × IsOther players asker
 
--- an agent's pass went on, and came back; what other passes it had are as they were
+-- An agent went on, as the agent function does of what it was told. Its pass went on, and came back; what other passes it had are as they were.
 pub record WentOn (old new : List Held) (was now : Played) : Type 0 where
   pub longer : IsLonger was now
+  pub leads : Leads was.agent.fixed (at_rest was.agent.state) longer.rest (at_rest now.agent.state)
   pub others : List Held
   pub pass : Held
   pub later : Held

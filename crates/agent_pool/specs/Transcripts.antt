@@ -1,9 +1,15 @@
 -- Agents with their transcripts.
-use Rattle.std.specs.Prelude.{◌≡◌, ℕ, zero, suc, ◌+◌, ◌≤◌, ◌<◌, Bool, true, false, List, [], ◌∷◌, ◌++◌, length}
+use Rattle.std.specs.Prelude.{◌≡◌, ℕ, zero, suc, ◌+◌, ◌-◌, ◌≤◌, ◌<◌, Bool, true, false, IsTrue, List, [], ◌∷◌, ◌++◌, length, Option, Some, None}
 use Rattle.suite_prefix.specs.SettingsRules.{Opening}
+use Rattle.rep_core.specs.declared.reply.Reply.{Reply}
+use Rattle.rep_core.specs.declared.request.Request.{Request}
+use Rattle.rep_core.specs.Fits.{fits}
 use Rattle.server_lock.specs.Passes.{Held, after_item, front_at, sent_stamp}
 use Rattle.txn_core.specs.declared.ending.Ending.{Ending}
 use Rattle.txn_core.specs.declared.job.Job.{Job}
+use Rattle.txn_core.specs.declared.word.Word.{Word}
+use Rattle.txn_core.specs.declared.word.Word.TheVariants.{Replied, Lacked as NotServed}
+use Rattle.txn_core.specs.Doing.{Fixed}
 use Rattle.txn_core.specs.Agents as agents
 use Rattle.txn_core.specs.Standing.{Standing}
 use Rattle.run_certify.specs.declared.entry.Entry.{Entry}
@@ -49,7 +55,40 @@ abbrev pub AreAsks : List Entry → Type 0
 AreAsks [] = Unit {0}
 AreAsks (entry ∷ entries) = (is_ask entry ≡ true) × AreAsks entries
 
--- The transcript has the job as its begin of this count, then what was asked for it, and then, at this place, how it ended.
+-- ---- what the agent function makes of a transcript
+
+-- an agent, and the end of its job that it still has to put down, if that has come
+pub record At : Type 0 where
+  pub agent : agents.Agent
+  pub due : Option Ending
+
+abbrev pub at_rest : agents.Agent → At
+at_rest agent = record { agent = agent; due = None }
+
+-- the agent that was told something, and the end that it gives then
+abbrev pub after_word : Fixed → At → Word → At
+after_word fixed at word = record { agent = (agents.take fixed at.agent word).agent; due = (agents.take fixed at.agent word).ending }
+
+-- An entry is what the agent function does: it begins a job that it may begin, it asks whom it asks next and is told a reply that fits, or what that
+-- server lacked, it forgets a site, or its job ends as is due.
+abbrev pub Does : Fixed → At → Entry → At → Type 0
+Does fixed at (Begun job) next = (at.due ≡ None) × (agents.begins fixed at.agent job ≡ true) × (next ≡ at_rest (agents.begin fixed at.agent job))
+Does fixed at (Asked server stamp) next =
+    (request : Request) × (reply : Reply) × (at.due ≡ None) × (agents.next_of fixed at.agent ≡ Some (server, request)) × IsTrue (fits request reply)
+    × (next ≡ after_word fixed at (Replied reply))
+Does fixed at (Lacked server lack) next =
+    (request : Request) × (at.due ≡ None) × (agents.next_of fixed at.agent ≡ Some (server, request)) × (next ≡ after_word fixed at (NotServed lack))
+Does fixed at (Forgot site) next = (at.due ≡ None) × (next ≡ at_rest (agents.forget at.agent site))
+Does fixed at (Ended outcome) next =
+    (at.due ≡ Some outcome.ending) × (outcome.agent ≡ at.agent.index) × (outcome.count ≡ at.agent.count - 1) × (next ≡ at_rest at.agent)
+
+-- so does each of these, one after the other, oldest first, from one to another
+abbrev pub Leads : Fixed → At → List Entry → At → Type 0
+Leads fixed at [] last = last ≡ at
+Leads fixed at (entry ∷ entries) last = (next : At) × Does fixed at entry next × Leads fixed next entries last
+
+-- The transcript has the job as its begin of this count, then what was asked for it, and then, at this place, how it ended: as the agent function ends
+-- it, from the begin on, at the last that it was told.
 pub record IsTold (played : Played) (job : Job) (number place : ℕ) : Type 0 where
   pub before : List Entry
   pub asked : List Entry
@@ -59,6 +98,10 @@ pub record IsTold (played : Played) (job : Job) (number place : ℕ) : Type 0 wh
   pub count : begins before ≡ number
   pub asks : AreAsks asked
   pub at : length before + (length asked + 1) ≡ place
+  pub start : agents.Agent
+  pub end : agents.Agent
+  pub leads : Leads played.agent.fixed (at_rest start)
+      (Begun job ∷ (asked ++ Ended (record { agent = number_of played; count = number; steps = length asked; ending = ending }) ∷ [])) (at_rest end)
 
 -- the same agent, which did more
 pub record IsLonger (old new : Played) : Type 0 where

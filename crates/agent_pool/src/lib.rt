@@ -6,8 +6,8 @@
 //! servers until it ends, and writes all of that into its transcript; an agent that takes an end mark ends. What the
 //! threads bring back is put together by their promises (`IsWorked` in `specs/code/Working.antt`): there is one
 //! outcome for each job, no two with one agent and count, and the agent's transcript has the job as its begin of that
-//! count, and that outcome after it (`IsPoolOf` in `specs/Pools.antt`). The agents began just as many jobs as were
-//! handed in, all after what they had begun before.
+//! count, and that outcome after it, as the agent function ends the job at the last that the agent was told (`IsPoolOf`
+//! in `specs/Pools.antt`). The agents began just as many jobs as were handed in, all after what they had begun before.
 //!
 //! What a caller owes (`AreReady` in `specs/Seats.antt`): the agents are idle, no two have one number, and each has its
 //! pass among those that are handed in. [`are_ready`] tells whether it is so. It is so of the agents of

@@ -73,18 +73,15 @@ pub fn run_pool<R: Threads + Wait + Sync, G: Gate + Sync>(
         receiver: &receiver,
         refused: &refused,
     };
-    let giver = Giver {
-        sender: &sender,
-        ticket,
-    };
+    let giver = Giver { sender, ticket };
     let worked = work_in_threads(rt, &shop, giver, seats)?;
     gather(jobs, worked, passes, room)
 }
 
 /// The end of the channel into which jobs go, with the pass of the one that puts.
 #[derive(Drop)]
-struct Giver<'a> {
-    sender: &'a Sender,
+struct Giver {
+    sender: Sender,
     ticket: Ticket,
 }
 
@@ -92,11 +89,11 @@ struct Giver<'a> {
 fn work_in_threads<R: Threads + Wait + Sync, G: Gate + Sync>(
     rt: &R,
     shop: &Workshop<'_, G>,
-    giver: Giver<'_>,
+    giver: Giver,
     seats: Vec<Seat>,
 ) -> Result<Vec<Worked>, AllocError>
-    requires seat { IsSeatAt (sends_on giver.sender.now) giver.ticket × (view giver.ticket ≡ feeder 0 0 0) }
-    requires same { receives_on shop.now.receiver.now ≡ sends_on giver.sender.now }
+    requires seat { IsSeatAt (sends_on giver.sender) giver.ticket × (view giver.ticket ≡ feeder 0 0 0) }
+    requires same { receives_on shop.now.receiver.now ≡ sends_on giver.sender }
     requires idle { AreIdle seats.items }
     ensures { IfOk result (λ worked. AllZip (IsWorkOf shop.now.jobs.now) seats.items worked.items) }
 {
@@ -107,8 +104,8 @@ fn work_in_threads<R: Threads + Wait + Sync, G: Gate + Sync>(
         thread::scope_env(),
         rt,
         |scope| -> Result<Vec<Worked>, AllocError>
-            requires seat { IsSeatAt (sends_on sender.now) ticket × (view ticket ≡ feeder 0 0 0) }
-            requires same { receives_on receiver.now ≡ sends_on sender.now }
+            requires seat { IsSeatAt (sends_on sender) ticket × (view ticket ≡ feeder 0 0 0) }
+            requires same { receives_on receiver.now ≡ sends_on sender }
             requires idle { AreIdle seats.items }
             ensures { IfOk result (λ worked. AllZip (IsWorkOf jobs.entry.now) seats.items worked.items) }
         {
@@ -125,16 +122,17 @@ fn work_in_threads<R: Threads + Wait + Sync, G: Gate + Sync>(
     )
 }
 
-/// The same, in a scope.
+/// The same, in a scope. The end of the channel is let go before the threads are joined: so each of them ends, also where
+/// an item was not passed on.
 fn in_scope<'s, E, R: Threads + Wait + Sync, G: Gate + Sync>(
     rt: &'s R,
     scope: &Scope<'s, E>,
     shop: &Workshop<'s, G>,
-    giver: Giver<'_>,
+    giver: Giver,
     seats: Vec<Seat>,
 ) -> Result<Vec<Worked>, AllocError>
-    requires seat { IsSeatAt (sends_on giver.sender.now) giver.ticket × (view giver.ticket ≡ feeder 0 0 0) }
-    requires same { receives_on shop.now.receiver.now ≡ sends_on giver.sender.now }
+    requires seat { IsSeatAt (sends_on giver.sender) giver.ticket × (view giver.ticket ≡ feeder 0 0 0) }
+    requires same { receives_on shop.now.receiver.now ≡ sends_on giver.sender }
     requires idle { AreIdle seats.items }
     ensures { IfOk result (λ worked. AllZip (IsWorkOf shop.now.jobs.now) seats.items worked.items) }
 {
@@ -153,6 +151,7 @@ fn in_scope<'s, E, R: Threads + Wait + Sync, G: Gate + Sync>(
     if started == 0 {
         return Err(AllocError);
     }
-    let _fed = feed(rt, sender, &mut ticket, shop.jobs.len(), started);
+    let _fed = feed(rt, &sender, &mut ticket, shop.jobs.len(), started);
+    drop(sender);
     Ok(join_all(rt, starts, room))
 }

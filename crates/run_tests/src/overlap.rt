@@ -13,7 +13,8 @@ use std::thread;
 use std::thread::Threads;
 use suite_prefix::Settings;
 
-/// A gate that holds each agent until both have begun, and then the first call at server 0 until server 1 has answered.
+/// A gate that holds each agent until both have begun, then whoever has job 1 until server 0 is being asked, and the first
+/// call there until server 1 has answered.
 #[derive(Drop)]
 struct Meeting {
     begun: AtomicU64,
@@ -36,9 +37,12 @@ impl Meeting {
 }
 
 impl Gate for Meeting {
-    fn begun(&self, _agent: u8, _job: u64) {
+    fn begun(&self, _agent: u8, job: u64) {
         self.begun.fetch_add(1, Ordering::SeqCst);
         self.hold(&self.begun, 2);
+        if job == 1 {
+            self.hold(&self.taken, 1);
+        }
     }
 
     fn inside(&self, server: u8, _agent: Option<u8>) {

@@ -8,8 +8,8 @@
 //!
 //! An asker has a [`Pass`], which remembers how much it has seen of each server's history. What it is told
 //! next comes after that: where a history is shorter, the answer is Stale. [`Servers::close`] takes the
-//! servers out of their locks, and compares what lies behind several of them: that each is the server of its
-//! place, and that each asker made as many items as its one pass counted.
+//! servers out of their locks and has [`close_locked`] compare what lay behind them: that each is the server of
+//! its place, and that each asker made as many items as its one pass counted.
 //!
 //! What a caller owes: a pass is used at the servers that it was started with. Whether the value under a lock
 //! is the server of its place no type can say, and no clause of `ask` does; `close` looks.
@@ -17,6 +17,7 @@
 
 mod answer;
 mod close_fault;
+mod closing;
 mod copied;
 mod counting;
 mod gate;
@@ -30,6 +31,7 @@ mod servers;
 
 pub use answer::Answer;
 pub use close_fault::CloseFault;
+pub use closing::close_locked;
 pub use gate::{Gate, OpenGate};
 pub use history::{Histories, History};
 pub use item::Item;

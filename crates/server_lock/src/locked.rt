@@ -104,6 +104,7 @@ impl Locked {
         ensures kept { IfOk result.reply (λ reply. self.new ≡ with_item (item_of agent request reply) self.old) }
         ensures same { OnErr result.reply (self.new ≡ self.old) }
     {
+        self.settings.fits();
         let server = self.number;
         let before = self.items.len();
         if before < front {

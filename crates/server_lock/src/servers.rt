@@ -1,19 +1,17 @@
 //! Servers that threads share.
 
-ghost use Rattle.std.specs.Prelude.{◌≡◌, ◌≢◌, ℕ, ◌≤◌, ◌<◌, true, false, length, slice_index, Option, Err, IfOk, OnOk, IsTrue};
+ghost use Rattle.std.specs.Prelude.{◌≡◌, ◌≤◌, ◌<◌, All, Err, IfOk, IsTrue};
 ghost use Rattle.std.specs.Vec.{vec_len, vec_capacity};
 ghost use Rattle.rep_core.specs.Fits.{fits};
-ghost use Rattle.server_lock.specs.declared.close_fault.CloseFault.TheVariants.{Count, Place};
 ghost use Rattle.server_lock.specs.declared.miss.Miss.TheVariants.{Stale};
-ghost use Rattle.server_lock.specs.Closed.{AreLegal, AreOf, IsMiscounted};
-ghost use Rattle.server_lock.specs.Counts.{is_counted, made_by, passes_at, passes_by, seat_of};
+ghost use Rattle.server_lock.specs.Closed.{AreCounted, AreOf, ClosesSome, HoldsLegal, askers};
 ghost use Rattle.server_lock.specs.Told.{IsTold};
 ghost use Rattle.server_lock.specs.Passes.{after_answer, front_at, passes_of, sent_stamp};
 
 use crate::answer::Answer;
 use crate::close_fault::CloseFault;
+use crate::closing::close_locked;
 use crate::copied::copies_of;
-use crate::counting::{SEATS, is_counted, tally};
 use crate::gate::Gate;
 use crate::history::{Histories, History};
 use crate::locked::Locked;
@@ -31,6 +29,7 @@ use vote_core::MAX_SERVERS;
 pub struct Servers {
     settings: Settings,
     locks: Vec<Mutex<Locked>>,
+    held: Vec<Locked>,
     histories: Vec<History>,
 }
 
@@ -48,7 +47,8 @@ impl Model for Servers {
 
     ghost view = { λ servers. servers.settings };
 
-    ghost invariant = { λ servers. HasRoom servers.settings.servers (vec_len servers.locks) (vec_len servers.histories) (vec_capacity servers.histories) };
+    ghost invariant = { λ servers. HasRoom servers.settings.servers (vec_len servers.locks) (vec_len servers.held) (vec_capacity servers.held)
+        (vec_len servers.histories) (vec_capacity servers.histories) };
 }
 
 impl Servers {
@@ -60,11 +60,13 @@ impl Servers {
     {
         let settings = settings.clone()?;
         let locks = locks_of(alloc, &settings)?;
+        let held = Vec::with_capacity(alloc, locks.len())?;
         let histories = Vec::with_capacity(alloc, locks.len())?;
         let passes = first_passes(alloc, &settings)?;
         let servers = Servers {
             settings,
             locks,
+            held,
             histories,
         };
         Ok((servers, passes))
@@ -118,22 +120,21 @@ impl Servers {
 
     /// The histories of the servers, each legal from the opening that the settings of `start` give to its
     /// server. Each agent has made as many of their items as its one pass counted, and so has the operator;
-    /// who hands in no pass has made none. Closing takes no memory, so a fault is always told.
+    /// who hands in no pass has made none. The answer is that of [`close_locked`] on what stood under the locks.
+    /// Closing takes no memory, so a fault is always told.
     pub fn close(self, passes: Vec<Pass>) -> Result<Histories, CloseFault>
-        ensures legal { IfOk result (λ histories. AreOf self histories) }
-        ensures counted { IfOk result (λ histories. (asker : Option ℕ) → seat_of asker < 257 → is_counted (made_by asker histories) (passes_by asker passes.items) ≡ true) }
-        ensures place { (server : ℕ) → result ≡ Err (Place server) → server < self.servers }
-        ensures count { (asker : Option ℕ) → result ≡ Err (Count asker) → IsMiscounted self passes.items asker }
+        ensures closes { ClosesSome self passes.items result }
+        ensures legal { IfOk result (AreOf self) }
+        ensures counted { IfOk result (AreCounted passes.items askers) }
     {
         let Servers {
             settings,
             locks,
+            held,
             histories,
         } = self;
-        let histories = histories_of(&settings, locks, histories)?;
-        let tally = tally(histories.as_slice());
-        all_counted(&tally, passes.as_slice())?;
-        Ok(Histories::from_vec(histories))
+        let held = taken_out(locks, held);
+        close_locked(&settings, held, passes.as_slice(), histories)
     }
 }
 
@@ -164,57 +165,20 @@ fn first_passes(alloc: Global, settings: &Settings) -> Result<Vec<Pass>, AllocEr
     Ok(passes)
 }
 
-/// What stood under the locks, where it is what these settings opened, put into this room.
-fn histories_of(
-    settings: &Settings,
-    locks: Vec<Mutex<Locked>>,
-    room: Vec<History>,
-) -> Result<Vec<History>, CloseFault>
-    requires few { vec_len locks ≤ MAX_SERVERS }
+/// What stood under the locks, put into this room.
+fn taken_out(locks: Vec<Mutex<Locked>>, room: Vec<Locked>) -> Vec<Locked>
     requires empty { vec_len room ≡ 0 }
     requires room { vec_len locks ≤ vec_capacity room }
-    ensures each { IfOk result (λ histories. length histories.items ≡ vec_len locks) }
-    ensures legal { IfOk result (λ histories. AreLegal settings.now histories.items) }
-    ensures place { (server : ℕ) → result ≡ Err (Place server) → server < vec_len locks }
-    ensures count { (asker : Option ℕ) → result ≢ Err (Count asker) }
+    ensures each { vec_len result ≡ vec_len locks }
+    ensures legal { All HoldsLegal result.items }
 {
+    let mut held = room;
     let mut locks = locks;
     locks.as_mut_slice().reverse();
-    let mut histories = room;
     while let Some(lock) = locks.pop() {
-        let number = histories.len() as u8;
         let locked = lock.into_inner();
-        if !locked.is_of(number, settings) {
-            return Err(CloseFault::Place(number));
-        }
-        histories.push_reserved(locked.into_history());
+        locked.is_legal();
+        held.push_reserved(locked);
     }
-    Ok(histories)
-}
-
-/// Whether what was made is what was counted, of each agent and of the operator.
-fn all_counted(tally: &[u64], passes: &[Pass]) -> Result<(), CloseFault>
-    requires { length tally.now ≡ 257 }
-    ensures ok { OnOk result ((seat : ℕ) → seat < 257 → is_counted (slice_index tally.now seat) (passes_at seat passes.now) ≡ true) }
-    ensures count { (asker : Option ℕ) → result ≡ Err (Count asker) → (seat_of asker < 257) × (is_counted (slice_index tally.now (seat_of asker)) (passes_by asker passes.now) ≡ false) }
-    ensures place { (server : ℕ) → result ≢ Err (Place server) }
-{
-    for seat in 0..SEATS {
-        if !is_counted(tally[seat], seat, passes) {
-            return Err(CloseFault::Count(asker_at(seat)));
-        }
-    }
-    Ok(())
-}
-
-/// Who has this place in the count.
-fn asker_at(seat: usize) -> Option<u8>
-    requires { seat < 257 }
-    ensures { seat_of result ≡ seat }
-{
-    if seat == 0 {
-        None
-    } else {
-        Some((seat - 1) as u8)
-    }
+    held
 }

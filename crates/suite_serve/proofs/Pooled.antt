@@ -1,5 +1,5 @@
 -- From what agent 0 did alone, and what all agents did after it, to what was done with all jobs.
-use Rattle.std.proofs.Common.{◌≡◌, ◌∙◌, ap, sym, refl, subst, inl, inr, arith, append_assoc, ℕ, zero, suc, ◌+◌, ◌<◌, min, List, [], ◌∷◌, ◌++◌, length}
+use Rattle.std.proofs.Common.{◌≡◌, ◌∙◌, ap, sym, refl, subst, inl, inr, arith, ℕ, zero, suc, ◌+◌, ◌<◌, min, List, [], ◌∷◌, ◌++◌, length}
 use Rattle.std.proofs.lemmas.Slice.Zip.{AllZip-long}
 use Rattle.std.proofs.lemmas.List.Elements.{Contains-append_left}
 use Rattle.std.proofs.lemmas.Option.{none-some, same_Some, slice_get_within}
@@ -17,30 +17,13 @@ use Rattle.agent_pool.specs.Pools.{AreApart, IsOutcome, IsPoolOf, begun_by}
 use Rattle.agent_pool.specs.Seats.{AreReady, WentOn}
 use Rattle.agent_pool.specs.Transcripts.{IsLonger, IsTold, Played, begins, first_player, number_of, players_from}
 use Rattle.agent_pool.proofs.Readiness.{ready_first}
+use Rattle.agent_pool.proofs.Works.{told_longer}
 use Rattle.suite_serve.specs.code.Working.{AreDone, AreNumbered, AreOfFirst, HasEnded, HaveEnded}
 use Rattle.suite_serve.specs.declared.serving.Worked.{Worked}
 use Rattle.suite_serve.proofs.Numbers.{number_at}
 use Rattle.suite_serve.proofs.Places.{contained_get, get_contained, get_either, zip_append, zip_at, zip_map}
 
 -- ---- what was told is told still
-
-told_still : (was now : Played) (job : Job) (number place : ℕ) → IsLonger was now → IsTold was job number place → IsTold now job number place
-told_still was now job number place longer told =
-    let end : ℕ → Entry = λ n. Ended (record { agent = n; count = number; steps = length told.asked; ending = told.ending }) in
-    record {
-      before = told.before;
-      asked = told.asked;
-      after = told.after ++ longer.rest;
-      ending = told.ending;
-      split =
-          longer.entries ∙ ap (λ (es : List Entry). es ++ longer.rest) told.split
-          ∙ append_assoc told.before (Begun job ∷ (told.asked ++ end (number_of was) ∷ told.after)) longer.rest
-          ∙ ap (λ (es : List Entry). told.before ++ Begun job ∷ es) (append_assoc told.asked (end (number_of was) ∷ told.after) longer.rest)
-          ∙ ap (λ (n : ℕ). told.before ++ Begun job ∷ (told.asked ++ end n ∷ (told.after ++ longer.rest))) (sym longer.number);
-      count = told.count;
-      asks = told.asks;
-      at = told.at;
-    }
 
 -- an agent later
 record Later (was : Played) (players : List Played) : Type 0 where
@@ -67,7 +50,7 @@ ended_still old new was now all named outcome has =
       player = later.now;
       there = later.there;
       number = later.longer.number ∙ has.number;
-      told = told_still has.player later.now named.job outcome.count outcome.at later.longer has.told;
+      told = told_longer has.player later.now named.job outcome.count outcome.at later.longer has.told;
     }
 
 ended_among : (players others : List Played) (named : NamedJob) (outcome : JobOutcome) → HasEnded players named outcome → HasEnded (players ++ others) named outcome

@@ -1,5 +1,5 @@
 -- What comes of asking, and of a job.
-use Rattle.std.specs.Prelude.{◌≡◌, ◌⊎◌, ◌<◌, ◌≤◌, ℕ, true, false, ◌+◌, ◌-◌, List, [], ◌∷◌, ◌++◌, length, Option, Some, None, Result, Ok, Err}
+use Rattle.std.specs.Prelude.{◌≡◌, ◌≢◌, ◌⊎◌, ◌<◌, ◌≤◌, ℕ, true, false, ◌+◌, ◌-◌, List, [], ◌∷◌, ◌++◌, length, Option, Some, None, Result, Ok, Err}
 use Rattle.rep_core.specs.declared.reply.Reply.{Reply}
 use Rattle.rep_core.specs.declared.request.Request.{Request}
 use Rattle.rep_core.specs.declared.stamped.Stamped.{Stamped}
@@ -17,7 +17,7 @@ use Rattle.txn_core.specs.Standing.{Standing}
 use Rattle.agent_pool.specs.declared.asking.Told.{Told}
 use Rattle.agent_pool.specs.declared.asking.Came.{Came}
 use Rattle.agent_pool.specs.declared.asking.Came.TheVariants as came
-use Rattle.agent_pool.specs.Transcripts.{Played, AreAsks, GoesOn, IsIdle, IsLonger, IsTold, begins, number_of}
+use Rattle.agent_pool.specs.Transcripts.{Played, AreAsks, GoesOn, IsIdle, IsLonger, IsTold, Leads, at_rest, begins, number_of}
 
 -- what is written down of an answer, and what the agent is told; nothing, where its pass is of other servers
 abbrev pub told_by : ℕ → Result (Stamped Reply) Miss → Option Told
@@ -39,14 +39,20 @@ Leaves begun old rest new (came.Ended ran) =
 Leaves begun old rest new came.Stuck = AreAsks rest
 Leaves begun old rest new came.Lacked = AreAsks rest
 
--- what is written down when an agent is told something: how its job ended too, where it did
+-- the agent takes what it is told, and gives this end
+abbrev pub Takes : Told → Standing → Standing → Option Ending → Type 0
+Takes told old new ending = (new.state ≡ (agents.take old.fixed old.state told.word).agent) × ((agents.take old.fixed old.state told.word).ending ≡ ending)
+
+-- What is written down when an agent is told something: how its job ended too, where it did, as it gave it. Where memory was refused to it, it did not take
+-- what is written down.
 abbrev pub HearsOn : ℕ → ℕ → Told → Standing → List Entry → Standing → List Entry → Came → Type 0
 HearsOn number begun told old entries new more (came.Ended ran) =
     (ending : Ending)
     × (more ≡ entries ++ told.entry ∷ end_entry number ran.count (length entries + 1 - begun) ending ∷ [])
-    × (ran.at ≡ length entries + 1) × (ran.count ≡ old.state.count - 1) × (is_idle new.state.doing ≡ true)
+    × (ran.at ≡ length entries + 1) × (ran.count ≡ old.state.count - 1) × (is_idle new.state.doing ≡ true) × Takes told old new (Some ending)
 HearsOn number begun told old entries new more came.Stuck = ⊥
-HearsOn number begun told old entries new more _ = more ≡ entries ++ told.entry ∷ []
+HearsOn number begun told old entries new more came.On = (more ≡ entries ++ told.entry ∷ []) × Takes told old new None
+HearsOn number begun told old entries new more came.Lacked = more ≡ entries ++ told.entry ∷ []
 
 abbrev pub Hears : ℕ → ℕ → Told → Standing → List Entry → Standing → List Entry → Came → Type 0
 Hears number begun told old entries new more came =
@@ -67,10 +73,12 @@ abbrev pub CannotGoOn : ℕ → Played → Held → Type 0
 CannotGoOn servers played pass =
     AsksNobody servers (next_of played.agent.fixed played.agent.state) ⊎ HasSeen pass (next_of played.agent.fixed played.agent.state)
 
--- what an agent did for its job, with its pass, at so many servers; it gets stuck only where it cannot go on
+-- what an agent did for its job, with its pass, at so many servers, as the agent function does, unless memory was refused to it; it gets stuck only where
+-- it cannot go on
 pub record DidMore (servers begun : ℕ) (old new : Played) (pass later : Held) (what : Came) : Type 0 where
   pub longer : IsLonger old new
   pub went : GoesOn longer.rest pass later
+  pub leads : what ≢ came.Lacked → Leads old.agent.fixed (at_rest old.agent.state) longer.rest (at_rest new.agent.state)
   pub leaves : Leaves begun old longer.rest new what
   pub stuck : what ≡ came.Stuck → CannotGoOn servers new later
 
@@ -81,9 +89,11 @@ RanTo job old new (came.Ended ran) =
     × (agents.has_sense new.agent.fixed job ≡ true)
 RanTo job old new _ = Unit {0}
 
--- what an agent did with a job, and its pass, at so many servers; it gets stuck only where it cannot begin the job, or cannot go on
+-- what an agent did with a job, and its pass, at so many servers, as the agent function does, unless memory was refused to it; it gets stuck only where it
+-- cannot begin the job, or cannot go on
 pub record DidJob (servers : ℕ) (job : Job) (old new : Played) (pass later : Held) (what : Came) : Type 0 where
   pub longer : IsLonger old new
   pub went : GoesOn longer.rest pass later
+  pub leads : what ≢ came.Lacked → Leads old.agent.fixed (at_rest old.agent.state) longer.rest (at_rest new.agent.state)
   pub ran : RanTo job old new what
   pub stuck : what ≡ came.Stuck → (agents.begins new.agent.fixed new.agent.state job ≡ false) ⊎ CannotGoOn servers new later

@@ -8,7 +8,7 @@ use Rattle.agent_pool.specs.declared.work.Halt.TheVariants.{Lacked, Strange, Stu
 use Rattle.agent_pool.specs.declared.work.Worked.{Worked}
 use Rattle.agent_pool.specs.declared.workshop.NamedJob.{NamedJob}
 use Rattle.agent_pool.specs.Pools.{job_numbers}
-use Rattle.agent_pool.specs.Transcripts.{Played, GoesOn, IsIdle, IsLonger, IsTold, begins}
+use Rattle.agent_pool.specs.Transcripts.{Played, GoesOn, IsIdle, IsLonger, IsTold, Leads, at_rest, begins}
 
 -- the job that was handed in at a place was done, after so many others: the transcript tells it
 pub record IsDone (jobs : List NamedJob) (began : ℕ) (played : Played) (done : Done) : Type 0 where
@@ -34,11 +34,13 @@ IsHalted jobs played (Some Lacked) = Unit {0}
 IsHalted jobs played (Some (Stuck job)) = Contains (job_numbers jobs) job
 IsHalted jobs played (Some (Strange place)) = length jobs ≤ place
 
--- An agent went on with its pass, and did these of the jobs that were handed in. If it ran whatever it took, it began no others.
+-- An agent went on with its pass, and did these of the jobs that were handed in. If it ran whatever it took, it went on as the agent function does, and
+-- began no others.
 pub record IsWorked (jobs : List NamedJob) (was : Played) (pass : Held) (worked : Worked) : Type 0 where
   pub longer : IsLonger was worked.player
   pub went : GoesOn longer.rest pass worked.pass
   pub done : AllDone jobs (begins was.entries) worked.player worked.done.items
   pub rise : RiseBetween (begins was.entries) worked.done.items (begins worked.player.entries)
   pub halted : IsHalted jobs worked.player worked.halt
+  pub leads : worked.halt ≡ None → Leads was.agent.fixed (at_rest was.agent.state) longer.rest (at_rest worked.player.agent.state)
   pub once : worked.halt ≡ None → begins worked.player.entries ≡ begins was.entries + length worked.done.items

@@ -29,5 +29,6 @@ returns c =
         at,
         (let a = c.saturating_sub-count.ensures in let b = c.count.ensures in omega arith),
         ap (λ (s : Standing). is_idle s.state.doing) took ∙ take_idle agent.fixed agent.state word ending (sym c.in-Ok.ensures.ok ∙ c.in-Some.is),
+        (ap (λ (s : Standing). s.state) took, sym c.in-Ok.ensures.ok ∙ c.in-Some.is),
       ),
     )

@@ -9,4 +9,4 @@ pub returns-in-Err : goal.returns-in-Err
 returns-in-Err g c = lacked_job _ _ _ _ _ (search rules)
 
 pub returns : goal.returns
-returns g c = did_job _ _ _ c.begin.new.self _ _ _ _ c.in-Ok-true.ensures.fixed c.in-Ok-true.ensures.number (search rules) (search rules) c.go_on.ensures
+returns g c = did_job _ _ _ c.begin.new.self _ _ _ _ c.in-Ok-true.ensures.fixed c.in-Ok-true.ensures.number (search rules) (search rules) c.in-Ok-true.ensures.agent c.go_on.ensures

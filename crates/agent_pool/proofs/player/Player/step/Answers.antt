@@ -4,7 +4,7 @@ use Rattle.txn_core.specs.Agents.{next_of}
 use Rattle.txn_core.specs.Standing.{Standing}
 use Rattle.agent_pool.specs.code.Steps.{AsksNobody}
 use Rattle.agent_pool.specs.Transcripts.{GoesOn, begins}
-use Rattle.agent_pool.proofs.Leaving.{did_lack, did_stick, goes_told, heard_begins, heard_in, stale_seen, told_asks}
+use Rattle.agent_pool.proofs.Leaving.{did_lack, did_stick, does_told, goes_told, heard_begins, heard_in, stale_seen, told_asks}
 use Rattle.agent_pool.proofs.player.Player.step.Goals as goal
 
 pub returns-then-is_err : goal.returns-then-is_err
@@ -44,4 +44,5 @@ returns g c =
     let goes = goes_told c.in-Some.server answer.before answer.reply told c.args.pass is c.ask-pass.ensures.front c.ask-pass.ensures.rises in
     heard_in _ c.args.begun c.self.inside.number told c.args.self.now (record { agent = c.hear-came.new.agent; entries = c.hear-came.new.entries.items }) c.self.inside.agent c.reserve.new.self.items c.args.pass c.ask-pass.result.0 c.hear-came.result
     (search rules) (search rules) (search rules) (search rules)
-    (told_asks c.in-Some.server answer.reply told is) (subst (λ (q : Held). GoesOn (told.entry ∷ []) c.args.pass q) (sym c.ask-pass.ensures.pass) goes) c.hear-came.ensures
+    (told_asks c.in-Some.server answer.reply told is) (subst (λ (q : Held). GoesOn (told.entry ∷ []) c.args.pass q) (sym c.ask-pass.ensures.pass) goes)
+    (does_told c.self.inside.agent.fixed c.self.inside.agent.state c.in-Some.server c.in-Some.request answer.reply told is (search rules) c.ask-pass.ensures.fits) c.hear-came.ensures

@@ -19,6 +19,7 @@ invariant_of-result-2 c = elim c.match-keep.branch [
       let room : length c.self.inside.items.items < max_items = subst (λ (kept : Kept). length kept.history < max_items) shown said.room in
       let given : IsGiven c.self.inside.number before request w.in-Ok.reply = record {
         given = c.self.inside.settings;
+        accepted = c.fits.ensures.accepted;
         history = c.self.inside.items.items;
         legal = c.self.invariant.legal;
         long = long;
