@@ -21,22 +21,13 @@ use Rattle.run_core.specs.Worlds as worlds
 use Rattle.run_core.specs.Worlds.{Actor, World, actor_at, has_no_job, outcome_of, step}
 use Rattle.run_core.specs.Runs.{after, dones, outcomes}
 use Rattle.run_alone.proofs.Unhindered.{goes_on}
-use Rattle.run_recovers.specs.Alone.{hinders, unhindered_from}
+use Rattle.run_recovers.specs.Alone.{hinders, unhindered_from, its_step, own_steps}
 use Rattle.run_recovers.proofs.Aside.{event_aside}
 use Rattle.run_recovers.proofs.Took.{OwnTook, own_took}
 use Rattle.run_recovers.proofs.Moments as moments
 use Rattle.run_recovers.proofs.Moments.{Moment, Beside, Takes, mine}
 
--- a step of the agent
-abbrev pub its_step : ℕ → Event → Bool
-its_step agent (Step other) = other == agent
-its_step agent (Begin other _) = false
-its_step agent (Crash server) = false
-its_step agent (Return server) = false
-its_step agent (Forget other _) = false
-its_step agent (Lack other why) = false
-
-step_of : (agent : ℕ) (event : Event) → its_step agent event ≡ true → event ≡ Step agent
+pub step_of : (agent : ℕ) (event : Event) → its_step agent event ≡ true → event ≡ Step agent
 step_of agent (Step other) is = ap Step (same_at other agent is)
   where
     same_at : (a b : ℕ) → (a == b) ≡ true → a ≡ b
@@ -48,17 +39,12 @@ step_of agent (Forget other _) is = absurd (false≢true is)
 step_of agent (Lack other why) is = absurd (false≢true is)
 
 -- where it does not hinder, the step of an agent that has a job is served
-was_served : (idle b served : Bool) → idle ≡ false → (not idle && not (b && served)) ≡ false → served ≡ true
+pub was_served : (idle b served : Bool) → idle ≡ false → (not idle && not (b && served)) ≡ false → served ≡ true
 was_served false true true is calm = refl
 was_served false false true is calm = refl
 was_served false true false is calm = absurd (false≢true (sym calm))
 was_served false false false is calm = absurd (false≢true (sym calm))
 was_served true b served is calm = absurd (false≢true (sym is))
-
--- how many steps of the agent these are
-abbrev pub own_steps : ℕ → List Event → ℕ
-own_steps agent [] = 0
-own_steps agent (event ∷ events) = cond (its_step agent event) 1 0 + own_steps agent events
 
 one_more : {X : Type 0} (xs : List X) (x : X) → length (xs ++ x ∷ []) ≡ length xs + 1
 one_more [] x = refl

@@ -386,6 +386,10 @@ module _ (given : Opening) (events later : List Event) (agent t : ℕ) (caller :
   unfolding moment_first
   first_all = refl
 
+  pub first_told : moment_first.told ≡ []
+  unfolding moment_first
+  first_told = refl
+
   pub first_here : moment_first.here.agent ≡ begin (fixed_of given) actor.agent (Transaction caller site ops)
   unfolding moment_first
   first_here = refl
