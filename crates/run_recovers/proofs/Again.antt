@@ -1,75 +1,36 @@
 -- A transaction that is begun again and again where its votes are up: one of as many tries as there are servers is decided.
-use Rattle.std.proofs.Common.{◌≡◌, ◌≢◌, ◌⊎◌, inl, inr, ⊎_elim, ℕ, zero, suc, ◌+◌, ◌<◌, ◌≤◌, Bool, true, false, cond, List, [], ◌∷◌, ◌++◌, append-nil, append_assoc, length, Option, Some, None, is_some, Result, Ok, Err, refl, sym, ap, subst, ◌∙◌, arith}
-use Rattle.std.specs.Prelude.{◌*◌, ◌==◌, ◌&&◌, ◌||◌, not, nat_lt, slice_get, Contains, option_map}
-use Rattle.std.specs.List.{cons_option, list_any, list_all}
-use Rattle.std.proofs.lemmas.Bool.{false≢true, and_parts, eqb-true}
-use Rattle.std.proofs.lemmas.Option.{none-some, same_Some, slice_get_within}
+use Rattle.std.proofs.Common.{◌≡◌, inl, inr, ⊎_elim, ℕ, zero, suc, ◌+◌, ◌<◌, Bool, true, false, cond, List, [], ◌∷◌, ◌++◌, append_assoc, length, Option, Some, None, is_some, refl, sym, ap, subst, ◌∙◌, arith}
+use Rattle.std.specs.Prelude.{◌*◌, ◌&&◌, nat_lt, slice_get, option_map}
+use Rattle.std.proofs.lemmas.Bool.{false≢true, and_parts}
+use Rattle.std.proofs.lemmas.Option.{slice_get_within}
 use Rattle.acl_core.specs.Identity.{Identity}
 use Rattle.suite_prefix.specs.SettingsRules.{Opening}
-use Rattle.suite_prefix.specs.Absent.{absent_prefix}
-use Rattle.suite_prefix.specs.declared.copies.Prefix.{Prefix}
-use Rattle.suite_prefix.specs.declared.copies.Replica.{Replica}
-use Rattle.rep_core.specs.declared.lock.Lock.{Lock}
-use Rattle.rep_core.specs.declared.request.Request.{Request}
-use Rattle.rep_core.specs.Service.{reply_of}
-use Rattle.rep_core.specs.Store.{copy_of}
 use Rattle.rep_core.specs.State.{State}
-use Rattle.rep_core.proofs.Members.{Has, has_from, any_has, all_at, contains_from}
-use Rattle.file_ops.specs.declared.answer.Answer.{Answer}
+use Rattle.rep_core.proofs.Members.{Has, has_from, any_has, contains_from}
 use Rattle.file_ops.specs.declared.operation.Op.{Op}
-use Rattle.file_ops.specs.declared.refusal.Refusal.{Refusal}
-use Rattle.file_ops.specs.Rows as rows
-use Rattle.file_ops.specs.Rows.{PlainTable}
-use Rattle.weak_cache.specs.Entries.{Cache}
-use Rattle.txn_core.specs.declared.ending.Ending.{Ending}
 use Rattle.txn_core.specs.declared.job.Job.{Job}
 use Rattle.txn_core.specs.declared.job.Job.TheVariants.{Transaction}
-use Rattle.txn_core.specs.declared.word.Word.{Word}
-use Rattle.txn_core.specs.declared.word.Word.TheVariants.{Replied}
-use Rattle.txn_core.specs.Doing.{Fixed, Task, Course, Round, Doing, Running, Rounding, After, GoesOn, Ends, home_of}
-use Rattle.txn_core.specs.Sweeps as sweep
-use Rattle.txn_core.specs.Transactions.{Step as CourseStep, execute, after_word}
-use Rattle.txn_core.specs.Agents as agents
-use Rattle.txn_core.specs.Agents.{Agent, fixed_of, is_idle, has_sense, max_jobs, next_in, next_of, left, end_of, take_in, take, begin, started, forget, after_all}
+use Rattle.txn_core.specs.Doing.{Fixed, home_of}
+use Rattle.txn_core.specs.Agents.{fixed_of, is_idle, has_sense, max_jobs}
 use Rattle.run_core.specs.declared.event.Event.{Event}
-use Rattle.run_core.specs.declared.event.Event.TheVariants.{Begin, Step}
-use Rattle.run_core.specs.declared.done.Outcome.{Outcome}
-use Rattle.run_core.specs.Worlds.{Actor, World, server_at, actor_at, has_no_job, outcome_of, becomes, opening, step}
+use Rattle.run_core.specs.declared.event.Event.TheVariants.{Begin}
+use Rattle.run_core.specs.Worlds.{Actor, World, actor_at, has_no_job, opening, step}
 use Rattle.run_core.specs.Runs.{after, dones, outcomes, run}
-use Rattle.run_core.specs.Decisions.{decided, decisions}
-use Rattle.run_core.specs.TableOfRun.{table_of, table_after_all}
+use Rattle.run_core.specs.TableOfRun.{table_of}
 use Rattle.run_core.proofs.Appending as appending
 use Rattle.run_core.proofs.Appending.{dones-append, outcomes-append, decisions_from-append}
 use Rattle.run_laws.specs.Numbers.{begins_now}
-use Rattle.run_laws.proofs.Agents.{take_keeps}
 use Rattle.run_laws.proofs.Lengths.{so_many}
-use Rattle.suite_machine.specs.Registers.{WasPrefix}
-use Rattle.server_moves.specs.Laws.{beginning}
-use Rattle.run_machine.specs.Machines.{machine_of}
 use Rattle.headline.specs.Premises.{CanBe}
 use Rattle.run_alone.specs.Alone.{begins_job}
-use Rattle.run_alone.specs.Undisturbed.{is_decided}
 use Rattle.run_alone.proofs.Reached.{can_front}
 use Rattle.run_alone.proofs.Turns.{with_job}
-use Rattle.run_alone.proofs.Own.{IsOwnAt, up_as}
-use Rattle.run_recovers.specs.Standing.{up_in, is_up, some_up, up_free, shown_in, shown_at}
-use Rattle.run_recovers.specs.Alone.{hinders, unhindered_from}
-use Rattle.run_recovers.specs.Demands.{demands, first_short, led_to, newer_from, MayStart, VotesAreUp}
-use Rattle.run_recovers.specs.Laws as laws
-use Rattle.run_recovers.specs.Laws.{GoesAlone, EndsByVotes, ending_of, answer_on, again, goes_again, OneIsDecided, OneOfThemIsDecided}
-use Rattle.one_table.proofs.Logs.{no_task}
+use Rattle.run_recovers.specs.Standing.{up_in, is_up, up_free}
+use Rattle.run_recovers.specs.Alone.{unhindered_from}
+use Rattle.run_recovers.specs.Demands.{VotesAreUp}
+use Rattle.run_recovers.specs.Laws.{GoesAlone, again, goes_again, OneIsDecided, OneOfThemIsDecided}
 use Rattle.run_recovers.proofs.Homes.{homes_go_round}
-use Rattle.run_alone.proofs.Clear.{at_has}
-use Rattle.run_recovers.proofs.Took.{OwnTook, own_took}
-use Rattle.run_recovers.proofs.Moments.{Moment, beside, takes, moment_first, first_all, first_here}
-use Rattle.run_recovers.proofs.Stands.{Ground, EndsRight, AfterStands}
-use Rattle.run_recovers.proofs.SameDemands.{HintsLed, still_up}
-use Rattle.run_recovers.proofs.Executes.{begin_stands}
-use Rattle.run_recovers.proofs.Hinted.{execute_hints}
-use Rattle.run_recovers.proofs.NotHome.{is_home, ended_in, execute_not}
 use Rattle.run_recovers.proofs.Tries.{has_after, ends_decided, Left, left_so}
-use Rattle.run_recovers.proofs.Leaves.{none_of}
-use Rattle.run_recovers.proofs.Ends as ends
 
 -- ---- lists
 

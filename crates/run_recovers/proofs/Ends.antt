@@ -1,5 +1,5 @@
 -- A transaction that goes alone ends as the votes say that are up.
-use Rattle.std.proofs.Common.{◌≡◌, ◌≢◌, ◌⊎◌, inl, inr, ⊎_elim, ℕ, ◌+◌, Bool, true, false, cond, List, [], ◌∷◌, ◌++◌, append-nil, Option, Some, None, is_some, refl, sym, ap, subst, ◌∙◌, arith}
+use Rattle.std.proofs.Common.{◌≡◌, ◌⊎◌, inl, inr, ⊎_elim, ℕ, ◌+◌, Bool, true, false, cond, List, [], ◌∷◌, ◌++◌, append-nil, Option, Some, None, is_some, refl, sym, ap, subst, ◌∙◌}
 use Rattle.std.specs.Prelude.{◌*◌, ◌&&◌, not, nat_lt, Contains}
 use Rattle.std.specs.List.{cons_option}
 use Rattle.std.specs.Ordering.{nat_cmp}
@@ -32,7 +32,7 @@ use Rattle.txn_core.specs.Suites.{First, Suite, Suites, suite_of, known_of}
 use Rattle.txn_core.specs.Writing.{parts_at}
 use Rattle.txn_core.specs.Doing.{Fixed, Task, Phase, Gathering, Fetching, Widening, Preparing, Deciding, Finishing, Course, Doing, Running, Rounding, After, GoesOn, Ends, home_of}
 use Rattle.txn_core.specs.Transactions.{Step as CourseStep, execute, asked_for, fetched_at, fetched_for, given_in, changes_of, decision_of, request_in, after_reply}
-use Rattle.txn_core.specs.Agents.{Agent, Taken, fixed_of, is_idle, has_sense, max_jobs, begins, next_in, next_of, left, end_of, with_step, take_in, take, begin, started, after_all}
+use Rattle.txn_core.specs.Agents.{Agent, Taken, fixed_of, is_idle, has_sense, max_jobs, begins, next_in, next_of, left, end_of, with_step, take_in, take, begin, started}
 use Rattle.txn_core.specs.Laws.{exchanges, is_decide}
 use Rattle.txn_core.proofs.Asks.{asks_same, asked_as, fetched_as}
 use Rattle.txn_core.proofs.Locks as keeping
@@ -41,8 +41,8 @@ use Rattle.run_core.specs.declared.event.Event.{Event}
 use Rattle.run_core.specs.declared.event.Event.TheVariants.{Begin, Step}
 use Rattle.run_core.specs.declared.done.Outcome.{Outcome}
 use Rattle.run_core.specs.Worlds.{Actor, World, server_at, actor_at, outcome_of, opening, step}
-use Rattle.run_core.specs.Runs.{after, dones, outcomes, run}
-use Rattle.run_core.specs.Decisions.{decided, decisions, decisions_from}
+use Rattle.run_core.specs.Runs.{dones, outcomes, run}
+use Rattle.run_core.specs.Decisions.{decided, decisions}
 use Rattle.run_core.specs.TableOfRun.{table_of, table_after_all}
 use Rattle.run_core.proofs.Appending.{decisions_from-append}
 use Rattle.run_laws.specs.Numbers.{begins_now}
@@ -79,7 +79,7 @@ use Rattle.run_recovers.proofs.Moments.{Moment, mine, own_up, own_resolve, Besid
 use Rattle.run_recovers.proofs.OwnAsks.{own_asks, own_fetch, own_prepare, own_decide}
 use Rattle.run_recovers.proofs.Stands.{Ground, EndsRight, PhaseStands, AfterStands, StepStands}
 use Rattle.run_recovers.proofs.Executes.{begin_stands}
-use Rattle.run_recovers.proofs.Heard.{RightFor, MayExecute, AsksFor, asks_for, KnowsSo, reply_stands}
+use Rattle.run_recovers.proofs.Heard.{RightFor, MayExecute, AsksFor, asks_for, reply_stands}
 use Rattle.one_table.proofs.Logs.{no_task}
 use Rattle.run_recovers.proofs.Knew.{undecided_aside, undecided_own, stands_on, unrecorded_on, unanswered, knows_table}
 

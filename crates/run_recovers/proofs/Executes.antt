@@ -1,6 +1,6 @@
 -- A transaction that goes alone executes on what it gathered: what it needs next on the table is asked for, or all is known.
-use Rattle.std.proofs.Common.{◌≡◌, ◌≢◌, ◌⊎◌, inl, inr, ⊎_elim, ℕ, zero, suc, Bool, true, false, cond, List, [], ◌∷◌, ◌++◌, length, Option, Some, None, is_some, Result, Ok, Err, refl, sym, ap, subst, ◌∙◌}
-use Rattle.std.specs.Prelude.{◌==◌, ◌&&◌, ◌||◌, not, map, filter, unwrap_or}
+use Rattle.std.proofs.Common.{◌≡◌, inl, inr, ℕ, zero, suc, Bool, true, false, cond, List, [], ◌∷◌, length, Option, Some, None, is_some, Result, Ok, Err, refl, sym, ap, subst, ◌∙◌}
+use Rattle.std.specs.Prelude.{◌==◌, not, map, filter, unwrap_or}
 use Rattle.std.specs.Ordering.{nat_cmp}
 use Rattle.std.proofs.lemmas.Bool.{false≢true}
 use Rattle.std.proofs.lemmas.Option.{none-some, same_Some}
@@ -31,22 +31,21 @@ use Rattle.file_exec.specs.Operations.{transaction}
 use Rattle.file_exec.proofs.Alike.{goes_alike}
 use Rattle.file_exec.proofs.OnTable.{on_transaction}
 use Rattle.file_exec.proofs.Unset.{changes_are_held}
-use Rattle.suite_collect.specs.Collecting.{Collector, collect, raise, all_told, next}
+use Rattle.suite_collect.specs.Collecting.{Collector, collect, raise}
 use Rattle.weak_cache.specs.Entries.{Cache}
 use Rattle.weak_cache.specs.Cache.{hint, searched}
 use Rattle.weak_cache.proofs.Origins.{search_keeps_all}
 use Rattle.txn_core.specs.Suites.{First, Suite, Suites, suite_of, with_suite, known_of}
 use Rattle.txn_core.specs.Doing.{Fixed, Task, Granted}
-use Rattle.txn_core.specs.Transactions.{Step, Gathered, start_from, raised_or_new, gather, to_widen, widen_all, heard_on, after_search, free_content, opened_with, open_first, open_suite, open_needed, or_all, opened, proceed, execute, prepare, locked_at}
-use Rattle.txn_core.specs.Writing.{change_of}
-use Rattle.txn_core.proofs.Gathers.{Each, EachBut, self, with_at, each_but, each_with, but_with}
+use Rattle.txn_core.specs.Transactions.{Step, Gathered, start_from, raised_or_new, gather, widen_all, heard_on, after_search, free_content, opened_with, open_first, open_suite, open_needed, or_all, opened, proceed, execute, prepare, locked_at}
+use Rattle.txn_core.proofs.Gathers.{self, with_at, each_but, each_with, but_with}
 use Rattle.txn_core.proofs.Locks.{are_nil}
 use Rattle.run_core.specs.Worlds.{World}
-use Rattle.run_recovers.specs.Demands.{is_met, MayStart, has_asked, not_asked, changes_on}
+use Rattle.run_recovers.specs.Demands.{is_met, MayStart, has_asked, changes_on}
 use Rattle.run_recovers.proofs.Asking.{onto, first_hold, first_new, none_left, held_in, held_if, held_is}
-use Rattle.run_recovers.proofs.Led.{Rules, reached_first, reached_raise}
+use Rattle.run_recovers.proofs.Led.{reached_first, reached_raise}
 use Rattle.run_recovers.proofs.VotesSet.{as_set, sets, votes_of, same_votes, changes_ordered, IsSet, set_by}
-use Rattle.run_recovers.proofs.Stands.{Ground, of_lock, needed_on, result_on, locks_on, sets_on, answer_to, EndsRight, IsRight, starts, may_start, had_met, none_short, SameStart, Asked, asked_with, Hints, HasAll, answer_in, Sets, IsFound, found_start, found_right, HasLock, IsWhole, IsReady, IsGathering, StepStands, prepare_stands}
+use Rattle.run_recovers.proofs.Stands.{Ground, of_lock, needed_on, result_on, locks_on, answer_to, IsRight, starts, may_start, had_met, none_short, SameStart, asked_with, Hints, IsFound, found_right, IsWhole, IsReady, IsGathering, StepStands, prepare_stands}
 use Rattle.run_recovers.proofs.Widens.{numbers, widen_stands}
 use Rattle.run_recovers.proofs.Gathered.{gather_by_stands}
 

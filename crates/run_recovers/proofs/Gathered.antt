@@ -1,12 +1,11 @@
 -- A suite that a transaction gathers that goes alone: it falls short as its demand says, or had a Current.
-use Rattle.std.proofs.Common.{◌≡◌, ◌≢◌, ◌⊎◌, inl, inr, ⊎_elim, ℕ, ◌+◌, ◌<◌, ◌≤◌, Bool, true, false, cond, List, [], ◌∷◌, ◌++◌, Option, Some, None, is_some, Result, Ok, Err, refl, sym, ap, subst, ◌∙◌, arith}
-use Rattle.std.specs.Prelude.{◌==◌, ◌&&◌, ◌||◌, not, nat_lt, nat_le, All}
-use Rattle.std.specs.Ordering.{nat_cmp}
-use Rattle.std.proofs.lemmas.Bool.{false≢true, eqb-true}
+use Rattle.std.proofs.Common.{◌≡◌, inl, inr, ⊎_elim, ℕ, ◌+◌, ◌<◌, Bool, true, false, cond, List, [], ◌∷◌, Option, Some, None, is_some, refl, sym, ap, subst, ◌∙◌, arith}
+use Rattle.std.specs.Prelude.{◌==◌, ◌&&◌, ◌||◌, not, nat_lt, nat_le}
+use Rattle.std.proofs.lemmas.Bool.{eqb-true}
 use Rattle.std.proofs.lemmas.Bool.Decides.{nat_tests}
 use Rattle.std.proofs.lemmas.Cmp.{nat_cmp_total}
 use Rattle.std.proofs.lemmas.List.Elements.{All-contains}
-use Rattle.std.proofs.lemmas.Option.{none-some, same_Some}
+use Rattle.std.proofs.lemmas.Option.{same_Some}
 use Rattle.sorted_map.specs.Laws.{IsOrdered-insert}
 use Rattle.vote_core.specs.Quorums.{Representative, Configuration, votes_in}
 use Rattle.vote_core.specs.Validity.{IsValid, max_servers}
@@ -18,10 +17,8 @@ use Rattle.rep_core.proofs.Members.{Has, contains_from}
 use Rattle.rep_core.specs.declared.reply.Verdict.TheVariants as verdict
 use Rattle.file_ops.specs.Rows.{PlainTable}
 use Rattle.suite_collect.specs.Telling.{holds, newest}
-use Rattle.suite_collect.specs.declared.told.Told.{Told}
 use Rattle.suite_collect.specs.Collecting.{Collector, all_told, needed, needed_of, got, Next, Current, Ask, Short, next}
 use Rattle.weak_cache.specs.Entries.{Cache}
-use Rattle.txn_core.specs.declared.ending.Ending.{Ending}
 use Rattle.txn_core.specs.declared.ending.Ending.TheVariants.{Undecided}
 use Rattle.txn_core.specs.Suites.{First, Suite, Suites, suite_of, with_suite, settled, first_or, source_of}
 use Rattle.txn_core.specs.Doing.{Fixed, Task}
@@ -31,11 +28,11 @@ use Rattle.run_core.specs.Worlds.{World}
 use Rattle.run_recovers.specs.Standing.{is_up}
 use Rattle.run_recovers.specs.Demands.{is_met, demand, led_to, has_asked}
 use Rattle.run_recovers.proofs.Asking.{onto, held_in, held_if}
-use Rattle.run_recovers.proofs.Led.{Reached, reached_short, reached_current}
+use Rattle.run_recovers.proofs.Led.{reached_short, reached_current}
 use Rattle.run_recovers.proofs.Polled.{gathering, nobody_busy, at_current}
 use Rattle.run_recovers.proofs.Widened.{short_busy}
 use Rattle.run_recovers.proofs.Downs.{holds_shared}
-use Rattle.run_recovers.proofs.Stands.{Ground, locks_on, needed_on, of_lock, EndsRight, ends_short, short_lock, IsRight, IsHad, start_of, starts, may_start, had_met, SameStart, had_with, Asked, Hints, IsFound, found_start, found_right, HasLock, IsWhole, IsReady, IsGathering, StepStands, told_stands}
+use Rattle.run_recovers.proofs.Stands.{Ground, of_lock, EndsRight, ends_short, short_lock, IsRight, IsHad, start_of, starts, may_start, had_met, SameStart, had_with, Hints, IsFound, found_start, found_right, HasLock, IsWhole, IsReady, IsGathering, StepStands, told_stands}
 
 -- ---- voters
 

@@ -1,43 +1,33 @@
 -- What a transaction that goes alone makes of a reply that is right: it stands as before, or ends as it should.
-use Rattle.std.proofs.Common.{◌≡◌, ◌≢◌, ◌⊎◌, inl, inr, ⊎_elim, ℕ, Bool, true, false, cond, List, [], ◌∷◌, ◌++◌, length, Option, Some, None, is_some, Result, Ok, Err, refl, sym, ap, subst, ◌∙◌}
-use Rattle.std.specs.Prelude.{◌==◌, not, map, option_map}
-use Rattle.std.specs.Ordering.{nat_cmp}
+use Rattle.std.proofs.Common.{◌≡◌, ◌⊎◌, ⊎_elim, ℕ, true, false, cond, List, [], ◌∷◌, Option, Some, None, is_some, Ok, Err, refl, sym, ap, subst, ◌∙◌}
+use Rattle.std.specs.Prelude.{option_map}
 use Rattle.std.proofs.lemmas.Bool.{false≢true}
 use Rattle.std.proofs.lemmas.Cmp.{nat_cmp_total}
 use Rattle.std.proofs.lemmas.Option.{none-some, same_Some}
-use Rattle.sorted_map.specs.SortedMap.{insert}
 use Rattle.sorted_map.specs.Edits.{insert-insert}
-use Rattle.vote_core.specs.Quorums.{Configuration}
 use Rattle.suite_content.specs.declared.content.Content.{Content}
 use Rattle.suite_prefix.specs.declared.copies.Prefix.{Prefix}
 use Rattle.suite_prefix.specs.declared.lock_mode.LockMode.{LockMode}
-use Rattle.rep_core.proofs.Members.{Has}
 use Rattle.rep_core.specs.Fits.{is_prepared}
 use Rattle.rep_core.specs.Service.{verdict_of}
 use Rattle.rep_core.specs.declared.request.Request.{Request}
-use Rattle.rep_core.specs.declared.request.Request.TheVariants as request
 use Rattle.rep_core.specs.declared.reply.Reply.{Reply}
 use Rattle.rep_core.specs.declared.reply.Reply.TheVariants as reply
-use Rattle.rep_core.specs.declared.reply.Verdict.{Verdict}
 use Rattle.rep_core.specs.declared.reply.Verdict.TheVariants as verdict
-use Rattle.file_ops.specs.declared.answer.Answer.{Answer}
-use Rattle.file_ops.specs.declared.refusal.Refusal.{Refusal}
 use Rattle.file_ops.specs.Rows.{PlainTable, row_of}
 use Rattle.file_exec.specs.Known.{AgreesWith}
-use Rattle.suite_collect.specs.declared.told.Said.{Said}
 use Rattle.suite_collect.specs.declared.told.Told.{Told}
-use Rattle.suite_collect.specs.Collecting.{Collector, Widening, Asked, request_for, mode_of, mode_asked, said_to, all_told, tell, tell_at, told_by, Next, Current, Ask, Short, next}
+use Rattle.suite_collect.specs.Collecting.{Collector, Widening, Asked, request_for, mode_of, mode_asked, all_told, tell, tell_at, told_by, Next, Current, Ask, Short, next}
 use Rattle.weak_cache.specs.Entries.{Cache}
-use Rattle.weak_cache.specs.Cache.{hint, put}
-use Rattle.txn_core.specs.declared.ending.Ending.{Ending}
-use Rattle.txn_core.specs.declared.ending.Ending.TheVariants.{Answered, Refused, Undecided}
-use Rattle.txn_core.specs.declared.ending.Cause.TheVariants.{HomeDown, Lost}
+use Rattle.weak_cache.specs.Cache.{put}
+use Rattle.txn_core.specs.declared.ending.Ending.TheVariants.{Undecided}
+use Rattle.txn_core.specs.declared.ending.Cause.TheVariants.{Lost}
 use Rattle.txn_core.specs.Suites.{First, Suite, Suites, suite_of, with_suite, known_of, settled}
 use Rattle.txn_core.specs.Doing as doing
 use Rattle.txn_core.specs.Doing.{Fixed, Task, Granted, Phase, Gathering, Fetching, Preparing, Deciding, Finishing, Course, After, GoesOn, Ends, home_of}
 use Rattle.txn_core.specs.Transactions as course
 use Rattle.txn_core.specs.Transactions.{Step, Gathered, asked_by, asked_for, fetched_at, fetched_for, request_in, decision_of, hear, collected, heard_of, given_in, keep_content, fetched, prepared, prepare, give_up, short_cause, verdict_in, cause_of_abort, decided, finish, tell_end, locked_at, widen_all, execute, after_reply}
-use Rattle.txn_core.proofs.Gathers.{Each, EachBut, self, with_at, each_but, each_with, but_with}
+use Rattle.txn_core.proofs.Gathers.{self, with_at, but_with}
 use Rattle.run_core.specs.Worlds.{World}
 use Rattle.run_recovers.specs.Standing.{is_up}
 use Rattle.run_recovers.specs.Demands.{MayStart, is_met}
@@ -48,8 +38,8 @@ use Rattle.run_recovers.proofs.Led.{reached_told}
 use Rattle.run_recovers.proofs.Polled.{Answers, AllRight}
 use Rattle.run_recovers.proofs.Widened.{WidenedShort, start_stays, same_said, same_mode, hears, right_more}
 use Rattle.run_recovers.proofs.Hinting.{hint_put}
-use Rattle.run_recovers.proofs.Stands.{Ground, of_votes, answer_to, EndsRight, IsRight, SameStart, asked_with, Hints, HasAll, answer_in, Sets, IsWidening, IsFound, found_right, IsWhole, IsReady, IsGathering, PhaseStands, StepStands, told_stands, prepare_stands}
-use Rattle.run_recovers.proofs.Widens.{numbers, by_short, by_current, sets_with, sets_on, set_short, widen_stands}
+use Rattle.run_recovers.proofs.Stands.{Ground, of_votes, answer_to, EndsRight, IsRight, asked_with, Hints, HasAll, answer_in, Sets, IsWidening, IsFound, found_right, IsWhole, IsReady, IsGathering, PhaseStands, StepStands, told_stands, prepare_stands}
+use Rattle.run_recovers.proofs.Widens.{by_short, by_current, sets_with, sets_on, set_short, widen_stands}
 use Rattle.run_recovers.proofs.Gathered.{gathering_short, settled_ready}
 use Rattle.run_recovers.proofs.Executes.{none_with, hinted_with, content_ready, execute_stands}
 use Rattle.run_recovers.proofs.Knows.{agreed}

@@ -1,6 +1,6 @@
 -- What a transaction that goes alone leaves in its agent's cache: of a suite the site is hinted what it was before, or where the suite was found.
-use Rattle.std.proofs.Common.{◌≡◌, ◌⊎◌, inl, inr, ⊎_elim, ℕ, zero, suc, Bool, true, false, cond, List, [], ◌∷◌, length, Option, Some, None, Ok, Err, refl, sym, ap, subst, ◌∙◌}
-use Rattle.std.specs.Prelude.{◌==◌, unwrap_or}
+use Rattle.std.proofs.Common.{◌≡◌, ◌⊎◌, inr, ℕ, zero, suc, Bool, true, false, cond, List, [], ◌∷◌, length, Option, Some, None, Ok, Err, refl, sym, ap, subst, ◌∙◌}
+use Rattle.std.specs.Prelude.{◌==◌}
 use Rattle.std.proofs.lemmas.Bool.{eqb-true}
 use Rattle.std.proofs.lemmas.Option.{none-some, same_Some}
 use Rattle.suite_content.specs.declared.content.Content.{Content}
@@ -29,7 +29,6 @@ use Rattle.txn_core.specs.Doing.{Fixed, Task, Granted, Phase, Gathering, Fetchin
 use Rattle.txn_core.specs.Transactions as course
 use Rattle.txn_core.specs.Transactions.{Step, Gathered, tell_end, give_up, prepare, gather_by, gather, raised_or_new, widened, widen_by, widen_one, widen_all, to_widen, proceed, heard_on, after_search, free_content, opened_with, open_first, open_suite, open_needed, or_all, opened, execute, hear, collected, heard_of, given_in, keep_content, fetched, prepared, verdict_in, cause_of_abort, decided, locked_at, after_reply}
 use Rattle.run_core.specs.Worlds.{World}
-use Rattle.run_recovers.specs.Demands.{MayStart, led_to}
 use Rattle.run_recovers.proofs.Hinting.{hint_put, hint_put_here}
 use Rattle.run_recovers.proofs.SameDemands.{LeadsFrom, HintsLed}
 use Rattle.run_recovers.proofs.Stands.{Ground, IsReady, PhaseStands}

@@ -1,6 +1,6 @@
 -- What a cache hints of a suite after another was put: what it did before, or nothing.
 use Rattle.std.proofs.Common.{◌≡◌, ℕ, Bool, true, false, cond, [], ◌∷◌, Option, Some, None, refl, sym, ap, subst, ◌∙◌, arith}
-use Rattle.std.specs.Prelude.{◌==◌, ◌-◌, ◌&&◌, not, nat_le, nat_lt, find, option_map}
+use Rattle.std.specs.Prelude.{◌==◌, ◌-◌, ◌&&◌, not, nat_le, nat_lt, option_map}
 use Rattle.std.proofs.lemmas.Bool.{false≢true, and_parts, eqb-true}
 use Rattle.std.proofs.lemmas.Bool.Decides.{nat_tests}
 use Rattle.std.proofs.lemmas.Option.{none-some, same_Some}

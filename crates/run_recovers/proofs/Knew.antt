@@ -1,13 +1,11 @@
 -- What a transaction knows that goes alone is so on the table that there was when it began, as long as it is not decided.
-use Rattle.std.proofs.Common.{◌≡◌, ◌≢◌, ◌⊎◌, inl, inr, ⊎_elim, ℕ, Bool, true, false, cond, List, [], ◌∷◌, ◌++◌, Option, Some, None, is_some, refl, sym, ap, subst, ◌∙◌, arith}
+use Rattle.std.proofs.Common.{◌≡◌, ◌≢◌, ◌⊎◌, inl, inr, ⊎_elim, ℕ, Bool, true, false, cond, List, Option, Some, None, is_some, refl, sym, ap, subst, ◌∙◌, arith}
 use Rattle.std.specs.Prelude.{◌==◌, ◌&&◌, ◌||◌, not, unwrap_or, slice_get, slice_set}
-use Rattle.std.specs.List.{cons_option}
 use Rattle.std.specs.Ordering.{nat_cmp}
-use Rattle.std.proofs.lemmas.Bool.{false≢true, and_parts}
+use Rattle.std.proofs.lemmas.Bool.{false≢true}
 use Rattle.std.proofs.lemmas.Bool.Decides.{nat_tests}
 use Rattle.std.proofs.lemmas.Option.{none-some, same_Some}
 use Rattle.sorted_map.specs.SortedMap.{IsOrdered}
-use Rattle.acl_core.specs.Identity.{Identity}
 use Rattle.suite_prefix.specs.SettingsRules.{Opening}
 use Rattle.rep_core.specs.declared.request.Request.{Request}
 use Rattle.rep_core.specs.declared.request.Request.TheVariants as request
@@ -25,28 +23,22 @@ use Rattle.rep_core.specs.Service.{reply_of, reply_up, reply_down, locking_reply
 use Rattle.suite_prefix.specs.declared.copies.Replica.{Replica}
 use Rattle.suite_prefix.specs.declared.lock_mode.LockMode.TheVariants.{Exclusive}
 use Rattle.run_alone.proofs.Unswept.{is_resolve}
-use Rattle.file_ops.specs.declared.operation.Op.{Op}
 use Rattle.file_ops.specs.Rows.{row_of}
 use Rattle.file_exec.specs.Known.{AgreesWith}
-use Rattle.txn_core.specs.Suites.{First, Suite, Suites, suite_of, known_of}
-use Rattle.txn_core.specs.Doing.{Fixed, Task, Course, Doing, Running, Rounding}
-use Rattle.txn_core.specs.Agents.{Agent, fixed_of, is_idle, next_in, next_of, take, begin, after_all}
-use Rattle.txn_core.specs.Laws.{exchanges, is_decide}
-use Rattle.txn_core.proofs.Locks as keeping
-use Rattle.txn_core.proofs.Locks.{Keeps, nothing_held, plus_all, begin_keeps}
+use Rattle.txn_core.specs.Suites.{First, Suite, suite_of, known_of}
+use Rattle.txn_core.specs.Doing.{Fixed, Task, Course, Doing, Running}
+use Rattle.txn_core.specs.Agents.{fixed_of, is_idle, next_of, take}
+use Rattle.txn_core.specs.Laws.{is_decide}
 use Rattle.run_core.specs.declared.event.Event.{Event}
 use Rattle.run_core.specs.declared.event.Event.TheVariants.{Begin, Step, Crash, Return, Forget, Lack}
-use Rattle.run_core.specs.declared.done.Served.{Served}
 use Rattle.txn_core.specs.declared.word.Word.TheVariants.{Replied, Lacked}
-use Rattle.run_core.specs.Worlds.{Actor, World, Stepped, server_at, actor_at, serve, answered, asks_at, asks, steps_once, has_no_job, opening, step}
-use Rattle.run_core.specs.Runs.{after, run}
-use Rattle.run_core.specs.Decisions.{Decided, decided, decided_at, decided_as, decided_by, decisions, decisions_from, to_decide, answer_in, task_of, task_at}
-use Rattle.run_core.specs.TableOfRun.{table_of, table_after_all}
-use Rattle.run_core.proofs.Appending.{decisions_from-append}
-use Rattle.file_ops.specs.Rows as rows
+use Rattle.run_core.specs.Worlds.{Actor, World, Stepped, server_at, actor_at, serve, answered, asks_at, asks, steps_once, has_no_job, step}
+use Rattle.run_core.specs.Runs.{run}
+use Rattle.run_core.specs.Decisions.{decided, decided_at, decided_as, decided_by, to_decide, answer_in, task_of, task_at}
+use Rattle.run_core.specs.TableOfRun.{table_of}
 use Rattle.suite_machine.specs.Machine as machine
 use Rattle.suite_machine.specs.Machine.{Answered}
-use Rattle.suite_machine.specs.Registers.{IsKnown, row}
+use Rattle.suite_machine.specs.Registers.{IsKnown}
 use Rattle.server_moves.specs.Laws.{beginning}
 use Rattle.server_moves.specs.Moves.{moves}
 use Rattle.server_moves.specs.Views.{verdict_of}
@@ -62,7 +54,6 @@ use Rattle.headline.specs.Premises.{CanBe}
 use Rattle.headline.proofs.Keeping.{all_keep, holds_after}
 use Rattle.run_alone.proofs.Standing.{Stands, AllSpare, all_spare-append, stands_all, spare_own, spare_decision, releases, spare_moves}
 use Rattle.run_alone.proofs.Known.{is_known, known_owed}
-use Rattle.run_alone.proofs.Reached.{can_front}
 use Rattle.run_recovers.specs.Alone.{hinders}
 use Rattle.run_recovers.proofs.AtDecision.{decided_none}
 use Rattle.run_recovers.proofs.Downs.{down_decides_none}

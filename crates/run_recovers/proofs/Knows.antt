@@ -1,6 +1,6 @@
 -- What a transaction knows as it executes it still knows once it goes on, whatever it does next.
-use Rattle.std.proofs.Common.{◌≡◌, ◌⊎◌, inl, inr, ⊎_elim, ℕ, zero, suc, ◌+◌, ◌≤◌, ◌<◌, Bool, true, false, cond, List, [], ◌∷◌, length, Option, Some, None, is_some, Result, Ok, Err, refl, sym, ap, subst, ◌∙◌, arith}
-use Rattle.std.specs.Prelude.{◌==◌, ◌||◌, nat_lt, filter}
+use Rattle.std.proofs.Common.{◌≡◌, inl, inr, ℕ, zero, suc, ◌+◌, ◌≤◌, ◌<◌, Bool, true, false, cond, List, [], ◌∷◌, length, Option, Some, None, is_some, Ok, Err, refl, sym, ap, subst, ◌∙◌, arith}
+use Rattle.std.specs.Prelude.{◌==◌, ◌||◌, nat_lt}
 use Rattle.std.specs.List.{list_any}
 use Rattle.std.specs.Ordering.{nat_cmp, is_eq}
 use Rattle.std.proofs.lemmas.Bool.{false≢true, eqb-true}
@@ -11,31 +11,28 @@ use Rattle.sorted_map.specs.SortedMap.{IsOrdered}
 use Rattle.sorted_map.specs.Laws.{IsOrdered-insert}
 use Rattle.vote_core.specs.Validity.{max_servers}
 use Rattle.suite_prefix.specs.declared.copies.Prefix.{Prefix}
-use Rattle.suite_prefix.specs.declared.lock_mode.LockMode.{LockMode}
 use Rattle.suite_prefix.specs.declared.lock_mode.LockMode.TheVariants.{Shared}
 use Rattle.rep_core.proofs.Members.{Has, filter_has}
 use Rattle.rep_core.specs.declared.reply.Verdict.{Verdict}
 use Rattle.rep_core.specs.declared.reply.Verdict.TheVariants as verdict
-use Rattle.file_ops.specs.Rows.{PlainTable, Row, row_of}
+use Rattle.file_ops.specs.Rows.{PlainTable, row_of}
 use Rattle.file_exec.specs.declared.need.Need.TheVariants.{Hold, Know}
 use Rattle.file_exec.specs.declared.executor.Outcome.{Outcome as Executed}
 use Rattle.file_exec.specs.declared.executor.Outcome.TheVariants as exec
-use Rattle.file_exec.specs.KnownSuites.{KnownSuite}
-use Rattle.file_exec.specs.Known as known
 use Rattle.file_exec.specs.Known.{IsSoAt, AgreesWith}
 use Rattle.suite_collect.specs.Telling.{holds}
-use Rattle.suite_collect.specs.Collecting.{Collector, raise, all_told, Next, Current, Ask, Short, next}
+use Rattle.suite_collect.specs.Collecting.{raise, all_told, Next, Current, Ask, Short, next}
 use Rattle.weak_cache.specs.Entries.{Cache}
 use Rattle.txn_core.specs.declared.ending.Ending.{Ending}
 use Rattle.txn_core.specs.declared.ending.Ending.TheVariants.{Undecided}
-use Rattle.txn_core.specs.Suites.{First, Suite, Suites, suite_of, with_suite, known_of, known_row, holds_lock, has_locks}
+use Rattle.txn_core.specs.Suites.{First, Suite, Suites, suite_of, with_suite, known_of, holds_lock, has_locks}
 use Rattle.txn_core.specs.Doing as doing
 use Rattle.txn_core.specs.Doing.{Fixed, Task, Granted, Course, After, GoesOn, Ends}
 use Rattle.txn_core.specs.Transactions.{Step, Gathered, numbers_from, locked_at, tell_end, prepare, short_cause, gather_by, gather, raised_or_new, widened, widen_by, widen_one, widen_all, to_widen, proceed, opened, heard_on, execute}
-use Rattle.txn_core.proofs.Gathers.{self, with_at}
+use Rattle.txn_core.proofs.Gathers.{with_at}
 use Rattle.run_core.specs.Worlds.{World}
 use Rattle.run_recovers.proofs.Asking.{known_in, known_if_first, known_is}
-use Rattle.run_recovers.proofs.Stands.{Ground, Hints, HasLock, IsReady}
+use Rattle.run_recovers.proofs.Stands.{Ground, Hints, IsReady}
 use Rattle.run_recovers.proofs.Executes.{Opened, opened_stands}
 
 -- ---- some server holds a lock

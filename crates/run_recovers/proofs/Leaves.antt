@@ -1,15 +1,13 @@
 -- What a transaction that goes alone leaves where its votes are up and its home is not: no lock at a server that is up, and all else as it was.
 use Rattle.std.proofs.Common.{◌≡◌, ◌≢◌, ◌⊎◌, inl, inr, ⊎_elim, ℕ, ◌+◌, ◌<◌, Bool, true, false, cond, List, [], ◌∷◌, ◌++◌, append-nil, append_assoc, length, Option, Some, None, is_some, refl, sym, ap, subst, ◌∙◌, arith}
-use Rattle.std.specs.Prelude.{◌*◌, ◌==◌, ◌&&◌, ◌||◌, not, find, slice_get, slice_set}
+use Rattle.std.specs.Prelude.{◌*◌, ◌==◌, ◌&&◌, ◌||◌, not, slice_get, slice_set}
 use Rattle.std.specs.List.{cons_option}
 use Rattle.std.proofs.lemmas.Bool.{false≢true, and_parts}
-use Rattle.std.proofs.lemmas.Bool.Decides.{nat_tests}
 use Rattle.std.proofs.lemmas.Option.{none-some, same_Some, slice_get_within}
 use Rattle.acl_core.specs.Identity.{Identity}
 use Rattle.vote_core.specs.Validity.{max_servers}
 use Rattle.suite_prefix.specs.SettingsRules.{Opening}
 use Rattle.suite_prefix.specs.declared.copies.Prefix.{Prefix}
-use Rattle.suite_prefix.specs.declared.lock_mode.LockMode.TheVariants.{Shared}
 use Rattle.rep_core.specs.declared.lock.Lock.{Lock}
 use Rattle.rep_core.specs.declared.request.Request.{Request}
 use Rattle.rep_core.specs.declared.request.Request.TheVariants as request
@@ -18,7 +16,6 @@ use Rattle.rep_core.specs.declared.reply.Reply.TheVariants as reply
 use Rattle.rep_core.specs.declared.reply.Verdict.{Verdict}
 use Rattle.rep_core.specs.declared.reply.Verdict.TheVariants as verdict
 use Rattle.rep_core.specs.declared.stamped.Stamped.{Stamped}
-use Rattle.rep_core.specs.Locks.{in_the_way}
 use Rattle.rep_core.specs.Store.{copy_of}
 use Rattle.rep_core.specs.State.{State}
 use Rattle.rep_core.specs.Service.{is_answered, reply_of, reply_up, reply_down, locking_reply}
@@ -26,32 +23,28 @@ use Rattle.rep_core.specs.Serving.{is_full, served}
 use Rattle.rep_core.proofs.Members.{Has, filter_has}
 use Rattle.file_ops.specs.declared.operation.Op.{Op}
 use Rattle.file_ops.specs.Rows.{PlainTable}
-use Rattle.suite_collect.specs.Telling.{holds}
 use Rattle.weak_cache.specs.Entries.{Cache}
 use Rattle.txn_core.specs.declared.ending.Ending.{Ending}
 use Rattle.txn_core.specs.declared.ending.Ending.TheVariants.{Undecided}
 use Rattle.txn_core.specs.declared.ending.Cause.TheVariants.{HomeDown}
 use Rattle.txn_core.specs.declared.job.Job.{Job}
 use Rattle.txn_core.specs.declared.job.Job.TheVariants.{Transaction}
-use Rattle.txn_core.specs.declared.word.Word.{Word}
 use Rattle.txn_core.specs.declared.word.Word.TheVariants.{Replied}
-use Rattle.txn_core.specs.Suites.{Suite, Suites, suite_of, told_in, holds_lock, has_locks}
+use Rattle.txn_core.specs.Suites.{Suites, suite_of, holds_lock, has_locks}
 use Rattle.txn_core.specs.Doing as doing
 use Rattle.txn_core.specs.Doing.{Fixed, Task, Phase, Gathering, Fetching, Preparing, Deciding, Finishing, Course, Doing, Running, Rounding, After, GoesOn, Ends, home_of}
-use Rattle.txn_core.specs.Transactions as course
 use Rattle.txn_core.specs.Transactions.{Step as CourseStep, decision_of, changes_of, numbers_from, locked_at, tell_end, request_in, ending_by, verdict_in, cause_of_abort, after_reply}
 use Rattle.txn_core.specs.Writing.{parts_at}
 use Rattle.txn_core.specs.Agents as agents
 use Rattle.txn_core.specs.Agents.{Agent, fixed_of, next_in, next_of, left, with_step, begin, after_all}
 use Rattle.txn_core.specs.Laws.{Exchange, exchange_of, exchanges, was_held, says_held, locks, is_decide}
-use Rattle.txn_core.specs.Undecided.{is_finish}
 use Rattle.txn_core.proofs.Asks.{asks_same, asked_as, fetched_as}
 use Rattle.txn_core.proofs.Locks as keeping
 use Rattle.txn_core.proofs.Locks.{Keeps, nothing_held, plus_all, begin_keeps}
 use Rattle.txn_core.proofs.Upheld.{exchanges-take}
 use Rattle.run_core.specs.declared.event.Event.{Event}
 use Rattle.run_core.specs.declared.event.Event.TheVariants.{Begin, Step}
-use Rattle.run_core.specs.Worlds.{Actor, World, server_at, actor_at, opening, step}
+use Rattle.run_core.specs.Worlds.{Actor, World, server_at, opening, step}
 use Rattle.run_core.specs.Runs.{after, run}
 use Rattle.run_core.specs.Decisions.{decided, decisions, answer_in}
 use Rattle.run_core.specs.TableOfRun.{table_of}
@@ -63,14 +56,12 @@ use Rattle.suite_machine.specs.Registers.{WasPrefix}
 use Rattle.server_moves.specs.Laws.{beginning}
 use Rattle.run_machine.specs.Machines.{machine_of}
 use Rattle.run_alone.proofs.Own.{IsOwnAt, AreOwn, up_as}
-use Rattle.run_alone.proofs.Unswept.{is_resolve}
 use Rattle.run_recovers.specs.Standing.{is_up}
 use Rattle.run_recovers.specs.Alone.{hinders, unhindered_from}
 use Rattle.run_recovers.specs.Demands.{Demand, demands, first_short, is_met, all_met, VotesAreUp}
 use Rattle.run_recovers.specs.Laws as laws
 use Rattle.run_recovers.specs.Laws.{GoesAlone, answer_on}
 use Rattle.run_recovers.proofs.Downs.{held-append}
-use Rattle.one_table.proofs.Logs.{no_task}
 use Rattle.run_recovers.proofs.Took.{OwnTook, own_took}
 use Rattle.run_recovers.proofs.Aside.{Aside}
 use Rattle.run_recovers.proofs.Still.{IsOpen, IsOpenPhase, open_next}

@@ -1,8 +1,7 @@
 -- Before it is to be decided a transaction ends undecided alone, and never for want of its home.
-use Rattle.std.proofs.Common.{◌≡◌, ℕ, zero, suc, Bool, true, false, cond, List, [], ◌∷◌, length, Option, Some, None, Ok, Err, refl, sym, ap, subst, ◌∙◌}
+use Rattle.std.proofs.Common.{◌≡◌, ℕ, Bool, true, false, cond, List, [], ◌∷◌, length, Option, Some, None, Ok, Err, refl, sym, ap, ◌∙◌}
 use Rattle.std.proofs.lemmas.Option.{none-some, same_Some}
 use Rattle.suite_content.specs.declared.content.Content.{Content}
-use Rattle.suite_prefix.specs.declared.copies.Prefix.{Prefix}
 use Rattle.rep_core.specs.Fits.{is_prepared}
 use Rattle.rep_core.specs.declared.request.Request.{Request}
 use Rattle.rep_core.specs.declared.reply.Reply.{Reply}

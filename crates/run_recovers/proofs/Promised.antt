@@ -13,7 +13,9 @@ use Rattle.run_alone.proofs.Decided.{undisturbed_are_decided}
 use Rattle.run_alone.proofs.Endings.{endings_are_the_tables}
 use Rattle.run_alone.proofs.Same.{endings_are_one}
 use Rattle.run_recovers.specs.Promises.{IsAvailable, Lends}
+use Rattle.run_recovers.proofs.Again.{one_of_them_is_decided}
 use Rattle.run_recovers.proofs.Calm.{sweeps_keep_effects}
+use Rattle.run_recovers.proofs.Ends.{ends_are_by_votes}
 use Rattle.run_recovers.proofs.Free.{no_lock_is_left}
 use Rattle.run_recovers.proofs.HadVotes.{decided_had_votes_up}
 use Rattle.run_recovers.proofs.Homes.{homes_go_round}
@@ -22,12 +24,16 @@ use Rattle.run_recovers.proofs.Rows.{met_demands_are_rows}
 use Rattle.run_recovers.proofs.Stored.{all_is_stored}
 use Rattle.run_recovers.proofs.Swept.{sweeps_leave_doubts}
 use Rattle.run_recovers.proofs.Taken.{taken_away_are_never_decided}
+use Rattle.run_recovers.proofs.Unmoved.{decided_where_votes_are}
 
 pub available : RunsKeepToSites → (given : Opening) (events : List Event) → CanBe given events → IsAvailable given events
 available sites given events can = record {
   had_votes = decided_had_votes_up given events;
+  ends = ends_are_by_votes given events;
+  where_votes = decided_where_votes_are ends_are_by_votes given events;
   rows = met_demands_are_rows given events can;
   homes = homes_go_round given;
+  again = one_of_them_is_decided given events;
   sweep = sweeps_leave_doubts given events;
   effects = sweeps_keep_effects given events;
   doubts = only_doubts_are_left given events;

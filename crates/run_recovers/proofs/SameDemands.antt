@@ -1,8 +1,7 @@
 -- Where servers are up as before, and show what they showed, a transaction demands what it did before.
-use Rattle.std.proofs.Common.{◌≡◌, ◌⊎◌, inl, inr, ⊎_elim, ℕ, zero, suc, Bool, true, false, cond, List, [], ◌∷◌, ◌++◌, length, Option, Some, None, refl, sym, ap, subst, ◌∙◌}
+use Rattle.std.proofs.Common.{◌≡◌, ◌⊎◌, inl, inr, ⊎_elim, ℕ, zero, suc, Bool, true, false, cond, List, [], ◌∷◌, ◌++◌, length, Option, Some, None, refl, ap, ◌∙◌}
 use Rattle.std.specs.Prelude.{◌&&◌, nat_lt, find, map, option_map}
-use Rattle.std.proofs.lemmas.Bool.{false≢true, and_parts}
-use Rattle.std.proofs.lemmas.Option.{none-some, same_Some}
+use Rattle.std.proofs.lemmas.Bool.{and_parts}
 use Rattle.acl_core.specs.Identity.{Identity}
 use Rattle.vote_core.specs.Quorums.{Representative, Configuration, votes_in}
 use Rattle.suite_prefix.specs.Absent.{absent_prefix}
@@ -16,7 +15,7 @@ use Rattle.weak_cache.specs.Cache.{hint}
 use Rattle.txn_core.specs.Doing.{Fixed}
 use Rattle.run_core.specs.Worlds.{World}
 use Rattle.run_recovers.specs.Standing.{is_up, shown_at}
-use Rattle.run_recovers.specs.Demands.{Demand, demand, demands, all_met, shows_newer, newer_from, led_on, led_so_far, led_to, locks_asked, votes_set, MayStart, MayStartAll, VotesAreUp}
+use Rattle.run_recovers.specs.Demands.{Demand, demand, demands, all_met, shows_newer, newer_from, led_on, led_so_far, led_to, locks_asked, votes_set, MayStart, VotesAreUp}
 use Rattle.run_recovers.proofs.Leading.{stays}
 use Rattle.run_recovers.proofs.Picks.{votes_alike}
 use Rattle.run_recovers.proofs.Unmoved.{map_alike}

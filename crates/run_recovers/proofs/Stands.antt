@@ -1,10 +1,9 @@
 -- How a transaction stands that goes alone: what it has asked for so far and how that was found, and how it ends.
-use Rattle.std.proofs.Common.{◌≡◌, ◌⊎◌, inl, inr, ⊎_elim, ℕ, Bool, true, false, cond, List, [], ◌∷◌, ◌++◌, append-nil, Option, Some, None, is_some, Result, Ok, Err, refl, sym, ap, subst, ◌∙◌}
-use Rattle.std.specs.Prelude.{◌==◌, not, nat_lt, nat_le, find, map}
+use Rattle.std.proofs.Common.{◌≡◌, inl, ℕ, Bool, true, false, cond, List, [], ◌∷◌, ◌++◌, append-nil, Option, Some, None, is_some, Result, Ok, Err, refl, sym, ap, subst, ◌∙◌}
+use Rattle.std.specs.Prelude.{◌==◌, not, nat_lt, find, map}
 use Rattle.std.specs.Ordering.{nat_cmp}
-use Rattle.std.proofs.lemmas.Bool.{false≢true, eqb-true}
+use Rattle.std.proofs.lemmas.Bool.{eqb-true}
 use Rattle.std.proofs.lemmas.Cmp.{nat_cmp_total}
-use Rattle.std.proofs.lemmas.Option.{none-some, same_Some}
 use Rattle.sorted_map.specs.SortedMap.{IsOrdered}
 use Rattle.sorted_map.specs.Laws.{IsOrdered-insert}
 use Rattle.vote_core.specs.Quorums.{Configuration, votes_in}
@@ -32,9 +31,8 @@ use Rattle.txn_core.specs.declared.ending.Cause.TheVariants.{Unavailable}
 use Rattle.txn_core.specs.Suites.{First, Suite, Suites, suite_of, with_suite}
 use Rattle.txn_core.specs.Doing as doing
 use Rattle.txn_core.specs.Doing.{Fixed, Task, Granted, Phase, Gathering, Fetching, Preparing, Deciding, Finishing, Course, After, GoesOn, Ends, home_of}
-use Rattle.txn_core.specs.Transactions as course
-use Rattle.txn_core.specs.Transactions.{Step, tell_end, finish, give_up, prepare}
-use Rattle.txn_core.proofs.Gathers.{Each, EachBut, self, with_at, each_but, each_with}
+use Rattle.txn_core.specs.Transactions.{Step, tell_end, prepare}
+use Rattle.txn_core.proofs.Gathers.{Each, EachBut, with_at, each_but, each_with}
 use Rattle.run_core.specs.Worlds.{World}
 use Rattle.run_recovers.specs.Standing.{is_up}
 use Rattle.run_recovers.specs.Demands.{Demand, demand, demands, is_met, first_short, led_to, has_asked, not_asked, locks_asked, votes_set, MayStart, MayStartAll}

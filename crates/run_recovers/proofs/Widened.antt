@@ -1,9 +1,8 @@
 -- A collector of whatever votes whose servers are asked by one agent alone: what it hears, and where one that is widened ends.
-use Rattle.std.proofs.Common.{◌≡◌, ◌⊎◌, ℕ, ◌≤◌, Bool, true, false, cond, List, [], ◌∷◌, ◌++◌, Option, Some, None, refl, sym, ap, subst, ◌∙◌, arith}
-use Rattle.std.specs.Prelude.{◌&&◌, not, nat_lt, nat_le, find, option_map}
+use Rattle.std.proofs.Common.{◌≡◌, ℕ, ◌≤◌, Bool, true, false, cond, List, ◌++◌, Option, Some, None, refl, sym, ap, subst, ◌∙◌, arith}
+use Rattle.std.specs.Prelude.{◌&&◌, not, nat_lt, nat_le, find}
 use Rattle.std.proofs.lemmas.Bool.{false≢true}
 use Rattle.std.proofs.lemmas.Bool.Decides.{nat_tests}
-use Rattle.std.proofs.lemmas.Option.{none-some, same_Some}
 use Rattle.vote_core.specs.Quorums.{Representative, Configuration, votes_in}
 use Rattle.vote_core.proofs.QuorumLemmas.{votes_in-wider}
 use Rattle.suite_prefix.specs.Absent.{absent_prefix}
@@ -13,7 +12,7 @@ use Rattle.suite_prefix.specs.declared.lock_mode.LockMode.TheVariants.{Shared, E
 use Rattle.rep_core.specs.declared.reply.Reply.{Reply}
 use Rattle.rep_core.specs.declared.reply.Reply.TheVariants as reply
 use Rattle.suite_collect.specs.declared.told.Said.{Said}
-use Rattle.suite_collect.specs.declared.told.Said.TheVariants.{Held, Busy, Down}
+use Rattle.suite_collect.specs.declared.told.Said.TheVariants.{Held, Down}
 use Rattle.suite_collect.specs.declared.told.Told.{Told}
 use Rattle.suite_collect.specs.Telling.{newest, holds, has_refused, first_busy}
 use Rattle.suite_collect.specs.Collecting.{Widening, Collector, Asked, Poll, Upgrade, request_for, mode_asked, mode_of, said_to, all_told, counted, wanted, needed, got, is_member, is_left, members_of, version, ask_or_short, tell, tell_at, told_by, Next, Current, Ask, Short, next}
@@ -23,7 +22,7 @@ use Rattle.txn_core.specs.Transactions as course
 use Rattle.run_core.specs.Worlds.{World}
 use Rattle.run_recovers.specs.Standing.{is_up}
 use Rattle.run_recovers.proofs.Picks.{votes_alike, find_fails, three}
-use Rattle.run_recovers.proofs.Polled.{Answers, RightSaid, AllRight, held_up, refused_down, nobody_busy, told_is, at_current, at_short}
+use Rattle.run_recovers.proofs.Polled.{Answers, AllRight, held_up, refused_down, nobody_busy, told_is, at_current, at_short}
 
 -- ---- what a collector is told
 

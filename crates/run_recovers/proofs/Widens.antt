@@ -1,17 +1,14 @@
 -- A transaction that goes alone and sets votes: one suite after the other is widened to them.
-use Rattle.std.proofs.Common.{◌≡◌, ◌⊎◌, inl, inr, ⊎_elim, ℕ, Bool, true, false, cond, List, [], ◌∷◌, ◌++◌, Option, Some, None, is_some, Result, Ok, Err, refl, sym, ap, subst, ◌∙◌}
-use Rattle.std.specs.Prelude.{◌==◌, not, nat_le, map}
+use Rattle.std.proofs.Common.{◌≡◌, inl, inr, ⊎_elim, ℕ, Bool, true, false, cond, List, [], ◌∷◌, ◌++◌, Option, Some, None, is_some, Ok, refl, sym, ap, subst, ◌∙◌}
+use Rattle.std.specs.Prelude.{◌==◌, not, map}
 use Rattle.std.proofs.lemmas.Bool.{false≢true}
 use Rattle.vote_core.specs.Quorums.{Configuration}
 use Rattle.suite_prefix.specs.declared.copies.Prefix.{Prefix}
-use Rattle.suite_prefix.specs.declared.lock_mode.LockMode.{LockMode}
-use Rattle.rep_core.proofs.Members.{Has}
 use Rattle.rep_core.specs.declared.reply.Verdict.TheVariants as verdict
 use Rattle.file_ops.specs.Rows.{PlainTable}
 use Rattle.file_exec.specs.declared.changes.Change.{Change}
 use Rattle.suite_collect.specs.Collecting.{Collector, Widening, all_told, told_since, widen, Next, Current, Ask, Short, next}
 use Rattle.weak_cache.specs.Entries.{Cache}
-use Rattle.txn_core.specs.declared.ending.Ending.{Ending}
 use Rattle.txn_core.specs.declared.ending.Ending.TheVariants.{Undecided}
 use Rattle.txn_core.specs.Suites.{Suite, Suites, suite_of, with_suite}
 use Rattle.txn_core.specs.Doing as doing
@@ -23,7 +20,7 @@ use Rattle.run_recovers.specs.Demands.{is_met}
 use Rattle.run_recovers.proofs.Polled.{AllRight}
 use Rattle.run_recovers.proofs.Widened.{WidenedShort, widened_short, widened_current}
 use Rattle.run_recovers.proofs.VotesSet.{IsSet}
-use Rattle.run_recovers.proofs.Stands.{Ground, of_votes, EndsRight, ends_short, short_votes, none_short, IsRight, had_met, starts, may_start, SameStart, had_with, HasAll, Sets, IsWidening, StepStands, told_stands, prepare_stands}
+use Rattle.run_recovers.proofs.Stands.{Ground, of_votes, EndsRight, ends_short, short_votes, none_short, IsRight, had_met, starts, may_start, SameStart, had_with, HasAll, Sets, StepStands, told_stands, prepare_stands}
 
 -- ---- a collector that is widened
 

@@ -9,17 +9,24 @@ use Rattle.headline.specs.Promises.{IsRunOf}
 use Rattle.run_alone.specs.Alone.{one_at_a_time}
 use Rattle.run_alone.specs.Endings.{EndAsTheTable, EndingsAreOne, UndisturbedEndingsAreOne}
 use Rattle.run_alone.specs.Undisturbed.{NothingIsInTheWayAt, UndisturbedAreDecidedAt}
-use Rattle.run_recovers.specs.Laws.{MetDemandsAreRowsAt, HomesGoRoundOf, DecidedHadVotesUpAt}
+use Rattle.run_recovers.specs.Laws.{EndsAreByVotesAt, MetDemandsAreRowsAt, DecidedWhereVotesAreAt, HomesGoRoundOf, OneOfThemIsDecidedAt, DecidedHadVotesUpAt}
 use Rattle.run_recovers.specs.Sweeping.{SweepsLeaveDoubtsAt, SweepsKeepEffectsAt, OnlyDoubtsAreLeftAt, NoLockIsLeftAt, AllIsStoredAt, TakenAwayAreNeverDecidedAt}
 
 -- after these events of a run
 pub record IsAvailable (given : Opening) (events : List Event) : Type 0 where
   -- a transaction that begins now, goes alone and is decided had its home up, and enough votes of each suite that it had gathered
   pub had_votes : DecidedHadVotesUpAt given events
+  -- one that begins now and goes alone ends, if it ends, with the first suite of which too few votes are up; else, where its home is down, with that; else
+  -- as the table answers it
+  pub ends : EndsAreByVotesAt given events
+  -- and where votes were never moved until now, it is decided just where its home is up and enough votes are by the rows of the table
+  pub where_votes : DecidedWhereVotesAreAt given events
   -- where servers that are up have enough votes of all that a transaction locks, as these votes are found, they have enough by the rows of the table
   pub rows : MetDemandsAreRowsAt given events
   -- of as many jobs in a row of one agent as there are servers, each server is the home of one
   pub homes : HomesGoRoundOf given
+  -- so one of as many tries of a transaction is decided, where some server is up and enough votes are, from wherever suites may be looked for
+  pub again : OneOfThemIsDecidedAt given events
   -- a sweep leaves at its server just the locks in doubt, whose transaction has a prepared one there and its home down, and tells of how many
   -- transactions these are; other servers' locks stay
   pub sweep : SweepsLeaveDoubtsAt given events
