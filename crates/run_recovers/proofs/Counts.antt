@@ -40,7 +40,7 @@ use Rattle.txn_core.proofs.Asks.{asks_same}
 use Rattle.txn_core.proofs.Bound.{ends_in_time}
 use Rattle.txn_core.proofs.Upheld.{exchanges-take}
 use Rattle.run_core.specs.declared.event.Event.{Event}
-use Rattle.run_core.specs.declared.event.Event.TheVariants.{Begin, Step}
+use Rattle.run_core.specs.declared.event.Event.TheVariants.{Begin, Step, Crash, Return, Forget, Lack}
 use Rattle.run_core.specs.declared.done.Outcome.{Outcome}
 use Rattle.run_core.specs.Worlds.{Actor, World, server_at, actor_at, has_no_job, outcome_of, opening, step}
 use Rattle.run_core.specs.Runs.{after, dones, outcomes, run}
@@ -59,7 +59,6 @@ use Rattle.run_recovers.proofs.Aside.{event_aside}
 use Rattle.run_recovers.proofs.Asking.{onto, held_in, held_if}
 use Rattle.run_recovers.proofs.Took.{OwnTook, own_took}
 use Rattle.run_recovers.proofs.Moments.{Moment, Takes, beside, takes, moment_first, first_all, first_here, first_runs, first_told}
-use Rattle.run_recovers.proofs.Lasting.{step_of, was_served}
 use Rattle.run_recovers.proofs.Stands.{Ground, locks_on, PhaseStands}
 use Rattle.run_recovers.proofs.Heard.{asks_for}
 use Rattle.run_recovers.proofs.Knows.{among_numbers}
@@ -91,6 +90,27 @@ and_one : (a b : Bool) → a ≡ true → b ≡ true → (a && (b && true)) ≡ 
 and_one true true a b = refl
 and_one true false a b = absurd (false≢true b)
 and_one false b a _ = absurd (false≢true a)
+
+-- ---- its own steps
+
+step_of : (agent : ℕ) (event : Event) → its_step agent event ≡ true → event ≡ Step agent
+step_of agent (Step other) is = ap Step (same_at other agent is)
+  where
+    same_at : (a b : ℕ) → (a == b) ≡ true → a ≡ b
+    same_at a b is = grind (arith, nat_tests)
+step_of agent (Begin other _) is = absurd (false≢true is)
+step_of agent (Crash server) is = absurd (false≢true is)
+step_of agent (Return server) is = absurd (false≢true is)
+step_of agent (Forget other _) is = absurd (false≢true is)
+step_of agent (Lack other why) is = absurd (false≢true is)
+
+-- where it does not hinder, the step of an agent that has a job is served
+was_served : (idle b served : Bool) → idle ≡ false → (not idle && not (b && served)) ≡ false → served ≡ true
+was_served false true true is calm = refl
+was_served false false true is calm = refl
+was_served false true false is calm = absurd (false≢true (sym calm))
+was_served false false false is calm = absurd (false≢true (sym calm))
+was_served true b served is calm = absurd (false≢true (sym is))
 
 -- ---- a word that ends a job
 

@@ -27,9 +27,7 @@ pub mod HadVotes
 pub mod Took
 pub mod Still
 pub mod Moments
-pub mod Endings
 pub mod OwnAsks
-pub mod Lasting
 pub mod Asking
 pub mod VotesSet
 pub mod Widened

@@ -1,5 +1,5 @@
--- A transaction that goes alone, at each of its moments: at the servers that were up when it began it has all locks, those that were down stay so, all that it
--- was told was free, and stored copies stand still until it tells how it ended.
+-- A transaction that goes alone, at each of its moments: at the servers that were up when it began it has all locks, those that were down stay so, and stored
+-- copies stand still until it tells how it ended.
 use Rattle.std.proofs.Common.{◌≡◌, ◌≢◌, ◌⊎◌, inl, inr, ⊎_elim, ℕ, ◌+◌, Bool, true, false, cond, List, [], ◌∷◌, ◌++◌, Option, Some, None, is_some, refl, sym, ap, subst, ◌∙◌, arith}
 use Rattle.std.specs.Prelude.{◌*◌, ◌==◌, ◌&&◌, ◌||◌, not, nat_lt, length, slice_get, slice_set}
 use Rattle.std.proofs.lemmas.Bool.{false≢true}
@@ -16,14 +16,14 @@ use Rattle.rep_core.specs.Store.{copy_of}
 use Rattle.rep_core.specs.State.{State, record_of}
 use Rattle.rep_core.specs.Service.{reply_of}
 use Rattle.rep_core.specs.Serving.{served}
-use Rattle.rep_core.proofs.Members.{Has, all_at}
+use Rattle.rep_core.proofs.Members.{all_at}
 use Rattle.txn_core.specs.declared.job.Job.{Job}
 use Rattle.txn_core.specs.declared.job.Job.TheVariants.{Transaction}
 use Rattle.txn_core.specs.declared.word.Word.TheVariants.{Replied}
 use Rattle.txn_core.specs.Doing.{Fixed, Task, home_of}
 use Rattle.txn_core.specs.Agents as agents
 use Rattle.txn_core.specs.Agents.{Agent, Take, fixed_of, is_idle, has_sense, max_jobs, next_of, take, take_in, begin, after_all, started}
-use Rattle.txn_core.specs.Laws.{Exchange, of_job, is_decide}
+use Rattle.txn_core.specs.Laws.{is_decide}
 use Rattle.txn_core.specs.Undecided.{stands_on_locks}
 use Rattle.txn_core.proofs.Upheld.{after-append}
 use Rattle.run_core.specs.declared.event.Event.{Event}
@@ -31,12 +31,10 @@ use Rattle.run_core.specs.declared.event.Event.TheVariants.{Begin, Step, Crash, 
 use Rattle.run_core.specs.declared.done.Outcome.{Outcome}
 use Rattle.run_core.specs.Worlds.{Actor, World, server_at, actor_at, has_no_job, becomes, outcome_of, step}
 use Rattle.run_core.specs.Runs.{run}
-use Rattle.run_core.specs.Decisions.{decisions}
 use Rattle.run_laws.specs.Numbers.{begins_now}
-use Rattle.run_laws.specs.Claims.{ended}
 use Rattle.run_laws.proofs.Places.{same_or}
 use Rattle.run_laws.proofs.Turns.{step_is}
-use Rattle.run_laws.proofs.Worlds.{Holds, puts_in}
+use Rattle.run_laws.proofs.Worlds.{puts_in}
 use Rattle.suite_machine.specs.Machine as machine
 use Rattle.run_machine.specs.Machines.{machine_of}
 use Rattle.headline.specs.Premises.{CanBe}
@@ -51,7 +49,6 @@ use Rattle.run_alone.proofs.Walks.{AllServers}
 use Rattle.run_alone.proofs.Named.{no_record, no_lock}
 use Rattle.run_alone.proofs.Unswept.{is_resolve, Unswept}
 use Rattle.run_alone.proofs.Went.{busy}
-use Rattle.run_alone.proofs.Exchanged.{IsFree, IsFreeWord, all_with}
 use Rattle.run_alone.proofs.Reached.{can_front}
 use Rattle.run_alone.proofs.Whole.{Carried}
 use Rattle.run_alone.proofs.Goes as alone
@@ -61,8 +58,8 @@ use Rattle.run_recovers.specs.Standing.{up_in, is_up}
 use Rattle.run_recovers.specs.Alone.{hinders}
 use Rattle.run_recovers.specs.Laws.{GoesAlone}
 use Rattle.run_alone.proofs.Clear.{at_has}
-use Rattle.run_recovers.proofs.Aside.{Aside, event_aside}
-use Rattle.run_recovers.proofs.Took.{OwnTook, own_took}
+use Rattle.run_recovers.proofs.Aside.{Aside}
+use Rattle.run_recovers.proofs.Took.{OwnTook}
 use Rattle.run_recovers.proofs.Still.{IsOpen, copy_stays, record_stays, open_next, open_before, open_undecided}
 
 is_at : (a b : ℕ) → (a == b) ≡ true → a ≡ b
@@ -105,10 +102,6 @@ module _ (given : Opening) (first : World) (agent t : ℕ) (before : Agent) (cal
   abbrev pub up : ℕ → Bool
   up = is_up first
 
-  -- what it was told was free; a decision was asked for at its home
-  abbrev pub Heard : Exchange → Type 0
-  Heard one = IsFreeWord (up one.server) one.request one.word × (is_decide one.request ≡ true → one.server ≡ home_of fixed.service t)
-
   -- stored copies are those that were there when it began
   abbrev pub Stored : World → Type 0
   Stored w = (i : ℕ) (st old : State) → server_at w i ≡ Some st → server_at first i ≡ Some old → (z : ℕ) → copy_of st.store z ≡ copy_of old.store z
@@ -125,7 +118,6 @@ module _ (given : Opening) (first : World) (agent t : ℕ) (before : Agent) (cal
     pub is : here.agent ≡ after_all fixed (begin fixed before job) told
     pub idle : is_idle before.doing ≡ true
     pub owns : Owns up w t agent
-    pub heard : (one : Exchange) → Has (of_job fixed before job told) one → Heard one
     pub still : IsOpen here.agent.doing → Stored w
     pub unrecorded : IsOpen here.agent.doing → Unrecorded w
     pub unswept : AllServers (Unswept t) w
@@ -155,9 +147,6 @@ module _ (given : Opening) (first : World) (agent t : ℕ) (before : Agent) (cal
     pub mine : IsMine t m.here.agent.doing
     mine = alone.own_mine given up t agent w later goes_at m.here m.there
 
-    pub holds_at : Holds fixed w (decisions given m.all) (ended given m.all)
-    holds_at = alone.holds_at given up t agent w later goes_at
-
     -- ---- what it asks
 
     module _ (asked : ℕ × Request) (st : State) (next : next_of fixed m.here.agent ≡ Some asked) (at : server_at w asked.0 ≡ Some st) where
@@ -173,18 +162,11 @@ module _ (given : Opening) (first : World) (agent t : ℕ) (before : Agent) (cal
       pub own_up : stands_on_locks asked.1 ≡ true → up asked.0 ≡ true
       own_up = alone.own_up given up t agent w later goes_at m.here m.there asked st next at
 
-      pub own_free : IsFree (up asked.0) asked.1 (reply_of st asked.1)
-      own_free = alone.own_free given up t agent w later goes_at m.here m.there asked st next at
-
       pub own_home : is_decide asked.1 ≡ true → asked.0 ≡ home_of fixed.service t
       own_home = alone.own_home given up t agent w later goes_at m.here m.there asked st next at
 
       pub own_resolve : is_resolve asked.1 ≡ false
       own_resolve = alone.own_resolve given up t agent w later goes_at m.here m.there asked st next at
-
-      -- a reply more
-      pub own_heard : (one : Exchange) → Has (of_job fixed before job (m.told ++ Take (Replied (reply_of st asked.1)) ∷ [])) one → Heard one
-      own_heard = all_with Heard fixed before m.here.agent job m.told asked (Replied (reply_of st asked.1)) m.is next m.heard (own_free, own_home)
 
   -- ---- one event
 
@@ -200,15 +182,14 @@ module _ (given : Opening) (first : World) (agent t : ℕ) (before : Agent) (cal
     goes_on = alone.goes_next given up t agent w event later (goes_at w (event ∷ later) m) calm_so
 
     next_moment : (new : Actor) → actor_at after_it agent ≡ Some new → (told : List agents.Event) → new.agent ≡ after_all fixed (begin fixed before job) told
-        → ((one : Exchange) → Has (of_job fixed before job told) one → Heard one) → (IsOpen new.agent.doing → Stored after_it) → (IsOpen new.agent.doing → Unrecorded after_it) → Moment after_it later
-    next_moment new there told is heard still unrecorded = record {
+        → (IsOpen new.agent.doing → Stored after_it) → (IsOpen new.agent.doing → Unrecorded after_it) → Moment after_it later
+    next_moment new there told is still unrecorded = record {
       here = new;
       there = there;
       told = told;
       is = is;
       idle = m.idle;
       owns = goes_on.owns;
-      heard = heard;
       still = still;
       unrecorded = unrecorded;
       unswept = goes_on.unswept;
@@ -245,7 +226,7 @@ module _ (given : Opening) (first : World) (agent t : ℕ) (before : Agent) (cal
     pub beside : Aside agent w (step fixed w event) → Beside
     unfolding next_moment
     beside aside = record {
-      new = next_moment m.here (aside.actor ∙ m.there) m.told m.is m.heard (λ open' i st old at. m.still open' i st old (ap (λ servers. slice_get servers i) (sym aside.servers) ∙ at))
+      new = next_moment m.here (aside.actor ∙ m.there) m.told m.is (λ open' i st old at. m.still open' i st old (ap (λ servers. slice_get servers i) (sym aside.servers) ∙ at))
           (λ open' i st at. m.unrecorded open' i st (ap (λ servers. slice_get servers i) (sym aside.servers) ∙ at));
       here = refl;
       told = refl;
@@ -309,18 +290,12 @@ module _ (given : Opening) (first : World) (agent t : ℕ) (before : Agent) (cal
         at = took.at;
         new = next_moment took.new took.now (m.told ++ Take (Replied said) ∷ [])
             (took.took ∙ ap (λ agent. (take fixed agent (Replied said)).agent) m.is ∙ sym (after-append fixed (begin fixed before job) m.told (Take (Replied said))))
-            (own_heard w (event ∷ later) m took.asked took.st took.next took.at) stored_now unrecorded_now;
+            stored_now unrecorded_now;
         here = took.took;
         told = refl;
         all = refl;
         ended = took.ended;
       }
-
-    pub comes : Beside ⊎ Takes
-    comes = ⊎_elim
-        (λ aside. inl (beside aside))
-        (λ own. inr (takes own.0 (subst (λ event. is_some (step fixed w event).done.served ≡ true → OwnTook fixed w agent m.here m.there (step fixed w event)) (sym own.0) (own_took fixed w agent m.here m.there) own.1)))
-        (event_aside given agent w event calm)
 
 -- ---- the first moment
 
@@ -369,7 +344,6 @@ module _ (given : Opening) (events later : List Event) (agent t : ℕ) (caller :
         is = refl;
         idle = begins_idle given agent t (Transaction caller site ops) actor (ap (λ found. with_job (Transaction caller site ops) (begins_now (fixed_of given) agent (Transaction caller site ops) found)) (sym goes.there) ∙ goes.begins);
         owns = first.owns;
-        heard = λ one has. absurd has;
         still = λ _ i st old at was z. ap (λ (st : State). copy_of st.store z) (same_Some st old (sym at ∙ servers_begun i ∙ was));
         unrecorded = λ _ i st at. no_record_of st (record_of st t) refl (λ v is. no_record given goes.can.accepted events agent t (Transaction caller site ops) goes.begins i st (sym (servers_begun i) ∙ at) v is);
         unswept = first.unswept;
