@@ -113,7 +113,7 @@ early_asks fixed task suites (Deciding outcome) may server asked is = absurd may
 early_asks fixed task suites (Finishing left v ended) may server asked is = absurd may
 
 -- a content is fetched by Fetch
-fetch_is : (task : Task) (number : ℕ) (found : Option Suite) (server : ℕ) (asked : Request) → fetched_for task number found ≡ Some (server, asked) → asked ≡ request.Fetch task.t number
+pub fetch_is : (task : Task) (number : ℕ) (found : Option Suite) (server : ℕ) (asked : Request) → fetched_for task number found ≡ Some (server, asked) → asked ≡ request.Fetch task.t number
 fetch_is task number None server asked is = absurd (none-some (server, asked) is)
 fetch_is task number (Some suite) server asked is = of suite.first is
   where

@@ -1,8 +1,9 @@
 -- A transaction that goes alone executes on what it gathered: what it needs next on the table is asked for, or all is known.
 use Rattle.std.proofs.Common.{◌≡◌, inl, inr, ℕ, zero, suc, Bool, true, false, cond, List, [], ◌∷◌, length, Option, Some, None, is_some, Result, Ok, Err, refl, sym, ap, subst, ◌∙◌}
-use Rattle.std.specs.Prelude.{◌==◌, not, map, filter, unwrap_or}
+use Rattle.std.specs.Prelude.{◌==◌, ◌&&◌, not, map, filter, unwrap_or}
+use Rattle.std.specs.List.{list_any}
 use Rattle.std.specs.Ordering.{nat_cmp}
-use Rattle.std.proofs.lemmas.Bool.{false≢true}
+use Rattle.std.proofs.lemmas.Bool.{false≢true, and_parts}
 use Rattle.std.proofs.lemmas.Option.{none-some, same_Some}
 use Rattle.sorted_map.specs.SortedMap.{IsOrdered}
 use Rattle.vote_core.specs.Quorums.{Configuration}
@@ -12,7 +13,7 @@ use Rattle.suite_prefix.specs.declared.copies.Prefix.{Prefix}
 use Rattle.suite_prefix.specs.declared.lock_mode.LockMode.{LockMode}
 use Rattle.suite_prefix.specs.declared.lock_mode.LockMode.TheVariants.{Shared, Exclusive}
 use Rattle.suite_prefix.specs.LockModes.{serves}
-use Rattle.rep_core.proofs.Members.{Has}
+use Rattle.rep_core.proofs.Members.{Has, any_has, has_any}
 use Rattle.file_ops.specs.declared.answer.Answer.{Answer}
 use Rattle.file_ops.specs.declared.refusal.Refusal.{Refusal}
 use Rattle.file_ops.specs.Rows.{PlainTable, row_of}
@@ -67,6 +68,12 @@ answer_on_table table task = of (result_on table task) ∙ ap replies (on_transa
 numbers_are : (all : List (ℕ × Change)) → map (λ (one : ℕ × Change). one.0) all ≡ numbers (map as_set all)
 numbers_are [] = refl
 numbers_are (one ∷ all) = ap (λ rest. one.0 ∷ rest) (numbers_are all)
+
+-- what was asked for in some mode
+any_wider : (asked : List (ℕ × LockMode)) (z : ℕ) → has_asked asked z Exclusive ≡ true → list_any (λ (lock : ℕ × LockMode). lock.0 == z) asked ≡ true
+any_wider asked z is =
+    let found = any_has (λ (lock : ℕ × LockMode). (lock.0 == z) && serves lock.1 Exclusive) asked is in
+    has_any (λ (lock : ℕ × LockMode). lock.0 == z) asked found.0 found.1 (and_parts (found.0.0 == z) (serves found.0.1 Exclusive) found.2).0
 
 -- ---- what is not gathered
 
@@ -300,6 +307,7 @@ module _ (fixed : Fixed) (world : World) (table : PlainTable) (task : Task) (cac
             met = λ one has. absurd has;
             are_set = λ one has. set_by made ordered one has;
             there = λ one has. set_there one (set_by made ordered one has);
+            locked = λ one has. any_wider ready.asked one.0 (sym (ready.asks.modes one.0 Exclusive) ∙ set_held one (set_by made ordered one has));
           }))
         where
           made : List (ℕ × Change)
@@ -311,11 +319,13 @@ module _ (fixed : Fixed) (world : World) (table : PlainTable) (task : Task) (cac
           ordered : IsOrdered nat_cmp (changes.changes_of (known_of suites) ended.edits)
           ordered = changes_ordered (changes.change_of (known_of suites) ended.edits) ended.edits
 
+          set_held : (one : ℕ × Configuration) → IsSet (changes.changes_of (known_of suites) ended.edits) one → held_in Exclusive (suite_of suites one.0) ≡ true
+          set_held one set =
+              sym (held_is suites ready.asks.ordered one.0 Exclusive)
+              ∙ changes_are_held fixed.service (known_of suites) task.t task.caller task.ops ended.given made one.0 (ap (answered (known_of suites)) done) (ap is_some set.is)
+
           set_there : (one : ℕ × Configuration) → IsSet (changes.changes_of (known_of suites) ended.edits) one → is_some (suite_of suites one.0) ≡ true
-          set_there one set =
-              of (suite_of suites one.0)
-              (sym (held_is suites ready.asks.ordered one.0 Exclusive)
-              ∙ changes_are_held fixed.service (known_of suites) task.t task.caller task.ops ended.given made one.0 (ap (answered (known_of suites)) done) (ap is_some set.is))
+          set_there one set = of (suite_of suites one.0) (set_held one set)
             where
               of : (found : Option Suite) → held_in Exclusive found ≡ true → is_some found ≡ true
               of (Some suite) held = refl

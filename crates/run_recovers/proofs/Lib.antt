@@ -40,6 +40,7 @@ pub mod Knows
 pub mod Heard
 pub mod Knew
 pub mod Ends
+pub mod Counts
 pub mod SameDemands
 pub mod Hinted
 pub mod NotHome

@@ -20,9 +20,9 @@ use Rattle.rep_core.proofs.Members.{all_at}
 use Rattle.txn_core.specs.declared.job.Job.{Job}
 use Rattle.txn_core.specs.declared.job.Job.TheVariants.{Transaction}
 use Rattle.txn_core.specs.declared.word.Word.TheVariants.{Replied}
-use Rattle.txn_core.specs.Doing.{Fixed, home_of}
+use Rattle.txn_core.specs.Doing.{Fixed, Task, home_of}
 use Rattle.txn_core.specs.Agents as agents
-use Rattle.txn_core.specs.Agents.{Agent, Take, fixed_of, is_idle, has_sense, max_jobs, next_of, take, take_in, begin, after_all}
+use Rattle.txn_core.specs.Agents.{Agent, Take, fixed_of, is_idle, has_sense, max_jobs, next_of, take, take_in, begin, after_all, started}
 use Rattle.txn_core.specs.Laws.{is_decide}
 use Rattle.txn_core.specs.Undecided.{stands_on_locks}
 use Rattle.txn_core.proofs.Upheld.{after-append}
@@ -43,10 +43,13 @@ use Rattle.run_alone.proofs.Own.{IsOwnAt}
 use Rattle.run_alone.proofs.Turns.{with_job}
 use Rattle.run_alone.proofs.Owns.{IsMine, Owns, IsCalm}
 use Rattle.run_alone.proofs.Clear.{none_own}
+use Rattle.run_alone.proofs.Votes.{cache_valid}
+use Rattle.run_alone.proofs.Starts.{starts}
 use Rattle.run_alone.proofs.Walks.{AllServers}
 use Rattle.run_alone.proofs.Named.{no_record, no_lock}
 use Rattle.run_alone.proofs.Unswept.{is_resolve, Unswept}
 use Rattle.run_alone.proofs.Went.{busy}
+use Rattle.run_alone.proofs.Reached.{can_front}
 use Rattle.run_alone.proofs.Whole.{Carried}
 use Rattle.run_alone.proofs.Goes as alone
 use Rattle.run_alone.proofs.Requests.{Finds}
@@ -357,6 +360,26 @@ module _ (given : Opening) (events later : List Event) (agent t : ℕ) (caller :
   unfolding moment_first
   first_all = refl
 
+  pub first_told : moment_first.told ≡ []
+  unfolding moment_first
+  first_told = refl
+
   pub first_here : moment_first.here.agent ≡ begin (fixed_of given) actor.agent (Transaction caller site ops)
   unfolding moment_first
   first_here = refl
+
+  -- it does not end at once
+  pub first_runs : is_idle moment_first.here.agent.doing ≡ false
+  first_runs =
+      ap (λ (agent : Agent). is_idle agent.doing) first_here
+      ∙ of (is_idle actor.agent.doing && has_sense (fixed_of given) its_job && nat_lt actor.agent.count max_jobs) (ap (λ found. with_job its_job (begins_now (fixed_of given) agent its_job found)) (sym goes.there) ∙ goes.begins)
+    where
+      its_job : Job
+      its_job = Transaction caller site ops
+
+      task : Task
+      task = record { t = 64 * actor.agent.count + actor.agent.index; caller = caller; site = site; ops = ops }
+
+      of : (b : Bool) → with_job its_job (cond b (Some (64 * actor.agent.count + agent)) None) ≡ Some (t, its_job) → is_idle (cond b (record (started (fixed_of given) actor.agent its_job) { count = actor.agent.count + 1 }) actor.agent).doing ≡ false
+      of true is = starts (fixed_of given) task actor.agent.cache goes.can.c0 (cache_valid given events (can_front given events (begins ∷ later) goes.can) agent actor goes.there)
+      of false is = absurd (none-some (t, its_job) is)

@@ -1,6 +1,7 @@
 -- How a transaction stands that goes alone: what it has asked for so far and how that was found, and how it ends.
 use Rattle.std.proofs.Common.{◌≡◌, inl, ℕ, Bool, true, false, cond, List, [], ◌∷◌, ◌++◌, append-nil, Option, Some, None, is_some, Result, Ok, Err, refl, sym, ap, subst, ◌∙◌}
 use Rattle.std.specs.Prelude.{◌==◌, not, nat_lt, find, map}
+use Rattle.std.specs.List.{list_any}
 use Rattle.std.specs.Ordering.{nat_cmp}
 use Rattle.std.proofs.lemmas.Bool.{eqb-true}
 use Rattle.std.proofs.lemmas.Cmp.{nat_cmp_total}
@@ -223,6 +224,7 @@ module _ (fixed : Fixed) (world : World) (table : PlainTable) (task : Task) (cac
     pub met : (one : ℕ × Configuration) → Has done one → is_met (of_votes world one) ≡ true
     pub are_set : (one : ℕ × Configuration) → Has left one → IsSet granted.changes one
     pub there : (one : ℕ × Configuration) → Has left one → is_some (suite_of suites one.0) ≡ true
+    pub locked : (one : ℕ × Configuration) → Has left one → list_any (λ (lock : ℕ × LockMode). lock.0 == one.0) so_far ≡ true
 
   -- the first of them now
   pub record IsWidening (suites : Suites) (number : ℕ) (left : List ℕ) (granted : Granted) : Type 0 where

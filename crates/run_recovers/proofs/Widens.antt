@@ -54,6 +54,7 @@ module _ (fixed : Fixed) (world : World) (table : PlainTable) (task : Task) (cac
     sets = s.sets;
     met = s.met;
     are_set = s.are_set;
+    locked = s.locked;
     there = λ one has. ap is_some (with_at number new suites one.0) ∙ of one (number == one.0) (s.there one has);
   }
     where
@@ -73,6 +74,7 @@ module _ (fixed : Fixed) (world : World) (table : PlainTable) (task : Task) (cac
     met = λ other has. ⊎_elim (λ same. subst (λ one. is_met (of_votes world one) ≡ true) same met) (s.met other) has;
     are_set = λ other has. s.are_set other (inr has);
     there = λ other has. s.there other (inr has);
+    locked = λ other has. s.locked other (inr has);
   }
 
   -- all are
