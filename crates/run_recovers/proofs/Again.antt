@@ -30,7 +30,8 @@ use Rattle.run_recovers.specs.Alone.{unhindered_from}
 use Rattle.run_recovers.specs.Demands.{VotesAreUp}
 use Rattle.run_recovers.specs.Laws.{GoesAlone, again, goes_again, OneIsDecided, OneOfThemIsDecided}
 use Rattle.run_recovers.proofs.Homes.{homes_go_round}
-use Rattle.run_recovers.proofs.Tries.{has_after, ends_decided, Left, left_so}
+use Rattle.run_recovers.proofs.Counts.{has_after}
+use Rattle.run_recovers.proofs.Tries.{ends_decided, Left, left_so}
 
 -- ---- lists
 

@@ -1,7 +1,7 @@
 -- A transaction that goes alone ends within a number of its own steps that its table tells.
-use Rattle.std.proofs.Common.{◌≡◌, ◌≢◌, ◌⊎◌, inl, inr, ⊎_elim, ℕ, zero, suc, ◌+◌, ◌<◌, ◌≤◌, Bool, true, false, cond, List, [], ◌∷◌, ◌++◌, append-nil, length, Option, Some, None, is_some, refl, sym, ap, subst, ◌∙◌, arith}
+use Rattle.std.proofs.Common.{◌≡◌, ◌⊎◌, inl, inr, ⊎_elim, ℕ, zero, suc, ◌+◌, ◌<◌, ◌≤◌, Bool, true, false, cond, List, [], ◌∷◌, ◌++◌, append-nil, length, Option, Some, None, is_some, refl, sym, ap, subst, ◌∙◌, arith}
 use Rattle.std.specs.Prelude.{◌*◌, ◌==◌, ◌&&◌, not, map}
-use Rattle.std.specs.List.{cons_option, list_any, list_all}
+use Rattle.std.specs.List.{cons_option, list_any}
 use Rattle.std.proofs.lemmas.Bool.{false≢true, and_parts, eqb-true}
 use Rattle.std.proofs.lemmas.Bool.Decides.{nat_tests}
 use Rattle.std.proofs.lemmas.List.Folds.{list_all-append}
@@ -15,7 +15,6 @@ use Rattle.suite_prefix.specs.LockModes.{serves}
 use Rattle.rep_core.specs.declared.request.Request.{Request}
 use Rattle.rep_core.specs.declared.request.Request.TheVariants as request
 use Rattle.rep_core.specs.declared.reply.Reply.{Reply}
-use Rattle.rep_core.specs.State.{State}
 use Rattle.rep_core.specs.Service.{reply_of}
 use Rattle.rep_core.proofs.Members.{Has, any_has, has_any, map_has, contains_from}
 use Rattle.file_ops.specs.declared.operation.Op.{Op}
@@ -35,16 +34,16 @@ use Rattle.txn_core.specs.Transactions.{numbers_from, asked_for, fetched_at, fet
 use Rattle.txn_core.specs.Writing.{parts_at}
 use Rattle.txn_core.specs.Agents as agents
 use Rattle.txn_core.specs.Agents.{Agent, fixed_of, is_idle, next_in, next_of, left, end_of, take_in, take, begin, after_all}
-use Rattle.txn_core.specs.Laws.{Exchange, exchange_of, exchanges, of_job, among, asks_only, names_of, names_only}
+use Rattle.txn_core.specs.Laws.{Exchange, exchange_of, exchanges, among, asks_only, names_of, names_only}
 use Rattle.txn_core.proofs.Asks.{asks_same}
 use Rattle.txn_core.proofs.Bound.{ends_in_time}
 use Rattle.txn_core.proofs.Upheld.{exchanges-take}
 use Rattle.run_core.specs.declared.event.Event.{Event}
 use Rattle.run_core.specs.declared.event.Event.TheVariants.{Begin, Step, Crash, Return, Forget, Lack}
 use Rattle.run_core.specs.declared.done.Outcome.{Outcome}
-use Rattle.run_core.specs.Worlds.{Actor, World, server_at, actor_at, has_no_job, outcome_of, opening, step}
+use Rattle.run_core.specs.Worlds.{Actor, World, actor_at, has_no_job, outcome_of, opening, step}
 use Rattle.run_core.specs.Runs.{after, dones, outcomes, run}
-use Rattle.run_core.specs.Decisions.{decided, decisions}
+use Rattle.run_core.specs.Decisions.{decisions}
 use Rattle.run_core.proofs.Appending.{decisions_from-append}
 use Rattle.one_table.proofs.Logs.{no_task}
 use Rattle.run_core.specs.TableOfRun.{table_of}
@@ -55,14 +54,12 @@ use Rattle.run_machine.specs.Machines.{machine_of}
 use Rattle.run_recovers.specs.Alone.{hinders, unhindered_from, its_step, own_steps}
 use Rattle.run_recovers.specs.Demands.{has_asked, locks_asked}
 use Rattle.run_recovers.specs.Laws.{GoesAlone, OneEnded, EndsInTime}
-use Rattle.run_recovers.proofs.Aside.{event_aside}
 use Rattle.run_recovers.proofs.Asking.{onto, held_in, held_if}
 use Rattle.run_recovers.proofs.Took.{OwnTook, own_took}
-use Rattle.run_recovers.proofs.Moments.{Moment, Takes, beside, takes, moment_first, first_all, first_here, first_runs, first_told}
+use Rattle.run_recovers.proofs.Moments.{Takes, beside, takes, moment_first, first_all, first_here, first_runs, first_told}
 use Rattle.run_recovers.proofs.Stands.{Ground, locks_on, PhaseStands}
 use Rattle.run_recovers.proofs.Heard.{asks_for}
 use Rattle.run_recovers.proofs.Knows.{among_numbers}
-use Rattle.run_recovers.proofs.Knew.{undecided_aside}
 use Rattle.run_recovers.proofs.Ends as ends
 
 -- ---- lists
@@ -78,7 +75,7 @@ onto_left (y ∷ so_far) left x has = ⊎_elim (λ same. onto_right so_far (y �
 itself : (n : ℕ) → (n == n) ≡ true
 itself n = grind (arith, nat_tests)
 
-has_after : {X : Type 0} (found : Option X) (xs : List X) (x : X) → Has xs x → Has (cons_option found xs) x
+pub has_after : {X : Type 0} (found : Option X) (xs : List X) (x : X) → Has xs x → Has (cons_option found xs) x
 has_after None xs x has = has
 has_after (Some y) xs x has = inr has
 

@@ -239,18 +239,21 @@ module _ (fixed : Fixed) (world : World) (table : PlainTable) (task : Task) (cac
     phase = doing.Widening (number ∷ left) granted
 
     widened_stands : (one : Told) → told_by (next w.suite.collector) said ≡ Some one → (after : Next) → next (tell one w.suite.collector) ≡ after → Good (collected task now suites phase number (told_one one) after widen_on)
-    widened_stands one told (Ask who question) is = (refl, record {
-      votes = w.votes;
-      done = w.done;
-      later = w.later;
-      left_is = w.left_is;
-      sets = sets_now (told_one one) (start_stays w.suite.collector one) (told_right one told);
-      suite = told_one one;
-      there = is_there suites number (told_one one);
-      widening = record w.widening { told = one ∷ w.widening.told };
-      widening_is = more_widening one;
-      votes_are = w.votes_are;
-    })
+    widened_stands one told (Ask who question) is = (
+      refl,
+      record {
+        votes = w.votes;
+        done = w.done;
+        later = w.later;
+        left_is = w.left_is;
+        sets = sets_now (told_one one) (start_stays w.suite.collector one) (told_right one told);
+        suite = told_one one;
+        there = is_there suites number (told_one one);
+        widening = record w.widening { told = one ∷ w.widening.told };
+        widening_is = more_widening one;
+        votes_are = w.votes_are;
+      },
+    )
     widened_stands one told (Short had wanting busy) is =
         let more = with_suite number (told_one one) suites in
         told_stands fixed world table task cache Was ground now more verdict.Aborted (Undecided (short_cause number had wanting busy)) (locked_at more)

@@ -70,9 +70,11 @@ pub record HasSome (suites : Suites) : Type 0 where
   pub holds : holds Shared (all_told suite.collector) server ≡ true
 
 locked_some : (suites : Suites) → HasSome suites → (server : ℕ) × Has (locked_at suites) server
-locked_some suites some =
-    (some.server, filter_has (has_locks suites) (numbers_from 0 max_servers) some.server (among_numbers max_servers 0 some.server (omega arith) (below some.server some.is_one))
-    (any_at (λ suite. holds_lock suite some.server) suites some.z some.suite some.there some.holds))
+locked_some suites some = (
+  some.server,
+  filter_has (has_locks suites) (numbers_from 0 max_servers) some.server (among_numbers max_servers 0 some.server (omega arith) (below some.server some.is_one))
+      (any_at (λ suite. holds_lock suite some.server) suites some.z some.suite some.there some.holds),
+)
   where
     below : (server : ℕ) → nat_lt server max_servers ≡ true → server < 0 + max_servers
     below server is = grind (arith, nat_tests)

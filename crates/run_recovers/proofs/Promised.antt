@@ -14,6 +14,7 @@ use Rattle.run_alone.proofs.Endings.{endings_are_the_tables}
 use Rattle.run_alone.proofs.Same.{endings_are_one}
 use Rattle.run_recovers.specs.Promises.{IsAvailable, Lends}
 use Rattle.run_recovers.proofs.Again.{one_of_them_is_decided}
+use Rattle.run_recovers.proofs.Counts.{they_end_in_time}
 use Rattle.run_recovers.proofs.Calm.{sweeps_keep_effects}
 use Rattle.run_recovers.proofs.Ends.{ends_are_by_votes}
 use Rattle.run_recovers.proofs.Free.{no_lock_is_left}
@@ -30,6 +31,7 @@ pub available : RunsKeepToSites → (given : Opening) (events : List Event) → 
 available sites given events can = record {
   had_votes = decided_had_votes_up given events;
   ends = ends_are_by_votes given events;
+  in_time = they_end_in_time given events;
   where_votes = decided_where_votes_are ends_are_by_votes given events;
   rows = met_demands_are_rows given events can;
   homes = homes_go_round given;

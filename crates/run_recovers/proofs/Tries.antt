@@ -1,16 +1,14 @@
 -- One try of a transaction where its votes are up: it is decided where its home is up, and leaves all as it was where it is not.
-use Rattle.std.proofs.Common.{◌≡◌, inl, inr, ⊎_elim, ℕ, zero, suc, ◌+◌, ◌<◌, Bool, true, false, cond, List, [], ◌∷◌, ◌++◌, append-nil, append_assoc, length, Option, Some, None, is_some, Result, Ok, Err, refl, sym, ap, subst, ◌∙◌, arith}
+use Rattle.std.proofs.Common.{◌≡◌, ◌⊎◌, inl, inr, ℕ, zero, suc, ◌+◌, ◌<◌, Bool, true, false, cond, List, [], ◌∷◌, ◌++◌, append-nil, append_assoc, length, Option, Some, None, is_some, Result, Ok, Err, refl, sym, ap, subst, ◌∙◌, arith}
 use Rattle.std.specs.Prelude.{◌*◌, ◌==◌, ◌&&◌, ◌||◌, not, slice_get}
-use Rattle.std.specs.List.{cons_option, list_all}
-use Rattle.std.proofs.lemmas.Bool.{false≢true, and_parts, eqb-true}
-use Rattle.std.proofs.lemmas.Option.{none-some, same_Some, slice_get_within}
+use Rattle.std.specs.List.{list_all}
+use Rattle.std.proofs.lemmas.Bool.{false≢true, eqb-true}
+use Rattle.std.proofs.lemmas.Option.{same_Some, slice_get_within}
 use Rattle.acl_core.specs.Identity.{Identity}
 use Rattle.suite_prefix.specs.SettingsRules.{Opening}
 use Rattle.suite_prefix.specs.declared.copies.Prefix.{Prefix}
 use Rattle.suite_prefix.specs.declared.copies.Replica.{Replica}
 use Rattle.rep_core.specs.declared.lock.Lock.{Lock}
-use Rattle.rep_core.specs.declared.request.Request.{Request}
-use Rattle.rep_core.specs.Service.{reply_of}
 use Rattle.rep_core.specs.Store.{copy_of}
 use Rattle.rep_core.specs.State.{State}
 use Rattle.rep_core.proofs.Members.{Has, all_at, contains_from}
@@ -22,17 +20,13 @@ use Rattle.file_ops.specs.Rows.{PlainTable}
 use Rattle.txn_core.specs.declared.ending.Ending.{Ending}
 use Rattle.txn_core.specs.declared.job.Job.{Job}
 use Rattle.txn_core.specs.declared.job.Job.TheVariants.{Transaction}
-use Rattle.txn_core.specs.declared.word.Word.{Word}
-use Rattle.txn_core.specs.declared.word.Word.TheVariants.{Replied}
-use Rattle.txn_core.specs.Doing.{Fixed, Task, Course, Round, Doing, Running, Rounding, After, GoesOn, Ends, home_of}
-use Rattle.txn_core.specs.Sweeps as sweep
-use Rattle.txn_core.specs.Transactions.{Step as CourseStep, execute, after_word}
+use Rattle.txn_core.specs.Doing.{Fixed, Task, Doing, home_of}
+use Rattle.txn_core.specs.Transactions.{Step as CourseStep, execute}
 use Rattle.txn_core.specs.Agents as agents
 use Rattle.txn_core.specs.Agents.{Agent, fixed_of, is_idle, has_sense, max_jobs, next_in, next_of, left, end_of, take_in, take, begin, started, forget, after_all}
 use Rattle.run_core.specs.declared.event.Event.{Event}
 use Rattle.run_core.specs.declared.event.Event.TheVariants.{Begin}
-use Rattle.run_core.specs.declared.done.Outcome.{Outcome}
-use Rattle.run_core.specs.Worlds.{Actor, World, server_at, actor_at, has_no_job, outcome_of, becomes, opening, step}
+use Rattle.run_core.specs.Worlds.{Actor, World, server_at, actor_at, has_no_job, becomes, opening, step}
 use Rattle.run_core.specs.Runs.{after, dones, outcomes, run}
 use Rattle.run_core.specs.Decisions.{decisions}
 use Rattle.run_core.specs.TableOfRun.{table_of, table_after_all}
@@ -46,28 +40,23 @@ use Rattle.run_machine.specs.Machines.{machine_of}
 use Rattle.run_alone.specs.Undisturbed.{is_decided}
 use Rattle.run_alone.proofs.Own.{up_as}
 use Rattle.run_recovers.specs.Standing.{up_in, is_up, up_free, shown_in, shown_at}
-use Rattle.run_recovers.specs.Alone.{hinders, unhindered_from}
+use Rattle.run_recovers.specs.Alone.{own_steps}
 use Rattle.run_recovers.specs.Demands.{demands, first_short, VotesAreUp}
 use Rattle.run_recovers.specs.Laws as laws
 use Rattle.run_recovers.specs.Laws.{GoesAlone, EndsByVotes, ending_of, answer_on, again, goes_again, OneIsDecided, OneOfThemIsDecided}
-use Rattle.one_table.proofs.Logs.{no_task}
 use Rattle.run_alone.proofs.Clear.{at_has}
-use Rattle.run_recovers.proofs.Took.{OwnTook, own_took}
-use Rattle.run_recovers.proofs.Moments.{beside, takes, moment_first, first_all, first_here}
-use Rattle.run_recovers.proofs.Stands.{Ground, EndsRight, AfterStands}
+use Rattle.run_recovers.proofs.Moments.{moment_first, first_all, first_here}
+use Rattle.run_recovers.proofs.Stands.{Ground, EndsRight}
 use Rattle.run_recovers.proofs.SameDemands.{HintsLed, still_up}
 use Rattle.run_recovers.proofs.Executes.{begin_stands}
 use Rattle.run_recovers.proofs.Hinted.{execute_hints}
-use Rattle.run_recovers.proofs.NotHome.{is_home, ended_in, execute_not}
+use Rattle.run_recovers.proofs.NotHome.{is_home, execute_not}
 use Rattle.run_recovers.proofs.Leaves as leaves
 use Rattle.run_recovers.proofs.Leaves.{none_of}
 use Rattle.run_recovers.proofs.Ends as ends
+use Rattle.run_recovers.proofs.Counts as counts
 
 -- ---- lists
-
-pub has_after : {X : Type 0} (found : Option X) (xs : List X) (x : X) → Has xs x → Has (cons_option found xs) x
-has_after None xs x has = has
-has_after (Some y) xs x has = inr has
 
 all_places : {X : Type 0} (p : X → Bool) (xs : List X) → ((i : ℕ) (x : X) → slice_get xs i ≡ Some x → p x ≡ true) → list_all p xs ≡ true
 all_places p [] each = refl
@@ -107,25 +96,10 @@ none_doing (Some doing) is = absurd (false≢true is)
 
 -- ---- one that ended
 
--- who is idle after a word ended its job
-ended_if : (fixed : Fixed) (agent : Agent) (word : Word) (doing : Option Doing) (asked : ℕ × Request) → next_in fixed doing ≡ Some asked → is_idle (take_in fixed agent word doing (Some asked)).agent.doing ≡ true
-    → (ended : Ending) × ((take_in fixed agent word doing (Some asked)).ending ≡ Some ended)
-ended_if fixed agent word None asked next idle = absurd (none-some asked next)
-ended_if fixed agent word (Some (Running course)) asked next idle = of (after_word fixed course agent.cache asked.0 asked.1 word).after idle
-  where
-    of : (after : After Course) → is_idle (left Running after) ≡ true → (ended : Ending) × (end_of after ≡ Some ended)
-    of (GoesOn course) idle = absurd (false≢true idle)
-    of (Ends ended) idle = (ended, refl)
-ended_if fixed agent word (Some (Rounding round)) asked next idle = of (sweep.after_word fixed.service round asked.0 word) idle
-  where
-    of : (after : After Round) → is_idle (left Rounding after) ≡ true → (ended : Ending) × (end_of after ≡ Some ended)
-    of (GoesOn round) idle = absurd (false≢true idle)
-    of (Ends ended) idle = (ended, refl)
-
-counts : (fixed : Fixed) (agent : Agent) (told : List agents.Event) → (after_all fixed agent told).count ≡ agent.count
-counts fixed agent [] = refl
-counts fixed agent (agents.Take word ∷ told) = counts fixed (take fixed agent word).agent told ∙ (take_keeps fixed agent word agent.doing (next_of fixed agent)).1
-counts fixed agent (agents.Forget site ∷ told) = counts fixed (forget agent site) told
+keeps_count : (fixed : Fixed) (agent : Agent) (told : List agents.Event) → (after_all fixed agent told).count ≡ agent.count
+keeps_count fixed agent [] = refl
+keeps_count fixed agent (agents.Take word ∷ told) = keeps_count fixed (take fixed agent word).agent told ∙ (take_keeps fixed agent word agent.doing (next_of fixed agent)).1
+keeps_count fixed agent (agents.Forget site ∷ told) = keeps_count fixed (forget agent site) told
 
 is_home_by : (up : Bool) (answer : Result (List Answer) Refusal) → is_home (laws.ending_by None up answer) ≡ true
 is_home_by true (Ok answers) = refl
@@ -178,83 +152,16 @@ module _ (given : Opening) (events later : List Event) (agent t : ℕ) (caller :
   begin_is : begin fixed actor.agent job ≡ record (started fixed actor.agent job) { count = actor.agent.count + 1 }
   begin_is = ap (λ b. cond b (record (started fixed actor.agent job) { count = actor.agent.count + 1 }) actor.agent) (ends.begun given events later agent t caller site ops actor goes).1
 
-  begun_busy : is_idle (begin fixed actor.agent job).doing ≡ false
-  begun_busy =
-      ap (λ (agent : Agent). is_idle agent.doing) begin_is
-      ∙ of (execute fixed its (record { suites = []; cache = actor.agent.cache })).after (begin_stands fixed first table its actor.agent.cache Was ground (ends.same_service given events later agent t caller site ops actor goes))
-      (execute_not fixed its (record { suites = []; cache = actor.agent.cache }))
-    where
-      of : (after : After Course) → AfterStands fixed first table its actor.agent.cache Was ground (execute fixed its (record { suites = []; cache = actor.agent.cache })).cache after → ((ended : Ending) → ended_in after ≡ Some ended → is_home ended ≡ false) → is_idle (left Running after) ≡ false
-      of (GoesOn course) good not = refl
-      of (Ends ended) good not = absurd (false≢true (sym (not ended refl) ∙ ap is_home (met_end ended good) ∙ is_home_by (is_up first (home_of fixed.service t)) (answer_on table t caller ops)))
-
-  abbrev Now : World → List Event → Type 0
-  Now w rest = ends.Now given events later agent t caller site ops actor goes w rest
-
-  record OneEnds (w : World) (rest : List Event) : Type 0 where
-    one : Outcome
-    there : Has (outcomes (dones fixed w rest)) one
-    of_it : one.agent ≡ agent
-
-  some_ends : (rest : List Event) (w : World) (n : Now w rest) → is_idle n.m.here.agent.doing ≡ false → unhindered_from given agent w rest ≡ true → has_no_job (actor_at (after fixed w rest) agent) ≡ true → OneEnds w rest
-  some_ends [] w n busy calm idle = absurd (false≢true (sym busy ∙ ap has_no_job (sym n.m.there) ∙ idle))
-  some_ends (event ∷ rest) w n busy calm idle =
-      let parts = and_parts (not (hinders given agent w event)) (unhindered_from given agent (step fixed w event).world rest) calm in
-      by (ends.not_true (hinders given agent w event) parts.0) (λ n busy. some_ends rest (step fixed w event).world n busy parts.1 idle)
-    where
-      later_one : OneEnds (step fixed w event).world rest → OneEnds w (event ∷ rest)
-      later_one it = record { one = it.one; there = has_after (step fixed w event).done.outcome (outcomes (dones fixed (step fixed w event).world rest)) it.one it.there; of_it = it.of_it }
-
-      here_one : (ended : Ending) → (step fixed w event).done.outcome ≡ outcome_of agent n.m.here (Some ended) → OneEnds w (event ∷ rest)
-      here_one ended is = at (outcome_of agent n.m.here (Some ended)) is refl
-        where
-          at : (found : Option Outcome) → (step fixed w event).done.outcome ≡ found → found ≡ outcome_of agent n.m.here (Some ended) → OneEnds w (event ∷ rest)
-          at None is same = absurd (none-some _ same)
-          at (Some one) is same = record {
-            one = one;
-            there = subst (λ found. Has (cons_option found (outcomes (dones fixed (step fixed w event).world rest))) one) (sym is) (inl refl);
-            of_it = ap (λ (one : Outcome). one.agent) (same_Some one _ same);
-          }
-
-      by : hinders given agent w event ≡ false → ((n : Now (step fixed w event).world rest) → is_idle n.m.here.agent.doing ≡ false → OneEnds (step fixed w event).world rest) → OneEnds w (event ∷ rest)
-      by still go = ⊎_elim
-          (λ aside.
-          let b = beside given first agent t actor.agent caller site ops w event rest n.m still aside.1 in
-          later_one (go (record { m = b.new; stands = ends.aside_stands given events later agent t caller site ops actor goes w event rest n still aside.0 b; none = ends.aside_none given events later agent t caller site ops actor goes w event rest n still aside.0 b })
-          (ap (λ (here : Actor). is_idle here.agent.doing) b.here ∙ busy)))
-          (λ own.
-          let took = subst (λ event. is_some (step fixed w event).done.served ≡ true → OwnTook fixed w agent n.m.here n.m.there (step fixed w event)) (sym own.0) (own_took fixed w agent n.m.here n.m.there) own.1 in
-          let tk = takes given first agent t actor.agent caller site ops w event rest n.m still own.0 took in
-          let on = ends.goes_on given events later agent t caller site ops actor goes w event rest n.m still own.0 took tk n.none n.stands in
-          let said = reply_of tk.st tk.asked.1 in
-          let same = ap (take_in fixed n.m.here.agent (Replied said) n.m.here.agent.doing) tk.next in
-          of (is_idle tk.new.here.agent.doing) (is_idle tk.new.here.agent.doing) refl (λ busy. later_one (go (record { m = tk.new; stands = on.stands; none = on.none }) busy))
-          (λ idle.
-          let ended = ended_if fixed n.m.here.agent (Replied said) n.m.here.agent.doing tk.asked tk.next (sym (ap (λ (agent : Agent). is_idle agent.doing) tk.here ∙ ap (λ (taken : agents.Taken). is_idle taken.agent.doing) same) ∙ idle) in
-          here_one ended.0 (tk.ended ∙ ap (λ (taken : agents.Taken). outcome_of agent n.m.here taken.ending) same ∙ ap (outcome_of agent n.m.here) ended.1)))
-          (ends.apart given events later agent t caller site ops actor goes w event still)
-        where
-          of : (b idle : Bool) → idle ≡ b → (idle ≡ false → OneEnds w (event ∷ rest)) → (idle ≡ true → OneEnds w (event ∷ rest)) → OneEnds w (event ∷ rest)
-          of true idle is busy ended = ended is
-          of false idle is busy ended = busy is
-
-  decisions_begun : decisions given (moment_first given events later agent t caller site ops actor goes).all ≡ decisions given events
-  decisions_begun =
-      ap (decisions given) (first_all given events later agent t caller site ops actor goes) ∙ decisions_from-append fixed (opening given) events (Begin agent job ∷ [])
-      ∙ ap (λ found. decisions given events ++ cons_option found []) (no_task first (step fixed first (Begin agent job)).done.served) ∙ append-nil (decisions given events)
-
-  abbrev now_first : Now begun_world later
-  now_first = record {
-    m = moment_first given events later agent t caller site ops actor goes;
-    stands = subst (λ (here : Agent). ends.StandsIn given events later agent t caller site ops actor goes here.cache here.doing) (sym (first_here given events later agent t caller site ops actor goes)) (ends.first_stands given events later agent t caller site ops actor goes);
-    none = λ _. decisions_begun;
-  }
-
   module _ (idle : has_no_job (actor_at (after fixed begun_world later) agent) ≡ true) where
+    -- a job of it ended
+    some_ends : counts.OneEnds given events later agent t caller site ops actor goes begun_world later ⊎ counts.Runs given events later agent t caller site ops actor goes (after fixed begun_world later) (0 + own_steps agent later) → counts.OneEnds given events later agent t caller site ops actor goes begun_world later
+    some_ends (inl it) = it
+    some_ends (inr runs) = absurd (false≢true (sym runs.busy ∙ ap has_no_job (sym runs.there) ∙ idle))
+
     -- where its home is up it is decided
     pub ends_decided : is_up first (home_of fixed.service t) ≡ true → OneIsDecided (outcomes (dones fixed begun_world later)) agent
     ends_decided up =
-        let it = some_ends later begun_world now_first (ap (λ (agent : Agent). is_idle agent.doing) (first_here given events later agent t caller site ops actor goes) ∙ begun_busy) goes.alone idle in
+        let it = some_ends (counts.it_lasts given events later agent t caller site ops actor goes) in
         let there = contains_from (outcomes (dones fixed begun_world later)) it.one it.there in
         let by : EndsByVotes given events t caller site ops actor.agent.cache it.one = ends.ends_are_by_votes given events later agent t caller site ops actor goes it.one there it.of_it in
         record {
@@ -283,7 +190,7 @@ module _ (given : Opening) (events later : List Event) (agent t : ℕ) (caller :
             (leaves.before_left given events later agent t caller site ops actor goes down met begun_world begins.cache begins.after
             (begin_stands fixed first table its actor.agent.cache Was ground (ends.same_service given events later agent t caller site ops actor goes)) (execute_not fixed its (record { suites = []; cache = actor.agent.cache })));
         stored = λ i st old at was z. ap (λ (st : State). copy_of st.store z) (same_Some st old (sym at ∙ servers_begun i ∙ was));
-        none = decisions_begun;
+        none = counts.decisions_begun given events later agent t caller site ops actor goes;
         led = subst (λ (agent : Agent). HintsLed fixed first actor.agent.cache site agent.cache) (sym (first_here given events later agent t caller site ops actor goes ∙ begin_is))
             (execute_hints fixed first table its actor.agent.cache Was ground (record { suites = []; cache = actor.agent.cache }) (λ z prefix hinted. inl hinted));
         whole = ap (λ all. all ++ later) (first_all given events later agent t caller site ops actor goes) ∙ append_assoc events (Begin agent job ∷ []) later;
@@ -299,7 +206,7 @@ module _ (given : Opening) (events later : List Event) (agent t : ℕ) (caller :
       last_events = events ++ Begin agent job ∷ later
 
       pub last : leaves.Last given events later agent t caller site ops actor goes down met last_world
-      last = leaves.last_in given events later agent t caller site ops actor goes down met later begun_world now_first still_first goes.alone
+      last = leaves.last_in given events later agent t caller site ops actor goes down met later begun_world (counts.now_first given events later agent t caller site ops actor goes) still_first goes.alone
 
       all_is : last.now.m.all ≡ last_events
       all_is = sym (append-nil last.now.m.all) ∙ last.still.whole
@@ -352,7 +259,7 @@ module _ (given : Opening) (events later : List Event) (agent t : ℕ) (caller :
       table_same = ap (table_after_all (rows.opening given)) (ap (decisions given) (sym all_is) ∙ last.still.none)
 
       pub count_then : last.now.m.here.agent.count ≡ actor.agent.count + 1
-      count_then = ap (λ (agent : Agent). agent.count) last.now.m.is ∙ counts fixed (begin fixed actor.agent job) last.now.m.told ∙ ap (λ (agent : Agent). agent.count) begin_is
+      count_then = ap (λ (agent : Agent). agent.count) last.now.m.is ∙ keeps_count fixed (begin fixed actor.agent job) last.now.m.told ∙ ap (λ (agent : Agent). agent.count) begin_is
 
       pub votes_then : (t' : ℕ) → VotesAreUp fixed first table actor.agent.cache t' site caller ops → VotesAreUp fixed last_world (table_of given last_events) last.now.m.here.agent.cache t' site caller ops
       votes_then t' votes =

@@ -143,18 +143,21 @@ module _ (fixed : Fixed) (world : World) (table : PlainTable) (task : Task) (cac
             by (Current prefix dver members) now' =
                 go more (sets_on more done later one granted sets
                 (by_current fixed world one.0 (widened granted.changes one.0 suite).collector (record { votes = one.1; told = told_since suite.collector.widening }) is_by right.right prefix dver members now'))
-            by (Ask server asked) now' = (refl, record {
-              votes = one.1;
-              done = done;
-              later = later;
-              left_is = refl;
-              sets = sets;
-              suite = widened granted.changes one.0 suite;
-              there = there';
-              widening = record { votes = one.1; told = told_since suite.collector.widening };
-              widening_is = is_by;
-              votes_are = refl;
-            })
+            by (Ask server asked) now' = (
+              refl,
+              record {
+                votes = one.1;
+                done = done;
+                later = later;
+                left_is = refl;
+                sets = sets;
+                suite = widened granted.changes one.0 suite;
+                there = there';
+                widening = record { votes = one.1; told = told_since suite.collector.widening };
+                widening_is = is_by;
+                votes_are = refl;
+              },
+            )
             by (Short had wanting busy) now' =
                 told_stands fixed world table task cache Was ground now more verdict.Aborted (Undecided (short_cause one.0 had wanting busy)) (locked_at more)
                 (set_short more done later one granted sets had wanting busy

@@ -9,7 +9,7 @@ use Rattle.headline.specs.Promises.{IsRunOf}
 use Rattle.run_alone.specs.Alone.{one_at_a_time}
 use Rattle.run_alone.specs.Endings.{EndAsTheTable, EndingsAreOne, UndisturbedEndingsAreOne}
 use Rattle.run_alone.specs.Undisturbed.{NothingIsInTheWayAt, UndisturbedAreDecidedAt}
-use Rattle.run_recovers.specs.Laws.{EndsAreByVotesAt, MetDemandsAreRowsAt, DecidedWhereVotesAreAt, HomesGoRoundOf, OneOfThemIsDecidedAt, DecidedHadVotesUpAt}
+use Rattle.run_recovers.specs.Laws.{EndsAreByVotesAt, EndsInTimeAt, MetDemandsAreRowsAt, DecidedWhereVotesAreAt, HomesGoRoundOf, OneOfThemIsDecidedAt, DecidedHadVotesUpAt}
 use Rattle.run_recovers.specs.Sweeping.{SweepsLeaveDoubtsAt, SweepsKeepEffectsAt, OnlyDoubtsAreLeftAt, NoLockIsLeftAt, AllIsStoredAt, TakenAwayAreNeverDecidedAt}
 
 -- after these events of a run
@@ -19,6 +19,8 @@ pub record IsAvailable (given : Opening) (events : List Event) : Type 0 where
   -- one that begins now and goes alone ends, if it ends, with the first suite of which too few votes are up; else, where its home is down, with that; else
   -- as the table answers it
   pub ends : EndsAreByVotesAt given events
+  -- and it ends, before its agent took more steps than its locks and the servers bound
+  pub in_time : EndsInTimeAt given events
   -- and where votes were never moved until now, it is decided just where its home is up and enough votes are by the rows of the table
   pub where_votes : DecidedWhereVotesAreAt given events
   -- where servers that are up have enough votes of all that a transaction locks, as these votes are found, they have enough by the rows of the table
