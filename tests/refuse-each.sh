@@ -40,7 +40,7 @@ import played
 with open(sys.argv[2], "rb") as file:
     given = file.read()
 words = [b"play"] if sys.argv[3:] == ["trace"] else [word.encode() for word in sys.argv[3:]]
-found = [row for row in played.rows() if row["input"] == given and (row["words"] == words or words[0] == b"serve" == row["words"][:1][0])]
+found = [row for row in played.rows() if row["input"] == given and (row["words"] == words or words[:1] == [b"serve"] == row["words"][:1])]
 found.sort(key=lambda row: row["words"] != words)
 if not found:
     sys.exit(1)
