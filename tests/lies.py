@@ -158,8 +158,8 @@ def main():
     cases = int(sys.argv[1]) if len(sys.argv) > 1 else 100_000
     seed = int(sys.argv[2]) if len(sys.argv) > 2 else 1
     liar, tally = scratch.built("liar", CRATES, MODULES), Tally()
-    for row in scripts():
-        judge_script(liar, tally, cases // len(scripts()), seed, row)
+    for place, row in enumerate(scripts()):
+        judge_script(liar, tally, cases // len(scripts()), seed * len(scripts()) + place, row)
     for number, kind in enumerate(kind.strip() for kind in KINDS.replace("\n", " ").split(",")):
         print(f"  {kind}: {tally.kinds[number, 'found out']} found out, {tally.kinds[number, 'a run']} a run,"
               f" {tally.kinds[number, 'unsaid']} unsaid, {tally.kinds[number, 'open']} open")

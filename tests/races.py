@@ -30,7 +30,7 @@ SCRIPTS = ("files", "sweepers", "revocation")
 ATOMIC = re.compile(r"^.*\b(?:atomicrmw|cmpxchg|load atomic|store atomic)\b.*$", re.M)
 FENCE = re.compile(r"^\s*fence\b.*\n", re.M)
 ORDERING = re.compile(r"\b(?:seq_cst|acq_rel|acquire|release)\b")
-REPORT = "WARNING: ThreadSanitizer: data race"
+REPORT = "WARNING: ThreadSanitizer: "
 LAST = re.compile(r"certified [0-9]+ steps\n\Z")
 # What clang calls for these, and libtsan of gcc has under their own names alone.
 SHIM = "\n".join(f"void *{name}({words}); void *__tsan_{name}({words}) {{ return {name}(a, b, n); }}" for name, words in (

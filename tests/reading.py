@@ -185,8 +185,6 @@ class Script:
     def read_header(self, words):
         need = {"servers": 2, "agents": 2, "votes": 2, "root": 4, "cache": 4}[words[0]]
         if len(words) < need:
-            for word in words[1:] if words[0] != "votes" else ():
-                number(word)
             raise Fault("S1")
         if words[0] in ("servers", "agents"):
             self.sizes[words[0]] = number(words[1])
@@ -195,7 +193,8 @@ class Script:
         elif words[0] == "votes":
             read_votes(words[1], self.sizes["servers"])
         elif words[0] == "root":
-            number(words[1], MOST_ID), number(words[2], MOST_ID)
+            for word in words[1:3]:
+                number(word, MOST_ID)
             initial(words[3], self.names)
         elif max(number(words[1]), number(words[2])) > MOST_BYTES or number(words[3]) > 4096:
             raise Fault("G3")

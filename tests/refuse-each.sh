@@ -5,7 +5,7 @@
 # its second, .. allocation refused, until none is left to refuse. Each answer has to be the full output with its
 # status, or status 4 with `fault memory` after a beginning of the output that ends with a line; never another. Then the
 # same, where every allocation from that one on is refused. Status 1 where an answer differs, and where no allocation
-# was refused.
+# was refused (`trace` with wrong words, or asked for help, takes none).
 #
 # The full output is the one that a row of crates/rows has for this file and these words, where there is one; else it is
 # what the program prints with ample memory. Of `trace` the lines of `play` have to be those of the row.
@@ -39,10 +39,10 @@ sys.path.insert(0, sys.argv[1])
 import played
 with open(sys.argv[2], "rb") as file:
     given = file.read()
-words = [b"play" if word == "trace" else word.encode() for word in sys.argv[3:]]
-found = [row for row in played.rows() if row["input"] == given and (row["words"] == words or words[0] == b"serve" == row["words"][:1][0])]
+words = [b"play"] if sys.argv[3:] == ["trace"] else [word.encode() for word in sys.argv[3:]]
+found = [row for row in played.rows() if row["input"] == given and (row["words"] == words or words[:1] == [b"serve"] == row["words"][:1])]
 found.sort(key=lambda row: row["words"] != words)
-if not found or given == b"" and words == [b"play"] != sys.argv[3:4]:
+if not found:
     sys.exit(1)
 sys.stdout.buffer.write(found[0]["output"])
 END
@@ -128,7 +128,10 @@ refuse_each() {
         told="$memory times status 4, $whole times the full output"
         [ "$served" -eq 1 ] && told="$told, $other times other ends of jobs"
         echo "$words < ${input##*/}: $reach refused: $tried allocations, $told"
-        [ "$tried" -gt 0 ] || tell "$words < ${input##*/}: no allocation was refused ($reach)"
+        case $words in
+        'trace no' | 'trace --help') [ "$tried" -eq 0 ] || tell "$words takes memory" ;;
+        *) [ "$tried" -gt 0 ] || tell "$words < ${input##*/}: no allocation was refused ($reach)" ;;
+        esac
         refused=$((refused + tried)) memories=$((memories + memory)) wholes=$((wholes + whole)) others=$((others + other))
     done
 }
