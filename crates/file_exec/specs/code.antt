@@ -3,3 +3,4 @@ pub mod Overlay
 pub mod Steps
 pub mod Ends
 pub mod Ways
+pub mod Acting

@@ -6,15 +6,12 @@ ghost use Rattle.suite_content.specs.Limits.{max_content, max_names};
 ghost use Rattle.file_ops.specs.declared.refusal.Why.TheVariants as why;
 ghost use Rattle.file_ops.specs.Operations.{refuse_if, last_name};
 ghost use Rattle.file_ops.specs.Steps.{found_or};
-ghost use Rattle.file_ops.specs.Rows.{new_row};
-ghost use Rattle.file_ops.specs.Lists.{lists_of};
-ghost use Rattle.suite_content.specs.declared.content.Content.TheVariants.{Names};
-ghost use Rattle.file_exec.specs.declared.log.Edit.TheVariants.{SetContent, Make};
 ghost use Rattle.suite_prefix.specs.declared.lock_mode.LockMode.TheVariants.{Exclusive};
 ghost use Rattle.file_exec.specs.Courses.{set};
 ghost use Rattle.file_exec.specs.Known.{is_held, known_of};
-ghost use Rattle.file_exec.specs.Operations.{bytes_read, names_listed, list_shown, votes_shown, bytes_written, list_set, votes_set, made, dropped, operation};
+ghost use Rattle.file_exec.specs.Operations.{bytes_read, names_listed, list_shown, votes_shown, bytes_written, list_set, dropped};
 ghost use Rattle.file_exec.specs.code.Steps.{Answers, Runs, Sees, set_both, unused};
+ghost use Rattle.file_exec.specs.code.Acting.{Acts, LeadsFor, operation_at, votes_set_for, made_for, name_edit, row_edit, row_for};
 ghost use Rattle.file_exec.specs.code.Ways.{LeadsTo};
 ghost use Rattle.file_exec.specs.Reaching.{folders_in, walked};
 
@@ -201,10 +198,10 @@ fn write(
     bytes: &FileBytes,
     way: &mut Way,
 ) -> Result<Answer, Stop>
-    requires { LeadsTo transaction.known.now.suites log.old transaction.caller.now names.now way.old }
-    ensures answer { Runs (λ answer. answer) result transaction.entry.known.now.suites log.old log.new (bytes_written transaction.entry.caller.now names.now bytes.now) }
+    requires { LeadsFor transaction log.old names.now way.old }
+    ensures answer { Acts result transaction.entry log.old log.new (bytes_written transaction.entry.caller.now names.now bytes.now) }
     ensures kept { OnErr result (log.new ≡ log.old) }
-    ensures way { LeadsTo transaction.entry.known.now.suites log.old transaction.entry.caller.now names.now way.new }
+    ensures way { LeadsFor transaction.entry log.old names.now way.new }
 {
     let Transaction { known, caller, .. } = transaction;
     require_fit(bytes)?;
@@ -225,10 +222,10 @@ fn set_acl(
     acl: &Lists,
     way: &mut Way,
 ) -> Result<Answer, Stop>
-    requires { LeadsTo transaction.known.now.suites log.old transaction.caller.now names.now way.old }
-    ensures answer { Runs (λ answer. answer) result transaction.entry.known.now.suites log.old log.new (list_set transaction.entry.caller.now names.now acl.now) }
+    requires { LeadsFor transaction log.old names.now way.old }
+    ensures answer { Acts result transaction.entry log.old log.new (list_set transaction.entry.caller.now names.now acl.now) }
     ensures kept { OnErr result (log.new ≡ log.old) }
-    ensures way { LeadsTo transaction.entry.known.now.suites log.old transaction.entry.caller.now names.now way.new }
+    ensures way { LeadsFor transaction.entry log.old names.now way.new }
 {
     let Transaction { known, caller, .. } = transaction;
     let place = View { known, log }.owned(caller, names, way)?;
@@ -248,10 +245,10 @@ fn set_votes(
     given: &Votes,
     way: &mut Way,
 ) -> Result<Answer, Stop>
-    requires { LeadsTo transaction.known.now.suites log.old transaction.caller.now names.now way.old }
-    ensures answer { Runs (λ answer. answer) result transaction.entry.known.now.suites log.old log.new (votes_set transaction.entry.known.now.service transaction.entry.caller.now names.now given.now) }
+    requires { LeadsFor transaction log.old names.now way.old }
+    ensures answer { Acts result transaction.entry log.old log.new (votes_set_for transaction.entry names.now given.now) }
     ensures kept { OnErr result (log.new ≡ log.old) }
-    ensures way { LeadsTo transaction.entry.known.now.suites log.old transaction.entry.caller.now names.now way.new }
+    ensures way { LeadsFor transaction.entry log.old names.now way.new }
 {
     let Transaction { known, caller, .. } = transaction;
     let service = known.service();
@@ -281,10 +278,10 @@ fn make(
     new: New<'_>,
     way: &mut Way,
 ) -> Result<Answer, Stop>
-    requires { LeadsTo transaction.known.now.suites log.old transaction.caller.now (folders_in (last_name names.now)) way.old }
-    ensures answer { Runs (λ answer. answer) result transaction.entry.known.now.suites log.old log.new (made transaction.entry.known.now.service new.entry.number transaction.entry.caller.now names.now new.entry.kind new.entry.init.now new.entry.given.now) }
+    requires { LeadsFor transaction log.old (folders_in (last_name names.now)) way.old }
+    ensures answer { Acts result transaction.entry log.old log.new (made_for transaction.entry names.now new.entry) }
     ensures kept { OnErr result (log.new ≡ log.old) }
-    ensures way { LeadsTo transaction.entry.known.now.suites log.old transaction.entry.caller.now (folders_in (last_name names.now)) way.new }
+    ensures way { LeadsFor transaction.entry log.old (folders_in (last_name names.now)) way.new }
 {
     let Transaction { known, caller, .. } = transaction;
     let (name, folders) = last_name(names)?;
@@ -308,8 +305,8 @@ fn edits_of_new(
     new: New<'_>,
     votes: Votes,
 ) -> Result<((u64, Edit), (u64, Edit)), AllocError>
-    ensures named { IfOk result (λ edits. edits.0 ≡ (parent.entry.place.suite, SetContent (Names (with_name parent.entry.names.now name.now new.entry.number)))) }
-    ensures made { IfOk result (λ edits. edits.1 ≡ (new.entry.number, Make (new_row new.entry.kind (lists_of new.entry.kind parent.entry.place.row.acl.now.default new.entry.init.now) votes transaction.entry.caller.now))) }
+    ensures named { IfOk result (λ edits. edits.0 ≡ name_edit parent.entry name.now new.entry.number) }
+    ensures made { IfOk result (λ edits. edits.1 ≡ row_edit transaction.entry parent.entry new.entry votes) }
 {
     let row = new_row(transaction, &parent.place.row.acl.default, new, votes)?;
     let entries = with_name(parent.names, name, new.number)?;
@@ -329,7 +326,7 @@ fn new_row(
     new: New<'_>,
     votes: Votes,
 ) -> Result<KnownRow, AllocError>
-    ensures { IfOk result (λ row. row ≡ new_row new.entry.kind (lists_of new.entry.kind default.now new.entry.init.now) votes transaction.entry.caller.now) }
+    ensures { IfOk result (λ row. row ≡ row_for transaction.entry default.now new.entry votes) }
 {
     let Transaction { alloc, caller, .. } = transaction;
     let acl = new.init.lists(alloc, new.kind, default)?;
@@ -365,10 +362,10 @@ fn drop(
     names: &[Name],
     way: &mut Way,
 ) -> Result<Answer, Stop>
-    requires { LeadsTo transaction.known.now.suites log.old transaction.caller.now (folders_in (last_name names.now)) way.old }
-    ensures answer { Runs (λ answer. answer) result transaction.entry.known.now.suites log.old log.new (dropped transaction.entry.caller.now names.now) }
+    requires { LeadsFor transaction log.old (folders_in (last_name names.now)) way.old }
+    ensures answer { Acts result transaction.entry log.old log.new (dropped transaction.entry.caller.now names.now) }
     ensures kept { OnErr result (log.new ≡ log.old) }
-    ensures way { LeadsTo transaction.entry.known.now.suites log.old transaction.entry.caller.now (folders_in (last_name names.now)) way.new }
+    ensures way { LeadsFor transaction.entry log.old (folders_in (last_name names.now)) way.new }
 {
     let Transaction { known, caller, .. } = transaction;
     let (name, folders) = last_name(names)?;
@@ -396,10 +393,10 @@ pub(crate) fn operate(
     way: &mut Way,
 ) -> Result<Answer, Stop>
     requires number { transaction.t < 2 ^ 60 }
-    requires way { LeadsTo transaction.known.now.suites log.old transaction.caller.now (walked op.now) way.old }
-    ensures answer { Runs (λ answer. answer) result transaction.entry.known.now.suites log.old log.new (operation transaction.entry.known.now.service transaction.entry.t at transaction.entry.caller.now op.now) }
+    requires way { LeadsFor transaction log.old (walked op.now) way.old }
+    ensures answer { Acts result transaction.entry log.old log.new (operation_at transaction.entry at op.now) }
     ensures kept { OnErr result (log.new ≡ log.old) }
-    ensures way { LeadsTo transaction.entry.known.now.suites log.old transaction.entry.caller.now (walked op.now) way.new }
+    ensures way { LeadsFor transaction.entry log.old (walked op.now) way.new }
 {
     let names = op.path.names().ok_or(Why::BadPath)?;
     let Transaction {

@@ -6,7 +6,7 @@ ghost use Rattle.file_ops.specs.Transactions.{is_miscounted, max_operations};
 ghost use Rattle.file_ops.specs.declared.refusal.Why.TheVariants as why;
 ghost use Rattle.file_exec.specs.Changes.{answered, changes_of};
 ghost use Rattle.file_exec.specs.code.Ends.{end_of};
-ghost use Rattle.file_exec.specs.code.Ways.{reached_of, PlaysTo};
+ghost use Rattle.file_exec.specs.code.Ways.{PlaysTo, IsReachedBy, GivesFirst};
 ghost use Rattle.file_exec.specs.Known.{exec_of, is_given};
 ghost use Rattle.file_exec.specs.Reaching.{IsReached, unbegun, is_need};
 ghost use Rattle.file_exec.specs.declared.executor.Outcome.TheVariants as told;
@@ -20,8 +20,7 @@ use crate::progress::{Progress, Stage, Way};
 use crate::stop::Stop;
 use acl_core::Caller;
 use file_ops::{Answers, MAX_OPERATIONS, Op, Refusal, Why};
-use std::alloc::{AllocError, Global};
-use std::mem;
+use std::alloc::AllocError;
 
 /// What a transaction comes to on what is known.
 #[derive(Drop)]
@@ -34,35 +33,11 @@ pub enum Outcome {
     Refused(Refusal),
 }
 
-/// Plays the transaction `t` on what is known, up to what it needs and is not known, or to its end.
-/// Nothing that is known is changed. Lists, bytes and names are shared and not copied, but for a folder
-/// in which a name is put or dropped: its names are copied once for each such operation, in each run.
+/// Plays the transaction `t` on what is known, up to what it needs and is not known, or to its end. It goes
+/// on from where it came when less was known, and keeps how far it came now; where it needs nothing more,
+/// nothing is kept. Nothing that is known is changed. Lists, bytes and names are shared and not copied, but
+/// for a folder in which a name is put or dropped: its names are copied once for each such operation.
 pub fn exec(
-    alloc: Global,
-    known: &Known<'_>,
-    t: u64,
-    caller: &Caller,
-    ops: &[Op],
-) -> Result<Outcome, AllocError>
-    requires { t < 2 ^ 60 }
-    ensures answer { IfOk result (λ outcome. outcome ≡ answered known.now.suites (exec_of known.now.service known.now.suites t caller.now ops.now)) }
-
-    // No memory is asked for where the operations are too few or too many.
-    ensures counted { is_miscounted ops.now ≡ true → result ≡ Ok (told.Refused (record { op = 0; why = why.OpCount })) }
-
-    // Nor before the first operation is done: what it needs, and its refusal, is told however little
-    // memory there is.
-    ensures first { OnErr result (is_given (exec_of known.now.service known.now.suites t caller.now (take 1 ops.now)) ≡ true) }
-{
-    unbegun_is_reached();
-    let mut progress = Progress::new(alloc);
-    exec_on(alloc, known, t, caller, ops, &mut progress)
-}
-
-/// Goes on with the transaction `t` from where it came when less was known. It comes to what [`exec`] does,
-/// and keeps how far it came now; where it needs nothing more, nothing is kept.
-pub fn exec_on(
-    alloc: Global,
     known: &Known<'_>,
     t: u64,
     caller: &Caller,
@@ -75,36 +50,35 @@ pub fn exec_on(
     ensures reached { IsReached known.now.service known.now.suites t caller.now ops.now progress.new }
     ensures ended { IfOk result (λ outcome. is_need outcome ≡ false → progress.new ≡ unbegun) }
     ensures err { OnErr result (progress.new ≡ unbegun) }
+
+    // No memory is asked for where the operations are too few or too many.
     ensures counted { is_miscounted ops.now ≡ true → result ≡ Ok (told.Refused (record { op = 0; why = why.OpCount })) }
+
+    // Nor before the first operation is done: what it needs, and its refusal, is told however little
+    // memory there is.
     ensures first { OnErr result (is_given (exec_of known.now.service known.now.suites t caller.now (take 1 ops.now)) ≡ true) }
 {
+    unbegun_is_reached();
+    let mut stage = progress.take();
     if ops.is_empty() || ops.len() > MAX_OPERATIONS {
-        *progress = Progress::new(alloc);
         return Ok(Outcome::Refused(Refusal {
             op: 0,
             why: Why::OpCount,
         }));
     }
     let transaction = Transaction {
-        alloc,
+        alloc: stage.alloc(),
         known,
         t,
         caller,
     };
-    match play_on(transaction, ops, &mut progress.stage) {
-        Ok(Some(Outcome::Need(need))) => Ok(Outcome::Need(need)),
-        Ok(Some(outcome)) => {
-            *progress = Progress::new(alloc);
-            Ok(outcome)
+    match play_on(transaction, ops, &mut stage)? {
+        Some(Outcome::Need(need)) => {
+            progress.stage = stage;
+            Ok(Outcome::Need(need))
         }
-        Ok(None) => {
-            let stage = mem::replace(&mut progress.stage, Stage::new(alloc));
-            finish(alloc, known, stage)
-        }
-        Err(refused) => {
-            *progress = Progress::new(alloc);
-            Err(refused)
-        }
+        Some(outcome) => Ok(outcome),
+        None => finish(transaction, stage),
     }
 }
 
@@ -116,10 +90,10 @@ fn play_on(
 ) -> Result<Option<Outcome>, AllocError>
     requires number { transaction.t < 2 ^ 60 }
     requires few { length ops.now ≤ max_operations }
-    requires reached { IsReached transaction.known.now.service transaction.known.now.suites transaction.t transaction.caller.now ops.now (reached_of stage.old) }
+    requires reached { IsReachedBy transaction ops.now stage.old }
     ensures ends { IfOk result (λ outcome. PlaysTo transaction.entry ops.now outcome stage.new) }
-    ensures reached { IfOk result (λ outcome. IsReached transaction.entry.known.now.service transaction.entry.known.now.suites transaction.entry.t transaction.entry.caller.now ops.now (reached_of stage.new)) }
-    ensures first { OnErr result (is_given (exec_of transaction.entry.known.now.service transaction.entry.known.now.suites transaction.entry.t transaction.entry.caller.now (take 1 ops.now)) ≡ true) }
+    ensures reached { IfOk result (λ outcome. IsReachedBy transaction.entry ops.now stage.new) }
+    ensures first { OnErr result (GivesFirst transaction.entry ops.now) }
 {
     while usize::from(stage.at) < ops.len() {
         let at = stage.at;
@@ -138,12 +112,12 @@ fn play_on(
 }
 
 /// What a transaction comes to, all of whose operations were done.
-fn finish(alloc: Global, known: &Known<'_>, stage: Stage) -> Result<Outcome, AllocError>
-    ensures { IfOk result (λ outcome. outcome ≡ told.Done stage.answers.items (changes_of known.now.suites stage.log)) }
+fn finish(transaction: Transaction<'_, '_>, stage: Stage) -> Result<Outcome, AllocError>
+    ensures { IfOk result (λ outcome. outcome ≡ told.Done stage.answers.items (changes_of transaction.entry.known.now.suites stage.log)) }
 {
     let Stage { answers, log, .. } = stage;
     let answers = Answers::from_vec(answers)?;
-    let changes = Changes::of(alloc, known, &log)?;
+    let changes = Changes::of(transaction.alloc, transaction.known, &log)?;
     Ok(Outcome::Done(answers, changes))
 }
 

@@ -1,13 +1,12 @@
 //! What is known of the suites that a transaction holds.
 
-ghost use Rattle.std.specs.Prelude.{◌≡◌, [], Ok, OnOk, OnErr, IfSome, option_map};
+ghost use Rattle.std.specs.Prelude.{◌≡◌, IfSome, option_map};
 ghost use Rattle.std.specs.Option.{option_copied};
 ghost use Rattle.file_exec.specs.code.Overlay.{seen_row, is_whole};
 
 use crate::seen::{Seen, SeenContent};
 use file_ops::Service;
 use sorted_map::RoomyMap;
-use std::alloc::{AllocError, Global};
 use std::marker::Model;
 use suite_content::{Content, Kind};
 use suite_prefix::{LockMode, Prefix, PrefixKind};
@@ -31,7 +30,7 @@ impl<'a> Model for KnownSuite<'a> {
 }
 
 impl<'a> KnownSuite<'a> {
-    ghost use Rattle.suite_prefix.specs.LockModes.{serves, stronger};
+    ghost use Rattle.suite_prefix.specs.LockModes.{serves};
     ghost use Rattle.file_exec.specs.Known.{opened};
     ghost use Rattle.file_exec.specs.code.KnownFields.{known_so};
     ghost use Rattle.file_exec.specs.Reaching.{takes};
@@ -53,13 +52,6 @@ impl<'a> KnownSuite<'a> {
         ensures { self.new ≡ opened self.old content.now }
     {
         self.content = Some(content);
-    }
-
-    /// It is held in the stronger one of this mode and its own.
-    fn hold(&mut self, mode: LockMode)
-        ensures { self.new ≡ record self.old { mode = stronger self.old.mode mode } }
-    {
-        self.mode = self.mode.stronger(mode);
     }
 
     /// Whether it is held in this mode or a stronger one.
@@ -132,47 +124,14 @@ impl<'a> Model for Known<'a> {
 }
 
 impl<'a> Known<'a> {
-    ghost use Rattle.std.specs.Ordering.{nat_cmp};
-    ghost use Rattle.sorted_map.specs.SortedMap.{IsOrdered};
-    ghost use Rattle.file_exec.specs.Known.{known_of, held_suite, opened_suite, is_held, known_rows};
+    ghost use Rattle.file_exec.specs.Known.{known_of, opened_suite, is_held, known_rows};
     ghost use Rattle.file_exec.specs.Reaching.{takes};
 
-    /// Nothing is known yet but the service.
-    pub fn new(alloc: Global, service: &'a Service) -> Known<'a>
-        ensures { result ≡ record { service = service.now; suites = [] } }
+    /// What is known of these suites.
+    pub fn of(service: &'a Service, suites: RoomyMap<u64, KnownSuite<'a>>) -> Known<'a>
+        ensures { result ≡ record { service = service.now; suites = suites.entry.pairs } }
     {
-        Known {
-            service,
-            suites: RoomyMap::new(alloc),
-        }
-    }
-
-    /// What is known of these suites, which rise.
-    pub fn of(service: &'a Service, suites: Vec<(u64, KnownSuite<'a>)>) -> Known<'a>
-        requires { IsOrdered nat_cmp suites.items }
-        ensures { result ≡ record { service = service.now; suites = suites.entry.items } }
-    {
-        Known {
-            service,
-            suites: RoomyMap::from_ordered(suites),
-        }
-    }
-
-    /// A suite is held in this mode from now on, or in the stronger one of this and its mode before. Of
-    /// a suite that was not held the prefix is known from now on; a suite that was keeps what was known
-    /// of it first.
-    pub fn hold(&mut self, suite: u64, mode: LockMode, prefix: &'a Prefix) -> Result<(), AllocError>
-        ensures service { self.new.service ≡ self.old.service }
-        ensures ok { OnOk result (self.new.suites ≡ held_suite self.old.suites suite mode prefix.now) }
-        ensures err { OnErr result (self.new ≡ self.old) }
-    {
-        if let Some(held) = self.suites.get_mut(&suite) {
-            held.hold(mode);
-            return Ok(());
-        }
-        let held = KnownSuite::new(mode, prefix, None);
-        self.suites.insert(suite, held)?;
-        Ok(())
+        Known { service, suites }
     }
 
     /// The content of a suite that is held is known from now on.

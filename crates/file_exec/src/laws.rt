@@ -1,7 +1,8 @@
 //! What holds of the executor.
 
 ghost use Rattle.file_exec.specs.Known.{GoesAsOnTheTable, IsTheTransaction, SetsWhatIsHeld, NeedsWhatIsUnmet};
-ghost use Rattle.file_exec.specs.Laws.{DoneIsTheTables, ChangesBySuite, ChangesAreHeld, UnsetVotesStay, ChangesLeadOn, MoreKnownChangesNothing, AMetNeedIsProgress, HoldingMeets, OpeningMeets};
+ghost use Rattle.file_exec.specs.Laws.{DoneIsTheTables, ChangesBySuite, ChangesAreHeld, UnsetVotesStay, ChangesLeadOn, MoreKnownChangesNothing};
+ghost use Rattle.file_exec.specs.Laws.{AMetNeedIsProgress, HoldingMeets, OpeningMeets};
 ghost use Rattle.file_exec.specs.Reaching.{UnbegunIsReached, ReachedStays, TakingTellsMore};
 ghost use Rattle.file_exec.specs.Runs.{ExecRuns};
 

@@ -8,6 +8,7 @@ use crate::log::Log;
 use file_ops::Answer;
 use std::alloc::Global;
 use std::marker::Model;
+use std::mem;
 
 /// The number of the root folder.
 const ROOT: u64 = 0;
@@ -54,10 +55,15 @@ impl Stage {
             way: Way::new(),
         }
     }
+
+    /// Where its memory is from.
+    pub(crate) fn alloc(&self) -> Global {
+        *self.answers.allocator()
+    }
 }
 
 /// How far a transaction came on what was known. It can go on from there once more is known: see
-/// [`exec_on`](crate::exec_on).
+/// [`exec`](crate::exec).
 #[derive(Drop)]
 pub struct Progress {
     pub(crate) stage: Stage,
@@ -80,5 +86,13 @@ impl Progress {
         Progress {
             stage: Stage::new(alloc),
         }
+    }
+    /// How far it came. Nothing is kept.
+    pub(crate) fn take(&mut self) -> Stage
+        ensures taken { reached_of result ≡ self.old }
+        ensures left { self.new ≡ unbegun }
+    {
+        let alloc = self.stage.alloc();
+        mem::replace(&mut self.stage, Stage::new(alloc))
     }
 }

@@ -11,13 +11,14 @@ use crate::fixtures::{content, folder_of, lists, prefix, votes};
 use crate::operations::{Asked, read_asked};
 use crate::outcomes::{answers_words, refusal_words};
 use file_exec::{
-    Change, Known, Need, Outcome, Progress, a_met_need_is_progress, changes_are_held,
-    changes_by_suite, changes_lead_on, done_is_the_tables, exec, exec_on, exec_runs,
-    goes_as_on_the_table, holding_meets, is_the_transaction, more_known_changes_nothing,
-    needs_what_is_unmet, opening_meets, reached_stays, sets_what_is_held, taking_tells_more,
-    unbegun_is_reached, unset_votes_stay,
+    Change, Known, KnownSuite, Need, Outcome, Progress, a_met_need_is_progress, changes_are_held,
+    changes_by_suite, changes_lead_on, done_is_the_tables, exec, exec_runs, goes_as_on_the_table,
+    holding_meets, is_the_transaction, more_known_changes_nothing, needs_what_is_unmet,
+    opening_meets, reached_stays, sets_what_is_held, taking_tells_more, unbegun_is_reached,
+    unset_votes_stay,
 };
 use file_ops::Service;
+use sorted_map::RoomyMap;
 use std::process::Abort;
 use suite_content::{Content, Kind};
 use suite_prefix::{LockMode, Prefix, PrefixKind};
@@ -113,33 +114,41 @@ fn open<'a>(rt: &(impl Abort + AllocGlobal), known: &mut Known<'a>, suite: &'a S
     holds(rt, !known.takes(number, &suite.content), "once more");
 }
 
-/// Holds a suite, and once more where memory was refused.
-fn hold<'a>(
-    rt: &impl Abort,
-    known: &mut Known<'a>,
-    number: u64,
-    mode: LockMode,
-    prefix: &'a Prefix,
-) {
-    if known.hold(number, mode, prefix).is_err() {
-        holds(rt, known.hold(number, mode, prefix).is_ok(), "memory");
-    }
+/// The suites that are held.
+type HeldSuites<'a> = RoomyMap<u64, KnownSuite<'a>>;
+
+/// Holds a suite. The mode before goes, if it was held.
+fn hold<'a>(rt: &impl Abort, held: &mut HeldSuites<'a>, number: u64, suite: KnownSuite<'a>) {
+    had(rt, held.insert(number, suite));
 }
 
-/// Meets a need from the small service.
-fn meet<'a>(
-    rt: &(impl Abort + AllocGlobal),
-    suites: &'a [Small],
-    known: &mut Known<'a>,
-    need: Need,
-) {
-    let (Need::Hold(number, _) | Need::Know(number)) = need;
+/// A suite of the small service.
+fn small<'a>(rt: &impl Abort, suites: &'a [Small], number: u64) -> &'a Small {
     let suite = suites.iter().find(|suite| suite.number == number);
-    let suite = suite.expect(rt, "a suite");
-    match need {
-        Need::Hold(_, mode) => hold(rt, known, number, mode, &suite.prefix),
-        Need::Know(_) => open(rt, known, suite),
+    suite.expect(rt, "a suite")
+}
+
+/// What is known of the small service once these needs were met.
+fn known_after<'a>(
+    rt: &(impl Abort + AllocGlobal),
+    service: &'a Service,
+    suites: &'a [Small],
+    needs: &[Need],
+) -> Known<'a> {
+    let mut held = RoomyMap::new(rt.alloc());
+    for need in needs {
+        if let Need::Hold(number, mode) = need {
+            let prefix = &small(rt, suites, *number).prefix;
+            hold(rt, &mut held, *number, KnownSuite::new(*mode, prefix, None));
+        }
     }
+    let mut known = Known::of(service, held);
+    for need in needs {
+        if let Need::Know(number) = need {
+            open(rt, &mut known, small(rt, suites, *number));
+        }
+    }
+    known
 }
 
 /// S, X and C are a suite held shared, held exclusively, and its content.
@@ -177,18 +186,9 @@ fn end_words(rt: &(impl Abort + AllocGlobal), outcome: &Outcome) -> String {
     }
 }
 
-/// Executes from nothing, and once more where memory was refused.
-fn begun(rt: &(impl Abort + AllocGlobal), known: &Known<'_>, t: u16, asked: &Asked) -> Outcome {
-    let (alloc, t) = (rt.alloc(), u64::from(t));
-    match exec(alloc, known, t, &asked.caller, &asked.ops) {
-        Ok(outcome) => outcome,
-        Err(_) => had(rt, exec(alloc, known, t, &asked.caller, &asked.ops)),
-    }
-}
-
 /// Goes on from where it came, and once more where memory was refused.
 fn gone_on(
-    rt: &(impl Abort + AllocGlobal),
+    rt: &impl Abort,
     known: &Known<'_>,
     t: u16,
     asked: &Asked,
@@ -197,41 +197,36 @@ fn gone_on(
     requires { IsReached known.now.service known.now.suites t asked.now.caller asked.now.ops.items progress.old }
     ensures { IsReached known.now.service known.now.suites t asked.now.caller asked.now.ops.items progress.new }
 {
-    let (alloc, t) = (rt.alloc(), u64::from(t));
-    match exec_on(alloc, known, t, &asked.caller, &asked.ops, progress) {
+    let t = u64::from(t);
+    match exec(known, t, &asked.caller, &asked.ops, progress) {
         Ok(outcome) => outcome,
-        Err(_) => had(
-            rt,
-            exec_on(alloc, known, t, &asked.caller, &asked.ops, progress),
-        ),
+        Err(_) => had(rt, exec(known, t, &asked.caller, &asked.ops, progress)),
     }
 }
 
-/// Executes. What goes on from nothing, and what then goes on from where it came, comes to the same.
+/// Executes from nothing. What then goes on from where it came comes to the same.
 fn executed(rt: &(impl Abort + AllocGlobal), known: &Known<'_>, t: u16, asked: &Asked) -> Outcome {
-    let outcome = begun(rt, known, t, asked);
-    let want = end_words(rt, &outcome);
     unbegun_is_reached();
     let mut progress = Progress::new(rt.alloc());
-    let first = gone_on(rt, known, t, asked, &mut progress);
-    tells(rt, end_words(rt, &first), want.as_str(), "gone on");
+    let outcome = gone_on(rt, known, t, asked, &mut progress);
     let again = gone_on(rt, known, t, asked, &mut progress);
-    tells(rt, end_words(rt, &again), want.as_str(), "gone on again");
+    let want = end_words(rt, &outcome);
+    tells(rt, end_words(rt, &again), want.as_str(), "gone on");
     outcome
 }
 
 /// Executes, and meets each need, which is added to a text. No transaction of the tests needs more than 20
 /// things.
-fn met(rt: &(impl Abort + AllocGlobal), asked: &Asked, needs: &mut String) -> Outcome {
+fn met(rt: &(impl Abort + AllocGlobal), asked: &Asked, words: &mut String) -> Outcome {
     let suites = small_service(rt);
     let service = service(rt);
-    let mut known = Known::new(rt.alloc(), &service);
-    let mut outcome = executed(rt, &known, 2, asked);
+    let mut needs = Vec::new(rt.alloc());
+    let mut outcome = executed(rt, &known_after(rt, &service, &suites, &needs), 2, asked);
     for _ in 0..20 {
         if let Outcome::Need(need) = outcome {
-            push(rt, needs, need_words(rt, need).as_str());
-            meet(rt, &suites, &mut known, need);
-            outcome = executed(rt, &known, 2, asked);
+            push(rt, words, need_words(rt, need).as_str());
+            add(rt, &mut needs, need);
+            outcome = executed(rt, &known_after(rt, &service, &suites, &needs), 2, asked);
         }
     }
     outcome

@@ -9,6 +9,7 @@ ghost use Rattle.txn_core.specs.code.Seeing.{seen_in, known_by, sight_of};
 use crate::ground::Ground;
 use crate::seen::{Seen, Sight};
 use file_exec::{Known, KnownSuite};
+use sorted_map::RoomyMap;
 use std::alloc::{AllocError, Global};
 
 /// What is known of the suites that had a quorum. It refers to what they have.
@@ -24,6 +25,7 @@ pub(crate) fn known_of<'a>(
     for (number, suite) in seen.suites.as_slice() {
         tell(&mut known, *number, seen.at(*number, suite))?;
     }
+    let known = RoomyMap::from_ordered(known);
     Ok(Known::of(ground.as_service(), known))
 }
 

@@ -18,7 +18,7 @@ use crate::knowing::known_of;
 use crate::seen::Seen;
 use crate::shelf::Shelf;
 use crate::suites::Suite;
-use file_exec::{Need, Outcome, Progress, exec_on};
+use file_exec::{Need, Outcome, Progress, exec};
 use std::alloc::AllocError;
 use suite_content::Content;
 use suite_prefix::SharedPrefix;
@@ -77,14 +77,7 @@ impl<'a> Execution<'a> {
         }
         let mut opened = Vec::new(self.alloc);
         loop {
-            let outcome = exec_on(
-                self.alloc,
-                &known,
-                task.t,
-                &task.caller,
-                task.ops.as_slice(),
-                progress,
-            )?;
+            let outcome = exec(&known, task.t, &task.caller, task.ops.as_slice(), progress)?;
             if opened.len() == seen.len() {
                 return Ok((opened, outcome));
             }

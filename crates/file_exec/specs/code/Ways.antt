@@ -1,5 +1,5 @@
 -- How far a transaction came, as the code keeps it.
-use Rattle.std.specs.Prelude.{◌≡◌, ℕ, List, [], Option, Some, None, Ok}
+use Rattle.std.specs.Prelude.{◌≡◌, ℕ, true, List, [], take, Option, Some, None, Ok}
 use Rattle.acl_core.specs.Identity.{Identity}
 use Rattle.file_ops.specs.declared.operation.Op.{Op}
 use Rattle.file_exec.specs.declared.act.Transaction.{Transaction}
@@ -8,10 +8,10 @@ use Rattle.file_exec.specs.declared.progress.Stage.{Stage}
 use Rattle.file_exec.specs.declared.progress.Way.{Way}
 use Rattle.file_exec.specs.Following.{Edits}
 use Rattle.file_exec.specs.Changes.{answered}
-use Rattle.file_exec.specs.Known.{Known, Done}
+use Rattle.file_exec.specs.Known.{Known, Done, is_given, exec_of}
 use Rattle.file_exec.specs.Operations.{play}
 use Rattle.file_exec.specs.Runs.{run}
-use Rattle.file_exec.specs.Reaching.{Reached, Leads}
+use Rattle.file_exec.specs.Reaching.{Reached, Leads, IsReached}
 
 abbrev pub reached_of : Stage → Reached
 reached_of stage = record { at = stage.at; answers = stage.answers.items; edits = stage.log; suite = stage.way.suite; depth = stage.way.depth }
@@ -26,3 +26,11 @@ PlaysTo transaction ops (Some outcome) stage =
     outcome ≡ answered transaction.known.now.suites (run transaction.known.now.suites [] (play transaction.known.now.service [] transaction.t 0 transaction.caller.now ops))
 PlaysTo transaction ops None stage =
     run transaction.known.now.suites [] (play transaction.known.now.service [] transaction.t 0 transaction.caller.now ops) ≡ Done (Ok (record { given = stage.answers.items; edits = stage.log }))
+
+-- the stage is how far it came
+abbrev pub IsReachedBy : Transaction → List Op → Stage → Type 0
+IsReachedBy transaction ops stage = IsReached transaction.known.now.service transaction.known.now.suites transaction.t transaction.caller.now ops (reached_of stage)
+
+-- its first operation alone gives something
+abbrev pub GivesFirst : Transaction → List Op → Type 0
+GivesFirst transaction ops = is_given (exec_of transaction.known.now.service transaction.known.now.suites transaction.t transaction.caller.now (take 1 ops)) ≡ true

@@ -4,8 +4,9 @@
 use super::{Small, absent, end_words, executed, hold, made, service};
 use crate::checks::{add, had, parts, same};
 use crate::operations::read_asked;
-use file_exec::{Change, Changes, Known, Outcome};
+use file_exec::{Change, Changes, Known, KnownSuite, Outcome};
 use file_ops::{Service, made_number};
+use sorted_map::RoomyMap;
 use std::process::Abort;
 use suite_content::{Content, Kind};
 use suite_prefix::{LockMode, Prefix, PrefixKind};
@@ -47,15 +48,13 @@ fn known_of<'a>(
     service: &'a Service,
     table: &'a [Held],
 ) -> Known<'a> {
-    let mut known = Known::new(rt.alloc(), service);
+    let mut held = RoomyMap::new(rt.alloc());
     for Held { suite, is_made } in table {
-        let number = suite.number;
-        hold(rt, &mut known, number, LockMode::Exclusive, &suite.prefix);
-        if *is_made {
-            known.open(number, &suite.content);
-        }
+        let content = is_made.then_some(&suite.content);
+        let known = KnownSuite::new(LockMode::Exclusive, &suite.prefix, content);
+        hold(rt, &mut held, suite.number, known);
     }
-    known
+    Known::of(service, held)
 }
 
 /// A suite after a change.

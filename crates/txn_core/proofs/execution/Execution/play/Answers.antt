@@ -36,8 +36,8 @@ loop-opened-init c =
       ],
     )
 
-pub exec_on-requires-clause-reached : goal.exec_on-requires-clause-reached
-exec_on-requires-clause-reached c =
+pub exec-requires-clause-reached : goal.exec-requires-clause-reached
+exec-requires-clause-reached c =
     let known = c.loop-opened.known in
     subst (λ ops. IsReached known.service known.suites c.task.inside.t c.task.inside.caller ops c.loop-opened.progress) (sym c.as_slice.ensures)
     (subst (λ (task : Task). IsReachedOn known task c.loop-opened.progress) (sym c.task.view_is) c.loop-opened.invariant.1)
@@ -62,9 +62,9 @@ loop-opened-preserved c =
     let here : c.len.result ≡ length c.loop-opened.opened.items = omega (arith, c.len.ensures, c.loop-opened.opened.ok.0) in
     let short : length c.loop-opened.opened.items ≡ length (seen_in c.args.seen) → ⊥ =
     λ same. c.if-len.false (here ∙ same ∙ sym c.len-in-loop-opened.ensures) in
-    let reaches : IsReachedOn known c.args.self.task.now c.exec_on.new.progress =
-    subst (λ (task : Task). IsReachedOn known task c.exec_on.new.progress) c.task.view_is
-    (subst (λ ops. IsReached known.service known.suites c.task.inside.t c.task.inside.caller ops c.exec_on.new.progress) c.as_slice.ensures c.in_ok-outcome.ensures.reached) in (
+    let reaches : IsReachedOn known c.args.self.task.now c.exec.new.progress =
+    subst (λ (task : Task). IsReachedOn known task c.exec.new.progress) c.task.view_is
+    (subst (λ ops. IsReached known.service known.suites c.task.inside.t c.task.inside.caller ops c.exec.new.progress) c.as_slice.ensures c.in_ok-outcome.ensures.reached) in (
       playing_more (fixed_in c.args.self c.args.shelf.cache.now) c.args.self.task.now (seen_on c.args.shelf (seen_in c.args.seen)) c.loop-opened.opened.items known c.loop-opened.invariant.0
           c.in_ok-outcome.outcome answer (c.in-Some.number, c.in-Some.content.now) (sym c.to_open.ensures ∙ ap named c.in-Some.is) (learned_ordered c.args.seen.suites.now.pairs c.args.seen.news.now c.in_ok-known.ensures.ordered)
           short c.open.new.self c.open.ensures.service c.open.ensures.suites _
@@ -73,15 +73,15 @@ loop-opened-preserved c =
         | then-not-takes w ↦ unbegun_on c.open.new.self c.args.self.task.now c.if-not-takes.progress (w.progress-is ∙ w.new-then-not-takes.ensures)
         | else-not-takes w ↦
             subst (IsReachedOn c.open.new.self c.args.self.task.now) (sym w.progress-is)
-            (reached_opened known c.open.new.self c.args.self.task.now c.exec_on.new.progress c.in-Some.number c.in-Some.content.now c.open.ensures.service c.open.ensures.suites (sym c.takes.ensures ∙ w.if-not-takes.false) reaches)
+            (reached_opened known c.open.new.self c.args.self.task.now c.exec.new.progress c.in-Some.number c.in-Some.content.now c.open.ensures.service c.open.ensures.suites (sym c.takes.ensures ∙ w.if-not-takes.false) reaches)
       ],
     )
 
 pub returns-in_default-clause-reached : goal.returns-in_default-clause-reached
 returns-in_default-clause-reached c =
     let known = c.loop-opened.known in
-    let reaches : IsReachedOn known c.args.self.task.now c.exec_on.new.progress =
-    subst (λ (task : Task). IsReachedOn known task c.exec_on.new.progress) c.task.view_is
-    (subst (λ ops. IsReached known.service known.suites c.task.inside.t c.task.inside.caller ops c.exec_on.new.progress) c.as_slice.ensures c.in_ok-outcome.ensures.reached) in
-    reached_as known c.args.self.ground.now (opened_all c.args.self.task.now c.loop-opened.opened.items (seen_on c.args.shelf (seen_in c.args.seen))).suites c.args.self.task.now c.exec_on.new.progress
+    let reaches : IsReachedOn known c.args.self.task.now c.exec.new.progress =
+    subst (λ (task : Task). IsReachedOn known task c.exec.new.progress) c.task.view_is
+    (subst (λ ops. IsReached known.service known.suites c.task.inside.t c.task.inside.caller ops c.exec.new.progress) c.as_slice.ensures c.in_ok-outcome.ensures.reached) in
+    reached_as known c.args.self.ground.now (opened_all c.args.self.task.now c.loop-opened.opened.items (seen_on c.args.shelf (seen_in c.args.seen))).suites c.args.self.task.now c.exec.new.progress
     c.loop-opened.invariant.0.is_known reaches
