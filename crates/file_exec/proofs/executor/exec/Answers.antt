@@ -40,7 +40,9 @@ pub returns-in-Some-Need-clause-answer : goal.returns-in-Some-Need-clause-answer
 returns-in-Some-Need-clause-answer c =
     let known = c.args.known.now in
     let all = exec_plays known.suites known.service c.args.t c.args.caller.now c.args.ops.now (well_counted c.args.ops.now c.if-is_empty.ensures c.if-ops-gt-MAX_OPERATIONS.false) in
-    said (record { alloc = c.alloc.result; known = c.args.known; t = c.args.t; caller = c.args.caller }) c.args.ops.now c.play_on.new.stage (c.in-Some-Need.is ∙ ap (λ outcome. Some outcome) c.in-Some-Need.field-0-is) c.in_ok-need.ensures.ends ∙ ap (answered known.suites) (sym all)
+    let needs : told.Need c.in-Some-Need.need ≡ answered known.suites (exec_of known.service known.suites c.args.t c.args.caller.now c.args.ops.now) =
+    said (record { alloc = c.alloc.result; known = c.args.known; t = c.args.t; caller = c.args.caller }) c.args.ops.now c.play_on.new.stage (c.in-Some-Need.is ∙ ap (λ outcome. Some outcome) c.in-Some-Need.field-0-is) c.in_ok-need.ensures.ends ∙ ap (answered known.suites) (sym all) in
+    cc (c.in-Some-Need.need-is, needs)
 
 pub returns-in-Some : goal.returns-in-Some
 returns-in-Some c =
