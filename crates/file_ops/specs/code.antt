@@ -8,3 +8,4 @@ pub mod Found
 pub mod Done
 pub mod AnswerEquality
 pub mod RefusalEquality
+pub mod Acting

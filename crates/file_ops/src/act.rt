@@ -5,9 +5,10 @@ ghost use Rattle.acl_core.specs.declared.perms.Perms.{Perms};
 ghost use Rattle.file_ops.specs.declared.act.OpError.TheVariants as stopped;
 ghost use Rattle.file_ops.specs.Rows.{row_of, new_row};
 ghost use Rattle.file_ops.specs.code.Stored.{plain, plain_row};
-ghost use Rattle.file_ops.specs.Operations.{bytes_read, names_listed, list_shown, votes_shown, bytes_written, list_set, votes_set, made, dropped, has_names, operation};
+ghost use Rattle.file_ops.specs.Operations.{bytes_read, names_listed, list_shown, votes_shown, bytes_written, list_set, votes_set, dropped, has_names};
 ghost use Rattle.file_ops.specs.code.Restored.{Restores};
 ghost use Rattle.file_ops.specs.code.Done.{Does, Acts};
+ghost use Rattle.file_ops.specs.code.Acting.{made_for, operation_at};
 
 use crate::answer::Answer;
 use crate::edit::list_names;
@@ -175,17 +176,23 @@ fn set_votes(
     })
 }
 
-/// Puts a name in a folder, for a new file or folder of this number.
+/// What a new file or folder is to be.
+#[derive(Clone, Copy)]
+struct New<'a> {
+    number: u64,
+    kind: Kind,
+    init: &'a Init,
+    given: &'a Option<Votes>,
+}
+
+/// Puts a name in a folder, for a new file or folder.
 fn make(
     rows: &mut StoredRows,
     transaction: Transaction<'_>,
-    number: u64,
     names: &[Name],
-    kind: Kind,
-    init: &Init,
-    given: &Option<Votes>,
+    new: New<'_>,
 ) -> Result<Done, OpError>
-    ensures acts { Acts result rows.old rows.new (made transaction.entry.service.now (plain rows.old) number transaction.entry.caller.now names.now kind init.now given.now) }
+    ensures acts { Acts result rows.old rows.new (made_for transaction.entry (plain rows.old) names.now new.entry) }
     ensures err { OnErr result (Restores rows.old rows.new) }
 {
     let Transaction {
@@ -194,6 +201,12 @@ fn make(
         caller,
         ..
     } = transaction;
+    let New {
+        number,
+        kind,
+        init,
+        given,
+    } = new;
     let (name, folders) = last_name(names)?;
     let votes = service.votes_of_new(given)?;
     require_placed(kind, init.gives_default())?;
@@ -264,7 +277,7 @@ pub(crate) fn operate(
     op: &Op,
 ) -> Result<Done, OpError>
     requires { transaction.t < 2 ^ 60 }
-    ensures acts { Acts result rows.old rows.new (operation transaction.entry.service.now (plain rows.old) transaction.entry.t at transaction.entry.caller.now op.now) }
+    ensures acts { Acts result rows.old rows.new (operation_at transaction.entry (plain rows.old) at op.now) }
     ensures err { OnErr result (Restores rows.old rows.new) }
 {
     let names = op.path.names().ok_or(Why::BadPath)?;
@@ -284,8 +297,13 @@ pub(crate) fn operate(
         Action::SetVotes(votes) => return set_votes(rows, service, caller, names, votes),
         Action::Drop => return drop(rows, caller, names),
         Action::Make(kind, init, votes) => {
-            let number = made_number(t, at);
-            return make(rows, transaction, number, names, *kind, init, votes);
+            let new = New {
+                number: made_number(t, at),
+                kind: *kind,
+                init,
+                given: votes,
+            };
+            return make(rows, transaction, names, new);
         }
     };
     Ok(Done {

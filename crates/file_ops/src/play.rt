@@ -3,7 +3,8 @@
 ghost use Rattle.std.specs.Prelude.{◌+◌, ◌<◌, ◌≤◌, ◌^◌, length, OnErr};
 ghost use Rattle.file_ops.specs.code.Stored.{plain};
 ghost use Rattle.file_ops.specs.code.Restored.{Restores};
-ghost use Rattle.file_ops.specs.Transactions.{max_operations, play};
+ghost use Rattle.file_ops.specs.Transactions.{max_operations};
+ghost use Rattle.file_ops.specs.code.Acting.{played_from};
 ghost use Rattle.file_ops.specs.code.Done.{Plays, AnswersFirst};
 
 use crate::act::{Done, OpError, Transaction, operate};
@@ -24,8 +25,8 @@ pub(crate) fn play(
 ) -> Result<Answers, ApplyError>
     requires number { transaction.t < 2 ^ 60 }
     requires few { at + length ops.now ≤ max_operations }
-    ensures plays { Plays result rows.new (play transaction.entry.service.now (record { answers = answers.old; rows = plain rows.old }) transaction.entry.t at transaction.entry.caller.now ops.now) }
-    ensures first { AnswersFirst result at (play transaction.entry.service.now (record { answers = answers.old; rows = plain rows.old }) transaction.entry.t at transaction.entry.caller.now ops.now) }
+    ensures plays { Plays result rows.new (played_from transaction.entry (plain rows.old) answers.old at ops.now) }
+    ensures first { AnswersFirst result at (played_from transaction.entry (plain rows.old) answers.old at ops.now) }
     ensures err { OnErr result (Restores rows.old rows.new) }
 {
     let Some((op, later)) = ops.split_first() else {
