@@ -1,3 +1,4 @@
 pub mod Remaining
 pub mod Reading
 pub mod Tallied
+pub mod Keyed

@@ -11,6 +11,7 @@
 
 mod cut;
 mod item;
+mod keys;
 mod keyword;
 mod laws;
 mod names;

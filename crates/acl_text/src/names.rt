@@ -4,6 +4,7 @@ ghost use Rattle.std.specs.Prelude.{◌≡◌, [], ◌∷◌, ◌++◌, OnOk, On
 ghost use Rattle.acl_text.specs.Tables.{Tables, is_name, number_in, name_fault, fault_in};
 ghost use Rattle.acl_text.specs.declared.names.NameError.TheVariants.{Memory};
 
+use crate::keys::HashKeys;
 use crate::qualifier::{is_number, is_qualifier};
 use indexmap::IndexMap;
 use std::alloc::{AllocError, AllocFailed, Global};
@@ -52,7 +53,7 @@ fn is_name(name: &[u8]) -> bool
 /// Names, each with its number.
 #[derive(Drop)]
 pub(crate) struct NameTable {
-    numbers: IndexMap<Vec<u8>, u32>,
+    numbers: IndexMap<Vec<u8>, u32, HashKeys>,
 }
 
 impl Model for NameTable {
@@ -64,11 +65,11 @@ impl Model for NameTable {
 }
 
 impl NameTable {
-    fn new(alloc: Global) -> NameTable
+    fn new(alloc: Global, keys: HashKeys) -> NameTable
         ensures { result ≡ [] }
     {
         NameTable {
-            numbers: IndexMap::new(alloc),
+            numbers: IndexMap::with_hasher(alloc, keys),
         }
     }
 
@@ -123,13 +124,35 @@ impl Model for Names {
 }
 
 impl Names {
-    /// No names.
+    /// No names. Those that come are found by hashes with fixed keys: whoever picks them can make them collide, and
+    /// then a name costs as much as there are names.
     pub fn new(alloc: Global) -> Names
         ensures { result ≡ record { users = []; groups = [] } }
     {
+        Names::with_keys(alloc, HashKeys::fixed())
+    }
+
+    /// No names. Those that come are found by hashes whose keys are a digest of a text. Where that is all that the
+    /// names are taken from, nobody fits names to the keys one by one: with each the keys are others.
+    pub fn keyed_by(alloc: Global, text: &[u8]) -> Names
+        ensures { result ≡ record { users = []; groups = [] } }
+    {
+        Names::with_keys(alloc, HashKeys::of_text(text))
+    }
+
+    /// The same, where the names are taken from words.
+    pub fn keyed_by_words(alloc: Global, words: &[&str]) -> Names
+        ensures { result ≡ record { users = []; groups = [] } }
+    {
+        Names::with_keys(alloc, HashKeys::of_words(words))
+    }
+
+    fn with_keys(alloc: Global, keys: HashKeys) -> Names
+        ensures { result ≡ record { users = []; groups = [] } }
+    {
         Names {
-            users: NameTable::new(alloc),
-            groups: NameTable::new(alloc),
+            users: NameTable::new(alloc, keys),
+            groups: NameTable::new(alloc, keys),
             alloc,
         }
     }

@@ -16,7 +16,7 @@ use std::alloc::{AllocError, Global};
 pub(crate) fn read_names(alloc: Global, words: &[&str]) -> Result<Names, CommandError>
     ensures { GivesNames result (names_from 1 no_names (map (λ word. word.now) words.now)) }
 {
-    let mut names = Names::new(alloc);
+    let mut names = Names::keyed_by_words(alloc, words);
     let mut place = 1;
     for word in words {
         if !add_name(&mut names, word.as_bytes())? {

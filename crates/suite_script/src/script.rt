@@ -84,7 +84,7 @@ impl<'a> ScriptReader<'a> {
         ScriptReader {
             left: Lines::new(text),
             number: 1,
-            known: Names::new(alloc),
+            known: Names::keyed_by(alloc, text),
             has_begun: false,
         }
     }

@@ -1,0 +1,78 @@
+#!/usr/bin/env python3
+"""bench/names.py [PROGRAM]
+
+Names that collide, and plain ones: `suites table` on 20,000, 40,000, 80,000 and 160,000 lines `user NAME 1`, and
+`suites acl` with 20,000, 40,000 and 80,000 words `user:NAME=1`, the least of five runs each.
+
+Those that collide (`bench/names.c` looks for them, which `cc` makes) begin at one place of a table that has the hasher
+that `indexmap` takes by default, whose seed is fixed. A table with keys that are a digest of the input spreads
+them as others. The growth is how many times as long a line takes as the line above it, which has half as many names:
+it is an error where that is above 2.3 beyond what a program takes that does nothing.
+"""
+import os
+import subprocess
+import sys
+import tempfile
+
+import measure
+
+HERE = os.path.dirname(os.path.abspath(__file__))
+COUNTS = [20000, 40000, 80000, 160000]
+# A table of 160,000 names has 2^15 groups.
+BITS = 15
+GROWTH = 2.3
+
+
+def colliding(count):
+    """Names that collide."""
+    with tempfile.TemporaryDirectory() as folder:
+        search = os.path.join(folder, "names")
+        subprocess.run(["cc", "-O2", "-o", search, os.path.join(HERE, "names.c")], check=True)
+        return subprocess.run([search, str(count), str(BITS)], stdout=subprocess.PIPE, check=True, text=True).stdout.split()
+
+
+def plain(count):
+    """As many that do not, of as many letters."""
+    return [f"user{number:08d}" for number in range(count)]
+
+
+def by_script(program, names):
+    """A script that names users, and the words and the output that are wanted."""
+    lines = ["root 0 0 755", *(f"user {name} 1" for name in names), "do 0 0 list /"]
+    return [program, "table"], "\n".join(lines).encode() + b"\n", b"0 answered\n0.0 names 0\n"
+
+
+def by_words(program, names):
+    """Words that name users, and an input and the output that are wanted."""
+    return ([program, "acl", *(f"user:{name}=1" for name in names)], f"u::r,u:{names[-1]}:r,g::r,m::r,o::r".encode(),
+            b"user::r--\nuser:1:r--\ngroup::r--\nmask::r--\nother::r--\n")
+
+
+def main():
+    program = sys.argv[1] if len(sys.argv) > 1 else measure.PROGRAM
+    measure.head("Names that collide, and plain ones")
+    idle = measure.least(["/bin/true"], b"")[2]
+    print(f"{'':28}{'names':>8}{'MB':>8}{'seconds':>10}{'growth':>8}")
+    above = []
+    hostile, usual = colliding(max(COUNTS)), plain(max(COUNTS))
+    for title, form, counts in (("table", by_script, COUNTS), ("acl", by_words, COUNTS[:3])):
+        for kind, names in (("colliding", hostile), ("plain", usual)):
+            before = None
+            for count in counts:
+                words, data, wanted = form(program, names[:count])
+                status, output, seconds, _ = measure.least(words, data)
+                if (status, output) != (0, wanted):
+                    sys.exit(f"{title}, {kind}, {count} names: status {status}, {output[:80]!r}")
+                spent = max(seconds - idle, 0.0001)
+                grown = spent / before if before else None
+                size = len(data) if form is by_script else sum(len(word) + 1 for word in words)
+                print(f"{title + ', ' + kind:28}{count:>8}{size / 1e6:>8.2f}{seconds:>10.3f}"
+                      + (f"{grown:>8.2f}" if grown else ""), flush=True)
+                if grown and grown > GROWTH:
+                    above.append(f"{title}, {kind}, {count} names: {grown:.2f}")
+                before = spent
+    if above:
+        sys.exit(f"growth above {GROWTH}: " + "; ".join(above))
+
+
+main()
