@@ -6,3 +6,4 @@ pub mod ServerFields
 pub mod Equality
 pub mod Stepping
 pub mod Filling
+pub mod Holders

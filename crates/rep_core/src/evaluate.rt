@@ -6,10 +6,12 @@ ghost use Rattle.suite_prefix.specs.declared.lock_mode.LockMode.TheVariants.{Exc
 ghost use Rattle.rep_core.specs.declared.stamped.Lack.TheVariants.{Full, Memory};
 ghost use Rattle.rep_core.specs.declared.step.Change.TheVariants.{Asked};
 ghost use Rattle.rep_core.specs.code.Stepping as stepping;
+ghost use Rattle.rep_core.specs.code.Stepping.{applied};
 ghost use Rattle.rep_core.specs.Fits.{fits};
 ghost use Rattle.rep_core.specs.Locks as locking;
 ghost use Rattle.rep_core.specs.code.ServerFields.{state_of};
 ghost use Rattle.rep_core.specs.Service as service;
+ghost use Rattle.rep_core.specs.Service.{after_upgrade, prepares, after_prepare};
 ghost use Rattle.rep_core.specs.Serving as serving;
 ghost use Rattle.rep_core.specs.State.{State, record_of};
 ghost use Rattle.rep_core.specs.declared.holdings.Holdings.{Holdings};
@@ -39,7 +41,7 @@ impl Holdings {
         ensures reply { OnOk result (reply.new ≡ serving.answer_of (state_of self.old) request.now) }
         ensures same { state_of self.new ≡ state_of self.old }
         ensures room { IfOk result (λ change. stepping.HasRoom change request.now.value (stepping.roomed_of self.new)) }
-        ensures change { IfOk result (λ change. stepping.applied change request.now.value (state_of self.old) ≡ service.after (state_of self.old) request.now.value) }
+        ensures change { IfOk result (λ change. applied change request.now.value (state_of self.old) ≡ service.after (state_of self.old) request.now.value) }
         ensures full { (result ≡ Err Full) ↔ IsTrue (serving.is_full (state_of self.old) request.now) }
         ensures bare { IsTrue (serving.is_bare (service.reply_of (state_of self.old) request.now.value)) → result ≢ Err Memory }
         ensures fits { IsTrue (fits request.now.value (service.reply_of (state_of self.old) request.now.value)) }
@@ -57,7 +59,7 @@ impl Holdings {
         ensures reply { OnOk result (reply.new ≡ service.reply_of (state_of self.old) request.now) }
         ensures same { state_of self.new ≡ state_of self.old }
         ensures room { IfOk result (λ change. stepping.HasRoom change request.now (stepping.roomed_of self.new)) }
-        ensures change { IfOk result (λ change. stepping.applied change request.now (state_of self.old) ≡ service.after (state_of self.old) request.now) }
+        ensures change { IfOk result (λ change. applied change request.now (state_of self.old) ≡ service.after (state_of self.old) request.now) }
         ensures full { (result ≡ Err Full) ↔ IsTrue ((state_of self.old).up && serving.asks_too_much (state_of self.old) request.now) }
         ensures bare { IsTrue (serving.is_bare (service.reply_of (state_of self.old) request.now)) → result ≢ Err Memory }
     {
@@ -74,7 +76,7 @@ impl Holdings {
         ensures reply { OnOk result (reply.new ≡ service.reply_up (state_of self.old) request.now) }
         ensures same { state_of self.new ≡ state_of self.old }
         ensures room { IfOk result (λ change. stepping.HasRoom change request.now (stepping.roomed_of self.new)) }
-        ensures change { IfOk result (λ change. stepping.applied change request.now (state_of self.old) ≡ service.after_up (state_of self.old) request.now) }
+        ensures change { IfOk result (λ change. applied change request.now (state_of self.old) ≡ service.after_up (state_of self.old) request.now) }
         ensures full { (result ≡ Err Full) ↔ IsTrue (serving.asks_too_much (state_of self.old) request.now) }
         ensures bare { IsTrue (serving.is_bare (service.reply_up (state_of self.old) request.now)) → result ≢ Err Memory }
     {
@@ -108,10 +110,10 @@ impl Holdings {
         ensures reply { OnOk result (reply.new ≡ service.poll_reply (state_of self.old) t suite mode) }
         ensures same { state_of self.new ≡ state_of self.old }
         ensures change { IfOk result (λ change. change ≡ stepping.unless (locking.in_the_way t suite mode (state_of self.old).locks)) }
-        ensures room { IfOk result (λ change. change ≡ Asked → 0 < self.new.locks.room) }
+        ensures room { IfOk result (λ change. change ≡ Asked → (0 < self.new.locks.room) × (locking.in_the_way t suite mode (state_of self.new).locks ≡ None)) }
         ensures bare { IsTrue (serving.is_bare (service.poll_reply (state_of self.old) t suite mode)) → IsOk result }
     {
-        match locks::in_the_way(self.locks.as_slice(), t, suite, mode) {
+        match self.locks.in_the_way(t, suite, mode) {
             Some(other) => {
                 *reply = Reply::Busy {
                     holder: other.t,
@@ -132,7 +134,7 @@ impl Holdings {
     fn fill_upgrade(&mut self, t: u64, suite: u64, reply: &mut Reply) -> Result<Change, AllocError>
         ensures reply { OnOk result (reply.new ≡ service.upgrade_reply (state_of self.old) t suite) }
         ensures same { state_of self.new ≡ state_of self.old }
-        ensures change { IfOk result (λ change. stepping.applied change (Request.Upgrade t suite) (state_of self.old) ≡ service.after_upgrade (state_of self.old) t suite) }
+        ensures change { IfOk result (λ change. applied change (Request.Upgrade t suite) (state_of self.old) ≡ after_upgrade (state_of self.old) t suite) }
         ensures room { IfOk result (λ change. stepping.HasRoom change (Request.Upgrade t suite) (stepping.roomed_of self.new)) }
         ensures bare { IsTrue (serving.is_bare (service.upgrade_reply (state_of self.old) t suite)) → IsOk result }
     {
@@ -164,9 +166,9 @@ impl Holdings {
     fn fill_parts(&mut self, t: u64, parts: &[Part], reply: &mut Reply) -> Result<Change, Lack>
         ensures reply { OnOk result (reply.new ≡ service.prepare_reply (state_of self.old) t parts.now) }
         ensures same { state_of self.new ≡ state_of self.old }
-        ensures change { IfOk result (λ change. stepping.applied change (Request.Prepare t parts.now) (state_of self.old) ≡ service.after_prepare (state_of self.old) t parts.now) }
+        ensures change { IfOk result (λ made. applied made (Request.Prepare t parts.now) (state_of self.old) ≡ after_prepare (state_of self.old) t parts.now) }
         ensures room { IfOk result (λ change. stepping.HasRoom change (Request.Prepare t parts.now) (stepping.roomed_of self.new)) }
-        ensures full { (result ≡ Err Full) ↔ IsTrue (service.prepares (state_of self.old) t parts.now && store.overfills t (state_of self.old).store parts.now) }
+        ensures full { (result ≡ Err Full) ↔ IsTrue (prepares (state_of self.old) t parts.now && store.overfills t (state_of self.old).store parts.now) }
         ensures bare { IsTrue (serving.is_bare (service.prepare_reply (state_of self.old) t parts.now)) → result ≢ Err Memory }
     {
         if self.stands_prepared(t, parts) {

@@ -4,10 +4,8 @@ ghost use Rattle.std.specs.Prelude.{◌≡◌, ◌<◌, IfOk, true, is_some};
 ghost use Rattle.std.specs.Vec.{vec_len, vec_capacity};
 ghost use Rattle.rep_core.specs.code.Stepping as stepping;
 ghost use Rattle.rep_core.specs.code.ServerFields.{state_of};
-ghost use Rattle.rep_core.specs.Locks as locking;
 ghost use Rattle.rep_core.specs.Service as service;
 ghost use Rattle.rep_core.specs.State.{opening};
-ghost use Rattle.rep_core.specs.Store as store;
 
 use crate::copying::copied;
 use crate::evaluate::{audit_of, is_answered};
@@ -138,7 +136,7 @@ impl Holdings {
 
     /// Lets a transaction go. Where it was answered, what it leaves is installed.
     fn finish(&mut self, t: u64, answered: bool)
-        ensures { state_of self.new ≡ record (state_of self.old) { store = store.finished t answered (state_of self.old).store; locks = locking.released t (state_of self.old).locks } }
+        ensures { state_of self.new ≡ stepping.let_go t answered (state_of self.old) }
     {
         self.store.finish(t, answered);
         self.locks.release(t);

@@ -24,6 +24,7 @@ mod copying;
 mod effect;
 mod evaluate;
 mod fitting;
+mod holders;
 mod holdings;
 mod intention;
 mod laws;

@@ -13,7 +13,7 @@ use Rattle.rep_core.specs.declared.intention.Planned.{Planned}
 use Rattle.rep_core.specs.declared.request.Request.{Request}
 use Rattle.rep_core.specs.declared.request.Request.TheVariants as request
 use Rattle.rep_core.specs.declared.reply.Verdict.{Verdict}
-use Rattle.rep_core.specs.Locks.{locked, with_prepared, released, broken}
+use Rattle.rep_core.specs.Locks.{in_the_way, locked, with_prepared, released, broken}
 use Rattle.rep_core.specs.Store.{is_sound_part, overfills, intended, finished}
 use Rattle.rep_core.specs.Service.{audit_of, with_item, is_answered, after_crash}
 use Rattle.rep_core.specs.State.{State}
@@ -30,6 +30,10 @@ roomed_of held = record {
   audit = vec_capacity held.audit - vec_len held.audit;
   intentions = held.store.room;
 }
+
+-- a transaction is let go, and what it leaves is installed where it was answered
+abbrev pub let_go : ℕ → Bool → State → State
+let_go t answered st = record st { store = finished t answered st.store; locks = released t st.locks }
 
 -- what a request asks for is done
 abbrev pub done : Request → State → State
@@ -59,10 +63,10 @@ applied change.Asked request st = done request st
 applied (change.Intentions planned) request st = kept request st
 applied (change.Record verdict) request st = noted verdict request st
 
--- there is room for it
+-- there is room for it, and nothing in the way of a lock
 abbrev pub HasLockRoom : Request → Roomed → Type 0
-HasLockRoom (request.Poll t suite mode) server = 0 < server.locks
-HasLockRoom (request.Upgrade t suite) server = 0 < server.locks
+HasLockRoom (request.Poll t suite mode) server = (0 < server.locks) × (in_the_way t suite mode server.state.locks ≡ None)
+HasLockRoom (request.Upgrade t suite) server = (0 < server.locks) × (in_the_way t suite Exclusive server.state.locks ≡ None)
 HasLockRoom _ server = Unit {0}
 
 abbrev pub HasKeptRoom : List (ℕ × Planned) → Request → Roomed → Type 0
