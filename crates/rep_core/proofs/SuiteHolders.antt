@@ -95,9 +95,9 @@ module _ (ls : List Lock) (hs : List Holder) (held : AreHeld ls hs) where
     alone = alone_contained _ (alone_locked t s m ls free (alone_had ls held.alone));
     ordered = IsOrdered-insert holder_total hs (s, t) tt held.ordered;
     same = λ u z.
-      ap is_some (get-insert holder_total hs (s, t) tt (z, u) ∙ ap (λ b. cond b (Some tt) (get holder_cmp hs (z, u))) (key_is s t z u))
-      ∙ by_choice ((u == t) && (z == s)) _ (taken t s m (lock_at t s ls)) _ (found u z)
-      ∙ sym (any_find (is_own u z) (locked t s m ls) ∙ ap is_some (lock_at-locked t s m ls held.rising u z));
+        ap is_some (get-insert holder_total hs (s, t) tt (z, u) ∙ ap (λ b. cond b (Some tt) (get holder_cmp hs (z, u))) (key_is s t z u))
+        ∙ by_choice ((u == t) && (z == s)) _ (taken t s m (lock_at t s ls)) _ (found u z)
+        ∙ sym (any_find (is_own u z) (locked t s m ls) ∙ ap is_some (lock_at-locked t s m ls held.rising u z));
   }
 
   pub held_prepared : (t : ℕ) (parts : List Part) → AreHeld (with_prepared t parts ls) hs
@@ -119,9 +119,9 @@ module _ (ls : List Lock) (hs : List Holder) (held : AreHeld ls hs) where
     alone = alone_filter (λ l. l.prepared) ls held.alone;
     ordered = ordered;
     same = λ u z.
-      ap (λ l. is_some (get holder_cmp l (z, u))) is
-      ∙ ap is_some (lookup-filter-keys (is_at (holder_cmp (z, u))) (λ k. has_lock k.1 k.0 (prepared_locks ls)) (has_lock u z (prepared_locks ls)) (λ k at. one u z k at) hs)
-      ∙ left u z (has_lock u z (prepared_locks ls)) refl;
+        ap (λ l. is_some (get holder_cmp l (z, u))) is
+        ∙ ap is_some (lookup-filter-keys (is_at (holder_cmp (z, u))) (λ k. has_lock k.1 k.0 (prepared_locks ls)) (has_lock u z (prepared_locks ls)) (λ k at. one u z k at) hs)
+        ∙ left u z (has_lock u z (prepared_locks ls)) refl;
   }
     where
       one : (u z : ℕ) (k : ℕ × ℕ) → is_at (holder_cmp (z, u)) k ≡ true → has_lock k.1 k.0 (prepared_locks ls) ≡ has_lock u z (prepared_locks ls)
@@ -224,9 +224,9 @@ held_released t ls hs held start end range = record {
   alone = alone_filter _ ls held.alone;
   ordered = ordered-without (slice_range ls start end) hs held.ordered;
   same = λ u z.
-    ap is_some (get-without (slice_range ls start end) hs held.ordered u z ∙ ap (λ b. cond b None (get holder_cmp hs (z, u))) (sym (has_lock_in t ls start end range u z) ∙ any_both t u z ls))
-    ∙ by (u == t) (has_lock u z ls) (get holder_cmp hs (z, u)) (lock_at u z ls) (held.same u z) (any_find (is_own u z) ls)
-    ∙ sym (any_find (is_own u z) (released t ls) ∙ ap is_some (lock_at-released t ls u z));
+      ap is_some (get-without (slice_range ls start end) hs held.ordered u z ∙ ap (λ b. cond b None (get holder_cmp hs (z, u))) (sym (has_lock_in t ls start end range u z) ∙ any_both t u z ls))
+      ∙ by (u == t) (has_lock u z ls) (get holder_cmp hs (z, u)) (lock_at u z ls) (held.same u z) (any_find (is_own u z) ls)
+      ∙ sym (any_find (is_own u z) (released t ls) ∙ ap is_some (lock_at-released t ls u z));
 }
   where
     by : (a h : Bool) (g : Option (Unit {0})) (o : Option Lock) → is_some g ≡ h → h ≡ is_some o → is_some (cond (a && h) None g) ≡ is_some (cond a None o)
@@ -302,10 +302,10 @@ least_other t s (d ∷ hs) e ordered is u apart has =
       | true ↦ λ other first.
           let same : d ≡ e = cc in
           let low : d.0.1 ≤ u =
-            elim (is_at (holder_cmp (s, u)) d.0) as (λ b. is_at (holder_cmp (s, u)) d.0 ≡ b → is_some (cond b (Some d.1) (get holder_cmp hs (s, u))) ≡ true → d.0.1 ≤ u) [
-              | true ↦ λ at _. same_no_more d.0.1 u (and_parts (d.0.1 == u) (d.0.0 == s) (sym (key_is s u d.0.0 d.0.1) ∙ at)).0
-              | false ↦ λ _ later. no_more d.0.1 u (sym (ap (λ a. ordering_then a (nat_cmp d.0.1 u)) (not_less_itself d.0.0 s (on_suite t s d other).0)) ∙ behind_first d.0 hs s u ordered.0 later)
-            ] refl has
+          elim (is_at (holder_cmp (s, u)) d.0) as (λ b. is_at (holder_cmp (s, u)) d.0 ≡ b → is_some (cond b (Some d.1) (get holder_cmp hs (s, u))) ≡ true → d.0.1 ≤ u) [
+            | true ↦ λ at _. same_no_more d.0.1 u (and_parts (d.0.1 == u) (d.0.0 == s) (sym (key_is s u d.0.0 d.0.1) ∙ at)).0
+            | false ↦ λ _ later. no_more d.0.1 u (sym (ap (λ a. ordering_then a (nat_cmp d.0.1 u)) (not_less_itself d.0.0 s (on_suite t s d other).0)) ∙ behind_first d.0 hs s u ordered.0 later)
+          ] refl has
           in
           subst (λ (x : Holder). x.0.1 ≤ u) same low
       | false ↦ λ misses rest.
