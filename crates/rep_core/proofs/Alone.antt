@@ -79,7 +79,7 @@ alone_raised t s m ls none alone a b has_a has_b same exclusive =
     ] in
     ap (λ (l : Lock). l.t) (sym x.2) ∙ one ∙ ap (λ (l : Lock). l.t) y.2
 
-alone_locked : (t s : ℕ) (m : LockMode) (ls : List Lock) → find (conflicts t s m) ls ≡ None → Alone ls → Alone (locked t s m ls)
+pub alone_locked : (t s : ℕ) (m : LockMode) (ls : List Lock) → find (conflicts t s m) ls ≡ None → Alone ls → Alone (locked t s m ls)
 alone_locked t s m ls none alone =
     let new : Lock = record { t = t; suite = s; mode = m; prepared = false } in
     elim (has_lock t s ls) as (λ b. Alone (cond b (raised t s m ls) (with_lock new ls))) [
@@ -87,7 +87,7 @@ alone_locked t s m ls none alone =
       | false ↦ alone_with_lock t s m ls none alone
     ]
 
-alone_prepared : (t : ℕ) (parts : List Part) (ls : List Lock) → Alone ls → Alone (with_prepared t parts ls)
+pub alone_prepared : (t : ℕ) (parts : List Part) (ls : List Lock) → Alone ls → Alone (with_prepared t parts ls)
 alone_prepared t parts ls = alone_no_new ls _ (λ x h.
     let y = has_map (prepared_lock t parts) ls x h in
     (y.0, y.1, record { t = ap (λ (l : Lock). l.t) (sym y.2); suite = ap (λ (l : Lock). l.suite) (sym y.2); mode = ap (λ (l : Lock). l.mode) (sym y.2) }))

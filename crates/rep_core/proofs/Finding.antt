@@ -61,7 +61,7 @@ module _ {X : Type 0} where
   find_insert_other p [] (suc n) y misses = ap (λ b. cond b (Some y) None) misses
   find_insert_other p (x ∷ xs) (suc n) y misses = ap (cond (p x) (Some x)) (find_insert_other p xs n y misses)
 
-  none_ahead : (p : X → Bool) (x : X) (xs : List X) → find p (x ∷ xs) ≡ None → (p x ≡ false) × (find p xs ≡ None)
+  pub none_ahead : (p : X → Bool) (x : X) (xs : List X) → find p (x ∷ xs) ≡ None → (p x ≡ false) × (find p xs ≡ None)
   none_ahead p x xs none = elim (p x) as (λ b. cond b (Some x) (find p xs) ≡ None → (b ≡ false) × (find p xs ≡ None)) [ true ↦ λ no. cc | false ↦ λ none. (refl, none) ] none
 
   pub find_insert_new : (p : X → Bool) (xs : List X) (n : ℕ) (y : X) → find p xs ≡ None → p y ≡ true → find p (insert xs n y) ≡ Some y

@@ -30,3 +30,4 @@ mod Searching
 mod Ranges
 mod Places
 mod RisingParts
+mod SuiteHolders

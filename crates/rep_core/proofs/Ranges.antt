@@ -108,6 +108,9 @@ module _ (t : ℕ) (locks : List Lock) (start end : ℕ) (r : IsRangeOf t locks 
   pub has_prepared_in : has_prepared t locks ≡ list_any (λ lock. lock.prepared) (slice_range locks start end)
   has_prepared_in = any_run (λ lock. lock.t == t) (λ lock. lock.prepared) locks start (end - start) run
 
+  pub has_lock_in : (u z : ℕ) → list_any (λ lock. (lock.t == t) && is_own u z lock) locks ≡ has_lock u z (slice_range locks start end)
+  has_lock_in u z = any_run (λ lock. lock.t == t) (is_own u z) locks start (end - start) run
+
   pub with_prepared_in : (parts : List Part) → with_prepared t parts locks ≡ take start locks ++ (with_prepared t parts (slice_range locks start end) ++ drop (end - start) (drop start locks))
   with_prepared_in parts = map_run (λ lock. lock.t == t) (prepared_lock t parts) (other_stays parts) locks start (end - start) run
 
@@ -135,6 +138,9 @@ earlier_down t a b h k = grind (arith, nat_tests)
 pub no_later_down : (t : ℕ) (a b : Lock) → before a b ≡ true → is_no_later t b ≡ true → is_no_later t a ≡ true
 no_later_down t a b h k = grind (arith, nat_tests)
 
+pub some_lock : Lock
+some_lock = record { t = 0; suite = 0; mode = Shared; prepared = false }
+
 module _ (t : ℕ) where
   earlier_is_other : (lock : Lock) → is_earlier t lock ≡ true → (lock.t == t) ≡ false
   earlier_is_other lock h = grind (arith, nat_tests)
@@ -147,9 +153,6 @@ module _ (t : ℕ) where
 
   not_both : (lock : Lock) → is_earlier t lock ≡ true → is_no_later t lock ≡ false → ⊥
   not_both lock h k = grind (arith, nat_tests)
-
-  some_lock : Lock
-  some_lock = record { t = 0; suite = 0; mode = Shared; prepared = false }
 
   at_most : (n m : ℕ) → (m < n → ⊥) → n ≤ m
   at_most zero m misses = omega arith

@@ -1,15 +1,19 @@
 //! Searches and changes of a server's locks, which stand in the order of their transactions and, in
 //! one transaction, of their suites.
 
-ghost use Rattle.std.specs.Prelude.{◌≡◌, ◌≤◌, ◌<◌, [], length, IsTrue, IfOk, OnOk, find, filter, count_by, not, nat_lt, ◌==◌, ◌&&◌, ◌||◌, is_some, insert};
-ghost use Rattle.std.specs.List.{list_any, list_all};
+ghost use Rattle.std.specs.Prelude.{◌≡◌, ◌≤◌, ◌<◌, [], None, length, IsTrue, IfOk, OnOk, find, filter, get_or, count_by, not, nat_lt, ◌==◌, ◌&&◌, ◌||◌, is_some, insert};
+ghost use Rattle.std.specs.List.{list_any, list_all, remove_range};
 ghost use Rattle.std.specs.Vec.{vec_len, vec_capacity};
 ghost use Rattle.suite_prefix.specs.LockModes.{serves};
 ghost use Rattle.rep_core.specs.Locks as locking;
+ghost use Rattle.rep_core.specs.declared.lock.Lock.{Lock};
+ghost use Rattle.rep_core.specs.code.Holders.{AreHeld, if_conflict};
 ghost use Rattle.rep_core.specs.code.Ranges.{IsRangeOf, IsRunOf, IsPlaceOf};
 
+use crate::holders::{first_other, forget_all, is_there};
 use crate::lock::Lock;
 use crate::request::Part;
+use sorted_map::RoomyMap;
 use std::alloc::{AllocError, Global};
 use std::marker::Model;
 use suite_prefix::LockMode;
@@ -17,23 +21,25 @@ use suite_prefix::LockMode;
 /// So many locks are looked at from the end before those before them are halved.
 const NEAR: usize = 8;
 
-/// The locks of a server. It shows how many new ones it takes without memory.
+/// The locks of a server by transaction, and beside them by suite who holds them. An exclusive one stands alone on its
+/// suite. It shows how many new ones it takes without memory.
 #[derive(Drop)]
 pub(crate) struct LockTable {
     locks: Vec<Lock>,
+    holders: RoomyMap<(u64, u64), ()>,
 }
 
 impl Model for LockTable {
-    ghost use Rattle.std.specs.Prelude.{◌-◌, IsTrue};
+    ghost use Rattle.std.specs.Prelude.{◌-◌, min};
     ghost use Rattle.std.specs.Vec.{vec_len, vec_capacity};
-    ghost use Rattle.rep_core.specs.Locks.{rise};
     ghost use Rattle.rep_core.specs.code.Holding.{Locking};
+    ghost use Rattle.rep_core.specs.code.Holders.{AreHeld};
 
     ghost Value = { Locking };
 
-    ghost view = { λ table. record { locks = table.locks.items; room = vec_capacity table.locks - vec_len table.locks } };
+    ghost view = { λ table. record { locks = table.locks.items; room = min (vec_capacity table.locks - vec_len table.locks) table.holders.room } };
 
-    ghost invariant = { λ table. IsTrue (rise table.locks.items) };
+    ghost invariant = { λ table. AreHeld table.locks.items table.holders.pairs };
 }
 
 impl LockTable {
@@ -43,6 +49,7 @@ impl LockTable {
     {
         LockTable {
             locks: Vec::new(alloc),
+            holders: RoomyMap::new(alloc),
         }
     }
 
@@ -51,7 +58,8 @@ impl LockTable {
         ensures { IfOk result (λ table. table.locks ≡ self.now.locks) }
     {
         let locks = Vec::from_slice(*self.locks.allocator(), &self.locks)?;
-        Ok(LockTable { locks })
+        let holders = self.holders.clone()?;
+        Ok(LockTable { locks, holders })
     }
 
     /// The locks.
@@ -67,16 +75,27 @@ impl LockTable {
         ensures ok { OnOk result (0 < self.new.room) }
         ensures locks { self.new.locks ≡ self.old.locks }
     {
+        self.holders.reserve(1)?;
         self.locks.reserve(1)
     }
 
-    /// Sets a lock, for which there is room, or makes the transaction's own one stronger.
+    /// The lock of the least transaction that stands in the way of a lock in this mode. Who else holds the suite first
+    /// tells it: where he does not stand in the way, he and all others hold it shared.
+    pub(crate) fn in_the_way(&self, t: u64, suite: u64, mode: LockMode) -> Option<Lock>
+        ensures { result ≡ locking.in_the_way t suite mode self.now.locks }
+    {
+        in_the_way(&self.locks, self.holders.as_slice(), t, suite, mode)
+    }
+
+    /// Sets a lock, for which there is room and nothing in the way, or makes the transaction's own one stronger.
     #[inline(always)]
     pub(crate) fn set(&mut self, t: u64, suite: u64, mode: LockMode)
-        requires { 0 < self.old.room }
+        requires room { 0 < self.old.room }
+        requires free { locking.in_the_way t suite mode self.old.locks ≡ None }
         ensures { self.new.locks ≡ locking.locked t suite mode self.old.locks }
     {
         set_lock(&mut self.locks, t, suite, mode);
+        self.holders.insert_in_room((suite, t), ());
     }
 
     /// Makes the transaction's locks on the parts' suites prepared.
@@ -92,6 +111,8 @@ impl LockTable {
         ensures { self.new.locks ≡ locking.prepared_locks self.old.locks }
     {
         self.locks.retain(|lock| lock.prepared);
+        let locks: &[Lock] = &self.locks;
+        self.holders.retain(|holder| is_there(locks, holder));
     }
 
     /// Lets a transaction's locks go.
@@ -99,7 +120,9 @@ impl LockTable {
     pub(crate) fn release(&mut self, t: u64)
         ensures { self.new.locks ≡ locking.released t self.old.locks }
     {
-        release(&mut self.locks, t);
+        let (start, end) = range_of(&self.locks, t);
+        forget_all(&mut self.holders, &self.locks[start..end]);
+        release(&mut self.locks, start, end);
     }
 
     /// Lets a lock go that is not prepared.
@@ -107,32 +130,48 @@ impl LockTable {
         ensures { self.new.locks ≡ locking.broken t suite self.old.locks }
     {
         break_lock(&mut self.locks, t, suite);
+        if !has_lock(&self.locks, t, suite) {
+            self.holders.remove(&(suite, t));
+        }
     }
 }
 
 /// The lock of the least transaction that stands in the way of a lock in this mode.
-pub(crate) fn in_the_way(locks: &[Lock], t: u64, suite: u64, mode: LockMode) -> Option<Lock>
+fn in_the_way(
+    locks: &[Lock],
+    holders: &[((u64, u64), ())],
+    t: u64,
+    suite: u64,
+    mode: LockMode,
+) -> Option<Lock>
+    requires { AreHeld locks.now holders.now }
     ensures { result ≡ locking.in_the_way t suite mode locks.now }
 {
-    for lock in locks {
-        if conflicts(t, suite, mode, lock) {
-            return Some(*lock);
-        }
+    match first_other(holders, t, suite) {
+        Some(other) => conflict_at(locks, place_of(locks, other, suite), t, suite, mode),
+        None => None,
     }
-    None
 }
 
-/// Whether a lock stands in the way of a lock in this mode.
-pub(crate) fn is_in_the_way(locks: &[Lock], t: u64, suite: u64, mode: LockMode) -> bool
-    ensures { result ≡ is_some (locking.in_the_way t suite mode locks.now) }
+/// The lock at a place, where it stands in the way of a lock in this mode.
+fn conflict_at(locks: &[Lock], at: usize, t: u64, suite: u64, mode: LockMode) -> Option<Lock>
+    ensures { (lock : Lock) → at < length locks.now → result ≡ if_conflict t suite mode (get_or locks.now at lock) }
 {
-    any_conflicts(locks, t, suite, mode)
+    if at < locks.len() {
+        conflict_of(&locks[at], t, suite, mode)
+    } else {
+        None
+    }
 }
 
-fn any_conflicts(locks: &[Lock], t: u64, suite: u64, mode: LockMode) -> bool
-    ensures { result ≡ list_any (locking.conflicts t suite mode) locks.now }
+fn conflict_of(lock: &Lock, t: u64, suite: u64, mode: LockMode) -> Option<Lock>
+    ensures { result ≡ if_conflict t suite mode lock.now }
 {
-    locks.iter().any(|lock| conflicts(t, suite, mode, lock))
+    if conflicts(t, suite, mode, lock) {
+        Some(*lock)
+    } else {
+        None
+    }
 }
 
 fn conflicts(t: u64, suite: u64, mode: LockMode, lock: &Lock) -> bool
@@ -326,13 +365,13 @@ fn place_from_end(locks: &[Lock], t: u64, suite: u64) -> usize
     at
 }
 
-fn stands_before(lock: &Lock, t: u64, suite: u64) -> bool
+pub(crate) fn stands_before(lock: &Lock, t: u64, suite: u64) -> bool
     ensures { result ≡ (nat_lt lock.now.t t || ((lock.now.t == t) && nat_lt lock.now.suite suite)) }
 {
     lock.t < t || lock.t == t && lock.suite < suite
 }
 
-fn is_own(lock: &Lock, t: u64, suite: u64) -> bool
+pub(crate) fn is_own(lock: &Lock, t: u64, suite: u64) -> bool
     ensures { result ≡ locking.is_own t suite lock.now }
 {
     lock.t == t && lock.suite == suite
@@ -394,12 +433,12 @@ fn is_named(parts: &[Part], suite: u64) -> bool
     parts.iter().any(|part| part.suite == suite)
 }
 
-/// Lets a transaction's locks go.
-fn release(locks: &mut Vec<Lock>, t: u64)
-    requires { IsTrue (locking.rise locks.old.items) }
-    ensures { locks.new.items ≡ locking.released t locks.old.items }
+/// Lets the locks between two places go.
+fn release(locks: &mut Vec<Lock>, start: usize, end: usize)
+    requires order { start ≤ end }
+    requires within { end ≤ length locks.old.items }
+    ensures { locks.new.items ≡ remove_range locks.old.items start end }
 {
-    let (start, end) = range_of(locks, t);
     let left = start + (locks.len() - end);
     locks.copy_within(end.., start);
     locks.truncate(left);

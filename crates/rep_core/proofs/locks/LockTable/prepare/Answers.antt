@@ -1,13 +1,13 @@
-use Rattle.std.proofs.Common.{ap, ◌∙◌}
+use Rattle.std.proofs.Common.{ap, sym, subst, ◌∙◌}
 use Rattle.std.proofs.lemmas.List.{with_items_is}
-use Rattle.rep_core.specs.Locks.{rise}
-use Rattle.rep_core.proofs.Rising.{rise_prepared}
+use Rattle.rep_core.specs.Locks.{with_prepared}
+use Rattle.rep_core.specs.code.Holders.{AreHeld}
+use Rattle.rep_core.proofs.SuiteHolders.{held_prepared}
 use Rattle.rep_core.proofs.locks.LockTable.prepare.Goals as goal
 
 pub invariant_of-self : goal.invariant_of-self
 invariant_of-self c =
-    let old = c.deref_mut.result.now in
-    let up = ap rise c.deref_mut.ensures.value ∙ c.self.invariant in
-    ap rise (with_items_is c.self.inside.locks c.prepare.new.locks (c.prepare.auto.locks ∙ c.deref_mut.ensures.len))
-    ∙ ap rise c.prepare.ensures
-    ∙ rise_prepared c.args.t c.args.parts.now old up
+    let locks = c.self.inside.locks.items in
+    let holders = c.self.inside.holders.pairs in
+    let is = with_items_is c.self.inside.locks c.prepare.new.locks (c.prepare.auto.locks ∙ c.deref_mut.ensures.len) ∙ c.prepare.ensures ∙ ap (with_prepared c.args.t c.args.parts.now) c.deref_mut.ensures.value in
+    subst (λ l. AreHeld l holders) (sym is) (held_prepared locks holders c.self.invariant c.args.t c.args.parts.now)

@@ -1,0 +1,18 @@
+use Rattle.std.proofs.Common.{◌≡◌, length, drop, drop-cons, add-one, get_or, ap, sym, ◌∙◌, ◌∷◌, ◌+◌}
+use Rattle.std.proofs.lemmas.List.{get_or_default}
+use Rattle.sorted_map.specs.SortedMap.{remove}
+use Rattle.rep_core.specs.declared.lock.Lock.{Lock}
+use Rattle.rep_core.specs.code.Holders.{holder_cmp, without}
+use Rattle.rep_core.proofs.Ranges.{some_lock}
+use Rattle.rep_core.proofs.holders.forget_all.Goals as goal
+
+pub loop-lock-preserved : goal.loop-lock-preserved
+loop-lock-preserved c =
+    let locks = c.args.locks.now in
+    let i = c.loop-lock.lock-index in
+    let lock = get_or locks i some_lock in
+    let inside = c.loop-lock-test.true in
+    let front : drop i locks ≡ lock ∷ drop (i + 1) locks = rw (add-one, drop-cons locks i some_lock) in
+    ap (without (drop (i + 1) locks)) (c.remove.ensures.pairs ∙ ap (λ (l : Lock). remove holder_cmp c.loop-lock.holders.pairs (l.suite, l.t)) (get_or_default _ _ _ _ inside))
+    ∙ ap (λ ls. without ls c.loop-lock.holders.pairs) (sym front)
+    ∙ c.loop-lock.invariant

@@ -1,0 +1,50 @@
+-- Who holds locks on a suite, in the order of suites and, on one suite, of transactions.
+use Rattle.std.specs.Prelude.{◌≡◌, ℕ, ◌==◌, ◌&&◌, not, Bool, IsTrue, List, [], ◌∷◌, Option, Some, None, is_some, if◌then◌else◌, zero, suc}
+use Rattle.std.specs.declared.cmp.Ordering.{Ordering}
+use Rattle.std.specs.Ordering.{nat_cmp, ordering_then}
+use Rattle.sorted_map.specs.SortedMap.{IsOrdered, get, remove}
+use Rattle.suite_prefix.specs.declared.lock_mode.LockMode.{LockMode}
+use Rattle.rep_core.specs.declared.lock.Lock.{Lock}
+use Rattle.rep_core.specs.Consistency.{IsAlone}
+use Rattle.rep_core.specs.Locks.{rise, has_lock, conflicts}
+
+-- a suite, and a transaction that holds a lock on it
+abbrev pub Holder : Type 0
+Holder = (ℕ × ℕ) × Unit {0}
+
+abbrev pub holder_cmp : ℕ × ℕ → ℕ × ℕ → Ordering
+holder_cmp a b = ordering_then (nat_cmp a.0 b.0) (nat_cmp a.1 b.1)
+
+-- these hold the locks, of which an exclusive one stands alone on its suite
+pub record AreHeld (locks : List Lock) (holders : List Holder) : Type 0 where
+  pub rising : IsTrue (rise locks)
+  pub alone : IsAlone locks
+  pub ordered : IsOrdered holder_cmp holders
+  pub same : (t suite : ℕ) → is_some (get holder_cmp holders (suite, t)) ≡ has_lock t suite locks
+
+-- another transaction on the suite
+abbrev pub is_other : ℕ → ℕ → Holder → Bool
+is_other t suite holder = (holder.0.0 == suite) && not (holder.0.1 == t)
+
+abbrev pub told_other : ℕ → ℕ → Holder → Option ℕ
+told_other t suite holder = if is_other t suite holder then Some holder.0.1 else None
+
+-- the one at a place, where it is another on the suite
+abbrev pub other_in : ℕ → ℕ → List Holder → ℕ → Option ℕ
+other_in t suite [] at = None
+other_in t suite (holder ∷ holders) zero = told_other t suite holder
+other_in t suite (holder ∷ holders) (suc at) = other_in t suite holders at
+
+-- the first, or else the next
+abbrev pub or_next : Option ℕ → Option ℕ → Option ℕ
+or_next (Some t) next = Some t
+or_next None next = next
+
+-- the lock, where it stands in the way of a lock in this mode
+abbrev pub if_conflict : ℕ → ℕ → LockMode → Lock → Option Lock
+if_conflict t suite mode lock = if conflicts t suite mode lock then Some lock else None
+
+-- without who holds these locks
+abbrev pub without : List Lock → List Holder → List Holder
+without [] holders = holders
+without (lock ∷ locks) holders = without locks (remove holder_cmp holders (lock.suite, lock.t))
