@@ -9,7 +9,6 @@ ghost use Rattle.rep_core.specs.Service as service;
 ghost use Rattle.rep_core.specs.State.{opening};
 ghost use Rattle.rep_core.specs.Store as store;
 
-use crate::copying::copied;
 use crate::evaluate::{audit_of, is_answered};
 use crate::intention::Planned;
 use crate::locks::LockTable;
@@ -18,8 +17,8 @@ use crate::request::Request;
 use crate::stamped::Stamped;
 use crate::step::{Change, Step};
 use crate::store::Store;
+use crate::verdicts::Verdicts;
 use file_ops::AuditItem;
-use sorted_map::RoomyMap;
 use std::alloc::{AllocError, Global};
 use suite_prefix::{LockMode, Settings};
 
@@ -30,7 +29,7 @@ pub(crate) struct Holdings {
     pub(crate) alloc: Global,
     pub(crate) store: Store,
     pub(crate) locks: LockTable,
-    pub(crate) verdicts: RoomyMap<u64, Verdict>,
+    pub(crate) verdicts: Verdicts,
     pub(crate) audit: Vec<AuditItem>,
     pub(crate) stamp: u64,
     pub(crate) up: bool,
@@ -50,7 +49,7 @@ impl Holdings {
             alloc,
             store,
             locks: LockTable::new(alloc),
-            verdicts: RoomyMap::new(alloc),
+            verdicts: Verdicts::new(alloc),
             audit: Vec::new(alloc),
             stamp: 0,
             up: true,
@@ -63,7 +62,7 @@ impl Holdings {
     {
         let store = self.store.copy()?;
         let locks = self.locks.copy()?;
-        let verdicts = copied(self.alloc, self.verdicts.as_slice())?;
+        let verdicts = self.verdicts.copy(self.alloc)?;
         let audit = Vec::from_slice(self.alloc, &self.audit)?;
         Ok(Holdings {
             alloc: self.alloc,
