@@ -25,6 +25,7 @@ mod Example
 pub mod Changes
 pub mod Planned
 pub mod Kept
+pub mod ByAgent
 pub mod LeftCopies
 mod Searching
 mod Ranges

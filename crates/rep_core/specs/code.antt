@@ -4,6 +4,7 @@ pub mod Ranges
 pub mod StoreFields
 pub mod ServerFields
 pub mod Equality
+pub mod ByAgent
 pub mod Stepping
 pub mod Filling
 pub mod Holders

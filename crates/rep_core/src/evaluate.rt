@@ -5,6 +5,7 @@ ghost use Rattle.std.specs.List.{list_all, list_any};
 ghost use Rattle.suite_prefix.specs.declared.lock_mode.LockMode.TheVariants.{Exclusive};
 ghost use Rattle.rep_core.specs.declared.stamped.Lack.TheVariants.{Full, Memory};
 ghost use Rattle.rep_core.specs.declared.step.Change.TheVariants.{Asked};
+ghost use Rattle.rep_core.specs.code.ByAgent.{room_for};
 ghost use Rattle.rep_core.specs.code.Stepping as stepping;
 ghost use Rattle.rep_core.specs.code.Stepping.{applied};
 ghost use Rattle.rep_core.specs.Fits.{fits};
@@ -197,7 +198,7 @@ impl Holdings {
         ensures reply { OnOk result (reply.new ≡ Reply.Verdict (service.recorded (record_of (state_of self.old) t) (service.verdict_of decision.now))) }
         ensures same { state_of self.new ≡ state_of self.old }
         ensures change { IfOk result (λ change. change ≡ stepping.unrecorded (record_of (state_of self.old) t) (service.verdict_of decision.now)) }
-        ensures room { IfOk result (λ change. record_of (state_of self.old) t ≡ None → 0 < self.new.verdicts.room) }
+        ensures room { IfOk result (λ change. record_of (state_of self.old) t ≡ None → 0 < room_for t self.new.verdicts.rooms) }
         ensures audit { OnOk result (is_some (service.audit_of t decision.now) ≡ true → vec_len self.new.audit < vec_capacity self.new.audit) }
     {
         if audit_of(t, decision).is_some() {
@@ -216,14 +217,14 @@ impl Holdings {
         ensures reply { OnOk result (reply.new ≡ Reply.Verdict (service.recorded (record_of (state_of self.old) t) verdict)) }
         ensures same { state_of self.new ≡ state_of self.old }
         ensures change { IfOk result (λ change. change ≡ stepping.unrecorded (record_of (state_of self.old) t) verdict) }
-        ensures room { OnOk result (record_of (state_of self.old) t ≡ None → 0 < self.new.verdicts.room) }
+        ensures room { OnOk result (record_of (state_of self.old) t ≡ None → 0 < room_for t self.new.verdicts.rooms) }
         ensures audit { self.new.audit ≡ self.old.audit }
     {
-        if let Some(standing) = self.verdicts.get(&t) {
+        if let Some(standing) = self.verdicts.get(t) {
             *reply = Reply::Verdict(standing.clone()?);
             return Ok(Change::Nothing);
         }
-        self.verdicts.reserve(1)?;
+        self.verdicts.make_room(t)?;
         *reply = Reply::Verdict(verdict.clone()?);
         Ok(Change::Record(verdict))
     }

@@ -7,7 +7,6 @@ ghost use Rattle.rep_core.specs.code.ServerFields.{state_of};
 ghost use Rattle.rep_core.specs.Service as service;
 ghost use Rattle.rep_core.specs.State.{opening};
 
-use crate::copying::copied;
 use crate::evaluate::{audit_of, is_answered};
 use crate::intention::Planned;
 use crate::locks::LockTable;
@@ -16,8 +15,8 @@ use crate::request::Request;
 use crate::stamped::Stamped;
 use crate::step::{Change, Step};
 use crate::store::Store;
+use crate::verdicts::Verdicts;
 use file_ops::AuditItem;
-use sorted_map::RoomyMap;
 use std::alloc::{AllocError, Global};
 use suite_prefix::{LockMode, Settings};
 
@@ -28,7 +27,7 @@ pub(crate) struct Holdings {
     pub(crate) alloc: Global,
     pub(crate) store: Store,
     pub(crate) locks: LockTable,
-    pub(crate) verdicts: RoomyMap<u64, Verdict>,
+    pub(crate) verdicts: Verdicts,
     pub(crate) audit: Vec<AuditItem>,
     pub(crate) stamp: u64,
     pub(crate) up: bool,
@@ -48,7 +47,7 @@ impl Holdings {
             alloc,
             store,
             locks: LockTable::new(alloc),
-            verdicts: RoomyMap::new(alloc),
+            verdicts: Verdicts::new(alloc),
             audit: Vec::new(alloc),
             stamp: 0,
             up: true,
@@ -61,7 +60,7 @@ impl Holdings {
     {
         let store = self.store.copy()?;
         let locks = self.locks.copy()?;
-        let verdicts = copied(self.alloc, self.verdicts.as_slice())?;
+        let verdicts = self.verdicts.copy(self.alloc)?;
         let audit = Vec::from_slice(self.alloc, &self.audit)?;
         Ok(Holdings {
             alloc: self.alloc,

@@ -39,6 +39,7 @@ mod step;
 mod store;
 mod takes;
 mod types_fit;
+mod verdicts;
 
 pub use effect::finish_keeps_effect;
 pub use laws::{

@@ -18,6 +18,7 @@ use Rattle.rep_core.specs.Store.{is_sound_part, overfills, intended, finished}
 use Rattle.rep_core.specs.Service.{audit_of, with_item, is_answered, after_crash}
 use Rattle.rep_core.specs.State.{State}
 use Rattle.rep_core.specs.Roomed.{Roomed}
+use Rattle.rep_core.specs.code.ByAgent.{room_for}
 use Rattle.rep_core.specs.code.Planning.{planned_of}
 use Rattle.rep_core.specs.code.ServerFields.{state_of}
 
@@ -26,7 +27,7 @@ abbrev pub roomed_of : Holdings → Roomed
 roomed_of held = record {
   state = state_of held;
   locks = held.locks.room;
-  verdicts = held.verdicts.room;
+  verdicts = held.verdicts.rooms;
   audit = vec_capacity held.audit - vec_len held.audit;
   intentions = held.store.room;
 }
@@ -76,8 +77,8 @@ HasKeptRoom planned (request.Prepare t parts) server =
 HasKeptRoom planned _ server = Unit {0}
 
 abbrev pub HasNoteRoom : Request → Roomed → Type 0
-HasNoteRoom (request.Decide t decision) server = (0 < server.verdicts) × (is_some (audit_of t decision) ≡ true → 0 < server.audit)
-HasNoteRoom (request.Resolve t) server = 0 < server.verdicts
+HasNoteRoom (request.Decide t decision) server = (0 < room_for t server.verdicts) × (is_some (audit_of t decision) ≡ true → 0 < server.audit)
+HasNoteRoom (request.Resolve t) server = 0 < room_for t server.verdicts
 HasNoteRoom _ server = Unit {0}
 
 abbrev pub HasRoom : Change → Request → Roomed → Type 0

@@ -1,0 +1,140 @@
+//! The verdicts of transactions, kept by agent. An agent numbers its transactions upwards, so its new
+//! verdict is mostly the last of its own, and moves none of the others.
+
+ghost use Rattle.std.specs.Prelude.{◌≡◌, ◌≢◌, ℕ, ◌<◌, ◌≤◌, [], length, get_or, IfOk, OnOk};
+ghost use Rattle.std.specs.Option.{option_copied};
+ghost use Rattle.std.specs.Ordering.{nat_cmp};
+ghost use Rattle.sorted_map.specs.SortedMap.{get, insert};
+ghost use Rattle.rep_core.specs.code.ByAgent as by_agent;
+
+use crate::copying::copied;
+use crate::reply::Verdict;
+use sorted_map::RoomyMap;
+use std::alloc::{AllocError, Global};
+use std::marker::Model;
+
+/// The verdicts of transactions, seen in the order of their transactions, with the room of each agent.
+#[derive(Drop)]
+pub(crate) struct Verdicts {
+    maps: Vec<RoomyMap<u64, Verdict>>,
+}
+
+impl Model for Verdicts {
+    ghost use Rattle.rep_core.specs.code.ByAgent.{IsByAgent};
+    ghost use Rattle.rep_core.specs.code.Holding.{Recording, recording_of};
+
+    ghost Value = { Recording };
+
+    ghost view = { λ v. recording_of v.maps.items };
+
+    ghost invariant = { λ v. IsByAgent v.maps.items };
+}
+
+impl Verdicts {
+    /// None.
+    pub(crate) fn new(alloc: Global) -> Verdicts
+        ensures { result.pairs ≡ [] }
+    {
+        Verdicts {
+            maps: Vec::new(alloc),
+        }
+    }
+
+    /// Equal ones.
+    pub(crate) fn copy(&self, alloc: Global) -> Result<Verdicts, AllocError>
+        ensures { IfOk result (λ copy. copy.pairs ≡ self.now.pairs) }
+    {
+        let maps = copied_each(alloc, &self.maps)?;
+        Ok(Verdicts { maps })
+    }
+
+    /// That of a transaction.
+    pub(crate) fn get(&self, t: u64) -> Option<&Verdict>
+        ensures { option_copied result ≡ get nat_cmp self.now.pairs t }
+    {
+        find(&self.maps, t)
+    }
+
+    /// Makes room for that of a transaction.
+    pub(crate) fn make_room(&mut self, t: u64) -> Result<(), AllocError>
+        ensures ok { OnOk result (0 < by_agent.room_for t self.new.rooms) }
+        ensures pairs { self.new.pairs ≡ self.old.pairs }
+    {
+        let agent = agent_of(t);
+        grow(&mut self.maps, agent + 1)?;
+        reserve_at(&mut self.maps, agent)
+    }
+
+    /// Keeps that of a transaction, for which there is room.
+    pub(crate) fn insert_in_room(&mut self, t: u64, verdict: Verdict)
+        requires { 0 < by_agent.room_for t self.old.rooms }
+        ensures pairs { self.new.pairs ≡ insert nat_cmp self.old.pairs t verdict }
+    {
+        insert_at(&mut self.maps, t, verdict);
+    }
+}
+
+/// The number of the agent that numbered a transaction.
+fn agent_of(t: u64) -> usize
+    ensures agent { result ≡ by_agent.agent_of t }
+    ensures few { result < 64 }
+{
+    (t % 64) as usize
+}
+
+/// What the map of its agent has at a transaction.
+fn find(maps: &[RoomyMap<u64, Verdict>], t: u64) -> Option<&Verdict>
+    ensures { option_copied result ≡ get nat_cmp (by_agent.pairs_at maps.now (by_agent.agent_of t)) t }
+{
+    let agent = agent_of(t);
+    if agent < maps.len() {
+        maps[agent].get(&t)
+    } else {
+        None
+    }
+}
+
+/// Adds empty maps until there are so many.
+fn grow(maps: &mut Vec<RoomyMap<u64, Verdict>>, wanted: usize) -> Result<(), AllocError>
+    ensures ok { OnOk result (wanted ≤ length maps.new.items) }
+    ensures pairs { (k : ℕ) → by_agent.pairs_at maps.new.items k ≡ by_agent.pairs_at maps.old.items k }
+{
+    while maps.len() < wanted {
+        let alloc = *maps.allocator();
+        maps.push(RoomyMap::new(alloc))?;
+    }
+    Ok(())
+}
+
+/// Makes room for a new transaction of an agent.
+fn reserve_at(maps: &mut Vec<RoomyMap<u64, Verdict>>, agent: usize) -> Result<(), AllocError>
+    requires { agent < length maps.old.items }
+    ensures ok { OnOk result (0 < (get_or maps.new.items agent by_agent.empty).room) }
+    ensures pairs { (k : ℕ) → by_agent.pairs_at maps.new.items k ≡ by_agent.pairs_at maps.old.items k }
+{
+    maps[agent].reserve(1)
+}
+
+/// Keeps a verdict in the map of its agent, in which there is room.
+fn insert_at(maps: &mut Vec<RoomyMap<u64, Verdict>>, t: u64, verdict: Verdict)
+    requires { 0 < by_agent.room_for t (by_agent.rooms_of maps.old.items) }
+    ensures here { by_agent.pairs_at maps.new.items (by_agent.agent_of t) ≡ insert nat_cmp (by_agent.pairs_at maps.old.items (by_agent.agent_of t)) t verdict }
+    ensures apart { (k : ℕ) → k ≢ by_agent.agent_of t → by_agent.pairs_at maps.new.items k ≡ by_agent.pairs_at maps.old.items k }
+{
+    let agent = agent_of(t);
+    maps[agent].insert_in_room(t, verdict);
+}
+
+/// A map of equal pairs for each agent.
+fn copied_each(
+    alloc: Global,
+    maps: &[RoomyMap<u64, Verdict>],
+) -> Result<Vec<RoomyMap<u64, Verdict>>, AllocError>
+    ensures { IfOk result (λ copies. (k : ℕ) → by_agent.pairs_at copies.items k ≡ by_agent.pairs_at maps.now k) }
+{
+    let mut copies = Vec::with_capacity(alloc, maps.len())?;
+    for own in maps {
+        copies.push(copied(alloc, own.as_slice())?)?;
+    }
+    Ok(copies)
+}
