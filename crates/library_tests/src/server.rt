@@ -53,7 +53,7 @@ fn stamped(rt: &(impl Abort + AllocGlobal), stamp: u64, ask: &str) -> Stamped<Re
 
 /// Serves a request.
 fn serve(server: &mut Server, request: Stamped<Request>) -> Result<Stamped<Reply>, Lack> {
-    server.serve(request)
+    server.serve(&request)
 }
 
 /// Serves a request, and once more where memory was refused to it.
@@ -175,11 +175,21 @@ static DENIED: &str = "
 0 deny 6 = 4: Down
 0 return = 5: Done";
 
-/// What is answered to the same request by `answer` and by `serve` is the same.
+/// What is answered to the same request by `evaluate` and by `serve` is the same.
 fn told_is_served(rt: &(impl Abort + AllocGlobal), server: &mut Server, ask: &str) {
-    let told = words(rt, server.answer(&stamped(rt, 0, ask)));
+    let told = words(rt, evaluated(server, stamped(rt, 0, ask)));
     let served = words(rt, served(rt, server, 0, ask));
     tells(rt, told, served.as_str(), ask);
+}
+
+/// What would be answered.
+fn evaluated(server: &mut Server, request: Stamped<Request>) -> Result<Stamped<Reply>, Lack> {
+    let mut reply = Stamped {
+        stamp: 0,
+        value: Reply::Down,
+    };
+    let _step = server.evaluate(&request, &mut reply)?;
+    Ok(reply)
 }
 
 /// These denials are kept.
@@ -292,18 +302,10 @@ fn copies_and_intentions_have_4096_places(rt: HostRuntime) {
     play(&rt, &mut server, LAST_PLACE);
 }
 
-/// A taker that refuses what it is given.
-fn refuse(told: &mut u64, reply: Stamped<Reply>) -> Result<(), ()> {
-    *told = reply.stamp;
-    Err(())
-}
-
-/// What a taker refuses was not served: the reply has this stamp.
+/// What was only evaluated was not served: the reply has this stamp.
 fn refused(rt: &(impl Abort + AllocGlobal), server: &mut Server, ask: &str, stamp: u64) {
-    let mut told = 0;
-    let outcome = server.serve_then(stamped(rt, 0, ask), &mut told, refuse);
-    holds(rt, matches!(&outcome, Ok(Err(()))), ask);
-    holds(rt, told == stamp, ask);
+    let outcome = evaluated(server, stamped(rt, 0, ask));
+    holds(rt, matches!(&outcome, Ok(reply) if reply.stamp == stamp), ask);
 }
 
 #[test]

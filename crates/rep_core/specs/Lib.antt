@@ -2,6 +2,8 @@ pub mod Locks
 pub mod Intentions
 pub mod Store
 pub mod State
+pub mod Roomed
+pub mod Evaluated
 pub mod Service
 pub mod Serving
 pub mod Fits
@@ -9,6 +11,5 @@ pub mod Consistency
 pub mod Steps
 pub mod Laws
 pub mod ValidCopies
-pub mod Given
 pub mod Wanting
 pub mod code

@@ -4,5 +4,5 @@ pub mod Ranges
 pub mod StoreFields
 pub mod ServerFields
 pub mod Equality
-pub mod Changing
+pub mod Stepping
 pub mod Filling

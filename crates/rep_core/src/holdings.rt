@@ -1,26 +1,26 @@
 //! What a server holds, and how it is changed.
 
-ghost use Rattle.std.specs.Prelude.{◌≡◌, ◌<◌, ◌≤◌, IfOk, OnOk, OnErr, false, true, length, is_some};
-ghost use Rattle.std.specs.List.{list_all};
-ghost use Rattle.std.specs.Ordering.{nat_cmp};
+ghost use Rattle.std.specs.Prelude.{◌≡◌, ◌<◌, IfOk, true, is_some};
 ghost use Rattle.std.specs.Vec.{vec_len, vec_capacity};
-ghost use Rattle.sorted_map.specs.SortedMap.{insert};
-ghost use Rattle.rep_core.specs.code.Changing as changing;
-ghost use Rattle.rep_core.specs.code.Planning.{planned_of};
+ghost use Rattle.rep_core.specs.code.Stepping as stepping;
 ghost use Rattle.rep_core.specs.code.ServerFields.{state_of};
 ghost use Rattle.rep_core.specs.Locks as locking;
 ghost use Rattle.rep_core.specs.Service as service;
 ghost use Rattle.rep_core.specs.State.{opening};
 ghost use Rattle.rep_core.specs.Store as store;
 
+use crate::copying::copied;
+use crate::evaluate::{audit_of, is_answered};
+use crate::intention::Planned;
 use crate::locks::LockTable;
-use crate::plan::{Way, audit_of, is_answered, verdict_of};
 use crate::reply::Verdict;
-use crate::request::{Decision, Parts, Request};
+use crate::request::Request;
+use crate::stamped::Stamped;
+use crate::step::{Change, Step};
 use crate::store::Store;
 use file_ops::AuditItem;
+use sorted_map::RoomyMap;
 use std::alloc::{AllocError, Global};
-use std::collections::BTreeMap;
 use suite_prefix::{LockMode, Settings};
 
 /// Copies and intentions, locks, verdicts, the denials that were recorded, the stamp, and whether the
@@ -30,7 +30,7 @@ pub(crate) struct Holdings {
     pub(crate) alloc: Global,
     pub(crate) store: Store,
     pub(crate) locks: LockTable,
-    pub(crate) verdicts: BTreeMap<u64, Verdict>,
+    pub(crate) verdicts: RoomyMap<u64, Verdict>,
     pub(crate) audit: Vec<AuditItem>,
     pub(crate) stamp: u64,
     pub(crate) up: bool,
@@ -50,7 +50,7 @@ impl Holdings {
             alloc,
             store,
             locks: LockTable::new(alloc),
-            verdicts: BTreeMap::new(alloc),
+            verdicts: RoomyMap::new(alloc),
             audit: Vec::new(alloc),
             stamp: 0,
             up: true,
@@ -63,7 +63,7 @@ impl Holdings {
     {
         let store = self.store.copy()?;
         let locks = self.locks.copy()?;
-        let verdicts = self.verdicts.clone()?;
+        let verdicts = copied(self.alloc, self.verdicts.as_slice())?;
         let audit = Vec::from_slice(self.alloc, &self.audit)?;
         Ok(Holdings {
             alloc: self.alloc,
@@ -76,82 +76,64 @@ impl Holdings {
         })
     }
 
-    /// Makes sure of the memory that a request takes: room, or the record itself.
+    /// Does what was evaluated. It takes no memory.
     #[inline(always)]
-    pub(crate) fn begin(&mut self, way: Way, request: &Request) -> Result<(), AllocError>
-        requires sound { changing.IsSoundChange way request.now (state_of self.old) }
-        ensures ok { OnOk result (state_of self.new ≡ changing.begun way request.now (state_of self.old)) }
-        ensures room { OnOk result (changing.HasRoom way request.now self.new) }
-        ensures err { OnErr result (state_of self.new ≡ state_of self.old) }
-        ensures spare { changing.takes_room way request.now ≡ false → OnErr result ⊥ }
+    pub(crate) fn apply(&mut self, request: &Stamped<Request>, step: Step)
+        requires { stepping.HasRoom step.change request.now.value (stepping.roomed_of self.old) }
+        ensures { state_of self.new ≡ record (stepping.applied step.change request.now.value (state_of self.old)) { stamp = step.stamp } }
     {
-        let Way::Through = way else {
-            return Ok(());
-        };
-        match request {
-            Request::Poll { .. } | Request::Upgrade { .. } => self.locks.make_room(),
-            Request::Prepare { t, parts } => self.store.plan(*t, parts.as_slice()),
-            Request::Decide { t, decision } => self.record_decision(*t, decision),
-            Request::Resolve { t } => self.record(*t, Verdict::Aborted),
-            _ => Ok(()),
+        let Step { stamp, change } = step;
+        self.stamp = stamp;
+        match change {
+            Change::Nothing => {}
+            Change::Asked => self.change(&request.value),
+            Change::Intentions(intentions) => self.prepare(&request.value, intentions),
+            Change::Record(verdict) => self.record(&request.value, verdict),
         }
     }
 
-    /// Records a decision, and makes room for an item of the audit where one is to follow.
-    fn record_decision(&mut self, t: u64, decision: &Decision) -> Result<(), AllocError>
-        ensures ok { OnOk result (state_of self.new ≡ record (state_of self.old) { verdicts = insert nat_cmp (state_of self.old).verdicts t (service.verdict_of decision.now) }) }
-        ensures room { OnOk result (is_some (service.audit_of t decision.now) ≡ true → vec_len self.new.audit < vec_capacity self.new.audit) }
-        ensures err { OnErr result (state_of self.new ≡ state_of self.old) }
-    {
-        let verdict = verdict_of(decision)?;
-        if audit_of(t, decision).is_some() {
-            self.audit.reserve(1)?;
-        }
-        self.record(t, verdict)
-    }
-
-    fn record(&mut self, t: u64, verdict: Verdict) -> Result<(), AllocError>
-        ensures ok { OnOk result (state_of self.new ≡ record (state_of self.old) { verdicts = insert nat_cmp (state_of self.old).verdicts t verdict }) }
-        ensures audit { self.new.audit ≡ self.old.audit }
-        ensures err { OnErr result (state_of self.new ≡ state_of self.old) }
-    {
-        self.verdicts.insert(t, verdict)?;
-        Ok(())
-    }
-
-    /// Completes a request that was begun. It takes no memory.
     #[inline(always)]
-    pub(crate) fn complete(&mut self, way: Way, request: Request)
-        requires sound { changing.IsSoundChange way request (state_of self.old) }
-        requires room { changing.HasRoom way request self.old }
-        ensures { state_of self.new ≡ changing.completed way request (state_of self.old) }
+    fn change(&mut self, request: &Request)
+        requires { stepping.HasLockRoom request.now (stepping.roomed_of self.old) }
+        ensures { state_of self.new ≡ stepping.done request.now (state_of self.old) }
     {
-        let Way::Through = way else {
-            return;
-        };
         match request {
-            Request::Poll { t, suite, mode } => self.locks.set(t, suite, mode),
-            Request::Upgrade { t, suite } => self.locks.set(t, suite, LockMode::Exclusive),
-            Request::Prepare { t, parts } => self.prepare(t, parts),
-            Request::Decide { t, decision } => self.note(audit_of(t, &decision)),
-            Request::Finish { t, verdict } => self.finish(t, is_answered(&verdict)),
-            Request::Break { t, suite } => self.locks.break_lock(t, suite),
+            Request::Poll { t, suite, mode } => self.locks.set(*t, *suite, *mode),
+            Request::Upgrade { t, suite } => self.locks.set(*t, *suite, LockMode::Exclusive),
+            Request::Finish { t, verdict } => self.finish(*t, is_answered(verdict)),
+            Request::Break { t, suite } => self.locks.break_lock(*t, *suite),
             Request::Crash => self.crash(),
             Request::Return => self.up = true,
-            Request::Fetch { .. } | Request::Resolve { .. } | Request::Locks => {}
+            _ => {}
         }
     }
 
     /// Keeps the locks of some suites, and what a transaction leaves of them, for which there is room.
-    fn prepare(&mut self, t: u64, parts: Parts)
-        requires sound { list_all (store.is_sound_part (state_of self.old).store) parts ≡ true }
-        requires few { store.overfills t (state_of self.old).store parts ≡ false }
-        requires room { length parts ≤ self.old.store.room }
-        requires made { self.old.store.pending ≡ planned_of self.old.store.store.c0 self.old.store.store.copies t parts }
-        ensures { state_of self.new ≡ record (state_of self.old) { store = store.intended t parts (state_of self.old).store; locks = locking.with_prepared t parts (state_of self.old).locks } }
+    fn prepare(&mut self, request: &Request, planned: Vec<(u64, Planned)>)
+        requires { stepping.HasKeptRoom planned.items request.now (stepping.roomed_of self.old) }
+        ensures { state_of self.new ≡ stepping.kept request.now (state_of self.old) }
     {
-        self.locks.prepare(t, parts.as_slice());
-        self.store.intend(t, parts.into_vec());
+        if let Request::Prepare { t, parts } = request {
+            self.locks.prepare(*t, parts.as_slice());
+            self.store.intend(*t, parts.as_slice(), planned);
+        }
+    }
+
+    /// Records a verdict, and a denial in the audit, for which there is room.
+    fn record(&mut self, request: &Request, verdict: Verdict)
+        requires { stepping.HasNoteRoom request.now (stepping.roomed_of self.old) }
+        ensures { state_of self.new ≡ stepping.noted verdict request.now (state_of self.old) }
+    {
+        match request {
+            Request::Decide { t, decision } => {
+                self.verdicts.insert_in_room(*t, verdict);
+                self.note(audit_of(*t, decision));
+            }
+            Request::Resolve { t } => {
+                self.verdicts.insert_in_room(*t, verdict);
+            }
+            _ => {}
+        }
     }
 
     /// Lets a transaction go. Where it was answered, what it leaves is installed.
@@ -177,21 +159,6 @@ impl Holdings {
     {
         if let Some(item) = item {
             self.audit.push_reserved(item);
-        }
-    }
-
-    /// Leaves what was before a request was begun.
-    pub(crate) fn take_back(&mut self, way: Way, request: &Request)
-        ensures { state_of self.new ≡ changing.taken_back way request.now (state_of self.old) }
-    {
-        let Way::Through = way else {
-            return;
-        };
-        if let Request::Decide { t, .. } | Request::Resolve { t } = request {
-            self.verdicts.remove(t);
-        }
-        if let Request::Prepare { .. } = request {
-            self.store.leave_plan();
         }
     }
 }

@@ -8,8 +8,8 @@
 //! `reply_of` and `after` (`specs/Service.antt`); `answer_of`, `served` and `is_full`
 //! (`specs/Serving.antt`) put the stamps round them. The contract of `serve` is these, exactly, and it
 //! says more: each reply fits its request ([`Request::fits`]), and Finish, Break, Crash and Return take
-//! no memory, since a Prepare makes the room that its Finish needs. [`Server::serve_then`] gives the reply
-//! to a taker before anything is changed for good: where the taker refuses it, nothing was served.
+//! no memory, since a Prepare makes the room that its Finish needs. [`Server::evaluate`] gives what would be answered
+//! and done as a [`Step`], and changes nothing; [`Server::apply`] does it, and cannot fail.
 //!
 //! What holds of every server, whatever it was asked, are laws: functions that do nothing, whose contract is
 //! the law ([`exclusive_stands_alone`], [`prepared_stands`], [`copies_are_valid`] and others).
@@ -22,6 +22,7 @@
 
 mod copying;
 mod effect;
+mod evaluate;
 mod fitting;
 mod holdings;
 mod intention;
@@ -29,11 +30,11 @@ mod laws;
 mod lock;
 mod locks;
 mod maps;
-mod plan;
 mod reply;
 mod request;
 mod server;
 mod stamped;
+mod step;
 mod store;
 mod takes;
 mod types_fit;
@@ -50,5 +51,6 @@ pub use reply::{LockList, Reply, Verdict};
 pub use request::{Decision, Part, Parts, Request, Take};
 pub use server::Server;
 pub use stamped::{Lack, Stamped};
+pub use step::Step;
 pub use store::MAX_SUITES;
 pub use types_fit::settings_fit;

@@ -122,19 +122,6 @@ pub(crate) fn in_the_way(locks: &[Lock], t: u64, suite: u64, mode: LockMode) -> 
     None
 }
 
-/// Whether a lock stands in the way of a lock in this mode.
-pub(crate) fn is_in_the_way(locks: &[Lock], t: u64, suite: u64, mode: LockMode) -> bool
-    ensures { result ≡ is_some (locking.in_the_way t suite mode locks.now) }
-{
-    any_conflicts(locks, t, suite, mode)
-}
-
-fn any_conflicts(locks: &[Lock], t: u64, suite: u64, mode: LockMode) -> bool
-    ensures { result ≡ list_any (locking.conflicts t suite mode) locks.now }
-{
-    locks.iter().any(|lock| conflicts(t, suite, mode, lock))
-}
-
 fn conflicts(t: u64, suite: u64, mode: LockMode, lock: &Lock) -> bool
     ensures { result ≡ locking.conflicts t suite mode lock.now }
 {

@@ -27,7 +27,6 @@ use crate::takes::{any_holds_last, is_keep, is_whole, may_become, take_nothing};
 use sorted_map::RoomyMap;
 use std::alloc::{AllocError, Global};
 use std::marker::Model;
-use std::mem;
 use suite_content::{Content, Kind};
 use suite_prefix::{Form, Prefix, PrefixKind, Replica, Settings, SharedPrefix, StoredCopy};
 use vote_core::Votes;
@@ -47,7 +46,6 @@ pub(crate) struct Store {
     absent: SharedPrefix,
     copies: RoomyMap<u64, StoredCopy>,
     intentions: RoomyMap<u64, Planned>,
-    pending: Vec<(u64, Planned)>,
 }
 
 impl Model for Store {
@@ -83,7 +81,6 @@ impl Store {
             absent,
             copies,
             intentions: RoomyMap::new(alloc),
-            pending: Vec::new(alloc),
         })
     }
 
@@ -107,7 +104,6 @@ impl Store {
             absent,
             copies,
             intentions,
-            pending: Vec::new(self.alloc),
         })
     }
 
@@ -262,20 +258,19 @@ impl Store {
         self.copies.contains_key(&suite)
     }
 
-    /// Makes the bytes that the intentions of a Prepare will leave, room for them, and for the copies that they will be.
-    pub(crate) fn plan(&mut self, t: u64, parts: &[Part]) -> Result<(), AllocError>
+    /// The intentions of a Prepare, with room for them, and for the copies that they will be.
+    pub(crate) fn plan(&mut self, t: u64, parts: &[Part]) -> Result<Vec<(u64, Planned)>, AllocError>
         requires sound { list_all (store.is_sound_part self.old.store) parts.now ≡ true }
         requires few { store.overfills t self.old.store parts.now ≡ false }
-        ensures ok { OnOk result (length parts.now ≤ self.new.room) }
-        ensures pending { OnOk result (self.new.pending ≡ planned_of self.old.store.c0 self.old.store.copies t parts.now) }
+        ensures room { OnOk result (length parts.now ≤ self.new.room) }
+        ensures planned { IfOk result (λ planned. planned.items ≡ planned_of self.old.store.c0 self.old.store.copies t parts.now) }
         ensures store { self.new.store ≡ self.old.store }
     {
         let planned = self.planned(t, parts)?;
         self.copies
             .reserve(self.intentions.as_slice().len() + parts.len())?;
         self.intentions.reserve(parts.len())?;
-        self.pending = planned;
-        Ok(())
+        Ok(planned)
     }
 
     /// The intentions of a Prepare.
@@ -354,27 +349,27 @@ impl Store {
         }
     }
 
-    /// Keeps the intentions of a Prepare that were made, for which there is room.
+    /// Keeps the intentions of a Prepare, for which there is room.
     #[inline(always)]
-    pub(crate) fn intend(&mut self, t: u64, parts: Vec<Part>)
-        requires sound { list_all (store.is_sound_part self.old.store) parts.items ≡ true }
-        requires few { store.overfills t self.old.store parts.items ≡ false }
-        requires room { length parts.items ≤ self.old.room }
-        requires made { self.old.pending ≡ planned_of self.old.store.c0 self.old.store.copies t parts.items }
-        ensures { self.new.store ≡ store.intended t parts.items self.old.store }
+    pub(crate) fn intend(&mut self, t: u64, parts: &[Part], planned: Vec<(u64, Planned)>)
+        requires sound { list_all (store.is_sound_part self.old.store) parts.now ≡ true }
+        requires few { store.overfills t self.old.store parts.now ≡ false }
+        requires room { length parts.now ≤ self.old.room }
+        requires made { planned.items ≡ planned_of self.old.store.c0 self.old.store.copies t parts.now }
+        ensures { self.new.store ≡ store.intended t parts.now self.old.store }
     {
-        if take_nothing(parts.as_slice()) {
+        if take_nothing(parts) {
             return;
         }
-        let pending = mem::replace(&mut self.pending, Vec::new(self.alloc));
-        keep_all(&mut self.intentions, pending);
+        keep_all(&mut self.intentions, planned);
     }
 
-    /// Lets go what was made of a Prepare that was not served.
-    pub(crate) fn leave_plan(&mut self)
-        ensures { self.new.store ≡ self.old.store }
+    /// The copies, by suite.
+    pub(crate) fn copies(&self) -> &[(u64, StoredCopy)]
+        ensures copies { copies_in result.now ≡ self.now.store.copies }
+        ensures forms { forms_in result.now ≡ self.now.store.forms }
     {
-        self.pending = Vec::new(self.alloc);
+        self.copies.as_slice()
     }
 
     /// The form that the copy of a suite is written in, where it has one.

@@ -14,16 +14,15 @@
 //! these definitions, exactly: on success the world is the one that they give, and where memory runs out
 //! nothing has changed, or `play` tells how many events were played.
 //!
-//! A step copies no server and no agent, only the request (`advance` not even that) and at most the one suite
-//! that is told: the server gives the reply to the agent before anything is changed for good, and takes the
-//! change back, without memory, where the agent lacks memory for it. Contracts say when an event may want
+//! A step copies no server, no agent and no request: the server evaluates it, the agent takes the reply, and only then
+//! the server does what it evaluated, which takes no memory. Contracts say when an event may want
 //! memory, and when none may (`specs/Wanting.antt`).
 #![tactic(auto)]
 
 mod done;
 mod event;
 mod exchange;
-mod keep;
+mod host;
 mod laws;
 mod moves;
 mod opening;

@@ -18,7 +18,6 @@
 mod answer;
 mod close_fault;
 mod closing;
-mod copied;
 mod counting;
 mod gate;
 mod history;

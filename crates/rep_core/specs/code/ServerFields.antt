@@ -6,7 +6,7 @@ abbrev pub state_of : Holdings → State
 state_of held = record {
   store = held.store.store;
   locks = held.locks.locks;
-  verdicts = held.verdicts.entries;
+  verdicts = held.verdicts.pairs;
   audit = held.audit.items;
   stamp = held.stamp;
   up = held.up;

@@ -15,4 +15,4 @@ store_of fields = record {
 
 -- room for intentions, and beside what is kept for the intentions there are, room for their copies
 abbrev pub storing_of : Inside → Storing
-storing_of fields = record { store = store_of fields; room = min fields.intentions.room (fields.copies.room - length fields.intentions.pairs); pending = fields.pending.items }
+storing_of fields = record { store = store_of fields; room = min fields.intentions.room (fields.copies.room - length fields.intentions.pairs) }

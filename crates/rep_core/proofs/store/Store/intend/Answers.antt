@@ -12,24 +12,22 @@ use Rattle.rep_core.proofs.store.Store.intend.Goals as goal
 
 pub keep_all-requires : goal.keep_all-requires
 keep_all-requires c =
-    let parts = c.args.parts.items in
+    let parts = c.args.parts.now in
     let old : Store = store_of c.self.inside in
     let room = ap (λ (shown : Storing). shown.room) c.self.view_is in
-    let shows = ap (λ (shown : Storing). shown.pending) c.self.view_is in
     let store_is = ap (λ (shown : Storing). shown.store) c.self.view_is in
-    let made : c.replace-pending.result.items ≡ planned_of old.c0 old.copies c.args.t parts = search (rules, shows) ∙ c.requires.made ∙ ap (λ (store : Store). planned_of store.c0 store.copies c.args.t parts) (sym store_is) in
+    let made : c.args.planned.items ≡ planned_of old.c0 old.copies c.args.t parts = c.requires.made ∙ ap (λ (store : Store). planned_of store.c0 store.copies c.args.t parts) (sym store_is) in
     let few = few_planned old.c0 old.copies c.args.t parts in
     omega (arith, room, c.requires.room, ap length made, few)
 
 pub invariant_of-self : goal.invariant_of-self
 invariant_of-self c =
-    let parts = c.args.parts.items in
+    let parts = c.args.parts.now in
     let old : Store = store_of c.self.inside in
     let kept = c.self.inside.intentions.pairs in
     let new : Store = record { c0 = old.c0; copies = old.copies; forms = old.forms; intentions = intentions_in c.keep_all.new.intentions.pairs } in
-    let shows = ap (λ (shown : Storing). shown.pending) c.self.view_is in
     let store_is = ap (λ (shown : Storing). shown.store) c.self.view_is in
-    let made : c.replace-pending.result.items ≡ planned_of old.c0 old.copies c.args.t parts = search (rules, shows) ∙ c.requires.made ∙ ap (λ (store : Store). planned_of store.c0 store.copies c.args.t parts) (sym store_is) in
+    let made : c.args.planned.items ≡ planned_of old.c0 old.copies c.args.t parts = c.requires.made ∙ ap (λ (store : Store). planned_of store.c0 store.copies c.args.t parts) (sym store_is) in
     let put : c.keep_all.new.intentions.pairs ≡ with_all (planned_of old.c0 old.copies c.args.t parts) kept = c.keep_all.ensures.pairs ∙ ap (λ l. with_all l kept) made in
     let seen : intentions_in c.keep_all.new.intentions.pairs ≡ with_intentions c.args.t parts old.intentions = ap intentions_in put ∙ planned_kept old.c0 old.copies c.args.t parts kept in
     let is : new ≡ intended c.args.t parts old = λ i. record { c0 = old.c0; copies = old.copies; forms = old.forms; intentions = seen i } in
@@ -45,19 +43,18 @@ invariant_of-self c =
 
 pub returns-then-take_nothing : goal.returns-then-take_nothing
 returns-then-take_nothing c =
-    let parts = c.args.parts.items in
+    let parts = c.args.parts.now in
     let store : Store = c.args.self.now.store in
     let keeps : list_all (λ part. is_keep part.take) parts ≡ true = search rules in
     ap (λ intentions. record store { intentions = intentions }) (sym (nothing_taken c.args.t parts store.intentions keeps))
 
 pub returns : goal.returns
 returns c =
-    let parts = c.args.parts.items in
+    let parts = c.args.parts.now in
     let old : Store = store_of c.self.inside in
     let kept = c.self.inside.intentions.pairs in
-    let shows = ap (λ (shown : Storing). shown.pending) c.self.view_is in
     let store_is = ap (λ (shown : Storing). shown.store) c.self.view_is in
-    let made : c.replace-pending.result.items ≡ planned_of old.c0 old.copies c.args.t parts = search (rules, shows) ∙ c.requires.made ∙ ap (λ (store : Store). planned_of store.c0 store.copies c.args.t parts) (sym store_is) in
+    let made : c.args.planned.items ≡ planned_of old.c0 old.copies c.args.t parts = c.requires.made ∙ ap (λ (store : Store). planned_of store.c0 store.copies c.args.t parts) (sym store_is) in
     let put : c.keep_all.new.intentions.pairs ≡ with_all (planned_of old.c0 old.copies c.args.t parts) kept = c.keep_all.ensures.pairs ∙ ap (λ l. with_all l kept) made in
     let seen : intentions_in c.keep_all.new.intentions.pairs ≡ with_intentions c.args.t parts old.intentions = ap intentions_in put ∙ planned_kept old.c0 old.copies c.args.t parts kept in
     let with_these : List (ℕ × Intention) → Store = λ intentions. record { c0 = old.c0; copies = old.copies; forms = old.forms; intentions = intentions } in

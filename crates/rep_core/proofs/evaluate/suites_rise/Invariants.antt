@@ -1,6 +1,6 @@
 use Rattle.std.proofs.Common.{◌≡◌, length}
 use Rattle.rep_core.proofs.RisingParts.{suites_rise}
-use Rattle.rep_core.proofs.plan.suites_rise.Given as goal
+use Rattle.rep_core.proofs.evaluate.suites_rise.Given as goal
 
 -- those that were looked at rise
 abbrev pub invariant-loop-left : goal.invariant-loop-left

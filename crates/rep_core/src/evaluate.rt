@@ -1,0 +1,353 @@
+//! What a server would answer and do, found and made room for before anything is changed.
+
+ghost use Rattle.std.specs.Prelude.{◌≡◌, ◌≢◌, ◌↔◌, ◌&&◌, ◌==◌, ◌<◌, false, true, is_some, IfOk, IsOk, OnOk, IsTrue, Err, None};
+ghost use Rattle.std.specs.List.{list_all, list_any};
+ghost use Rattle.suite_prefix.specs.declared.lock_mode.LockMode.TheVariants.{Exclusive};
+ghost use Rattle.rep_core.specs.declared.stamped.Lack.TheVariants.{Full, Memory};
+ghost use Rattle.rep_core.specs.declared.step.Change.TheVariants.{Asked};
+ghost use Rattle.rep_core.specs.code.Stepping as stepping;
+ghost use Rattle.rep_core.specs.Fits.{fits};
+ghost use Rattle.rep_core.specs.Locks as locking;
+ghost use Rattle.rep_core.specs.code.ServerFields.{state_of};
+ghost use Rattle.rep_core.specs.Service as service;
+ghost use Rattle.rep_core.specs.Serving as serving;
+ghost use Rattle.rep_core.specs.State.{State, record_of};
+ghost use Rattle.rep_core.specs.declared.holdings.Holdings.{Holdings};
+ghost use Rattle.rep_core.specs.Store as store;
+ghost use Rattle.std.specs.Vec.{vec_len, vec_capacity};
+
+use crate::holdings::Holdings;
+use crate::locks;
+use crate::reply::{LockList, Reply, Verdict};
+use crate::request::{Decision, Part, Request};
+use crate::stamped::{Lack, Stamped};
+use crate::step::Change;
+use crate::takes::is_used_up;
+use file_ops::{AuditItem, Why};
+use std::alloc::AllocError;
+use suite_prefix::LockMode;
+
+impl Holdings {
+    /// What a request changes, once its reply is written into a place of the caller's; with all room that the change
+    /// takes. Nothing of the server has changed.
+    #[inline(always)]
+    pub(crate) fn evaluate(
+        &mut self,
+        request: &Stamped<Request>,
+        reply: &mut Stamped<Reply>,
+    ) -> Result<Change, Lack>
+        ensures reply { OnOk result (reply.new ≡ serving.answer_of (state_of self.old) request.now) }
+        ensures same { state_of self.new ≡ state_of self.old }
+        ensures room { IfOk result (λ change. stepping.HasRoom change request.now.value (stepping.roomed_of self.new)) }
+        ensures change { IfOk result (λ change. stepping.applied change request.now.value (state_of self.old) ≡ service.after (state_of self.old) request.now.value) }
+        ensures full { (result ≡ Err Full) ↔ IsTrue (serving.is_full (state_of self.old) request.now) }
+        ensures bare { IsTrue (serving.is_bare (service.reply_of (state_of self.old) request.now.value)) → result ≢ Err Memory }
+        ensures fits { IsTrue (fits request.now.value (service.reply_of (state_of self.old) request.now.value)) }
+    {
+        self.store.sound();
+        if is_used_up(self.stamp) || is_used_up(request.stamp) {
+            return Err(Lack::Full);
+        }
+        reply.stamp = self.stamp.max(request.stamp) + 1;
+        self.fill(&request.value, &mut reply.value)
+    }
+
+    #[inline(always)]
+    fn fill(&mut self, request: &Request, reply: &mut Reply) -> Result<Change, Lack>
+        ensures reply { OnOk result (reply.new ≡ service.reply_of (state_of self.old) request.now) }
+        ensures same { state_of self.new ≡ state_of self.old }
+        ensures room { IfOk result (λ change. stepping.HasRoom change request.now (stepping.roomed_of self.new)) }
+        ensures change { IfOk result (λ change. stepping.applied change request.now (state_of self.old) ≡ service.after (state_of self.old) request.now) }
+        ensures full { (result ≡ Err Full) ↔ IsTrue ((state_of self.old).up && serving.asks_too_much (state_of self.old) request.now) }
+        ensures bare { IsTrue (serving.is_bare (service.reply_of (state_of self.old) request.now)) → result ≢ Err Memory }
+    {
+        if self.up {
+            self.fill_up(request, reply)
+        } else {
+            Ok(fill_down(request, reply))
+        }
+    }
+
+    /// Of a server that is up.
+    #[inline(always)]
+    fn fill_up(&mut self, request: &Request, reply: &mut Reply) -> Result<Change, Lack>
+        ensures reply { OnOk result (reply.new ≡ service.reply_up (state_of self.old) request.now) }
+        ensures same { state_of self.new ≡ state_of self.old }
+        ensures room { IfOk result (λ change. stepping.HasRoom change request.now (stepping.roomed_of self.new)) }
+        ensures change { IfOk result (λ change. stepping.applied change request.now (state_of self.old) ≡ service.after_up (state_of self.old) request.now) }
+        ensures full { (result ≡ Err Full) ↔ IsTrue (serving.asks_too_much (state_of self.old) request.now) }
+        ensures bare { IsTrue (serving.is_bare (service.reply_up (state_of self.old) request.now)) → result ≢ Err Memory }
+    {
+        match request {
+            Request::Poll { t, suite, mode } => Ok(self.fill_lock(*t, *suite, *mode, reply)?),
+            Request::Upgrade { t, suite } => Ok(self.fill_upgrade(*t, *suite, reply)?),
+            Request::Fetch { t, suite } => Ok(self.fill_fetch(*t, *suite, reply)?),
+            Request::Prepare { t, parts } => self.fill_parts(*t, parts.as_slice(), reply),
+            Request::Decide { t, decision } => Ok(self.fill_decision(*t, decision, reply)?),
+            Request::Resolve { t } => Ok(self.fill_record(*t, Verdict::Aborted, reply)?),
+            Request::Locks => Ok(self.fill_list(reply)?),
+            Request::Finish { .. } | Request::Break { .. } | Request::Crash => {
+                *reply = Reply::Done;
+                Ok(Change::Asked)
+            }
+            Request::Return => {
+                *reply = Reply::Done;
+                Ok(Change::Nothing)
+            }
+        }
+    }
+
+    /// To set a lock, or to make it stronger.
+    fn fill_lock(
+        &mut self,
+        t: u64,
+        suite: u64,
+        mode: LockMode,
+        reply: &mut Reply,
+    ) -> Result<Change, AllocError>
+        ensures reply { OnOk result (reply.new ≡ service.poll_reply (state_of self.old) t suite mode) }
+        ensures same { state_of self.new ≡ state_of self.old }
+        ensures change { IfOk result (λ change. change ≡ stepping.unless (locking.in_the_way t suite mode (state_of self.old).locks)) }
+        ensures room { IfOk result (λ change. change ≡ Asked → 0 < self.new.locks.room) }
+        ensures bare { IsTrue (serving.is_bare (service.poll_reply (state_of self.old) t suite mode)) → IsOk result }
+    {
+        match locks::in_the_way(self.locks.as_slice(), t, suite, mode) {
+            Some(other) => {
+                *reply = Reply::Busy {
+                    holder: other.t,
+                    prepared: other.prepared,
+                };
+                Ok(Change::Nothing)
+            }
+            None => {
+                self.locks.make_room()?;
+                self.store.keep_head(suite)?;
+                self.store.hold(suite, reply)?;
+                Ok(Change::Asked)
+            }
+        }
+    }
+
+    /// To make a lock exclusive.
+    fn fill_upgrade(&mut self, t: u64, suite: u64, reply: &mut Reply) -> Result<Change, AllocError>
+        ensures reply { OnOk result (reply.new ≡ service.upgrade_reply (state_of self.old) t suite) }
+        ensures same { state_of self.new ≡ state_of self.old }
+        ensures change { IfOk result (λ change. stepping.applied change (Request.Upgrade t suite) (state_of self.old) ≡ service.after_upgrade (state_of self.old) t suite) }
+        ensures room { IfOk result (λ change. stepping.HasRoom change (Request.Upgrade t suite) (stepping.roomed_of self.new)) }
+        ensures bare { IsTrue (serving.is_bare (service.upgrade_reply (state_of self.old) t suite)) → IsOk result }
+    {
+        if locks::has_lock(self.locks.as_slice(), t, suite) {
+            self.fill_lock(t, suite, LockMode::Exclusive, reply)
+        } else {
+            *reply = Reply::Lost;
+            Ok(Change::Nothing)
+        }
+    }
+
+    /// To tell a content.
+    fn fill_fetch(&mut self, t: u64, suite: u64, reply: &mut Reply) -> Result<Change, AllocError>
+        ensures reply { OnOk result (reply.new ≡ service.fetch_reply (state_of self.old) t suite) }
+        ensures same { state_of self.new ≡ state_of self.old }
+        ensures change { IfOk result (λ change. change ≡ Change.Nothing) }
+        ensures bare { IsTrue (serving.is_bare (service.fetch_reply (state_of self.old) t suite)) → IsOk result }
+    {
+        if locks::has_lock(self.locks.as_slice(), t, suite) {
+            self.store.keep_content(suite)?;
+            self.store.give(suite, reply)?;
+        } else {
+            *reply = Reply::Lost;
+        }
+        Ok(Change::Nothing)
+    }
+
+    /// To keep parts.
+    fn fill_parts(&mut self, t: u64, parts: &[Part], reply: &mut Reply) -> Result<Change, Lack>
+        ensures reply { OnOk result (reply.new ≡ service.prepare_reply (state_of self.old) t parts.now) }
+        ensures same { state_of self.new ≡ state_of self.old }
+        ensures change { IfOk result (λ change. stepping.applied change (Request.Prepare t parts.now) (state_of self.old) ≡ service.after_prepare (state_of self.old) t parts.now) }
+        ensures room { IfOk result (λ change. stepping.HasRoom change (Request.Prepare t parts.now) (stepping.roomed_of self.new)) }
+        ensures full { (result ≡ Err Full) ↔ IsTrue (service.prepares (state_of self.old) t parts.now && store.overfills t (state_of self.old).store parts.now) }
+        ensures bare { IsTrue (serving.is_bare (service.prepare_reply (state_of self.old) t parts.now)) → result ≢ Err Memory }
+    {
+        if self.stands_prepared(t, parts) {
+            *reply = Reply::Prepared;
+            return Ok(Change::Nothing);
+        }
+        if !self.can_prepare(t, parts) {
+            *reply = Reply::Lost;
+            return Ok(Change::Nothing);
+        }
+        if self.store.overfills(parts) {
+            return Err(Lack::Full);
+        }
+        let planned = self.store.plan(t, parts)?;
+        *reply = Reply::Prepared;
+        Ok(Change::Intentions(planned))
+    }
+
+    /// To record a decision, with an item of the audit where it is a denial.
+    fn fill_decision(
+        &mut self,
+        t: u64,
+        decision: &Decision,
+        reply: &mut Reply,
+    ) -> Result<Change, AllocError>
+        ensures reply { OnOk result (reply.new ≡ Reply.Verdict (service.recorded (record_of (state_of self.old) t) (service.verdict_of decision.now))) }
+        ensures same { state_of self.new ≡ state_of self.old }
+        ensures change { IfOk result (λ change. change ≡ stepping.unrecorded (record_of (state_of self.old) t) (service.verdict_of decision.now)) }
+        ensures room { IfOk result (λ change. record_of (state_of self.old) t ≡ None → 0 < self.new.verdicts.room) }
+        ensures audit { OnOk result (is_some (service.audit_of t decision.now) ≡ true → vec_len self.new.audit < vec_capacity self.new.audit) }
+    {
+        if audit_of(t, decision).is_some() {
+            self.audit.reserve(1)?;
+        }
+        self.fill_record(t, verdict_of(decision)?, reply)
+    }
+
+    /// To record a verdict, where no record stands.
+    fn fill_record(
+        &mut self,
+        t: u64,
+        verdict: Verdict,
+        reply: &mut Reply,
+    ) -> Result<Change, AllocError>
+        ensures reply { OnOk result (reply.new ≡ Reply.Verdict (service.recorded (record_of (state_of self.old) t) verdict)) }
+        ensures same { state_of self.new ≡ state_of self.old }
+        ensures change { IfOk result (λ change. change ≡ stepping.unrecorded (record_of (state_of self.old) t) verdict) }
+        ensures room { OnOk result (record_of (state_of self.old) t ≡ None → 0 < self.new.verdicts.room) }
+        ensures audit { self.new.audit ≡ self.old.audit }
+    {
+        if let Some(standing) = self.verdicts.get(&t) {
+            *reply = Reply::Verdict(standing.clone()?);
+            return Ok(Change::Nothing);
+        }
+        self.verdicts.reserve(1)?;
+        *reply = Reply::Verdict(verdict.clone()?);
+        Ok(Change::Record(verdict))
+    }
+
+    /// To tell the locks.
+    fn fill_list(&self, reply: &mut Reply) -> Result<Change, AllocError>
+        ensures reply { OnOk result (reply.new ≡ Reply.Locked (state_of self.now).locks) }
+        ensures change { IfOk result (λ change. change ≡ Change.Nothing) }
+    {
+        let locks = Vec::from_slice(self.alloc, self.locks.as_slice())?;
+        *reply = Reply::Locked(LockList::from_vec(locks)?);
+        Ok(Change::Nothing)
+    }
+
+    /// Whether nothing is left to be prepared.
+    fn stands_prepared(&self, t: u64, parts: &[Part]) -> bool
+        ensures { result ≡ service.stands_prepared (state_of self.now) t parts.now }
+    {
+        locks::has_prepared(self.locks.as_slice(), t) || parts.is_empty()
+    }
+
+    fn can_prepare(&self, t: u64, parts: &[Part]) -> bool
+        ensures { result ≡ service.can_prepare (state_of self.now) t parts.now }
+    {
+        locks::has_locks_for(self.locks.as_slice(), t, parts)
+            && !lists_twice(parts)
+            && self.are_sound(parts)
+    }
+
+    fn are_sound(&self, parts: &[Part]) -> bool
+        ensures { result ≡ list_all (store.is_sound_part (state_of self.now).store) parts.now }
+    {
+        parts.iter().all(|part| self.store.is_sound_part(part))
+    }
+}
+
+/// Of a server that is down.
+fn fill_down(request: &Request, reply: &mut Reply) -> Change
+    ensures reply { reply.new ≡ service.reply_down request.now }
+    ensures change { (st : State) → stepping.applied result request.now st ≡ service.after_down st request.now }
+    ensures room { (held : Holdings) → stepping.HasRoom result request.now (stepping.roomed_of held) }
+{
+    match request {
+        Request::Return => {
+            *reply = Reply::Done;
+            Change::Asked
+        }
+        _ => {
+            *reply = Reply::Down;
+            Change::Nothing
+        }
+    }
+}
+
+/// Whether a suite stands twice among parts. Mostly the suites rise, and then none does.
+fn lists_twice(parts: &[Part]) -> bool
+    ensures { result ≡ store.lists_twice parts.now }
+{
+    !suites_rise(parts) && any_stands_twice(parts)
+}
+
+/// Whether each part's suite is above the one before.
+fn suites_rise(parts: &[Part]) -> bool
+    ensures { IsTrue result → store.lists_twice parts.now ≡ false }
+{
+    let mut left = parts;
+    while let [first, second, ..] = left {
+        if first.suite >= second.suite {
+            return false;
+        }
+        left = &left[1..];
+    }
+    true
+}
+
+/// Whether a suite stands twice, each compared with all behind it.
+fn any_stands_twice(parts: &[Part]) -> bool
+    ensures { result ≡ store.lists_twice parts.now }
+{
+    for (i, part) in parts.iter().enumerate() {
+        if names_suite(&parts[i + 1..], part.suite) {
+            return true;
+        }
+    }
+    false
+}
+
+fn names_suite(parts: &[Part], suite: u64) -> bool
+    ensures { result ≡ list_any (λ later. later.suite == suite) parts.now }
+{
+    parts.iter().any(|later| later.suite == suite)
+}
+
+/// What a decision records.
+pub(crate) fn verdict_of(decision: &Decision) -> Result<Verdict, AllocError>
+    ensures { IfOk result (λ verdict. verdict ≡ service.verdict_of decision.now) }
+{
+    match decision {
+        Decision::Answered(replies) => Ok(Verdict::Answered(replies.clone()?)),
+        Decision::Refused { refusal, .. } => Ok(Verdict::Refused(*refusal)),
+    }
+}
+
+/// The item of the audit of a denial.
+pub(crate) fn audit_of(t: u64, decision: &Decision) -> Option<AuditItem>
+    ensures { result ≡ service.audit_of t decision.now }
+{
+    let Decision::Refused { uid, refusal } = decision else {
+        return None;
+    };
+    let Why::Denied(denial) = refusal.why else {
+        return None;
+    };
+    Some(AuditItem {
+        t,
+        uid: *uid,
+        op: refusal.op,
+        denial,
+    })
+}
+
+pub(crate) fn is_answered(verdict: &Verdict) -> bool
+    ensures { result ≡ service.is_answered verdict.now }
+{
+    match verdict {
+        Verdict::Answered(_) => true,
+        Verdict::Refused(_) | Verdict::Aborted => false,
+    }
+}
