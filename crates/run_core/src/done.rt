@@ -4,7 +4,7 @@ use rep_core::{Reply, Request, Stamped};
 use txn_core::Ending;
 
 /// A request that a server served, with its reply.
-#[derive(Debug, Drop)]
+#[derive(Drop)]
 pub struct Served {
     pub server: u8,
     pub request: Stamped<Request>,
@@ -70,7 +70,7 @@ impl Eq for Outcome {
 }
 
 /// What was done in an event: what was served, if anything was, and how a job ended, if one did.
-#[derive(Debug, Drop)]
+#[derive(Drop)]
 pub struct Done {
     pub served: Option<Served>,
     pub outcome: Option<Outcome>,

@@ -108,11 +108,7 @@ impl Locked {
 
     /// Serves a request, and keeps what was served. That the server is full is told however little memory
     /// there is.
-    fn keep(
-        &mut self,
-        agent: Option<u8>,
-        request: Stamped<Request>,
-    ) -> Result<Stamped<Reply>, Lack>
+    fn keep(&mut self, agent: Option<u8>, request: Stamped<Request>) -> Result<Stamped<Reply>, Lack>
         ensures room { OnOk result (length self.old.history < max_items) }
         ensures reply { IfOk result (λ reply. given_to (end_of self.old) request ≡ Some reply) }
         ensures fits { IfOk result (λ reply. IsTrue (fits request.value reply.value)) }
