@@ -4,11 +4,38 @@ use rep_core::{Reply, Request, Stamped};
 use txn_core::Ending;
 
 /// A request that a server served, with its reply.
-#[derive(Debug, Drop)]
+#[derive(Drop)]
 pub struct Served {
     pub server: u8,
     pub request: Stamped<Request>,
     pub reply: Stamped<Reply>,
+}
+
+impl Served {
+    ghost use Rattle.std.specs.Prelude.{◌≡◌};
+    ghost use Rattle.run_core.specs.code.Exchanges.{served_if};
+
+    /// A place for what an agent asks, and is answered.
+    pub(crate) fn place() -> Served {
+        Served {
+            server: 0,
+            request: Stamped {
+                stamp: 0,
+                value: Request::Locks,
+            },
+            reply: Stamped {
+                stamp: 0,
+                value: Reply::Down,
+            },
+        }
+    }
+
+    /// What was put into a place, if it was served.
+    pub(crate) fn when(self, is_served: bool) -> Option<Served>
+        ensures { result ≡ served_if is_served self }
+    {
+        if is_served { Some(self) } else { None }
+    }
 }
 
 /// How a job of an agent ended: the agent's jobs are counted from 0, and `steps` of the job's own steps
@@ -43,22 +70,8 @@ impl Eq for Outcome {
 }
 
 /// What was done in an event: what was served, if anything was, and how a job ended, if one did.
-#[derive(Debug, Drop)]
+#[derive(Drop)]
 pub struct Done {
     pub served: Option<Served>,
     pub outcome: Option<Outcome>,
-}
-
-impl Done {
-    ghost use Rattle.std.specs.Prelude.{◌≡◌, None};
-
-    /// Nothing was served, and no job ended.
-    pub(crate) fn nothing() -> Done
-        ensures { result ≡ record { served = None; outcome = None } }
-    {
-        Done {
-            served: None,
-            outcome: None,
-        }
-    }
 }

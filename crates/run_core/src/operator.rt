@@ -4,8 +4,9 @@ ghost use Rattle.std.specs.Prelude.{◌≡◌};
 ghost use Rattle.run_core.specs.code.Orders.{request_of};
 ghost use Rattle.run_core.specs.code.Moves.{IsOperated};
 
-use crate::done::{Done, Served};
-use rep_core::{Request, Server, Stamped};
+use crate::done::Served;
+use crate::host::Host;
+use rep_core::{Request, Stamped};
 
 /// What the operator asks of a server.
 #[derive(Clone, Copy)]
@@ -29,23 +30,19 @@ impl Order {
     }
 }
 
-/// The server of this number is asked.
-pub(crate) fn operate(servers: &mut Vec<Server>, server: u8, order: Order) -> Done
-    ensures { IsOperated servers.old.items servers.new.items server order result }
+/// The server of this number is asked: it tells whether it was served. What was asked, and the reply, are put into a
+/// place of the caller's.
+pub(crate) fn operate(servers: &mut Vec<Host>, server: u8, order: Order, asked: &mut Served) -> bool
+    ensures { IsOperated servers.old.items servers.new.items server order asked.new result }
 {
     let Some(host) = servers.get_mut(usize::from(server)) else {
-        return Done::nothing();
+        return false;
     };
-    let Ok(reply) = host.serve(order.request()) else {
-        return Done::nothing();
+    asked.server = server;
+    asked.request = order.request();
+    let Ok(reply) = host.server.serve(&asked.request) else {
+        return false;
     };
-    let served = Served {
-        server,
-        request: order.request(),
-        reply,
-    };
-    Done {
-        served: Some(served),
-        outcome: None,
-    }
+    asked.reply = reply;
+    true
 }

@@ -67,14 +67,6 @@ impl Seat {
         self.agent.asked()
     }
 
-    /// What it asks, and of which server.
-    pub(crate) fn next(&self) -> Result<Option<(u8, Request)>, AllocError>
-        ensures ok { IfOk result (λ asked. asked ≡ agents.next_of self.now.fixed self.now.actor.agent) }
-        ensures memory { IfErr result (λ _. IsTrue (wanting.by_asking (agents.next_of self.now.fixed self.now.actor.agent))) }
-    {
-        self.agent.next()
-    }
-
     /// Of which server it asks next, and what: that is put into a place of the caller's.
     pub(crate) fn ask(&self, request: &mut Request) -> Result<Option<u8>, AllocError>
         ensures ok { IfOk result (λ server. option_map (λ server. (server, request.new)) server ≡ agents.next_of self.now.fixed self.now.actor.agent) }

@@ -1,6 +1,6 @@
 //! A world: the servers and the agents of a service, event by event.
 
-ghost use Rattle.std.specs.Prelude.{◌≡◌, ◌≤◌, ◌++◌, [], take, length, IfOk, IfErr, IsSome, IsTrue, OnOk, OnErr};
+ghost use Rattle.std.specs.Prelude.{◌≡◌, ◌≤◌, ◌++◌, [], Some, take, is_some, length, IfOk, IfErr, IfSome, IsSome, IsTrue, OnOk, OnErr};
 ghost use Rattle.std.specs.List.{cons_option};
 ghost use Rattle.std.specs.Option.{option_or};
 ghost use Rattle.txn_core.specs.Agents.{fixed_of};
@@ -8,10 +8,11 @@ ghost use Rattle.run_core.specs.Asking.{asked_at};
 ghost use Rattle.run_core.specs.Runs as runs;
 ghost use Rattle.run_core.specs.Wanting as wanting;
 ghost use Rattle.run_core.specs.Worlds as worlds;
+ghost use Rattle.run_core.specs.code.Exchanges.{ComesTo};
 
-use crate::done::{Done, Outcome};
+use crate::done::{Done, Outcome, Served};
 use crate::event::Event;
-use crate::keep::Nothing;
+use crate::host::Host;
 use crate::moves;
 use crate::opening::{seats_of, servers_of};
 use crate::operator::{Order, operate};
@@ -33,7 +34,7 @@ pub struct Stopped {
 pub struct World {
     alloc: Global,
     settings: Settings,
-    servers: Vec<Server>,
+    servers: Vec<Host>,
     seats: Vec<Seat>,
 }
 
@@ -79,20 +80,11 @@ impl World {
         ensures err { OnErr result (self.new ≡ self.old) }
         ensures memory { IfErr result (λ _. IsTrue (wanting.by_event (fixed_of self.old.given) self.old.world event.now)) }
     {
-        match event {
-            Event::Begin { agent, job } => {
-                moves::begin(&mut self.seats, *agent, job)?;
-                Ok(Done::nothing())
-            }
-            Event::Step { agent } => moves::step(&mut self.servers, &mut self.seats, *agent),
-            Event::Crash { server } => Ok(operate(&mut self.servers, *server, Order::Crash)),
-            Event::Return { server } => Ok(operate(&mut self.servers, *server, Order::Return)),
-            Event::Forget { agent, site } => {
-                moves::forget(&mut self.seats, *agent, *site);
-                Ok(Done::nothing())
-            }
-            Event::Lack { agent, lack } => Ok(moves::lack(&mut self.seats, *agent, *lack)),
-        }
+        let mut asked = Served::place();
+        let mut outcome = None;
+        let is_served = self.happen(event, &mut asked, &mut outcome)?;
+        let served = asked.when(is_served);
+        Ok(Done { served, outcome })
     }
 
     /// Plays one event as `step` does, and tells only how a job ended, if one did: that is put into a place of
@@ -105,28 +97,46 @@ impl World {
         ensures err { OnErr result ((self.new ≡ self.old) × (ended.new ≡ ended.old)) }
         ensures memory { IfErr result (λ _. IsTrue (wanting.by_event (fixed_of self.old.given) self.old.world event.now)) }
     {
-        match event {
-            Event::Step { agent } => {
-                moves::ask::<Nothing>(&mut self.servers, &mut self.seats, *agent, ended)?;
-                Ok(())
-            }
-            _ => self.happen(event, ended),
-        }
+        let mut asked = Served::place();
+        self.happen(event, &mut asked, ended)?;
+        Ok(())
     }
 
-    /// Plays one event, and puts down how a job ended, if one did.
-    fn happen(&mut self, event: &Event, ended: &mut Option<Outcome>) -> Result<(), AllocError>
+    /// Plays one event, and tells whether a request was served: it is put into a place of the caller's, with its reply.
+    /// How a job ended, if one did, is put into another, which else keeps what it has.
+    #[inline(always)]
+    fn happen(
+        &mut self,
+        event: &Event,
+        asked: &mut Served,
+        ended: &mut Option<Outcome>,
+    ) -> Result<bool, AllocError>
         ensures given { self.new.given ≡ self.old.given }
-        ensures world { OnOk result (self.new.world ≡ (worlds.step (fixed_of self.old.given) self.old.world event.now).world) }
-        ensures ended { OnOk result (ended.new ≡ option_or (worlds.step (fixed_of self.old.given) self.old.world event.now).done.outcome ended.old) }
+        ensures ok { IfOk result (ComesTo (worlds.step (fixed_of self.old.given) self.old.world event.now) self.new.world asked.new ended.old ended.new) }
         ensures err { OnErr result ((self.new ≡ self.old) × (ended.new ≡ ended.old)) }
         ensures memory { IfErr result (λ _. IsTrue (wanting.by_event (fixed_of self.old.given) self.old.world event.now)) }
     {
-        let done = self.step(event)?;
-        if done.outcome.is_some() {
-            *ended = done.outcome;
+        match event {
+            Event::Begin { agent, job } => {
+                moves::begin(&mut self.seats, *agent, job)?;
+                Ok(false)
+            }
+            Event::Step { agent } => {
+                moves::ask(&mut self.servers, &mut self.seats, *agent, asked, ended)
+            }
+            Event::Crash { server } => Ok(operate(&mut self.servers, *server, Order::Crash, asked)),
+            Event::Return { server } => {
+                Ok(operate(&mut self.servers, *server, Order::Return, asked))
+            }
+            Event::Forget { agent, site } => {
+                moves::forget(&mut self.seats, *agent, *site);
+                Ok(false)
+            }
+            Event::Lack { agent, lack } => {
+                moves::lack(&mut self.seats, *agent, *lack, ended);
+                Ok(false)
+            }
         }
-        Ok(())
     }
 
     /// Plays events, one after the other, and answers how jobs ended. Where memory runs out the world is
@@ -161,7 +171,7 @@ impl World {
         ensures { result.now ≡ worlds.audit_of self.now.world server }
     {
         match self.servers.get(usize::from(server)) {
-            Some(found) => found.audit(),
+            Some(found) => found.server.audit(),
             None => &[],
         }
     }
@@ -171,9 +181,20 @@ impl World {
         ensures { result ≡ worlds.form_in self.now.world server suite }
     {
         if let Some(found) = self.servers.get(usize::from(server)) {
-            return found.form(suite);
+            return found.server.form(suite);
         }
         None
+    }
+
+    /// The server of a number, where there is one.
+    pub fn server(&self, number: u8) -> Option<&Server>
+        ensures there { is_some result ≡ is_some (worlds.server_at self.now.world number) }
+        ensures state { IfSome result (λ server. worlds.server_at self.now.world number ≡ Some server.now.state) }
+    {
+        match self.servers.get(usize::from(number)) {
+            Some(found) => Some(&found.server),
+            None => None,
+        }
     }
 
     /// Of which server an agent asks next: of none, where it has no job or is not there. It takes no memory.

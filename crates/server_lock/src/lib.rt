@@ -3,8 +3,9 @@
 //! Under a lock stands a [`Locked`]: a server with the history of what it served. Its type keeps that the
 //! history is legal (`IsLegal` in `specs/Histories.antt`: a replay of its requests from the opening gives its
 //! replies and stamps), and that the server is as it is at the end of it. So no thread can falsify a history,
-//! whatever it asks. [`Locked::serve`] is the one step of a server, and [`Servers::ask`] takes it under the
-//! lock: it waits for the lock, and for nothing else but what the caller's gate does.
+//! whatever it asks. [`Locked::serve`] is the one step of a server: it evaluates the request, makes room for the item, and
+//! applies what it evaluated; the request goes into the history, and only the reply is cloned. [`Servers::ask`] takes that
+//! step under the lock: it waits for the lock, and for nothing else but what the caller's gate does.
 //!
 //! An asker has a [`Pass`], which remembers how much it has seen of each server's history. What it is told
 //! next comes after that: where a history is shorter, the answer is Stale. [`Servers::close`] takes the
@@ -18,7 +19,6 @@
 mod answer;
 mod close_fault;
 mod closing;
-mod copied;
 mod counting;
 mod gate;
 mod history;

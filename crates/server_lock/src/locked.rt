@@ -8,13 +8,13 @@ ghost use Rattle.server_lock.specs.Histories.{IsLegal, given_to, item_of, max_it
 ghost use Rattle.server_lock.specs.Kept.{end_of, is_spent, with_item};
 
 use crate::answer::Answer;
-use crate::copied::{RequestCopies, copies_of, lack_of, serve_copied};
 use crate::history::History;
 use crate::item::Item;
 use crate::miss::Miss;
 use rep_core::{Lack, Reply, Request, Server, Stamped};
 use std::alloc::{AllocError, Global};
 use std::marker::Model;
+use std::snapshot::Snapshot;
 use suite_prefix::Settings;
 
 /// The most items of a server's history.
@@ -42,7 +42,7 @@ impl Model for Locked {
 
     ghost view = { λ locked. record { number = locked.number; given = locked.settings; history = locked.items.items } };
 
-    ghost invariant = { λ locked. IsKept locked.number locked.settings locked.items.items locked.server };
+    ghost invariant = { λ locked. IsKept locked.number locked.settings locked.items.items locked.server.state };
 }
 
 impl Locked {
@@ -81,83 +81,59 @@ impl Locked {
         ensures kept { IfOk result.reply (λ reply. self.new ≡ with_item (item_of agent request reply) self.old) }
         ensures same { OnErr result.reply (self.new ≡ self.old) }
     {
-        let copies = copies_of(&request);
-        self.serve_with_copies(agent, front, request, copies)
-    }
-
-    /// The same, with the request's copies, which were made before.
-    pub(crate) fn serve_with_copies(
-        &mut self,
-        agent: Option<u8>,
-        front: usize,
-        request: Stamped<Request>,
-        copies: Result<RequestCopies, AllocError>,
-    ) -> Answer
-        requires { IfOk copies (λ copies. (copies.asked ≡ request) × (copies.kept ≡ request)) }
-        ensures server { result.server ≡ self.old.number }
-        ensures before { result.before ≡ length self.old.history }
-        ensures request { result.request ≡ request }
-        ensures stale { (result.reply ≡ Err Stale) ↔ (length self.old.history < front) }
-        ensures full { (result.reply ≡ Err (Lacked Full)) ↔ ((front ≤ length self.old.history) × IsTrue (is_spent self.old request)) }
-        ensures reply { IfOk result.reply (λ reply. given_to (end_of self.old) request ≡ Some reply) }
-        ensures fits { IfOk result.reply (λ reply. IsTrue (fits request.value reply.value)) }
-        ensures kept { IfOk result.reply (λ reply. self.new ≡ with_item (item_of agent request reply) self.old) }
-        ensures same { OnErr result.reply (self.new ≡ self.old) }
-    {
         self.settings.fits();
         let server = self.number;
         let before = self.items.len();
+        let asked = Snapshot::of(&request);
         if before < front {
             let reply = Err(Miss::Stale);
             return Answer {
                 server,
                 before,
-                request,
+                request: asked,
                 reply,
             };
         }
-        let reply = match self.keep(agent, &request, copies) {
+        let reply = match self.keep(agent, request) {
             Ok(reply) => Ok(reply),
             Err(lack) => Err(Miss::Lack(lack)),
         };
         Answer {
             server,
             before,
-            request,
+            request: asked,
             reply,
         }
     }
 
     /// Serves a request, and keeps what was served. That the server is full is told however little memory
     /// there is.
-    fn keep(
-        &mut self,
-        agent: Option<u8>,
-        request: &Stamped<Request>,
-        copies: Result<RequestCopies, AllocError>,
-    ) -> Result<Stamped<Reply>, Lack>
-        requires { IfOk copies (λ copies. (copies.asked ≡ request.now) × (copies.kept ≡ request.now)) }
+    fn keep(&mut self, agent: Option<u8>, request: Stamped<Request>) -> Result<Stamped<Reply>, Lack>
         ensures room { OnOk result (length self.old.history < max_items) }
-        ensures reply { IfOk result (λ reply. given_to (end_of self.old) request.now ≡ Some reply) }
-        ensures fits { IfOk result (λ reply. IsTrue (fits request.now.value reply.value)) }
-        ensures kept { IfOk result (λ reply. self.new ≡ with_item (item_of agent request.now reply) self.old) }
-        ensures full { (result ≡ Err Full) ↔ IsTrue (is_spent self.old request.now) }
+        ensures reply { IfOk result (λ reply. given_to (end_of self.old) request ≡ Some reply) }
+        ensures fits { IfOk result (λ reply. IsTrue (fits request.value reply.value)) }
+        ensures kept { IfOk result (λ reply. self.new ≡ with_item (item_of agent request reply) self.old) }
+        ensures full { (result ≡ Err Full) ↔ IsTrue (is_spent self.old request) }
         ensures err { OnErr result (self.new ≡ self.old) }
     {
         if self.items.len() >= MAX_ITEMS {
             return Err(Lack::Full);
         }
-        if self.items.reserve(1).is_err() {
-            return Err(lack_of(&self.server, request));
-        }
-        let served = serve_copied(&mut self.server, request, copies)?;
+        let mut reply = Stamped {
+            stamp: 0,
+            value: Reply::Down,
+        };
+        let step = self.server.evaluate(&request, &mut reply)?;
+        self.items.reserve(1)?;
+        let copy = reply.value.clone()?;
+        self.server.apply(&request, step);
         self.items.push_reserved(Item {
-            stamp: served.reply.stamp,
+            stamp: reply.stamp,
             agent,
-            request: served.request,
-            reply: served.copy,
+            request,
+            reply: copy,
         });
-        Ok(served.reply)
+        Ok(reply)
     }
 
     /// Whether it is the server of this number, as these settings open it.

@@ -11,7 +11,6 @@ ghost use Rattle.server_lock.specs.Passes.{after_answer, front_at, passes_of, se
 use crate::answer::Answer;
 use crate::close_fault::CloseFault;
 use crate::closing::close_locked;
-use crate::copied::copies_of;
 use crate::gate::Gate;
 use crate::history::{Histories, History};
 use crate::locked::Locked;
@@ -106,10 +105,9 @@ impl Servers {
             stamp,
             value: request,
         };
-        let copies = copies_of(&request);
         let mut guard = self.locks[usize::from(server)].lock(rt);
         gate.inside(server, pass.agent());
-        let answer = guard.serve_with_copies(pass.agent(), front, request, copies);
+        let answer = guard.serve(pass.agent(), front, request);
         drop(guard);
         gate.after(server, pass.agent());
         answer.is_told();

@@ -1,27 +1,31 @@
-use Rattle.std.proofs.Common.{ap, Err, rules}
-use Rattle.run_core.specs.declared.exchange.Taking.{Taking}
-use Rattle.run_core.proofs.Exchanging.{asks_of_seat, reply_fits_seat, served_exchange, full_exchange}
+use Rattle.std.proofs.Common.{◌≡◌, true, Err, sym, ap, subst, ◌∙◌}
+use Rattle.rep_core.specs.declared.reply.Reply.{Reply}
+use Rattle.rep_core.specs.declared.stamped.Stamped.{Stamped}
+use Rattle.rep_core.specs.State.{State}
+use Rattle.rep_core.specs.Serving.{answer_of, served, is_full}
+use Rattle.txn_core.specs.declared.word.Word.TheVariants.{Replied}
+use Rattle.std.specs.Option.{option_or}
+use Rattle.run_core.specs.code.Seats.{after_word, ending_by}
+use Rattle.run_core.proofs.Exchanging.{served_exchange, full_exchange}
 use Rattle.run_core.proofs.exchange.exchange.Goals as goal
 
-pub serve_then-told-requires : goal.serve_then-told-requires
-serve_then-told-requires g c =
-    λ lent shows. (
-      rw shows (asks_of_seat c.args.seat.now c.args.call.server c.args.call.request.value c.requires.asks),
-      rw shows (reply_fits_seat c.args.host.now c.args.seat.now c.args.call.server c.args.call.request.value c.copies_are_sound.ensures c.requires.asks),
-    )
+pub returns-in_ok-take_reply-in-Ok-clause-ok : goal.returns-in_ok-take_reply-in-Ok-clause-ok
+returns-in_ok-take_reply-in-Ok-clause-ok c =
+    let asked = c.args.asked.now in
+    let request = asked.request in
+    let reply_is : c.evaluate.new.reply ≡ answer_of c.args.host.now request = c.in-Ok.ensures.reply ∙ ap (λ (st : State). answer_of st request) c.host.view_is in
+    served_exchange c.args.host.now c.apply.new.self.state c.args.seat.now c.take_reply.new.self c.args.agent asked _ c.args.ended.now c.take_reply.new.ended
+    c.requires.stamp
+    (λ full. let clash = c.in-Ok.ensures.full.1 (subst (λ (st : State). is_full st request ≡ true) (sym c.host.view_is) full) in cc)
+    (c.apply.ensures ∙ ap (λ (st : State). served st request) (c.in-Ok.ensures.same ∙ c.host.view_is))
+    (ap (λ (reply : Stamped Reply). record { server = asked.server; request = request; reply = reply }) reply_is)
+    (c.in_ok-take_reply-in-Ok.ensures.ended ∙ ap (λ (reply : Stamped Reply). option_or (ending_by c.args.agent c.args.seat.now (Replied reply.value)) c.args.ended.now) reply_is)
+    (c.in_ok-take_reply-in-Ok.ensures.state ∙ ap (λ (reply : Stamped Reply). after_word c.args.seat.now reply.stamp (Replied reply.value)) reply_is)
 
-pub returns-in_ok-taken-in-Ok-clause-ok : goal.returns-in_ok-taken-in-Ok-clause-ok
-returns-in_ok-taken-in-Ok-clause-ok g c =
-    let told = c.in-Ok.ensures in
-    let given = told.given in
-    served_exchange _ c.args.host.now c.serve_then-told.new.self c.args.seat.now _ given.lent.now.seat.now given.back.now.seat.now c.args.call
-    c.args.ended.now given.lent.now.ended.now given.back.now.ended.now _ c.in-Ok.taken c.in_ok-taken-in-Ok.field-0
-    c.in_ok-taken-in-Ok.was c.requires.stamp (ap (λ (one : Taking). one.seat.now) given.shows) (search rules) (ap (λ (one : Taking). one.ended.now) given.shows) (search rules)
-    (λ full. let clash = told.full.1 full in cc) told.served given.met.1.1.1.0 given.met.1.1.1.1
-
-pub returns-in_ok-unserved-in-Err-clause-ok : goal.returns-in_ok-unserved-in-Err-clause-ok
-returns-in_ok-unserved-in-Err-clause-ok g c =
-    let told = c.in-Err.ensures in
-    full_exchange _ c.args.host.now c.serve_then-told.new.self c.args.seat.now c.serve_then-told.new.taker.seat.now c.unserved.new.seat _ c.args.call c.in-Err.lack
-    c.args.ended.now c.serve_then-told.new.taker.ended.now c.unserved.new.ended _
-    c.requires.stamp (λ is. told.full.0 (ap Err is)) told.err (ap (λ (one : Taking). one.seat.now) told.taker) (search rules) (ap (λ (one : Taking). one.ended.now) told.taker) (search rules) c.in_ok-unserved-in-Err.ensures.ok
+pub returns-in-Err-Full-clause-ok : goal.returns-in-Err-Full-clause-ok
+returns-in-Err-Full-clause-ok c =
+    let request = c.args.asked.now.request in
+    full_exchange c.args.host.now c.evaluate.new.self.state c.args.seat.now c.lack.new.self c.args.agent c.args.asked.now _
+    c.args.ended.now c.lack.new.ended
+    c.requires.stamp (subst (λ (st : State). is_full st request ≡ true) c.host.view_is (c.in-Err-Full.ensures.full.0 (ap Err c.in-Err-Full.field-0-is))) (c.in-Err-Full.ensures.same ∙ c.host.view_is)
+    c.lack.ensures.ended c.lack.ensures.state

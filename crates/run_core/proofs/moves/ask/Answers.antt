@@ -9,7 +9,7 @@ use Rattle.run_core.proofs.Wanting.{held, steps_there, asking_wants, exchange_wa
 use Rattle.run_core.proofs.moves.ask.Goals as goal
 
 pub returns-in_default-2-clause-ok : goal.returns-in_default-2-clause-ok
-returns-in_default-2-clause-ok g c =
+returns-in_default-2-clause-ok c =
     let item = c.in-Some.ensures.item in
     let found = slice_get_read _ _ _ _ refl item.3.0 item.1 in
     let there = rw c.from.ensures at found in
@@ -18,7 +18,7 @@ returns-in_default-2-clause-ok g c =
     (comes_to_nothing _ _ _ c.args.ended.now (ask_nothing fixed c.args.servers.now.items c.args.seats.now.items c.args.number c.in-Some.seat.now all there next))
 
 pub returns-in_default-get_mut-clause-ok : goal.returns-in_default-get_mut-clause-ok
-returns-in_default-get_mut-clause-ok g c =
+returns-in_default-get_mut-clause-ok c =
     let item = c.in-Some.ensures.item in
     let found = slice_get_read _ _ _ _ refl item.3.0 item.1 in
     let there = rw c.from.ensures at found in
@@ -31,10 +31,10 @@ returns-in_default-get_mut-clause-ok g c =
     (ask_nowhere fixed c.args.servers.now.items c.args.seats.now.items c.args.number c.in-Some.seat.now c.in-Some-2.server c.ask.new.request all there next nowhere))
 
 pub exchange-requires-clause-asks : goal.exchange-requires-clause-asks
-exchange-requires-clause-asks g c = asks_somebody c.in_ok-server.field-0 c.ask.new.request _ c.in-Some-2.server c.in_ok-server.ensures.ok c.in-Some-2.is
+exchange-requires-clause-asks c = asks_somebody c.in_ok-server.field-0 c.ask.new.request _ c.in-Some-2.server c.in_ok-server.ensures.ok c.in-Some-2.is
 
 pub returns-clause-ok : goal.returns-clause-ok
-returns-clause-ok g c =
+returns-clause-ok c =
     let item = c.in-Some.ensures.item in
     let found = slice_get_read _ _ _ _ refl item.3.0 item.1 in
     let there = rw c.from.ensures at found in
@@ -43,22 +43,22 @@ returns-clause-ok g c =
     let host_found = slice_get_read _ _ _ _ refl host_item.3.0 host_item.1 in
     let host_there = rw c.from-2.ensures at host_found in
     IfOk-weaker c.exchange.result _ _
-    (λ kept left fixed all. rw (c.from.ensures, c.from-2.ensures)
-    (comes_there _ fixed c.args.servers.now.items c.args.seats.now.items c.in-Some.seat.now c.exchange.new.seat c.in-Some-get_mut.host.now c.exchange.new.host _
-    c.args.ended.now c.exchange.new.ended kept all there next host_there left))
+    (λ is_served left fixed all. rw (c.from.ensures, c.from-2.ensures)
+    (comes_there fixed c.args.servers.now.items c.args.seats.now.items c.in-Some.seat.now c.exchange.new.seat c.in-Some-get_mut.host.now c.exchange.new.host c.args.number _ c.exchange.new.asked
+    c.args.ended.now c.exchange.new.ended is_served all there next host_there left))
     c.exchange.ensures.ok
 
 pub returns-clause-of : goal.returns-clause-of
-returns-clause-of g c =
+returns-clause-of c =
     let item = c.in-Some.ensures.item in
     let found = slice_get_read _ _ _ _ refl item.3.0 item.1 in
     let there = rw c.from.ensures at found in
     λ fixed all. rw c.from.ensures
-    (of_exchange _ fixed c.args.seats.now.items c.args.number c.in-Some.seat.now c.exchange.new.seat c.in-Some-get_mut.host.now c.exchange.new.host _
+    (of_exchange fixed c.args.seats.now.items c.args.number c.in-Some.seat.now c.exchange.new.seat c.in-Some-get_mut.host.now c.exchange.new.host _ c.exchange.new.asked
     c.args.ended.now c.exchange.new.ended c.exchange.result all there c.exchange.ensures.ok c.exchange.ensures.err)
 
 pub returns-in_err-server-clause-memory : goal.returns-in_err-server-clause-memory
-returns-in_err-server-clause-memory g c =
+returns-in_err-server-clause-memory c =
     let item = c.in-Some.ensures.item in
     let found = slice_get_read _ _ _ _ refl item.3.0 item.1 in
     let there = rw c.from.ensures at found in
@@ -66,7 +66,7 @@ returns-in_err-server-clause-memory g c =
     (λ fixed all. (steps_there fixed c.args.servers.now.items c.args.seats.now.items c.args.number c.in-Some.seat.now _ all there refl (asking_wants (world_of c.args.servers.now.items c.args.seats.now.items) c.in-Some.seat.now.actor _ c.in_err-server.ensures.memory)))
 
 pub returns-clause-memory : goal.returns-clause-memory
-returns-clause-memory g c =
+returns-clause-memory c =
     let item = c.in-Some.ensures.item in
     let found = slice_get_read _ _ _ _ refl item.3.0 item.1 in
     let there = rw c.from.ensures at found in
@@ -76,7 +76,7 @@ returns-clause-memory g c =
     let host_there = rw c.from-2.ensures at host_found in
     IfErr-weaker c.exchange.result _ _
     (λ _ wants fixed all.
-    let asking = rw c.stamp.ensures at wants in
+    let asking = rw c.stamp-asked.ensures at wants in
     steps_there fixed c.args.servers.now.items c.args.seats.now.items c.args.number c.in-Some.seat.now _ all there next
     (exchange_wants c.args.servers.now.items c.args.seats.now.items c.in-Some.seat.now.actor c.in-Some-2.server c.ask.new.request c.in-Some-get_mut.host.now host_there (or_later (by_request c.ask.new.request) _ asking)))
     c.exchange.ensures.memory

@@ -1,4 +1,4 @@
-use Rattle.std.proofs.Common.{refl, Result, Err}
+use Rattle.std.proofs.Common.{refl, sym, ap, ◌∙◌, Some, Result, Err}
 use Rattle.rep_core.specs.declared.reply.Reply.{Reply}
 use Rattle.rep_core.specs.declared.stamped.Lack.{Lack}
 use Rattle.rep_core.specs.declared.stamped.Stamped.{Stamped}
@@ -9,16 +9,15 @@ use Rattle.run_core.proofs.operator.operate.Goals as goal
 pub returns-in_default-serve : goal.returns-in_default-serve
 returns-in_default-serve c =
     let item = c.in-Some.ensures.item in
-    let there = slice_get_read _ _ _ _ refl item.3.0 item.1 in
+    let there = slice_get_read _ _ _ _ refl item.3.0 item.1 ∙ ap Some (sym c.host.view_is) in
     let left = c.in_default-serve.ensures in
     let err : Lack → Result (Stamped Reply) Lack = λ lack. Err lack in
-    λ agents. rw c.nothing-in_default-serve.ensures
-    (full_for_operator err _ c.args.server c.from.result c.in-Some.host.now _ c.args.order c.request.result c.in_default-serve.field-0 agents c.from.ensures there c.request.ensures left.full.0 left.memory left.err)
+    λ agents. (full_for_operator err _ c.args.server c.from.result c.host.inside.server.state _ c.args.order c.request.result c.in_default-serve.field-0 agents c.from.ensures there c.request.ensures left.full.0 left.memory left.err)
 
 pub returns : goal.returns
 returns c =
     let item = c.in-Some.ensures.item in
-    let there = slice_get_read _ _ _ _ refl item.3.0 item.1 in
+    let there = slice_get_read _ _ _ _ refl item.3.0 item.1 ∙ ap Some (sym c.host.view_is) in
     let left = c.in-Ok.ensures in
-    λ agents. served_for_operator _ c.args.server c.from.result c.in-Some.host.now _ c.args.order c.request.result c.request-2.result c.in-Ok.reply agents c.from.ensures there c.request.ensures c.request-2.ensures
+    λ agents. served_for_operator _ c.args.server c.from.result c.host.inside.server.state _ c.args.order c.request.result c.request.result c.in-Ok.reply agents c.from.ensures there c.request.ensures c.request.ensures
     (λ full. let clash = left.full.1 full in cc) left.state left.reply

@@ -1,15 +1,16 @@
 use Rattle.std.proofs.Common.{rules, ◌≡◌, ◌<◌, length, Some, Result, sym, subst, arith}
 use Rattle.rep_core.specs.declared.reply.Reply.{Reply}
+use Rattle.rep_core.specs.declared.request.Request.{Request}
 use Rattle.rep_core.specs.declared.stamped.Stamped.{Stamped}
 use Rattle.server_lock.specs.declared.miss.Miss.{Miss}
 use Rattle.server_lock.specs.Histories.{given_to, max_items}
 use Rattle.server_lock.specs.Kept.{Kept, end_of}
 use Rattle.server_lock.specs.Told.{IsGiven, IsTold}
-use Rattle.server_lock.proofs.locked.Locked.serve_with_copies.Goals as goal
-use Rattle.server_lock.proofs.locked.Locked.serve_with_copies.Goals.{in-Ok, in-Err}
+use Rattle.server_lock.proofs.locked.Locked.serve.Goals as goal
+use Rattle.server_lock.proofs.locked.Locked.serve.Goals.{in-Ok, in-Err}
 
 pub invariant_of-result-2 : goal.invariant_of-result-2
-invariant_of-result-2 c = elim c.match-keep.branch [
+invariant_of-result-2 c = subst (λ (asked : Stamped Request). IsTold (record { server = c.self.inside.number; before = c.len-before.result; request = asked; reply = c.match-keep.reply })) (sym c.of-asked.ensures) (elim c.match-keep.branch [
   | in-Ok w ↦
       let before = c.len-before.result in
       let request = c.args.request in
@@ -30,4 +31,4 @@ invariant_of-result-2 c = elim c.match-keep.branch [
       subst (λ (reply : Result (Stamped Reply) Miss). IsTold (record { server = c.self.inside.number; before = before; request = request; reply = reply }))
       (sym w.reply-is) given
   | in-Err w ↦ search (rules, w.reply-is)
-]
+])
