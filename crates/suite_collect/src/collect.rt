@@ -4,7 +4,7 @@ ghost use Rattle.std.specs.FinSet.{contains};
 ghost use Rattle.std.specs.Prelude.{◌≡◌, ℕ, ◌<◌, unwrap_or, option_map, is_some, true, IsTrue, IfOk, IfSome, IfErr, OnOk, OnErr};
 ghost use Rattle.std.specs.Option.{option_copied};
 ghost use Rattle.vote_core.specs.Validity.{IsValid};
-ghost use Rattle.suite_collect.specs.code.CollectFields.{tally_of};
+ghost use Rattle.suite_collect.specs.code.CollectFields.{tally_of, widening_of};
 ghost use Rattle.suite_collect.specs.code.Adding.{IsAdded};
 ghost use Rattle.suite_collect.specs.code.Dues.{IsKnown, tally_in};
 ghost use Rattle.suite_collect.specs.code.Sayings.{said_of, told_of};
@@ -230,16 +230,35 @@ impl Collect {
         requires { last.now.server < MAX_SERVERS }
         ensures { IsQuorumOf result (spec.tell last.now self.now.collector) }
     {
-        if let Some(widening) = &self.widening {
-            let dver = self.told.greatest(self.first_members().as_slice());
-            let holders = widening.all.holders_after(last.lend(), LockMode::Exclusive);
-            let members = members_of(&widening.votes, &holders);
-            return Quorum {
-                prefix: self.newest(),
-                dver,
-                source: self.told.first_showing(dver, members.as_slice()),
-            };
+        match &self.widening {
+            Some(widening) => self.widened_after(widening, last),
+            None => self.narrow_after(last),
         }
+    }
+
+    /// What a quorum of these other votes gives, once this is told: prefix and version stay.
+    fn widened_after<'a>(&'a self, widening: &'a Widening, last: &'a Told) -> Quorum<'a>
+        requires server { last.now.server < MAX_SERVERS }
+        requires is { self.now.collector.widening ≡ Some (widening_of widening.now) }
+        requires all { widening.now.all ≡ spec.all_told self.now.collector }
+        ensures { IsQuorumOf result (spec.tell last.now self.now.collector) }
+    {
+        let dver = self.told.greatest(self.first_members().as_slice());
+        let holders = widening.all.holders_after(last.lend(), LockMode::Exclusive);
+        let members = members_of(&widening.votes, &holders);
+        Quorum {
+            prefix: self.newest(),
+            dver,
+            source: self.told.first_showing(dver, members.as_slice()),
+        }
+    }
+
+    /// What a quorum of the votes of the newest prefix gives, once this is told.
+    fn narrow_after<'a>(&'a self, last: &'a Told) -> Quorum<'a>
+        requires server { last.now.server < MAX_SERVERS }
+        requires is { self.now.collector.widening ≡ None }
+        ensures { IsQuorumOf result (spec.tell last.now self.now.collector) }
+    {
         let mut told = self.told.same();
         told.add(last.lend());
         let prefix = newer_of(self.newest(), last.lend());

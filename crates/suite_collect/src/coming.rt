@@ -8,7 +8,7 @@ use rep_core::Request;
 use suite_prefix::LockMode;
 
 /// What a server is asked of a suite.
-#[derive(Clone, Copy, Debug)]
+#[derive(Clone, Copy)]
 pub enum Asked {
     /// A lock.
     Poll(LockMode),
@@ -17,7 +17,7 @@ pub enum Asked {
 }
 
 /// What comes next of a suite.
-#[derive(Clone, Copy, Debug)]
+#[derive(Clone, Copy)]
 pub enum Coming {
     /// It has a quorum.
     Current,

@@ -3,7 +3,7 @@
 use suite_prefix::SharedPrefix;
 
 /// What comes of a reply to what a collector asked.
-#[derive(Clone, Copy, Debug)]
+#[derive(Clone, Copy)]
 pub enum Hearing {
     /// It does not answer what was asked: a lock is lost, or the server of a lock is down.
     Lost,
@@ -17,7 +17,7 @@ pub enum Hearing {
 
 /// What a quorum gives: the newest prefix, the version of the content, and the first member that showed
 /// that version.
-#[derive(Debug, Drop)]
+#[derive(Drop)]
 pub struct Quorum<'a> {
     pub prefix: &'a SharedPrefix,
     pub dver: u64,

@@ -9,7 +9,7 @@ use vote_core::MAX_SERVERS;
 pub type Members = ArrayVec<u8, MAX_SERVERS>;
 
 /// What comes next of a collector.
-#[derive(Debug, Drop)]
+#[derive(Drop)]
 pub enum Next<'a> {
     /// The newest prefix, the version of the content, and the members that are held.
     Current {

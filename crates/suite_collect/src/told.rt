@@ -9,7 +9,7 @@ use std::alloc::AllocError;
 use suite_prefix::{LockMode, SharedPrefix};
 
 /// What a server said when it was asked for a lock.
-#[derive(Debug, Drop)]
+#[derive(Drop)]
 pub enum Said {
     /// The lock is held; the prefix there, and the version of the content.
     Held { prefix: SharedPrefix, dver: u64 },
@@ -20,7 +20,7 @@ pub enum Said {
 }
 
 /// Which server said it, asked for a lock in which mode.
-#[derive(Debug, Drop)]
+#[derive(Drop)]
 pub struct Told {
     pub server: u8,
     pub mode: LockMode,

@@ -46,7 +46,7 @@ pub enum Ending {
 }
 
 /// How a job goes on after a word.
-#[derive(Debug, Drop)]
+#[derive(Drop)]
 pub(crate) enum Goes {
     /// Something more is to be asked.
     On,

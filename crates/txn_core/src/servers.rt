@@ -12,7 +12,7 @@ use std::marker::Model;
 use vote_core::{MAX_SERVERS, ServerSet};
 
 /// The servers that are left to be asked, in their order.
-#[derive(Debug, Drop)]
+#[derive(Drop)]
 pub(crate) struct Servers {
     all: ArrayVec<u8, MAX_SERVERS>,
     asked: usize,

@@ -25,7 +25,7 @@ use std::marker::Model;
 use vote_core::MAX_SERVERS;
 
 /// What a sweep asks.
-#[derive(Debug, Drop)]
+#[derive(Drop)]
 enum Asking {
     /// To list the locks.
     Locks,
@@ -38,7 +38,7 @@ enum Asking {
 }
 
 /// What a sweep counts.
-#[derive(Clone, Copy, Debug)]
+#[derive(Clone, Copy)]
 struct Counts {
     broken: u64,
     finished: u64,
@@ -46,7 +46,7 @@ struct Counts {
 }
 
 /// How far a sweep of a server has come.
-#[derive(Debug, Drop)]
+#[derive(Drop)]
 pub(crate) struct Round {
     server: u8,
     counts: Counts,

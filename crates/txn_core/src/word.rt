@@ -3,7 +3,7 @@
 use rep_core::{Lack, Reply};
 
 /// What comes of a request: a server's reply, or why the server did not serve it.
-#[derive(Debug, Drop)]
+#[derive(Drop)]
 pub enum Word {
     /// The server's reply.
     Replied(Reply),
