@@ -33,11 +33,8 @@ use server_lock::{History, Item};
 use std::alloc::{AllocError, Global};
 use std::marker::Model;
 use suite_prefix::Settings;
-use txn_core::Job;
+use txn_core::{Job, MAX_JOBS};
 use weak_cache::MAX_SITES;
-
-/// So many jobs an agent begins.
-const MAX_JOBS: u64 = 4_294_967_295;
 
 /// What is left of histories and transcripts, and the world after what was played of them.
 #[derive(Drop)]

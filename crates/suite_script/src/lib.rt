@@ -32,5 +32,5 @@ pub use outcome::{push_answered, push_denial, push_refused};
 pub use play_error::PlayError;
 pub use root::Root;
 pub use script::ScriptReader;
-pub use votes::read_votes;
+pub use votes::{push_votes, read_votes};
 pub use word::{at_end, next_word, read_caller, read_id};

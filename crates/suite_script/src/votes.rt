@@ -100,7 +100,7 @@ fn judge(servers: usize, reps: &[(u8, u8)], r: u16, w: u16) -> Result<Votes, Lin
 }
 
 /// Votes as they are printed.
-pub(crate) fn push_votes(text: &mut Vec<u8>, votes: &Votes) -> Result<(), AllocError>
+pub fn push_votes(text: &mut Vec<u8>, votes: &Votes) -> Result<(), AllocError>
     ensures { OnOk result (text.new.items ≡ text.old.items ++ votes_text votes.now) }
 {
     push_fields(text, votes.reps())?;

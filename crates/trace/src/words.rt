@@ -3,7 +3,7 @@
 use script_text::push_number;
 use std::alloc::AllocError;
 use suite_prefix::LockMode;
-use vote_core::Votes;
+pub(crate) use suite_script::push_votes;
 
 /// Adds a word and a number behind it, which mostly has one digit.
 pub(crate) fn push_pair(text: &mut Vec<u8>, word: &[u8], number: u64) -> Result<(), AllocError> {
@@ -22,21 +22,4 @@ pub(crate) fn mode_word(mode: LockMode) -> &'static [u8] {
     } else {
         b" shared"
     }
-}
-
-/// Votes, as a script has them.
-pub(crate) fn push_votes(text: &mut Vec<u8>, votes: &Votes) -> Result<(), AllocError> {
-    let reps = votes.reps();
-    let last = reps.iter().map(|rep| rep.0).max().unwrap_or(0);
-    for server in 0..=last {
-        if server > 0 {
-            text.push(b',')?;
-        }
-        match reps.iter().find(|rep| rep.0 == server) {
-            Some(rep) => push_number(text, u64::from(rep.1))?,
-            None => text.push(b'-')?,
-        }
-    }
-    push_pair(text, b"/", u64::from(votes.r()))?;
-    push_pair(text, b"/", u64::from(votes.w()))
 }

@@ -31,7 +31,7 @@ use vote_core::MAX_SERVERS;
 use weak_cache::{MAX_SITES, WeakCache};
 
 /// After this many jobs none is begun.
-const MAX_JOBS: u64 = u32::MAX as u64;
+pub const MAX_JOBS: u64 = u32::MAX as u64;
 
 /// What an agent is doing.
 #[derive(Drop)]

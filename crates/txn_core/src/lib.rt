@@ -33,7 +33,7 @@ mod widening;
 mod word;
 mod writing;
 
-pub use agent::Agent;
+pub use agent::{Agent, MAX_JOBS};
 pub use ending::{Cause, Ending};
 pub use job::{Job, Ops};
 pub use laws::{
