@@ -5,10 +5,13 @@ ghost use Rattle.file_exec.specs.Reaching.{unbegun};
 ghost use Rattle.file_exec.specs.code.Ways.{reached_of};
 
 use crate::log::Log;
-use file_ops::{Answer, ROOT};
+use file_ops::Answer;
 use std::alloc::Global;
 use std::marker::Model;
 use std::mem;
+
+/// The number of the root folder.
+const ROOT: u64 = 0;
 
 /// How far the walk of an operation came: to this suite, by so many names.
 #[derive(Clone, Copy)]
