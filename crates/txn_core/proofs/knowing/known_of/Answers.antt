@@ -9,8 +9,8 @@ use Rattle.txn_core.proofs.Seeing.{told_all, told_length, told_item, told_ordere
 use Rattle.txn_core.proofs.Tellings.{telling_more, known_rises}
 use Rattle.txn_core.proofs.knowing.known_of.Goals as goal
 
-pub from_ordered-requires : goal.from_ordered-requires
-from_ordered-requires c =
+pub from_ordered-known-requires : goal.from_ordered-known-requires
+from_ordered-known-requires c =
     let news = c.args.seen.news.now in
     let old = c.args.seen.suites.now.pairs in
     let told = told_all news old in
@@ -56,6 +56,6 @@ returns-clause-known c =
     ∙ c.loop-number.invariant in
     let service = c.args.ground.now in
     c.of.ensures
-    ∙ ap (λ suites. record { service = c.as_service.result.now; suites = suites }) c.from_ordered.ensures.pairs
+    ∙ ap (λ suites. record { service = c.as_service.result.now; suites = suites }) c.from_ordered-known.ensures.pairs
     ∙ ap (λ s. record { service = s; suites = known }) c.as_service.ensures
     ∙ ap (λ known. record { service = service; suites = known }) (all ∙ ap known_of (told_learned old news c.as_slice-number-items.ensures.ordered))
