@@ -7,9 +7,15 @@
 //! `specs/Sites`.
 #![tactic(auto)]
 
+ghost use Rattle.agent_laws.specs.Endings.{EndsAsTold};
+ghost use Rattle.agent_laws.specs.Fetches.{FetchesInOrder};
+ghost use Rattle.agent_laws.specs.Gathers.{GathersInOrder};
+ghost use Rattle.agent_laws.specs.Orders.{AsksInOrder};
+ghost use Rattle.agent_laws.specs.Same.{SameToldSameAsked};
 ghost use Rattle.agent_laws.specs.Sites.{RunsKeepToSites};
 ghost use Rattle.agent_laws.specs.Starts.{StartsAreAsked};
 ghost use Rattle.agent_laws.specs.Steps.{JobsEnd, OpensWithValidVotes, ShowsValidVotes};
+ghost use Rattle.agent_laws.specs.SweepOrders.{SweepsInOrder};
 
 use rep_core::Reply;
 use run_core::nothing_comes;
@@ -56,3 +62,43 @@ pub fn runs_keep_to_sites()
 {
     nothing_comes();
 }
+
+/// A law: a transaction gathers, prepares, has it decided and finishes, in this order, and asks nothing else. Each server that
+/// was heard to hold a lock is asked once to prepare, rising; once all have prepared the home is asked once to decide; and each
+/// of them gets one Finish, rising, with the verdict that the home told, or Aborted. No other server is asked any of this. It
+/// does nothing.
+pub fn asks_in_order()
+    ensures { AsksInOrder }
+{}
+
+/// A law: a lock on a suite is asked for only while the servers that were heard to hold it have too few votes. The votes are
+/// those of the newest prefix that was seen, or those that the transaction sets; and the first server in listed order is asked
+/// that has a vote, was not heard to hold the lock as it is wanted, and was not found busy or down. It does nothing.
+pub fn gathers_in_order()
+    ensures { GathersInOrder }
+{}
+
+/// A law: a content is fetched of a suite that had a quorum, at the first member of the first one, in listed order, that showed
+/// the version which this gave. It does nothing.
+pub fn fetches_in_order()
+    ensures { FetchesInOrder }
+{}
+
+/// A law: a transaction ends by the verdict that its home told, and undecided where it told Aborted, or nothing. It does
+/// nothing.
+pub fn ends_as_told()
+    ensures { EndsAsTold }
+{}
+
+/// A law: a sweep lists the locks. For the first lock that is left it asks the home of its transaction, where a lock of that is
+/// prepared, and tells the swept server what the home told; else it breaks the lock. Its three counts are of what it was told,
+/// and it ends with them once no lock is left. It does nothing.
+pub fn sweeps_in_order()
+    ensures { SweepsInOrder }
+{}
+
+/// A law: idle agents of one index, one count of jobs and one cache, which begin one job and were told the same, have asked the
+/// same, ask the same next, and end the same. It does nothing.
+pub fn same_told_same_asked()
+    ensures { SameToldSameAsked }
+{}
