@@ -15,3 +15,4 @@ pub mod Gathered
 pub mod Same
 pub mod Fetched
 pub mod Endings
+pub mod Quorate

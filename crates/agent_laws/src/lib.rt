@@ -11,6 +11,7 @@ ghost use Rattle.agent_laws.specs.Endings.{EndsAsTold};
 ghost use Rattle.agent_laws.specs.Fetches.{FetchesInOrder};
 ghost use Rattle.agent_laws.specs.Gathers.{GathersInOrder};
 ghost use Rattle.agent_laws.specs.Orders.{AsksInOrder};
+ghost use Rattle.agent_laws.specs.Quorate.{PreparesOnQuorums};
 ghost use Rattle.agent_laws.specs.Same.{SameToldSameAsked};
 ghost use Rattle.agent_laws.specs.Sites.{RunsKeepToSites};
 ghost use Rattle.agent_laws.specs.Starts.{StartsAreAsked};
@@ -82,6 +83,13 @@ pub fn gathers_in_order()
 /// the version which this gave. It does nothing.
 pub fn fetches_in_order()
     ensures { FetchesInOrder }
+{}
+
+/// A law: once a server is asked to prepare, each suite of the transaction is held by a quorum of the newest prefix that was
+/// seen while it was gathered, and where it is changed by a write quorum of its votes before and of those that are set. So it is
+/// before the first prepares. It does nothing.
+pub fn prepares_on_quorums()
+    ensures { PreparesOnQuorums }
 {}
 
 /// A law: a transaction ends by the verdict that its home told, and undecided where it told Aborted, or nothing. It does
