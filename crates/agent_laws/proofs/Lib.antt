@@ -16,3 +16,4 @@ pub mod Same
 pub mod Fetched
 pub mod Endings
 pub mod Quorate
+pub mod RunBounds

@@ -1,10 +1,17 @@
-//! What holds of agents: a job is at an end within a bound on its own steps, and nothing is kept for sites that are not there.
+//! What holds of agents: in which order a job asks, that it is at an end within a bound on its own steps, and that nothing is
+//! kept for sites that are not there.
 //!
 //! There is no code here but laws. How long a job takes stands in `specs/Steps`, beside the counts of `txn_core` on which the
 //! bound rests: an agent that is not idle asks, it asks servers that it knows of, and so a transaction is at an end within a
 //! bound on the servers and suites, and a sweep within one on the locks that it was told. The premise is that votes are
-//! valid: of what a program holds that is a law as well. For which sites agents keep something, in every run, stands in
+//! valid: of what a program holds that is a law as well. That each job which ended in a run took so few steps, by the count
+//! in its outcome, needs no premise (`specs/RunBounds`). For which sites agents keep something, in every run, stands in
 //! `specs/Sites`.
+//!
+//! The order of requests is said of exchanges alone, which are requests with what was told of them, and never of where an
+//! agent stands: what a transaction asks next (`specs/Orders`, `Gathers`, `Fetches`, `Quorate`) and how it ends
+//! (`specs/Endings`), what a sweep asks next and counts (`specs/SweepOrders`), and that all this is a function of what was told
+//! (`specs/Same`).
 #![tactic(auto)]
 
 ghost use Rattle.agent_laws.specs.Endings.{EndsAsTold};
@@ -12,6 +19,7 @@ ghost use Rattle.agent_laws.specs.Fetches.{FetchesInOrder};
 ghost use Rattle.agent_laws.specs.Gathers.{GathersInOrder};
 ghost use Rattle.agent_laws.specs.Orders.{AsksInOrder};
 ghost use Rattle.agent_laws.specs.Quorate.{PreparesOnQuorums};
+ghost use Rattle.agent_laws.specs.RunBounds.{RunsEndInTime};
 ghost use Rattle.agent_laws.specs.Same.{SameToldSameAsked};
 ghost use Rattle.agent_laws.specs.Sites.{RunsKeepToSites};
 ghost use Rattle.agent_laws.specs.Starts.{StartsAreAsked};
@@ -109,4 +117,11 @@ pub fn sweeps_in_order()
 /// same, ask the same next, and end the same. It does nothing.
 pub fn same_told_same_asked()
     ensures { SameToldSameAsked }
+{}
+
+/// A law: of every run, whatever its events: each job that ended took, by the very count that its outcome tells, no more steps
+/// than its agent had exchanges in it; so a transaction that asks `n` servers and names `k` suites ended within
+/// `k*(2n + 1) + 2n + 1` steps, and a sweep to which `m` locks were listed within `1 + 2m`. It does nothing.
+pub fn runs_end_in_time()
+    ensures { RunsEndInTime }
 {}
