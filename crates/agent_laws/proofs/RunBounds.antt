@@ -85,16 +85,19 @@ begins_job fixed n job agent steps index (inl idle) = of (begins fixed agent job
 
     busy : (begin fixed agent job).count ≡ agent.count + 1 → (b : Bool) → is_idle (begin fixed agent job).doing ≡ b → Has' fixed n (begin fixed agent job) steps
     busy count true still = inl (still, idle.1)
-    busy count false on = inr (on, record {
-      before = agent;
-      job = job;
-      told = [];
-      idle = idle.0;
-      index = index;
-      is = refl;
-      counted = count;
-      taken = none_yet;
-    })
+    busy count false on = inr (
+      on,
+      record {
+        before = agent;
+        job = job;
+        told = [];
+        idle = idle.0;
+        index = index;
+        is = refl;
+        counted = count;
+        taken = none_yet;
+      },
+    )
 
     of : (b : Bool) → begins fixed agent job ≡ b → Has' fixed n (begin fixed agent job) steps
     of false none =
@@ -108,16 +111,19 @@ forgets : (fixed : Fixed) (n site : ℕ) (agent : Agent) (steps : ℕ) → Has' 
 forgets fixed n site agent steps (inl idle) = inl idle
 forgets fixed n site agent steps (inr busy) =
     let since = busy.1 in
-    inr (busy.0, record {
-      before = since.before;
-      job = since.job;
-      told = since.told ++ agents.Forget site ∷ [];
-      idle = since.idle;
-      index = since.index;
-      is = ap (λ (agent : Agent). forget agent site) since.is ∙ sym (after-append fixed (begin fixed since.before since.job) since.told (agents.Forget site));
-      counted = since.counted;
-      taken = subst (λ past. steps ≤ length past) (sym (exchanges-forget fixed (begin fixed since.before since.job) since.told site)) since.taken;
-    })
+    inr (
+      busy.0,
+      record {
+        before = since.before;
+        job = since.job;
+        told = since.told ++ agents.Forget site ∷ [];
+        idle = since.idle;
+        index = since.index;
+        is = ap (λ (agent : Agent). forget agent site) since.is ∙ sym (after-append fixed (begin fixed since.before since.job) since.told (agents.Forget site));
+        counted = since.counted;
+        taken = subst (λ past. steps ≤ length past) (sym (exchanges-forget fixed (begin fixed since.before since.job) since.told site)) since.taken;
+      },
+    )
 
 -- ---- it is told something
 

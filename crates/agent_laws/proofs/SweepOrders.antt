@@ -117,7 +117,7 @@ module _ (service : Service) (swept : ℕ) where
         at,
         counts,
         goes ∙ ap (for_first service swept) (sym is) ∙ ap (λ b. Some (cond b (home_of service lock.t, request.Resolve lock.t) (swept, request.Break lock.t lock.suite))) none
-        ∙ ap (λ server. Some (server, request.Break lock.t lock.suite)) (sym at),
+            ∙ ap (λ server. Some (server, request.Break lock.t lock.suite)) (sym at),
         is,
       )
 
@@ -206,8 +206,7 @@ module _ (service : Service) (swept : ℕ) where
   told_resolve : (past : List Exchange) (sweeping : Round) (t : ℕ) (left : List Lock) (said : Reply) → Sweeps past (Some (Rounding (record sweeping { now = Resolving t left })))
       → LeftSo (told_now past sweeping (Resolving t left) (Replied said)) (sweep.after_answer service sweeping (Resolving t left) said)
   told_resolve past sweeping t left (reply.Verdict v) so =
-      let one : Exchange = record { server = home_of service t; request = request.Resolve t; word = Replied (reply.Verdict v) } in
-      (
+      let one : Exchange = record { server = home_of service t; request = request.Resolve t; word = Replied (reply.Verdict v) } in (
         so.0,
         record {
           broken_is = count_same breaks past one sweeping.broken refl so.1.broken_is;

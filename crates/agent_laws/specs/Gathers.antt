@@ -38,7 +38,10 @@ pub record IsGathering (fixed : Fixed) (agent : Agent) (job : Job) (events : Lis
   pub too_few : votes_in votes.reps (has_said (of_job fixed agent job events) suite (holding mode)) < needed_of mode votes
   pub has : ℕ
   pub first : find (is_left (of_job fixed agent job events) suite mode) votes.reps ≡ Some (server, has)
-  pub asks : asked ≡ (if has_said (of_job fixed agent job events) suite (holding Shared) server then request.Upgrade (number_of asked) suite else request.Poll (number_of asked) suite mode)
+  pub asks :
+      asked
+      ≡ (if has_said (of_job fixed agent job events) suite (holding Shared) server then request.Upgrade (number_of asked) suite
+      else request.Poll (number_of asked) suite mode)
 
 abbrev pub GathersInOrder : Type 0
 GathersInOrder =

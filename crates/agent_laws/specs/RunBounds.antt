@@ -29,10 +29,12 @@ pub record EndsInItsTime (fixed : Fixed) (outcome : Outcome) : Type 0 where
   pub past : List Exchange
   pub past_is : past ≡ of_job fixed before job (told ++ Take last ∷ [])
   pub steps : outcome.steps ≤ length past
-  pub transaction : (caller : Identity) (site : ℕ) (ops : List Op) (servers suites : List ℕ) → job ≡ Transaction caller site ops → asks_only servers past ≡ true → names_only suites past ≡ true
+  pub transaction : (caller : Identity) (site : ℕ) (ops : List Op) (servers suites : List ℕ) → job ≡ Transaction caller site ops
+      → asks_only servers past ≡ true → names_only suites past ≡ true
       → outcome.steps ≤ length suites * (2 * length servers + 1) + 2 * length servers + 1
   pub sweep : (server : ℕ) → job ≡ Sweep server → outcome.steps ≤ 1 + 2 * listed past
 
 -- So it is of every job that ended in any run.
 abbrev pub RunsEndInTime : Type 0
-RunsEndInTime = (given : Opening) (events : List Event) (outcome : Outcome) → Contains (outcomes (done_in given events)) outcome → EndsInItsTime (fixed_of given) outcome
+RunsEndInTime =
+    (given : Opening) (events : List Event) (outcome : Outcome) → Contains (outcomes (done_in given events)) outcome → EndsInItsTime (fixed_of given) outcome
