@@ -1,11 +1,11 @@
 -- What holds of a job's exchanges and of what its agent does: so at the begin and after each event, so always.
-use Rattle.std.proofs.Common.{◌≡◌, ℕ, List, [], ◌∷◌, ◌++◌, Option, Some, None, refl, sym, ap, subst, ◌∙◌}
+use Rattle.std.proofs.Common.{◌≡◌, ℕ, List, [], ◌∷◌, ◌++◌, Option, Some, None, refl, sym, subst}
 use Rattle.std.proofs.lemmas.List.{append-nil, append_assoc}
 use Rattle.rep_core.specs.declared.request.Request.{Request}
 use Rattle.txn_core.specs.declared.word.Word.{Word}
 use Rattle.txn_core.specs.declared.job.Job.{Job}
 use Rattle.txn_core.specs.Doing.{Fixed, Doing, Running, Rounding}
-use Rattle.txn_core.specs.Agents.{Agent, Event, Take, Forget, next_in, next_of, take_in, take, begin, forget, after_all}
+use Rattle.txn_core.specs.Agents.{Agent, Event, Take, Forget, next_in, next_of, take_in, begin, after_all}
 use Rattle.txn_core.specs.Laws.{Exchange, exchange_of, of_job}
 use Rattle.txn_core.proofs.Upheld.{after-append, exchanges-take, exchanges-forget}
 

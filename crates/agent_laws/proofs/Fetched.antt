@@ -8,10 +8,10 @@ use Rattle.rep_core.specs.declared.request.Request.TheVariants as request
 use Rattle.txn_core.specs.Suites.{First, Suite, Suites, suite_of}
 use Rattle.txn_core.specs.Writing.{parts_at}
 use Rattle.txn_core.specs.declared.job.Job.{Job}
-use Rattle.txn_core.specs.Doing.{home_of, Fixed, Task, Phase, Gathering, Fetching, Widening, Preparing, Deciding, Finishing, Course, Sweeping, Listing, Resolving, Telling, Breaking, Round, Doing, Running, Rounding}
+use Rattle.txn_core.specs.Doing.{home_of, Fixed, Task, Phase, Gathering, Fetching, Widening, Preparing, Deciding, Finishing, Sweeping, Listing, Resolving, Telling, Breaking, Round, Doing, Running, Rounding}
 use Rattle.txn_core.specs.Transactions.{fetched_at, fetched_for, request_in, changes_of, decision_of}
 use Rattle.txn_core.specs.Sweeps as sweep
-use Rattle.txn_core.specs.Agents.{Agent, Event, next_in, next_of, begin, is_idle, after_all}
+use Rattle.txn_core.specs.Agents.{Agent, Event, next_in, begin, after_all}
 use Rattle.txn_core.specs.Laws.{Exchange, of_job}
 use Rattle.txn_core.proofs.Asks.{asks_same, asked_as}
 use Rattle.txn_core.proofs.Causes.{StandsOn}

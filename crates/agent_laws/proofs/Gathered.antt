@@ -1,20 +1,18 @@
 -- A lock is asked for of the first server that is left.
 use Rattle.std.proofs.Common.{◌≡◌, ℕ, ◌<◌, Bool, true, false, cond, inl, inr, List, [], ◌∷◌, ◌++◌, Option, Some, None, refl, sym, ap, subst, ◌∙◌, arith}
-use Rattle.std.specs.Prelude.{◌==◌, ◌&&◌, not, nat_lt, nat_le, find}
+use Rattle.std.specs.Prelude.{◌&&◌, not, nat_lt, nat_le, find}
 use Rattle.std.proofs.lemmas.Bool.{eqb-true, false≢true}
 use Rattle.std.proofs.lemmas.Bool.Decides.{nat_tests}
 use Rattle.std.proofs.lemmas.Option.{same_Some}
 use Rattle.acl_core.specs.Identity.{Identity}
 use Rattle.file_ops.specs.declared.operation.Op.{Op}
-use Rattle.vote_core.specs.Quorums.{Representative, Configuration, votes_in}
-use Rattle.suite_prefix.specs.declared.copies.Prefix.{Prefix}
+use Rattle.vote_core.specs.Quorums.{Representative, Configuration}
 use Rattle.suite_prefix.specs.declared.lock_mode.LockMode.{LockMode}
-use Rattle.suite_prefix.specs.declared.lock_mode.LockMode.TheVariants.{Shared, Exclusive}
+use Rattle.suite_prefix.specs.declared.lock_mode.LockMode.TheVariants.{Shared}
 use Rattle.rep_core.proofs.Members.{contains_from}
 use Rattle.rep_core.specs.declared.request.Request.{Request}
 use Rattle.rep_core.specs.declared.request.Request.TheVariants as request
 use Rattle.suite_collect.specs.declared.told.Said.{Said}
-use Rattle.suite_collect.specs.declared.told.Told.{Told}
 use Rattle.suite_collect.specs.Telling.{newest, has_told}
 use Rattle.suite_collect.specs.Collecting.{Collector, told_since, votes_or, mode_or, all_told, counted, wanted, needed_of, needed, got, is_member, is_left, asked_of, ask_or_short, version, members_of, request_for, Asked, Poll, Upgrade, Next, Ask, Current, Short, next}
 use Rattle.suite_collect.specs.Collecting as collecting
@@ -22,11 +20,11 @@ use Rattle.txn_core.specs.Suites.{Suite, Suites, suite_of, told_in}
 use Rattle.txn_core.specs.Writing.{parts_at}
 use Rattle.txn_core.specs.declared.job.Job.{Job}
 use Rattle.txn_core.specs.declared.job.Job.TheVariants.{Transaction}
-use Rattle.txn_core.specs.Doing.{home_of, Fixed, Task, Phase, Gathering, Fetching, Widening, Preparing, Deciding, Finishing, Course, Sweeping, Listing, Resolving, Telling, Breaking, Round, Doing, Running, Rounding}
+use Rattle.txn_core.specs.Doing.{home_of, Fixed, Task, Phase, Gathering, Fetching, Widening, Preparing, Deciding, Finishing, Sweeping, Listing, Resolving, Telling, Breaking, Round, Doing, Running, Rounding}
 use Rattle.txn_core.specs.Transactions.{asked_by, asked_for, request_in, to_widen, heard_on, changes_of, decision_of}
 use Rattle.txn_core.specs.Sweeps as sweep
-use Rattle.txn_core.specs.Agents.{Agent, Event, next_in, next_of, begin, is_idle, after_all}
-use Rattle.txn_core.specs.Laws.{Exchange, of_job, locks, told_of, has_said, holding, refusing, task_of, IsStart}
+use Rattle.txn_core.specs.Agents.{Agent, Event, next_in, begin, after_all}
+use Rattle.txn_core.specs.Laws.{Exchange, of_job, locks, told_of, has_said, holding, refusing, task_of}
 use Rattle.txn_core.specs.Caching.{IsContentOf}
 use Rattle.txn_core.specs.Undecided.{WereGathered, IsWanted, SetsVotes}
 use Rattle.txn_core.proofs.Asks.{asks_same, fetched_as}

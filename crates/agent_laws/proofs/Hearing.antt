@@ -18,10 +18,10 @@ use Rattle.txn_core.specs.declared.word.Word.TheVariants.{Replied, Lacked}
 use Rattle.txn_core.specs.declared.ending.Cause.{Cause}
 use Rattle.txn_core.specs.declared.ending.Cause.TheVariants.{Lost}
 use Rattle.txn_core.specs.Doing.{Granted, Fixed, Task, Outcome, Phase, Gathering, Fetching, Widening, Preparing, Deciding, Finishing, Course, After, GoesOn}
-use Rattle.txn_core.specs.Transactions.{Step, Gathered, give_up, prepare, locked_at, short_cause, gather_by, widen_by, widen_one, widened, widen_all, opened, heard_on, raised_or_new, keep_content, heard_of, said_to, proceed, execute, collected, hear, fetched, after_word, asked_for, fetched_for, request_in, given_in, lack_cause}
+use Rattle.txn_core.specs.Transactions.{Step, Gathered, give_up, prepare, locked_at, short_cause, gather_by, widen_by, widen_one, widened, widen_all, opened, heard_on, raised_or_new, keep_content, heard_of, said_to, proceed, execute, collected, hear, fetched, after_word, asked_for, request_in, given_in, lack_cause}
 use Rattle.txn_core.specs.Laws.{Exchange, locks, told_of, told_by, more_told}
 use Rattle.txn_core.proofs.Asks.{fetched_as}
-use Rattle.txn_core.proofs.Locks.{Are, told_with, are_with, are_same, are_opened, told_raised, all_told-tell, asks_lock}
+use Rattle.txn_core.proofs.Locks.{Are, are_with, are_same, are_opened, told_raised, all_told-tell, asks_lock}
 use Rattle.txn_core.proofs.Walk.{IsEarly}
 
 -- ---- what was told of each suite, with one exchange more

@@ -1,9 +1,8 @@
 -- Each job that ends in a run took few steps.
 use Rattle.std.proofs.Common.{◌≡◌, ◌⊎◌, inl, inr, ℕ, zero, suc, ◌+◌, ◌≤◌, Bool, true, false, cond, List, [], ◌∷◌, ◌++◌, length, Option, Some, None, refl, sym, ap, subst, ◌∙◌, arith}
-use Rattle.std.specs.Prelude.{◌&&◌, ◌*◌, ◌-◌, min, nat_lt, nat_le, slice_get, slice_set}
+use Rattle.std.specs.Prelude.{◌&&◌, ◌*◌, ◌-◌, min, nat_lt, slice_get, slice_set}
 use Rattle.std.specs.List.{cons_option}
 use Rattle.std.proofs.Math.Nat.{min-le_left}
-use Rattle.std.proofs.lemmas.Bool.{false≢true}
 use Rattle.std.proofs.lemmas.Option.{none-some, same_Some}
 use Rattle.acl_core.specs.Identity.{Identity}
 use Rattle.file_ops.specs.declared.operation.Op.{Op}
@@ -18,8 +17,8 @@ use Rattle.txn_core.specs.declared.word.Word.TheVariants.{Replied, Lacked}
 use Rattle.txn_core.specs.declared.ending.Ending.{Ending}
 use Rattle.txn_core.specs.declared.job.Job.{Job}
 use Rattle.txn_core.specs.declared.job.Job.TheVariants.{Transaction, Sweep}
-use Rattle.txn_core.specs.Doing.{Fixed, Course, Round, Doing, Running, Rounding, After, GoesOn, Ends}
-use Rattle.txn_core.specs.Transactions as course
+use Rattle.txn_core.specs.Doing.{Fixed, Doing, Running, Rounding, After, GoesOn, Ends}
+use Rattle.txn_core.specs.Transactions as transactions
 use Rattle.txn_core.specs.Sweeps as sweep
 use Rattle.txn_core.specs.Agents as agents
 use Rattle.txn_core.specs.Agents.{Agent, Taken, Take, next_in, next_of, left, end_of, take_in, take, begin, begins, started, forget, is_idle, has_sense, max_jobs, after_all, fixed_of}
@@ -29,14 +28,14 @@ use Rattle.txn_core.proofs.Swept.{sweep_ends_in_time}
 use Rattle.txn_core.proofs.Upheld.{after-append, exchanges-take, exchanges-forget}
 use Rattle.run_core.specs.declared.event.Event.{Event}
 use Rattle.run_core.specs.declared.event.Event.TheVariants.{Begin, Step, Crash, Return, Forget, Lack}
-use Rattle.run_core.specs.declared.done.Done.{Done}
 use Rattle.run_core.specs.declared.done.Outcome.{Outcome}
 use Rattle.run_core.specs.declared.done.Served.{Served}
 use Rattle.run_core.specs.Worlds as worlds
 use Rattle.run_core.specs.Worlds.{World, Actor, Stepped, server_at, actor_at, actors_from, one_more, steps_after, outcome_of, serve, answered, asks_at, asks, steps_once, lacks_for, lacks, operated, operates, becomes, opening, step}
-use Rattle.run_core.specs.Runs.{after, dones, outcomes}
+use Rattle.run_core.specs.Runs.{dones, outcomes}
 use Rattle.agent_laws.specs.Steps.{agent_after}
 use Rattle.agent_laws.specs.RunBounds.{EndsInItsTime, RunsEndInTime}
+use Rattle.agent_laws.proofs.Ends.{asked_are_known}
 use Rattle.agent_laws.proofs.Told.{length_append}
 
 -- ---- an agent that has a job, with the steps that it took
@@ -140,7 +139,7 @@ by_after as_doing (Ends ending) = inr (ending, refl, refl)
 
 is_told : (fixed : Fixed) (agent : Agent) (heard : Word) (doing : Option Doing) (asked : ℕ × Request) → next_in fixed doing ≡ Some asked → IsTold agent (take_in fixed agent heard doing (Some asked))
 is_told fixed agent heard None asked is = cc
-is_told fixed agent heard (Some (Running running)) asked is = (refl, refl, by_after Running (course.after_word fixed running agent.cache asked.0 asked.1 heard).after)
+is_told fixed agent heard (Some (Running running)) asked is = (refl, refl, by_after Running (transactions.after_word fixed running agent.cache asked.0 asked.1 heard).after)
 is_told fixed agent heard (Some (Rounding sweeping)) asked is = (refl, refl, by_after Rounding (sweep.after_word fixed.service sweeping asked.0 heard))
 
 at_most : (a b : ℕ) → min a b ≤ a
@@ -205,16 +204,17 @@ module _ (fixed : Fixed) (n : ℕ) (agent : Agent) (steps : ℕ) (heard : Word) 
       past = of_job fixed since.before since.job more;
       past_is = refl;
       steps = steps_more;
-      transaction = λ caller site ops servers suites is asks names. transaction caller site ops servers suites since.job is steps_more asks names;
+      transaction = λ caller site ops servers suites is servers_are names. transaction caller site ops servers suites since.job is steps_more servers_are names;
+      known = λ servers valid all. asked_are_known fixed since.before since.job more servers since.idle valid all;
       sweep = λ server is. swept server since.job is steps_more;
     }
       where
         transaction : (caller : Identity) (site : ℕ) (ops : List Op) (servers suites : List ℕ) (job : Job) → job ≡ Transaction caller site ops → one_more steps ≤ length (of_job fixed since.before job more)
             → asks_only servers (of_job fixed since.before job more) ≡ true → names_only suites (of_job fixed since.before job more) ≡ true
             → one_more steps ≤ length suites * (2 * length servers + 1) + 2 * length servers + 1
-        transaction caller site ops servers suites job is few asks names =
+        transaction caller site ops servers suites job is few servers_are names =
             let past : Job → List Exchange = λ job. of_job fixed since.before job more in
-            let bound = ends_in_time fixed since.before caller site ops more servers suites since.idle (subst (λ job. asks_only servers (past job) ≡ true) is asks) (subst (λ job. names_only suites (past job) ≡ true) is names) in
+            let bound = ends_in_time fixed since.before caller site ops more servers suites since.idle (subst (λ job. asks_only servers (past job) ≡ true) is servers_are) (subst (λ job. names_only suites (past job) ≡ true) is names) in
             let less : one_more steps ≤ length (past (Transaction caller site ops)) = subst (λ job. one_more steps ≤ length (past job)) is few in
             omega (arith, bound, less)
 

@@ -1,6 +1,5 @@
 -- Agents that were told the same ask the same.
-use Rattle.std.proofs.Common.{◌≡◌, ℕ, true, List, Option, Some, None, refl, sym, ap, ◌∙◌}
-use Rattle.weak_cache.specs.Entries.{Cache}
+use Rattle.std.proofs.Common.{◌≡◌, true, Option, Some, None, refl, sym, ap, ◌∙◌}
 use Rattle.txn_core.specs.Doing.{Doing}
 use Rattle.txn_core.specs.Agents.{Agent, next_of, take, begin, is_idle, after_all}
 use Rattle.txn_core.specs.Laws.{of_job}
