@@ -118,10 +118,6 @@ sent_push kind past server asked heard =
     of true = refl
     of false = refl
 
-sent_same : (kind : Request → Bool) (past : List Exchange) (server : ℕ) (asked : Request) (heard : Word) → kind asked ≡ false → sent_to kind (push past server asked heard) ≡ sent_to kind past
-sent_same kind past server asked heard other =
-    sent_push kind past server asked heard ∙ ap (λ b. sent_to kind past ++ cond b (server ∷ []) []) other ∙ append-nil (sent_to kind past)
-
 -- one more got it, of those that were to get it
 sent_next : (kind : Request → Bool) (past : List Exchange) (server : ℕ) (asked : Request) (heard : Word) (left all : List ℕ) → kind asked ≡ true → all ≡ sent_to kind past ++ server ∷ left → all ≡ sent_to kind (push past server asked heard) ++ left
 sent_next kind past server asked heard left all is so =

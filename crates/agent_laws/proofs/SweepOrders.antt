@@ -13,7 +13,7 @@ use Rattle.rep_core.specs.Locks.{is_own, has_prepared}
 use Rattle.txn_core.specs.declared.word.Word.{Word}
 use Rattle.txn_core.specs.declared.word.Word.TheVariants.{Replied, Lacked}
 use Rattle.txn_core.specs.declared.ending.Ending.{Ending}
-use Rattle.txn_core.specs.declared.ending.Ending.TheVariants.{Swept, Undecided}
+use Rattle.txn_core.specs.declared.ending.Ending.TheVariants.{Swept}
 use Rattle.txn_core.specs.declared.job.Job.{Job}
 use Rattle.txn_core.specs.declared.job.Job.TheVariants.{Sweep}
 use Rattle.txn_core.specs.Doing.{home_of, Fixed, Sweeping, Listing, Resolving, Telling, Breaking, Round, Doing, Running, Rounding, After, GoesOn, Ends}
@@ -229,9 +229,6 @@ module _ (service : Service) (swept : ℕ) where
   told_answer past sweeping (Resolving t left) said so = told_resolve past sweeping t left said so
   told_answer past sweeping (Telling t v left) said so = told_finish past sweeping t v left said so
   told_answer past sweeping (Breaking lock left) said so = told_break past sweeping lock left said so
-
-  lacked_so : (past : List Exchange) (server : ℕ) (lacked : Rattle.rep_core.specs.declared.stamped.Lack.Lack) → EndsSo past (Undecided (Rattle.txn_core.specs.Transactions.lack_cause server lacked))
-  lacked_so past server lacked = tt
 
   told_so : (past : List Exchange) (sweeping : Round) (heard : Word) (asked : ℕ × Request) → Sweeps past (Some (Rounding sweeping)) → ◌≡◌ {A = Option (ℕ × Request)} (Some (asked_now service sweeping sweeping.now)) (Some asked)
       → LeftSo (push past asked.0 asked.1 heard) (sweep.after_word service sweeping asked.0 heard)
