@@ -242,6 +242,18 @@ ends_within fixed agent caller site ops events servers suites idle valid all nam
         let sum = ap length more ∙ length_append past (one ∷ []) in
         omega (arith, bound, steps, sum)
 
+-- servers that are all known are all that were asked
+pub asked_are_known : (fixed : Fixed) (agent : Agent) (job : Job) (events : List Event) (servers : List ℕ) → is_idle agent.doing ≡ true → VotesAreValid fixed agent (of_job fixed agent job events)
+    → ((server : ℕ) → is_known fixed agent (of_job fixed agent job events) server ≡ true → among servers server ≡ true) → asks_only servers (of_job fixed agent job events) ≡ true
+asked_are_known fixed agent job events servers idle valid all = asked_all (of_job fixed agent job events) (way fixed agent job events idle valid S all).asked
+  where
+    S : ℕ → Type 0
+    S server = among servers server ≡ true
+
+    asked_all : (past : List Exchange) → AllAsk fixed (V' fixed agent job events idle valid S all) S (goes' fixed agent job events idle valid S all) past → asks_only servers past ≡ true
+    asked_all [] so = refl
+    asked_all (one ∷ past) so = ap (λ b. b && asks_only servers past) so.0 ∙ asked_all past so.1
+
 -- ---- sweeps
 
 abbrev IsNoCourse : Option Doing → Type 0

@@ -6,3 +6,14 @@ pub mod Told
 pub mod Ends
 pub mod Sites
 pub mod Starts
+pub mod Along
+pub mod Lockeds
+pub mod Hearing
+pub mod Orders
+pub mod SweepOrders
+pub mod Gathered
+pub mod Same
+pub mod Fetched
+pub mod Endings
+pub mod Quorate
+pub mod RunBounds

@@ -1,15 +1,30 @@
-//! What holds of agents: a job is at an end within a bound on its own steps, and nothing is kept for sites that are not there.
+//! What holds of agents: in which order a job asks, that it is at an end within a bound on its own steps, and that nothing is
+//! kept for sites that are not there.
 //!
 //! There is no code here but laws. How long a job takes stands in `specs/Steps`, beside the counts of `txn_core` on which the
 //! bound rests: an agent that is not idle asks, it asks servers that it knows of, and so a transaction is at an end within a
 //! bound on the servers and suites, and a sweep within one on the locks that it was told. The premise is that votes are
-//! valid: of what a program holds that is a law as well. For which sites agents keep something, in every run, stands in
+//! valid: of what a program holds that is a law as well. That each job which ended in a run took so few steps, by the count
+//! in its outcome, needs no premise (`specs/RunBounds`). For which sites agents keep something, in every run, stands in
 //! `specs/Sites`.
+//!
+//! The order of requests is said of exchanges alone, which are requests with what was told of them, and never of where an
+//! agent stands: what a transaction asks next (`specs/Orders`, `Gathers`, `Fetches`, `Quorate`) and how it ends
+//! (`specs/Endings`), what a sweep asks next and counts (`specs/SweepOrders`), and that all this is a function of what was told
+//! (`specs/Same`).
 #![tactic(auto)]
 
+ghost use Rattle.agent_laws.specs.Endings.{EndsAsTold};
+ghost use Rattle.agent_laws.specs.Fetches.{FetchesInOrder};
+ghost use Rattle.agent_laws.specs.Gathers.{GathersInOrder};
+ghost use Rattle.agent_laws.specs.Orders.{AsksInOrder};
+ghost use Rattle.agent_laws.specs.Quorate.{PreparesOnQuorums};
+ghost use Rattle.agent_laws.specs.RunBounds.{RunsEndInTime};
+ghost use Rattle.agent_laws.specs.Same.{SameToldSameAsked};
 ghost use Rattle.agent_laws.specs.Sites.{RunsKeepToSites};
 ghost use Rattle.agent_laws.specs.Starts.{StartsAreAsked};
 ghost use Rattle.agent_laws.specs.Steps.{JobsEnd, OpensWithValidVotes, ShowsValidVotes};
+ghost use Rattle.agent_laws.specs.SweepOrders.{SweepsInOrder};
 
 use rep_core::Reply;
 use run_core::nothing_comes;
@@ -56,3 +71,57 @@ pub fn runs_keep_to_sites()
 {
     nothing_comes();
 }
+
+/// A law: a transaction gathers, prepares, has it decided and finishes, in this order, and asks nothing else. Each server that
+/// was heard to hold a lock is asked once to prepare, rising; once all have prepared the home is asked once to decide; and each
+/// of them gets one Finish, rising, with the verdict that the home told, or Aborted. No other server is asked any of this. It
+/// does nothing.
+pub fn asks_in_order()
+    ensures { AsksInOrder }
+{}
+
+/// A law: a lock on a suite is asked for only while the servers that were heard to hold it have too few votes. The votes are
+/// those of the newest prefix that was seen, or those that the transaction sets; and the first server in listed order is asked
+/// that has a vote, was not heard to hold the lock as it is wanted, and was not found busy or down. It does nothing.
+pub fn gathers_in_order()
+    ensures { GathersInOrder }
+{}
+
+/// A law: a content is fetched of a suite that had a quorum, at the first member of the first one, in listed order, that showed
+/// the version which this gave. It does nothing.
+pub fn fetches_in_order()
+    ensures { FetchesInOrder }
+{}
+
+/// A law: once a server is asked to prepare, each suite of the transaction is held by a quorum of the newest prefix that was
+/// seen while it was gathered, and where it is changed by a write quorum of its votes before and of those that are set. So it is
+/// before the first prepares. It does nothing.
+pub fn prepares_on_quorums()
+    ensures { PreparesOnQuorums }
+{}
+
+/// A law: a transaction ends by the verdict that its home told, and undecided where it told Aborted, or nothing. It does
+/// nothing.
+pub fn ends_as_told()
+    ensures { EndsAsTold }
+{}
+
+/// A law: a sweep lists the locks. For the first lock that is left it asks the home of its transaction, where a lock of that is
+/// prepared, and tells the swept server what the home told; else it breaks the lock. Its three counts are of what it was told,
+/// and it ends with them once no lock is left. It does nothing.
+pub fn sweeps_in_order()
+    ensures { SweepsInOrder }
+{}
+
+/// A law: idle agents of one index, one count of jobs and one cache, which begin one job and were told the same, have asked the
+/// same, ask the same next, and end the same. It does nothing.
+pub fn same_told_same_asked()
+    ensures { SameToldSameAsked }
+{}
+
+/// A law: of every run, whatever its events: each job that ended took, by the very count that its outcome tells, no more steps
+/// than its agent had exchanges in it; so a transaction that asks `n` servers and names `k` suites ended within
+/// `k*(2n + 1) + 2n + 1` steps, and a sweep to which `m` locks were listed within `1 + 2m`. It does nothing.
+pub fn runs_end_in_time()
+    ensures { RunsEndInTime }
+{}
