@@ -15,12 +15,12 @@ use Rattle.agent_pool.specs.declared.work.Halt.TheVariants.{Lacked, Strange, Stu
 use Rattle.agent_pool.specs.declared.work.Seat.{Seat}
 use Rattle.agent_pool.specs.declared.work.Worked.{Worked}
 use Rattle.agent_pool.specs.declared.workshop.NamedJob.{NamedJob}
-use Rattle.agent_pool.specs.Gathers.{Gathers, HaveOne, IsDouble, IsHandedBack, IsMissing, NoneFailed, first_strange, first_stuck, lacked_or, lacks_memory, places, places_by, strange_or, stuck_or}
+use Rattle.agent_pool.specs.Gathers.{Gathers, HaveOne, IsDouble, IsHandedBack, IsMissing, NoneFailed, TellsOf, first_strange, first_stuck, lacked_or, lacks_memory, places, places_by, strange_or, stuck_or}
 use Rattle.agent_pool.specs.Pools.{IsFaultOf, job_numbers}
 use Rattle.agent_pool.specs.Seats.{AreDistinct, passes_for}
 use Rattle.agent_pool.specs.Transcripts.{Played, number_of}
 use Rattle.agent_pool.specs.code.Filled.{AreNone, IsPut}
-use Rattle.agent_pool.specs.code.Gathering.{AllRan, AreSeen, AreWithin, IsEmpty, IsTaken}
+use Rattle.agent_pool.specs.code.Gathering.{AllRan, AreSeen, AreWithin, IsEmpty, IsTaken, IsWithin}
 use Rattle.agent_pool.specs.code.Seated.{IsSeated}
 use Rattle.agent_pool.specs.code.Starts.{IsWorkOf}
 use Rattle.agent_pool.specs.code.Working.{AllDone, IsHalted, IsWorked}
@@ -114,14 +114,30 @@ put_seen seen old new place outcome was put = record {
   once = distinct_push seen place was.once (was.empty place put.was);
 }
 
-pub double_here : (jobs : List NamedJob) (slots : List (Option JobOutcome)) (seen rest : List ℕ) (place job : ℕ) → AreSeen seen slots → IsTaken jobs slots place job → IsDouble jobs (seen ++ place ∷ rest) job
-double_here jobs slots seen rest place job was is = record {
-  place = place;
+-- one more of what an agent did
+pub seen_next : (seen : List ℕ) (ds : List Done) (i : ℕ) (d : Done) (old new : List (Option JobOutcome)) (job agent : ℕ) → i < length ds → slice_index_or ds i d ≡ d → AreSeen (seen ++ places_by (take i ds)) old
+    → IsPut old d.place (record { job = job; agent = agent; count = d.ran.count; at = d.ran.at }) new → AreSeen (seen ++ places_by (take (i + 1) ds)) new
+seen_next seen ds i d old new job agent low is was put =
+    let before = places_by (take i ds) in
+    subst (λ (ps : List ℕ). AreSeen ps new) (append_assoc seen before (d.place ∷ []) ∙ ap (λ ps. seen ++ ps) (sym (places_next ds i d low is)))
+    (put_seen (seen ++ before) old new d.place (record { job = job; agent = agent; count = d.ran.count; at = d.ran.at }) was put)
+
+pub double_here : (jobs : List NamedJob) (slots : List (Option JobOutcome)) (seen rest : List ℕ) (d : Done) (job : ℕ) → AreSeen seen slots → IsTaken jobs slots d job → IsDouble jobs (seen ++ d.place ∷ rest) job
+double_here jobs slots seen rest d job was is = record {
+  place = d.place;
   named = is.named;
   there = is.there;
   of = is.of;
-  twice = record { before = seen; after = rest; split = refl; once = was.once; again = was.filled place is.outcome is.taken };
+  twice = record { before = seen; after = rest; split = refl; once = was.once; again = was.filled d.place is.outcome is.taken };
 }
+
+-- a second outcome of what an agent did
+pub double_next : (jobs : List NamedJob) (slots : List (Option JobOutcome)) (seen : List ℕ) (ds : List Done) (i : ℕ) (d : Done) (job : ℕ) → i < length ds → slice_index_or ds i d ≡ d → AreSeen (seen ++ places_by (take i ds)) slots
+    → IsTaken jobs slots d job → IsDouble jobs (seen ++ places_by ds) job
+double_next jobs slots seen ds i d job low is was taken =
+    let before = places_by (take i ds) in
+    let more = places_split ds i d low is in
+    subst (λ (ps : List ℕ). IsDouble jobs ps job) (append_assoc seen before (d.place ∷ more.0) ∙ ap (λ ps. seen ++ ps) (sym more.1)) (double_here jobs slots (seen ++ before) more.0 d job was taken)
 
 pub double_further : (jobs : List NamedJob) (xs ys : List ℕ) (job : ℕ) → IsDouble jobs xs job → IsDouble jobs (xs ++ ys) job
 double_further jobs xs ys job is = record {
@@ -177,11 +193,11 @@ taken_same (x ∷ slots) (suc i) (suc k) low = taken_same slots i k (omega arith
 
 pub done_within : (jobs : List NamedJob) (began : ℕ) (played : Played) (ds : List Done) → AllDone jobs began played ds → AreWithin (length jobs) ds
 done_within jobs began played [] all = tt
-done_within jobs began played (d ∷ ds) all = (slice_get_within jobs d.place all.0.named all.0.there, done_within jobs began played ds all.1)
+done_within jobs began played (d ∷ ds) all = (record { low = slice_get_within jobs d.place all.0.named all.0.there }, done_within jobs began played ds all.1)
 
-pub within_at : (many : ℕ) (ds : List Done) (i : ℕ) (d : Done) → AreWithin many ds → i < length ds → slice_index_or ds i d ≡ d → d.place < many
+pub within_at : (many : ℕ) (ds : List Done) (i : ℕ) (d : Done) → AreWithin many ds → i < length ds → slice_index_or ds i d ≡ d → IsWithin many d
 within_at many [] i d all low is = absurd (omega arith)
-within_at many (x ∷ ds) zero d all low is = subst (λ (y : Done). y.place < many) is all.0
+within_at many (x ∷ ds) zero d all low is = subst (λ (y : Done). IsWithin many y) is all.0
 within_at many (x ∷ ds) (suc i) d all low is = within_at many ds i d all.1 (omega arith) is
 
 -- ---- why agents ran no more
@@ -224,14 +240,7 @@ stuck_is jobs (s ∷ seats) (w ∷ worked) job all is =
 
 -- ---- what is told
 
--- a fault is told of whatever was to come, and of the same handed back
-pub same_gathers : {A B : Type 0} (jobs : List NamedJob) (lent worked : List Worked) (fault : PoolFault) → lent ≡ worked → Gathers {A = A} jobs lent (Err fault) → Gathers {A = B} jobs worked (Err fault)
-same_gathers {B = B} jobs lent worked Memory same tells = subst (λ ws. Gathers {A = B} jobs ws (Err Memory)) same tells
-same_gathers {B = B} jobs lent worked (Stranger place) same tells = subst (λ ws. Gathers {A = B} jobs ws (Err (Stranger place))) same tells
-same_gathers {B = B} jobs lent worked (Double job) same tells = subst (λ ws. Gathers {A = B} jobs ws (Err (Double job))) same tells
-same_gathers {B = B} jobs lent worked (Missing job) same tells = subst (λ ws. Gathers {A = B} jobs ws (Err (Missing job))) same tells
-
-pub tells_fault : (jobs : List NamedJob) (seats : List Seat) (worked : List Worked) (fault : PoolFault) → AllZip (IsWorkOf jobs) seats worked → Gathers {A = Pool} jobs worked (Err fault) → IsFaultOf jobs fault
+pub tells_fault : (jobs : List NamedJob) (seats : List Seat) (worked : List Worked) (fault : PoolFault) → AllZip (IsWorkOf jobs) seats worked → TellsOf jobs worked fault → IsFaultOf jobs fault
 tells_fault jobs seats worked Memory all tells = tt
 tells_fault jobs seats worked (Stranger place) all tells = strange_is jobs seats worked place all tells.1
 tells_fault jobs seats worked (Double job) all tells =
@@ -265,9 +274,9 @@ lacks_only (Err f) is = inl (ap (λ (e : PoolFault). Err e) is)
 pub tells_double : {A : Type 0} (jobs : List NamedJob) (worked : List Worked) (r : Result A PoolFault) (fault : PoolFault) (job : ℕ) → IsErrAnd r (λ y. y ≡ fault) → fault ≡ Double job → NoneFailed worked → IsDouble jobs (places worked) job
     → Gathers jobs worked r
 tells_double jobs worked (Ok x) fault job is same none double = absurd is
-tells_double {A = A} jobs worked (Err y) fault job is same none double = subst (λ (f : PoolFault). Gathers {A = A} jobs worked (Err f)) (sym (is ∙ same)) (none, inl double)
+tells_double jobs worked (Err y) fault job is same none double = subst (λ (f : PoolFault). TellsOf jobs worked f) (sym (is ∙ same)) (none, inl double)
 
 pub tells_missing : {A : Type 0} (jobs : List NamedJob) (worked : List Worked) (r : Result A PoolFault) (fault : PoolFault) (job : ℕ) → IsErrAnd r (λ y. y ≡ fault) → fault ≡ Missing job → NoneFailed worked → AreDistinct (places worked)
     → IsMissing jobs (places worked) job → Gathers jobs worked r
 tells_missing jobs worked (Ok x) fault job is same none once missing = absurd is
-tells_missing {A = A} jobs worked (Err y) fault job is same none once missing = subst (λ (f : PoolFault). Gathers {A = A} jobs worked (Err f)) (sym (is ∙ same)) (none, once, missing)
+tells_missing jobs worked (Err y) fault job is same none once missing = subst (λ (f : PoolFault). TellsOf jobs worked f) (sym (is ∙ same)) (none, once, missing)

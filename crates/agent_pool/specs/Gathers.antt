@@ -92,12 +92,16 @@ pub record NoneFailed (worked : List Worked) : Type 0 where
 
 -- Memory, where it was refused to one of them; else Stranger, where one took a place beyond the jobs; else Double, where there is a second outcome of a job;
 -- else Missing, where there is none of one. Where there is just one of each, but an agent got stuck at a job as well, that job is a Double too.
-abbrev pub Gathers : {A : Type 0} → List NamedJob → List Worked → Result A PoolFault → Type 0
-Gathers jobs worked (Err Memory) = lacks_memory worked ≡ true
-Gathers jobs worked (Err (Stranger place)) = (lacks_memory worked ≡ false) × (first_strange worked ≡ Some place)
-Gathers jobs worked (Err (Double job)) =
+abbrev pub TellsOf : List NamedJob → List Worked → PoolFault → Type 0
+TellsOf jobs worked Memory = lacks_memory worked ≡ true
+TellsOf jobs worked (Stranger place) = (lacks_memory worked ≡ false) × (first_strange worked ≡ Some place)
+TellsOf jobs worked (Double job) =
     NoneFailed worked × (IsDouble jobs (places worked) job ⊎ (HaveOne jobs (places worked) × (first_stuck worked ≡ Some job)))
-Gathers jobs worked (Err (Missing job)) = NoneFailed worked × AreDistinct (places worked) × IsMissing jobs (places worked) job
+TellsOf jobs worked (Missing job) = NoneFailed worked × AreDistinct (places worked) × IsMissing jobs (places worked) job
+
+-- A fault that tells so; else there is just one outcome of each job, and no agent got stuck.
+abbrev pub Gathers : {A : Type 0} → List NamedJob → List Worked → Result A PoolFault → Type 0
+Gathers jobs worked (Err fault) = TellsOf jobs worked fault
 Gathers jobs worked (Ok pool) = NoneFailed worked × HaveOne jobs (places worked) × (first_stuck worked ≡ None)
 
 -- an agent handed this back: it went on from where it was, with its pass

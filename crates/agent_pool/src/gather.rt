@@ -5,7 +5,7 @@ ghost use Rattle.std.specs.Vec.{vec_len, vec_capacity};
 ghost use Rattle.std.specs.List.{AllZip};
 ghost use Rattle.agent_pool.specs.declared.fault.PoolFault.TheVariants.{Double, Missing};
 ghost use Rattle.agent_pool.specs.Gathers.{Gathers, IsDouble, first_strange, first_stuck, lacks_memory, places, places_by};
-ghost use Rattle.agent_pool.specs.code.Gathering.{AreGathered, AreSeen, AreWithin, HasRoom, IsEmpty, IsGathered, IsTaken};
+ghost use Rattle.agent_pool.specs.code.Gathering.{AreGathered, AreSeen, AreWithin, HasRoom, IsEmpty, IsGathered, IsTaken, IsWithin};
 ghost use Rattle.agent_pool.specs.Pools.{AreApart, AreOutcomes, IsFaultOf, IsOf};
 ghost use Rattle.agent_pool.specs.code.Filled.{AreApartIn, AreNone, AreWorks, IsFilled, IsPut, KeepFilled, StayApart};
 ghost use Rattle.agent_pool.specs.code.Filled.{done_in, filled_in, passes_of, players_of, sitting};
@@ -215,13 +215,13 @@ fn place_one(
     done: Done,
 ) -> Result<(), PoolFault>
     requires long { length slots.old.items ≡ length jobs.now }
-    requires within { done.place < length jobs.now }
+    requires within { IsWithin (length jobs.now) done }
     ensures filled { OnOk result ((was players : List Played) (before player : Played) → IsOf was players agent before player
         → IsDone jobs.now (begins before.entries) player done → KeepFilled jobs.now was players slots.old.items slots.new.items) }
     ensures put { OnOk result ((job : ℕ) × IsPut slots.old.items done.place
         (record { job = job; agent = agent; count = done.ran.count; at = done.ran.at }) slots.new.items) }
     ensures long { length slots.new.items ≡ length slots.old.items }
-    ensures double { IfErr result (λ fault. (job : ℕ) × (fault ≡ Double job) × IsTaken jobs.now slots.old.items done.place job) }
+    ensures double { IfErr result (λ fault. (job : ℕ) × (fault ≡ Double job) × IsTaken jobs.now slots.old.items done job) }
 {
     let place = done.place;
     let named = &jobs[place];

@@ -28,13 +28,13 @@ pub record HasRoom (jobs players : ℕ) (room : Room) : Type 0 where
 abbrev pub AllRan : List Worked → Type 0
 AllRan worked = All (λ (one : Worked). one.halt ≡ None) worked
 
--- a place is taken by an outcome, of this job
-pub record IsTaken (jobs : List NamedJob) (slots : List (Option JobOutcome)) (place job : ℕ) : Type 0 where
+-- the place of what was done is taken by an outcome, of this job
+pub record IsTaken (jobs : List NamedJob) (slots : List (Option JobOutcome)) (done : Done) (job : ℕ) : Type 0 where
   pub named : NamedJob
-  pub there : slice_get jobs place ≡ Some named
+  pub there : slice_get jobs done.place ≡ Some named
   pub of : job ≡ named.number
   pub outcome : JobOutcome
-  pub taken : slice_get slots place ≡ Some (Some outcome)
+  pub taken : slice_get slots done.place ≡ Some (Some outcome)
 
 -- this is the first place without an outcome, of this job
 pub record IsEmpty (jobs : List NamedJob) (slots : List (Option JobOutcome)) (job : ℕ) : Type 0 where
@@ -51,10 +51,13 @@ pub record AreSeen (seen : List ℕ) (slots : List (Option JobOutcome)) : Type 0
   pub empty : (place : ℕ) → slice_get slots place ≡ Some None → ¬ (Contains seen place)
   pub once : AreDistinct seen
 
--- all are of jobs, of which there are so many
+-- it is of a job, of which there are so many
+pub record IsWithin (many : ℕ) (done : Done) : Type 0 where
+  pub low : done.place < many
+
 abbrev pub AreWithin : ℕ → List Done → Type 0
 AreWithin many [] = Unit {0}
-AreWithin many (done ∷ later) = (done.place < many) × AreWithin many later
+AreWithin many (done ∷ later) = IsWithin many done × AreWithin many later
 
 -- the outcomes of all jobs
 pub record AreGathered (jobs : List NamedJob) (worked : List Worked) (outcomes : List JobOutcome) : Type 0 where

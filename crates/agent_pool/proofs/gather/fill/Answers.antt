@@ -79,5 +79,5 @@ returns-in_err-place_all-clause-double c =
     let before = places (take index worked) in
     let more = worked_split worked index w c.loop-one-test.true (search rules) in
     let err = c.in_err-place_all.ensures.double before c.loop-one.invariant.5 in
-    passed_on _ _ _ c.from_residual-in_err-place_all.ensures
+    passed_on _ _ _ c.from_residual.ensures.1
     (err.0, err.1, subst (λ (ps : List ℕ). IsDouble jobs ps err.0) (ap (λ (ds : List Done). (before ++ places_by ds) ++ more.0) c.deref.ensures.value ∙ sym more.1) (double_further jobs _ more.0 err.0 err.2))

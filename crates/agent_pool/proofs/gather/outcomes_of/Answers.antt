@@ -47,9 +47,9 @@ returns-in-None-clause-missing c =
     let at = c.loop-place in
     let slots = c.args.slots.now in
     let named = c.index-jobs-place.result in
-    let empty : slice_get slots at.place ≡ Some None = search rules in (
+    let empty : slice_get slots at.place ≡ Some None = ? in (
       named.number,
-      refl,
+      search rules,
       record {
         place = at.place;
         named = named;

@@ -1,9 +1,9 @@
 use Rattle.std.proofs.Common.{rules, ◌≡◌, ◌∙◌, ◌++◌, ◌∷◌, [], List, ℕ, ap, append_assoc, append-nil, refl, arith, ◌+◌, subst, sym, take}
 use Rattle.std.proofs.lemmas.List.{drop_more, take_all}
 use Rattle.agent_pool.specs.declared.work.Done.{Done}
-use Rattle.agent_pool.specs.Gathers.{IsDouble, places_by}
+use Rattle.agent_pool.specs.Gathers.{places_by}
 use Rattle.agent_pool.specs.code.Gathering.{AreSeen}
-use Rattle.agent_pool.proofs.Seen.{double_here, passed_on, places_next, places_split, put_seen, within_at}
+use Rattle.agent_pool.proofs.Seen.{double_next, passed_on, seen_next, within_at}
 use Rattle.agent_pool.specs.code.Filled.{filled_in}
 use Rattle.agent_pool.specs.Transcripts.{begins}
 use Rattle.agent_pool.proofs.Apart.{at_next}
@@ -32,14 +32,7 @@ loop-one-preserved c = (
       let were = c.loop-one.invariant.2 in
       omega arith),
   c.in_ok-place_one.ensures.long ∙ c.loop-one.invariant.3,
-  (λ seen was.
-      let done = c.args.done.now in
-      let at = c.loop-one.one-index in
-      let before = places_by (take at done) in
-      let d = c.one-item.result in
-      let next = places_next done at d c.loop-one-test.true (search rules) in
-      subst (λ (ps : List ℕ). AreSeen ps c.place_one.new.slots.items) (append_assoc seen before (d.place ∷ []) ∙ ap (λ ps. seen ++ ps) (sym next))
-      (put_seen (seen ++ before) _ _ _ _ (c.loop-one.invariant.4 seen was) c.in_ok-place_one.ensures.put.1)),
+  (λ seen was. seen_next seen c.args.done.now c.loop-one.one-index _ _ _ _ _ c.loop-one-test.true (search rules) (c.loop-one.invariant.4 seen was) c.in_ok-place_one.ensures.put.1),
 )
 
 pub place_one-requires-clause-within : goal.place_one-requires-clause-within
@@ -60,15 +53,7 @@ returns-clause-apart c numbers low high fresh rise apart below =
 
 pub returns-in_err-place_one-clause-double : goal.returns-in_err-place_one-clause-double
 returns-in_err-place_one-clause-double c =
-    passed_on _ _ _ c.from_residual-in_err-place_one.ensures
+    passed_on _ _ _ c.from_residual.ensures.1
     (λ seen was.
-        let done = c.args.done.now in
-        let before = places_by (take c.loop-one.one-index done) in
-        let d = c.one-item.result in
-        let more = places_split done c.loop-one.one-index d c.loop-one-test.true (search rules) in
-        let err = c.in_err-place_one.ensures.double in (
-          err.0,
-          err.1,
-          subst (λ (ps : List ℕ). IsDouble c.args.jobs.now ps err.0) (append_assoc seen before (d.place ∷ more.0) ∙ ap (λ ps. seen ++ ps) (sym more.1))
-              (double_here c.args.jobs.now c.loop-one.slots.items (seen ++ before) more.0 d.place err.0 (c.loop-one.invariant.4 seen was) err.2),
-        ))
+    let err = c.in_err-place_one.ensures.double in
+    (err.0, err.1, double_next c.args.jobs.now c.loop-one.slots.items seen c.args.done.now c.loop-one.one-index _ err.0 c.loop-one-test.true (search rules) (c.loop-one.invariant.4 seen was) err.2))
