@@ -47,7 +47,9 @@ returns-in-None-clause-missing c =
     let at = c.loop-place in
     let slots = c.args.slots.now in
     let named = c.index-jobs-place.result in
-    let empty : slice_get slots at.place ≡ Some None = ? in (
+    let long = c.requires.long in
+    let within = c.loop-place-test.true in
+    let empty : slice_get slots at.place ≡ Some None = slice_get_read slots _ at.place None refl (omega arith) (sym c.in-None.is) in (
       named.number,
       search rules,
       record {

@@ -61,7 +61,7 @@ returns-clause-gathers g c =
     })
 
 pub returns-in_err-room-clause-gathers : goal.returns-in_err-room-clause-gathers
-returns-in_err-room-clause-gathers g c = lacks_only _ c.from_residual-in_err-room.ensures.1
+returns-in_err-room-clause-gathers g c = lacks_only _ c.from_residual.ensures.1
 
 pub returns-in_err-seats-clause-gathers : goal.returns-in_err-seats-clause-gathers
 returns-in_err-seats-clause-gathers g c = lacks_only _ c.from_residual-in_err-seats.ensures.1
@@ -69,8 +69,8 @@ returns-in_err-seats-clause-gathers g c = lacks_only _ c.from_residual-in_err-se
 pub returns-in_err-reserve-clause-gathers : goal.returns-in_err-reserve-clause-gathers
 returns-in_err-reserve-clause-gathers g c = lacks_only _ c.from_residual-in_err-reserve.ensures.1
 
-pub returns-in_err-bounded_with-clause-gathers : goal.returns-in_err-bounded_with-clause-gathers
-returns-in_err-bounded_with-clause-gathers g c = lacks_only _ c.from_residual-in_err-bounded_with.ensures.1
+pub returns-in_err-sender-clause-gathers : goal.returns-in_err-sender-clause-gathers
+returns-in_err-sender-clause-gathers g c = lacks_only _ c.from_residual-in_err-sender.ensures.1
 
 pub returns-in_err-worked-clause-gathers : goal.returns-in_err-worked-clause-gathers
 returns-in_err-worked-clause-gathers g c = lacks_only _ c.from_residual-in_err-worked.ensures.1
