@@ -1,6 +1,6 @@
 -- Outcomes at their places.
-use Rattle.std.proofs.Common.{◌≡◌, ◌≢◌, ℕ, zero, suc, ◌+◌, ◌<◌, true, false, List, [], ◌∷◌, ◌++◌, length, map, take, slice_set, subst, refl, ap, ◌∙◌, sym, arith}
-use Rattle.std.specs.Prelude.{All, IfSome, is_some, Contains, slice_get, slice_index_or, Option, Some, None}
+use Rattle.std.proofs.Common.{◌≡◌, ℕ, zero, suc, ◌+◌, ◌<◌, true, false, List, [], ◌∷◌, ◌++◌, length, map, take, slice_set, subst, refl, ap, ◌∙◌, sym, arith}
+use Rattle.std.specs.Prelude.{All, is_some, Contains, slice_get, slice_index_or, Option, Some, None}
 use Rattle.std.proofs.lemmas.Option.{same_Some}
 use Rattle.std.proofs.lemmas.List.Elements.{All-cons, All-head, All-nil, All-tail}
 use Rattle.std.specs.List.{AllZip}
@@ -11,12 +11,8 @@ use Rattle.agent_pool.specs.declared.work.Seat.{Seat}
 use Rattle.agent_pool.specs.declared.work.Worked.{Worked}
 use Rattle.agent_pool.specs.declared.workshop.NamedJob.{NamedJob}
 use Rattle.agent_pool.specs.declared.outcome.JobOutcome.{JobOutcome}
-use Rattle.agent_pool.specs.declared.fault.PoolFault.{PoolFault}
-use Rattle.agent_pool.specs.declared.fault.PoolFault.TheVariants.{Missing, Stranger}
-use Rattle.agent_pool.specs.declared.work.Halt.{Halt}
-use Rattle.agent_pool.specs.declared.work.Halt.TheVariants.{Lacked, Strange, Stuck}
 use Rattle.agent_pool.specs.code.Gathering.{AllRan}
-use Rattle.agent_pool.specs.Pools.{AreOutcomes, IsFaultOf, IsOf, IsOutcome, begun_by}
+use Rattle.agent_pool.specs.Pools.{AreOutcomes, IsOf, IsOutcome, begun_by}
 use Rattle.agent_pool.specs.code.Filled.{AreIdle, AreNone, IsFilled, IsPut, done_in, filled_in, players_of, sitting}
 use Rattle.agent_pool.specs.Seats.{AreDistinct, numbers_of}
 use Rattle.agent_pool.specs.code.Seated.{IsSeated}

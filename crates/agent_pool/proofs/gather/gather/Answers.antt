@@ -1,6 +1,5 @@
-use Rattle.std.proofs.Common.{◌≡◌, ◌∙◌, List, ap, sym, subst}
+use Rattle.std.proofs.Common.{◌≡◌, List, sym, subst}
 use Rattle.std.specs.Prelude.{None}
-use Rattle.std.specs.List.{AllZip}
 use Rattle.agent_pool.specs.declared.work.Worked.{Worked}
 use Rattle.agent_pool.specs.declared.outcome.JobOutcome.{JobOutcome}
 use Rattle.agent_pool.specs.Gathers.{HaveOne, NoneFailed, TellsOf, first_stuck, places}

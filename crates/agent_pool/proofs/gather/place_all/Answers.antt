@@ -1,4 +1,4 @@
-use Rattle.std.proofs.Common.{rules, ◌≡◌, ◌∙◌, ◌++◌, ◌∷◌, [], List, ℕ, ap, append_assoc, append-nil, refl, arith, ◌+◌, subst, sym, take}
+use Rattle.std.proofs.Common.{rules, ◌≡◌, ◌∙◌, ◌++◌, List, ℕ, append-nil, refl, arith, ◌+◌, subst, sym}
 use Rattle.std.proofs.lemmas.List.{drop_more, take_all}
 use Rattle.agent_pool.specs.declared.work.Done.{Done}
 use Rattle.agent_pool.specs.Gathers.{places_by}
