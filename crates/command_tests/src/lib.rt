@@ -1,9 +1,7 @@
-//! Tests of the commands: what no row of `crates/rows` can say, also of a run whose histories were falsified.
+//! Tests of the commands: what no row of `crates/rows` can say.
 //!
 //! They stand here and not in `suite_cli` or in `rows`, since a crate with tests is proved a second time for them.
 #![tactic(auto)]
 
 #[cfg(test)]
 mod commands;
-#[cfg(test)]
-mod falsified;
