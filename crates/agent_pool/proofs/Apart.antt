@@ -11,18 +11,18 @@ use Rattle.agent_pool.specs.Pools.{AreApart}
 use Rattle.agent_pool.specs.code.Filled.{AreApartIn, AreBelow, AreNone, AreOfThese, IsPut}
 use Rattle.agent_pool.specs.Seats.{AreDistinct}
 
-same_or : (j i : ℕ) → (j ≡ i) ⊎ (j ≢ i)
+pub same_or : (j i : ℕ) → (j ≡ i) ⊎ (j ≢ i)
 same_or zero zero = inl refl
 same_or zero (suc i) = inr (λ e. omega arith)
 same_or (suc j) zero = inr (λ e. omega arith)
 same_or (suc j) (suc i) = ⊎_elim (λ e. inl (ap suc e)) (λ n. inr (λ e. n (omega arith))) (same_or j i)
 
-set_here : {A : Type 0} (xs : List A) (i : ℕ) (old new x : A) → slice_get xs i ≡ Some old → slice_get (slice_set xs i new) i ≡ Some x → x ≡ new
+pub set_here : {A : Type 0} (xs : List A) (i : ℕ) (old new x : A) → slice_get xs i ≡ Some old → slice_get (slice_set xs i new) i ≡ Some x → x ≡ new
 set_here [] i old new x was is = cc
 set_here (y ∷ xs) zero old new x was is = sym (same_Some new x is)
 set_here (y ∷ xs) (suc i) old new x was is = set_here xs i old new x was is
 
-set_apart : {A : Type 0} (xs : List A) (i j : ℕ) (new : A) → j ≢ i → slice_get (slice_set xs i new) j ≡ slice_get xs j
+pub set_apart : {A : Type 0} (xs : List A) (i j : ℕ) (new : A) → j ≢ i → slice_get (slice_set xs i new) j ≡ slice_get xs j
 set_apart [] i j new apart = refl
 set_apart (x ∷ xs) zero zero new apart = absurd (apart refl)
 set_apart (x ∷ xs) zero (suc j) new apart = refl
@@ -30,7 +30,7 @@ set_apart (x ∷ xs) (suc i) zero new apart = refl
 set_apart (x ∷ xs) (suc i) (suc j) new apart = set_apart xs i j new (λ same. apart (ap suc same))
 
 -- what stands in the new places: it stood there, or is the one that was put
-put_cases : (old new : List (Option JobOutcome)) (place : ℕ) (outcome : JobOutcome) → IsPut old place outcome new → (i : ℕ) (a : JobOutcome) → slice_get new i ≡ Some (Some a)
+pub put_cases : (old new : List (Option JobOutcome)) (place : ℕ) (outcome : JobOutcome) → IsPut old place outcome new → (i : ℕ) (a : JobOutcome) → slice_get new i ≡ Some (Some a)
     → ((i ≡ place) × (a ≡ outcome)) ⊎ ((i ≢ place) × (slice_get old i ≡ Some (Some a)))
 put_cases old new place outcome put i a at =
     let there : slice_get (slice_set old place (Some outcome)) i ≡ Some (Some a) = subst (λ xs. slice_get xs i ≡ Some (Some a)) put.is at in

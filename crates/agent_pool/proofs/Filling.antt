@@ -1,6 +1,6 @@
 -- Outcomes at their places.
-use Rattle.std.proofs.Common.{◌≡◌, ◌≢◌, ℕ, zero, suc, ◌+◌, ◌<◌, true, false, List, [], ◌∷◌, ◌++◌, length, map, take, slice_set, subst, refl, ap, ◌∙◌, sym, arith}
-use Rattle.std.specs.Prelude.{All, IfSome, is_some, Contains, slice_get, slice_index_or, Option, Some, None}
+use Rattle.std.proofs.Common.{◌≡◌, ℕ, zero, suc, ◌+◌, ◌<◌, true, false, List, [], ◌∷◌, ◌++◌, length, map, take, slice_set, subst, refl, ap, ◌∙◌, sym, arith}
+use Rattle.std.specs.Prelude.{All, is_some, Contains, slice_get, slice_index_or, Option, Some, None}
 use Rattle.std.proofs.lemmas.Option.{same_Some}
 use Rattle.std.proofs.lemmas.List.Elements.{All-cons, All-head, All-nil, All-tail}
 use Rattle.std.specs.List.{AllZip}
@@ -11,12 +11,8 @@ use Rattle.agent_pool.specs.declared.work.Seat.{Seat}
 use Rattle.agent_pool.specs.declared.work.Worked.{Worked}
 use Rattle.agent_pool.specs.declared.workshop.NamedJob.{NamedJob}
 use Rattle.agent_pool.specs.declared.outcome.JobOutcome.{JobOutcome}
-use Rattle.agent_pool.specs.declared.fault.PoolFault.{PoolFault}
-use Rattle.agent_pool.specs.declared.fault.PoolFault.TheVariants.{Missing, Stranger}
-use Rattle.agent_pool.specs.declared.work.Halt.{Halt}
-use Rattle.agent_pool.specs.declared.work.Halt.TheVariants.{Lacked, Strange, Stuck}
-use Rattle.agent_pool.specs.code.Gathering.{AllRan, NoneLacked}
-use Rattle.agent_pool.specs.Pools.{AreOutcomes, IsFaultOf, IsOf, IsOutcome, begun_by}
+use Rattle.agent_pool.specs.code.Gathering.{AllRan}
+use Rattle.agent_pool.specs.Pools.{AreOutcomes, IsOf, IsOutcome, begun_by}
 use Rattle.agent_pool.specs.code.Filled.{AreIdle, AreNone, IsFilled, IsPut, done_in, filled_in, players_of, sitting}
 use Rattle.agent_pool.specs.Seats.{AreDistinct, numbers_of}
 use Rattle.agent_pool.specs.code.Seated.{IsSeated}
@@ -188,54 +184,13 @@ take_suc_numbers (x ∷ worked) (suc i) w low is = ap (λ ns. number_of x.player
 pub take_numbers : (worked : List Worked) (i : ℕ) (w : Worked) → i < length worked → slice_index_or worked i w ≡ w → take (i + 1) (numbers_of (players_of worked)) ≡ take i (numbers_of (players_of worked)) ++ number_of w.player ∷ []
 take_numbers worked i w low is = let e : i + 1 ≡ suc i = omega arith in ap (λ n. take n (numbers_of (players_of worked))) e ∙ take_suc_numbers worked i w low is
 
--- ---- what those who halted tell
-
-all_suc : (P : Worked → Type 0) (worked : List Worked) (i : ℕ) (w : Worked) → i < length worked → slice_index_or worked i w ≡ w → All P (take i worked) → P w → All P (take (suc i) worked)
-all_suc P [] i w low is all one = absurd (omega arith)
-all_suc P (x ∷ worked) zero w low is all one = All-cons P x [] (subst P (sym is) one) (All-nil P)
-all_suc P (x ∷ worked) (suc i) w low is all one =
-    All-cons P x (take (suc i) worked) (All-head P x (take i worked) all) (all_suc P worked i w (omega arith) is (All-tail P x (take i worked) all) one)
-
-all_more : (P : Worked → Type 0) (worked : List Worked) (i : ℕ) (w : Worked) → i < length worked → slice_index_or worked i w ≡ w → All P (take i worked) → P w → All P (take (i + 1) worked)
-all_more P worked i w low is all one = let e : suc i ≡ i + 1 = omega arith in subst (λ n. All P (take n worked)) e (all_suc P worked i w low is all one)
-
--- what is met where somebody halted
-abbrev Meets : List NamedJob → List Worked → ℕ → Option PoolFault → Type 0
-Meets jobs worked n met = (met ≡ None → AllRan (take n worked)) × IfSome met (IsFaultOf jobs) × NoneLacked (take n worked)
-
--- what is met of somebody who lacked nothing
-met_some : (jobs : List NamedJob) (seats : List Seat) (worked : List Worked) (i : ℕ) (w : Worked) (why : Halt) (fault : PoolFault) (met : Option PoolFault) → AllZip (IsWorkOf jobs) seats worked → i < length worked → slice_index_or worked i w ≡ w
-    → w.halt ≡ Some why → (IsHalted jobs w.player (Some why) → IsFaultOf jobs fault) → why ≢ Lacked → met ≡ Some fault → NoneLacked (take i worked) → Meets jobs worked (i + 1) met
-met_some jobs seats worked i w why fault met works low is halt tells other same none = (
-  (λ no. let bad : Some fault ≡ None = sym same ∙ no in cc),
-  subst (λ m. IfSome m (IsFaultOf jobs)) (sym same) (tells (subst (λ h. IsHalted jobs w.player h) halt (worked_at jobs seats worked i w works low is).work.halted)),
-  all_more (λ (one : Worked). one.halt ≢ Some Lacked) worked i w low is none (λ e. other (same_Some why Lacked (sym halt ∙ e))),
-)
-
-pub met_stuck : (jobs : List NamedJob) (seats : List Seat) (worked : List Worked) (i : ℕ) (w : Worked) (why : Halt) (job : ℕ) (met : Option PoolFault) → AllZip (IsWorkOf jobs) seats worked → i < length worked → slice_index_or worked i w ≡ w
-    → w.halt ≡ Some why → why ≡ Stuck job → met ≡ Some (Missing job) → NoneLacked (take i worked) → Meets jobs worked (i + 1) met
-met_stuck jobs seats worked i w why job met works low is halt stuck same none =
-    met_some jobs seats worked i w why (Missing job) met works low is halt (λ halted. subst (λ (h : Halt). IsHalted jobs w.player (Some h)) stuck halted) (λ e. let bad : Stuck job ≡ Lacked = sym stuck ∙ e in cc) same none
-
-pub met_strange : (jobs : List NamedJob) (seats : List Seat) (worked : List Worked) (i : ℕ) (w : Worked) (why : Halt) (place : ℕ) (met : Option PoolFault) → AllZip (IsWorkOf jobs) seats worked → i < length worked → slice_index_or worked i w ≡ w
-    → w.halt ≡ Some why → why ≡ Strange place → met ≡ Some (Stranger place) → NoneLacked (take i worked) → Meets jobs worked (i + 1) met
-met_strange jobs seats worked i w why place met works low is halt strange same none =
-    met_some jobs seats worked i w why (Stranger place) met works low is halt (λ halted. subst (λ (h : Halt). IsHalted jobs w.player (Some h)) strange halted) (λ e. let bad : Strange place ≡ Lacked = sym strange ∙ e in cc) same none
-
-pub met_none : (jobs : List NamedJob) (worked : List Worked) (i : ℕ) (w : Worked) (before met : Option PoolFault) → i < length worked → slice_index_or worked i w ≡ w → w.halt ≡ None → met ≡ before → Meets jobs worked i before → Meets jobs worked (i + 1) met
-met_none jobs worked i w before met low is halt same was = (
-  (λ no. all_more (λ (one : Worked). one.halt ≡ None) worked i w low is (was.0 (sym same ∙ no)) halt),
-  subst (λ m. IfSome m (IsFaultOf jobs)) (sym same) was.1,
-  all_more (λ (one : Worked). one.halt ≢ Some Lacked) worked i w low is was.2 (λ e. let bad : None ≡ Some Lacked = sym halt ∙ e in cc),
-)
-
 -- ---- a place that is looked at
 
-pub some_there : (slots : List (Option JobOutcome)) (i : ℕ) (slot : Option JobOutcome) → i < length slots → slice_index_or slots i slot ≡ slot → is_some slot ≡ true → slice_get slots i ≡ Some None → ⊥
-some_there [] i slot low is some none = cc
-some_there (x ∷ slots) zero None low is some none = cc
-some_there (x ∷ slots) zero (Some o) low is some none = let bad : Some o ≡ None = sym is ∙ same_Some x None none in cc
-some_there (x ∷ slots) (suc i) slot low is some none = some_there slots i slot (omega arith) is some none
+pub some_at : (slots : List (Option JobOutcome)) (i : ℕ) (slot : Option JobOutcome) → i < length slots → slice_index_or slots i slot ≡ slot → is_some slot ≡ true → (o : JobOutcome) × (slice_get slots i ≡ Some (Some o))
+some_at [] i slot low is some = absurd (omega arith)
+some_at (x ∷ slots) zero None low is some = absurd (cc)
+some_at (x ∷ slots) zero (Some o) low is some = (o, ap (λ (s : Option JobOutcome). Some s) is)
+some_at (x ∷ slots) (suc i) slot low is some = some_at slots i slot (omega arith) is some
 
 pub none_there : (slots : List (Option JobOutcome)) (i : ℕ) (slot : Option JobOutcome) → i < length slots → slice_index_or slots i slot ≡ slot → is_some slot ≡ false → slice_get slots i ≡ Some None
 none_there [] i slot low is none = absurd (omega arith)

@@ -8,6 +8,7 @@ pub mod Works
 pub mod Seating
 pub mod Returning
 pub mod Filling
+pub mod Seen
 pub mod Pooling
 pub mod Firsts
 pub mod Readiness

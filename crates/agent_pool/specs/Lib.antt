@@ -2,5 +2,6 @@ pub mod Line
 pub mod Transcripts
 pub mod Seats
 pub mod Pools
+pub mod Gathers
 pub mod Endings
 pub mod code

@@ -3,19 +3,20 @@
 use std::alloc::AllocError;
 use thiserror::Error;
 
-/// Why there is no pool. Jobs are named by their numbers, and a place at which there is none by itself.
+/// Why there is no pool. Jobs are named by their numbers, and a place at which there is none by itself. Where several hold,
+/// the answer is Memory before all others, then Stranger, Double, and Missing.
 #[derive(Clone, Copy, Debug, PartialEq, Eq, Error)]
 pub enum PoolFault {
     /// A growth was refused to an agent or before the first began, or no thread could be started.
     #[error("memory ran out")]
     Memory,
-    /// There are two outcomes of this job.
-    #[error("there are two outcomes of job {0}")]
+    /// There is a second outcome of this job; or there is one of each job, and an agent got stuck at this one.
+    #[error("job {0} was taken twice")]
     Double(u64),
     /// An agent took what names this place, at which no job was handed in.
     #[error("an agent was to carry out the job at place {0}, where none was handed in")]
     Stranger(u64),
-    /// There is no outcome of this job.
+    /// There is no outcome of this job, the first of which there is none.
     #[error("there is no outcome of job {0}")]
     Missing(u64),
 }

@@ -1,10 +1,11 @@
 //! What agents did, put together.
 
-ghost use Rattle.std.specs.Prelude.{◌≡◌, ◌≢◌, ℕ, ◌+◌, ◌≤◌, ◌++◌, List, [], Err, None, Some, length, slice_get, IfErr, IfOk, OnOk};
+ghost use Rattle.std.specs.Prelude.{◌≡◌, ◌≢◌, ℕ, ◌+◌, ◌<◌, ◌≤◌, ◌++◌, List, [], None, Some, length, slice_get, IfErr, IfOk, OnOk};
 ghost use Rattle.std.specs.Vec.{vec_len, vec_capacity};
 ghost use Rattle.std.specs.List.{AllZip};
-ghost use Rattle.agent_pool.specs.declared.fault.PoolFault.TheVariants.{Double, Memory};
-ghost use Rattle.agent_pool.specs.code.Gathering.{AllRan, HasRoom, IsGathered, NoneLacked};
+ghost use Rattle.agent_pool.specs.declared.fault.PoolFault.TheVariants.{Double, Missing};
+ghost use Rattle.agent_pool.specs.Gathers.{Gathers, IsDouble, first_strange, first_stuck, lacks_memory, places, places_by};
+ghost use Rattle.agent_pool.specs.code.Gathering.{AreGathered, AreSeen, AreWithin, HasRoom, IsEmpty, IsGathered, IsTaken, IsWithin};
 ghost use Rattle.agent_pool.specs.Pools.{AreApart, AreOutcomes, IsFaultOf, IsOf};
 ghost use Rattle.agent_pool.specs.code.Filled.{AreApartIn, AreNone, AreWorks, IsFilled, IsPut, KeepFilled, StayApart};
 ghost use Rattle.agent_pool.specs.code.Filled.{done_in, filled_in, passes_of, players_of, sitting};
@@ -58,7 +59,9 @@ fn no_outcomes(alloc: Global, count: usize) -> Result<Vec<Option<JobOutcome>>, A
     Ok(slots)
 }
 
-/// One outcome for each job, the agents, and the passes: those that are left, and then those of the agents.
+/// One outcome for each job, the agents, and the passes: those that are left, and then those of the agents. Where there
+/// is none, the first that holds of: memory was refused to an agent; one took a place at which no job was handed in; there
+/// is a second outcome of a job; there is none of a job; an agent got stuck at a job of which there is one.
 pub(crate) fn gather(
     jobs: &[NamedJob],
     worked: Vec<Worked>,
@@ -69,42 +72,91 @@ pub(crate) fn gather(
     requires distinct { AreDistinct (numbers_of (players_of worked.items)) }
     requires room { HasRoom (length jobs.now) (vec_len worked) room }
     requires passes { vec_len passes + vec_len worked ≤ vec_capacity passes }
+    ensures gathers { Gathers jobs.now worked.items result }
     ensures pool { IfOk result (IsGathered jobs.now worked.items passes.items) }
     ensures fault { IfErr result (IsFaultOf jobs.now) }
 {
     let Room {
-        mut slots,
+        slots,
         outcomes,
         agents,
     } = room;
-    none_halted(jobs, &worked)?;
-    fill(jobs, &worked, &mut slots)?;
-    let outcomes = outcomes_of(jobs, &slots, outcomes)?;
-    Ok(pool_of(worked, passes, agents, outcomes))
+    match outcomes_in(jobs, worked.as_slice(), slots, outcomes) {
+        Ok(outcomes) => Ok(pool_of(worked, passes, agents, outcomes)),
+        Err(fault) => Err(fault),
+    }
 }
 
-/// Whether all agents ran whatever they took. That memory was refused to one is told before what another could not
-/// do.
-fn none_halted(jobs: &[NamedJob], worked: &[Worked]) -> Result<(), PoolFault>
-    requires { AreWorks jobs.now worked.now }
-    ensures ran { OnOk result (AllRan worked.now) }
-    ensures fault { IfErr result (IsFaultOf jobs.now) }
-    ensures memory { (fault : PoolFault) → result ≡ Err fault → fault ≢ Memory → NoneLacked worked.now }
+/// The outcomes of all jobs, put into this room, or the first fault.
+fn outcomes_in(
+    jobs: &[NamedJob],
+    worked: &[Worked],
+    mut slots: Vec<Option<JobOutcome>>,
+    room: Vec<JobOutcome>,
+) -> Result<Vec<JobOutcome>, PoolFault>
+    requires worked { AreWorks jobs.now worked.now }
+    requires distinct { AreDistinct (numbers_of (players_of worked.now)) }
+    requires none { AreNone slots.items }
+    requires long { length slots.items ≡ length jobs.now }
+    requires empty { room.items ≡ [] }
+    requires room { length jobs.now ≤ vec_capacity room }
+    ensures gathers { Gathers jobs.now worked.now result }
+    ensures outcomes { IfOk result (λ outcomes. AreGathered jobs.now worked.now outcomes.items) }
 {
-    let _jobs = jobs.len();
-    let mut met = None;
-    for one in worked {
-        match one.halt {
-            Some(Halt::Lacked) => return Err(PoolFault::Memory),
-            Some(Halt::Stuck(job)) => met = Some(PoolFault::Missing(job)),
-            Some(Halt::Strange(place)) => met = Some(PoolFault::Stranger(place as u64)),
-            None => {}
+    if lacks_memory(worked) {
+        return Err(PoolFault::Memory);
+    }
+    if let Some(place) = first_strange(worked) {
+        return Err(PoolFault::Stranger(place as u64));
+    }
+    fill(jobs, worked, &mut slots)?;
+    let outcomes = outcomes_of(jobs, slots.as_slice(), room)?;
+    match first_stuck(worked) {
+        Some(job) => Err(PoolFault::Double(job)),
+        None => Ok(outcomes),
+    }
+}
+
+/// Whether memory was refused to one of them.
+fn lacks_memory(worked: &[Worked]) -> bool
+    ensures { result ≡ lacks_memory worked.now }
+{
+    let mut rest = worked;
+    while let Some((one, later)) = rest.split_first() {
+        if let Some(Halt::Lacked) = one.halt {
+            return true;
         }
+        rest = later;
     }
-    match met {
-        Some(fault) => Err(fault),
-        None => Ok(()),
+    false
+}
+
+/// The place, beyond the jobs, that the first of them took that took such a one.
+fn first_strange(worked: &[Worked]) -> Option<usize>
+    ensures { result ≡ first_strange worked.now }
+{
+    let mut rest = worked;
+    while let Some((one, later)) = rest.split_first() {
+        if let Some(Halt::Strange(place)) = one.halt {
+            return Some(place);
+        }
+        rest = later;
     }
+    None
+}
+
+/// The job at which the first of them got stuck that did so.
+fn first_stuck(worked: &[Worked]) -> Option<u64>
+    ensures { result ≡ first_stuck worked.now }
+{
+    let mut rest = worked;
+    while let Some((one, later)) = rest.split_first() {
+        if let Some(Halt::Stuck(job)) = one.halt {
+            return Some(job);
+        }
+        rest = later;
+    }
+    None
 }
 
 /// The outcomes of all jobs, at their places.
@@ -122,7 +174,8 @@ fn fill(
     ensures apart { OnOk result (AreApartIn slots.new.items) }
     ensures many { OnOk result (filled_in slots.new.items ≡ done_in worked.now) }
     ensures long { length slots.new.items ≡ length slots.old.items }
-    ensures fault { IfErr result (IsFaultOf jobs.now) }
+    ensures seen { OnOk result (AreSeen (places worked.now) slots.new.items) }
+    ensures double { IfErr result (λ fault. (job : ℕ) × (fault ≡ Double job) × IsDouble jobs.now (places worked.now) job) }
 {
     for one in worked {
         place_all(jobs, slots, one.player.number(), &one.done)?;
@@ -137,13 +190,16 @@ fn place_all(
     agent: u8,
     done: &[Done],
 ) -> Result<(), PoolFault>
-    requires { length slots.old.items ≡ length jobs.now }
+    requires long { length slots.old.items ≡ length jobs.now }
+    requires within { AreWithin (length jobs.now) done.now }
     ensures filled { OnOk result ((was players : List Played) (before player : Played) → IsOf was players agent before player
         → AllDone jobs.now (begins before.entries) player done.now → KeepFilled jobs.now was players slots.old.items slots.new.items) }
     ensures apart { OnOk result (StayApart agent done.now slots.old.items slots.new.items) }
     ensures many { OnOk result (filled_in slots.new.items ≡ filled_in slots.old.items + length done.now) }
     ensures long { length slots.new.items ≡ length slots.old.items }
-    ensures fault { IfErr result (IsFaultOf jobs.now) }
+    ensures seen { OnOk result ((seen : List ℕ) → AreSeen seen slots.old.items → AreSeen (seen ++ places_by done.now) slots.new.items) }
+    ensures double { IfErr result (λ fault. (seen : List ℕ) → AreSeen seen slots.old.items
+        → (job : ℕ) × (fault ≡ Double job) × IsDouble jobs.now (seen ++ places_by done.now) job) }
 {
     for one in done {
         place_one(jobs, slots, agent, *one)?;
@@ -158,20 +214,19 @@ fn place_one(
     agent: u8,
     done: Done,
 ) -> Result<(), PoolFault>
-    requires { length slots.old.items ≡ length jobs.now }
+    requires long { length slots.old.items ≡ length jobs.now }
+    requires within { IsWithin (length jobs.now) done }
     ensures filled { OnOk result ((was players : List Played) (before player : Played) → IsOf was players agent before player
         → IsDone jobs.now (begins before.entries) player done → KeepFilled jobs.now was players slots.old.items slots.new.items) }
     ensures put { OnOk result ((job : ℕ) × IsPut slots.old.items done.place
         (record { job = job; agent = agent; count = done.ran.count; at = done.ran.at }) slots.new.items) }
     ensures long { length slots.new.items ≡ length slots.old.items }
-    ensures fault { IfErr result (IsFaultOf jobs.now) }
-    ensures double { (job : ℕ) → result ≡ Err (Double job) → slice_get slots.old.items done.place ≢ Some None }
+    ensures double { IfErr result (λ fault. (job : ℕ) × (fault ≡ Double job) × IsTaken jobs.now slots.old.items done job) }
 {
     let place = done.place;
-    let Some(named) = jobs.get(place) else {
-        return Err(PoolFault::Stranger(place as u64));
-    };
-    if slots[place].is_some() {
+    let named = &jobs[place];
+    let is_taken = slots[place].is_some();
+    if is_taken {
         return Err(PoolFault::Double(named.number));
     }
     slots[place] = Some(JobOutcome {
@@ -196,8 +251,8 @@ fn outcomes_of(
         → AreOutcomes was players jobs.now outcomes.items) }
     ensures apart { IfOk result (λ outcomes. AreApartIn slots.now → AreApart outcomes.items) }
     ensures all { IfOk result (λ outcomes. filled_in slots.now ≡ length jobs.now) }
-    ensures fault { IfErr result (IsFaultOf jobs.now) }
-    ensures missing { (fault : PoolFault) → result ≡ Err fault → (place : ℕ) × (slice_get slots.now place ≡ Some None) }
+    ensures full { IfOk result (λ outcomes. (k : ℕ) → slice_get slots.now k ≢ Some None) }
+    ensures missing { IfErr result (λ fault. (job : ℕ) × (fault ≡ Missing job) × IsEmpty jobs.now slots.now job) }
 {
     for place in 0..jobs.len() {
         match slots[place] {

@@ -9,6 +9,11 @@
 //! count, and that outcome after it, as the agent function ends the job at the last that the agent was told (`IsPoolOf`
 //! in `specs/Pools.antt`). The agents began just as many jobs as were handed in, all after what they had begun before.
 //!
+//! Where there is no pool, the fault is what gathering answers of what the agents handed back (`GathersOrLacks` and
+//! `Gathers` in `specs/Gathers.antt`): Memory, where it was refused to one of them; else Stranger, where one took a place
+//! beyond the jobs; else Double, where there is a second outcome of a job; else Missing, where there is none of one. Memory
+//! is told too where it was refused before the first agent began, and where no thread could be started.
+//!
 //! What a caller owes (`AreReady` in `specs/Seats.antt`): the agents are idle, no two have one number, and each has its
 //! pass among those that are handed in. [`are_ready`] tells whether it is so. It is so of the agents of
 //! [`first_players`] with the passes of a start, and of what comes back (`proofs/Readiness.antt`).

@@ -9,7 +9,7 @@ use crossbeam_channel::{Pass, RecvError, RuledReceiver, RuledSender, SendError};
 use std::sync::Wait;
 
 /// What is put: an end mark, or a job, named by its place among those that were handed in.
-#[derive(Clone, Copy, Debug, PartialEq, Eq)]
+#[derive(Clone, Copy)]
 pub enum Item {
     End,
     Job(usize),

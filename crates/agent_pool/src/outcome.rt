@@ -11,7 +11,7 @@ use run_core::Outcome;
 
 /// How a job ended: its number, the agent that carried it out and the count of the agent's jobs before it, and the
 /// place of its end in the agent's transcript.
-#[derive(Clone, Copy, Debug, PartialEq, Eq)]
+#[derive(Clone, Copy)]
 pub struct JobOutcome {
     pub job: u64,
     pub agent: u8,

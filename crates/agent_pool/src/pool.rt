@@ -6,6 +6,7 @@ ghost use Rattle.std.specs.List.{AllZip};
 ghost use Rattle.crossbeam_channel.specs.Claims.{view, IsSeatAt};
 ghost use Rattle.crossbeam_channel.specs.Ends.{sends_on, receives_on};
 ghost use Rattle.agent_pool.specs.Line.{feeder};
+ghost use Rattle.agent_pool.specs.Gathers.{GathersOrLacks};
 ghost use Rattle.agent_pool.specs.Pools.{IsFaultOf, IsPoolOf};
 ghost use Rattle.agent_pool.specs.code.Filled.{AreIdle};
 ghost use Rattle.agent_pool.specs.Seats.{AreReady};
@@ -57,6 +58,7 @@ pub fn run_pool<R: Threads + Wait + Sync, G: Gate + Sync>(
     requires ready { AreReady passes.items agents.items }
     ensures pool { IfOk result (λ pool. IsPoolOf jobs.now agents.items passes.items pool) }
     ensures fault { IfErr result (IsFaultOf jobs.now) }
+    ensures gathers { GathersOrLacks jobs.now agents.items passes.items result }
 {
     let mut passes = passes;
     let room = Room::new(alloc, jobs.len(), agents.len())?;

@@ -1,13 +1,17 @@
-use Rattle.std.proofs.Common.{◌≡◌, List, ◌∙◌, refl, sym, subst, ap, rules, arith, length, take, ◌++◌, ◌∷◌, []}
+use Rattle.std.proofs.Common.{◌≡◌, ℕ, List, ◌∙◌, refl, sym, subst, ap, rules, arith, length, take, ◌++◌, ◌∷◌, []}
 use Rattle.std.proofs.lemmas.List.{take_all}
 use Rattle.std.specs.Prelude.{Contains, Some, slice_get, slice_index_or}
 use Rattle.agent_pool.specs.code.Filled.{AreOfThese, done_in, players_of, sitting}
 use Rattle.agent_pool.specs.declared.work.Done.{Done}
+use Rattle.agent_pool.specs.declared.work.Worked.{Worked}
+use Rattle.agent_pool.specs.code.Gathering.{AreSeen, AreWithin}
+use Rattle.agent_pool.specs.Gathers.{IsDouble, places, places_by}
 use Rattle.agent_pool.specs.Seats.{numbers_of}
 use Rattle.agent_pool.specs.code.Working.{AllDone, RiseBetween}
 use Rattle.agent_pool.specs.Transcripts.{begins, number_of}
 use Rattle.agent_pool.proofs.Apart.{below_none, is_fresh, none_at, of_more}
 use Rattle.agent_pool.proofs.Filling.{is_of, more_many, none_filled, none_many, number_at, take_numbers, worked_at}
+use Rattle.agent_pool.proofs.Seen.{done_within, double_further, passed_on, seen_none, worked_next, worked_split}
 use Rattle.agent_pool.proofs.gather.fill.Goals as goal
 
 pub loop-one-init : goal.loop-one-init
@@ -17,6 +21,7 @@ loop-one-init c = (
   (λ i a at. absurd (none_at c.args.slots.now.items c.requires.none i a at)),
   none_many c.args.slots.now.items c.requires.none,
   refl,
+  seen_none c.args.slots.now.items c.requires.none,
 )
 
 pub loop-one-preserved : goal.loop-one-preserved
@@ -44,9 +49,35 @@ loop-one-preserved c =
       subst (λ l. AreOfThese l c.place_all.new.slots.items) (sym (take_numbers c.args.worked.now index w c.loop-one-test.true (search rules) ∙ ap (λ m. take index ns ++ m ∷ []) (sym num))) (of_more (take index ns) n apart.1.0 c.place_all.new.slots.items apart.1.1),
       (let all = c.in_ok-place_all.ensures.many in let done = ap length c.deref.ensures.value in let were = was.3 in let more = more_many worked index w low here_is in omega arith),
       c.in_ok-place_all.ensures.long ∙ was.4,
+      (let before = places (take index worked) in
+          subst (λ (ps : List ℕ). AreSeen ps c.place_all.new.slots.items) (ap (λ (ds : List Done). before ++ places_by ds) c.deref.ensures.value ∙ sym (worked_next worked index w low here_is)) (c.in_ok-place_all.ensures.seen before was.5)),
     )
+
+pub place_all-requires-clause-within : goal.place_all-requires-clause-within
+place_all-requires-clause-within c =
+    let w = c.one-item.result in
+    let jobs = c.args.jobs.now in
+    let at = worked_at jobs c.requires.worked.0 c.args.worked.now c.loop-one.one-index w c.requires.worked.1 c.loop-one-test.true (search rules) in
+    subst (λ (ds : List Done). AreWithin (length jobs) ds) (sym c.deref.ensures.value) (done_within jobs (begins at.seat.player.entries) w.player w.done.items at.work.done)
+
+pub returns-clause-seen : goal.returns-clause-seen
+returns-clause-seen c =
+    let past = c.loop-one-test.false in
+    subst (λ (ws : List Worked). AreSeen (places ws) c.loop-one.slots.items) (take_all c.loop-one.one-index c.args.worked.now (omega arith)) c.loop-one.invariant.5
 
 pub returns-clause-many : goal.returns-clause-many
 returns-clause-many c =
     let past = c.loop-one-test.false in
     c.loop-one.invariant.3 ∙ ap done_in (take_all c.loop-one.one-index c.args.worked.now (omega arith))
+
+pub returns-in_err-place_all-clause-double : goal.returns-in_err-place_all-clause-double
+returns-in_err-place_all-clause-double c =
+    let w = c.one-item.result in
+    let worked = c.args.worked.now in
+    let index = c.loop-one.one-index in
+    let jobs = c.args.jobs.now in
+    let before = places (take index worked) in
+    let more = worked_split worked index w c.loop-one-test.true (search rules) in
+    let err = c.in_err-place_all.ensures.double before c.loop-one.invariant.5 in
+    passed_on _ _ _ c.from_residual.ensures.1
+    (err.0, err.1, subst (λ (ps : List ℕ). IsDouble jobs ps err.0) (ap (λ (ds : List Done). (before ++ places_by ds) ++ more.0) c.deref.ensures.value ∙ sym more.1) (double_further jobs _ more.0 err.0 err.2))

@@ -1,6 +1,8 @@
 use Rattle.std.proofs.Common.{◌≡◌, List, length, take}
 use Rattle.std.specs.List.{AllZip}
 use Rattle.agent_pool.specs.code.Filled.{AreApartIn, AreOfThese, IsFilled, done_in, filled_in, players_of, sitting}
+use Rattle.agent_pool.specs.code.Gathering.{AreSeen}
+use Rattle.agent_pool.specs.Gathers.{places}
 use Rattle.agent_pool.specs.Seats.{numbers_of}
 use Rattle.agent_pool.specs.code.Starts.{IsWorkOf}
 use Rattle.agent_pool.specs.declared.work.Seat.{Seat}
@@ -13,3 +15,4 @@ invariant-loop-one l =
     × AreOfThese (take l.one-index (numbers_of (players_of l.worked))) l.slots.items
     × (filled_in l.slots.items ≡ done_in (take l.one-index l.worked))
     × (length l.slots.items ≡ length l.fn.slots.items)
+    × AreSeen (places (take l.one-index l.worked)) l.slots.items

@@ -1,28 +1,37 @@
-use Rattle.std.proofs.Common.{◌∙◌, List, ap, sym, subst}
-use Rattle.std.specs.Prelude.{Option}
-use Rattle.std.specs.List.{AllZip}
-use Rattle.agent_pool.specs.declared.outcome.JobOutcome.{JobOutcome}
+use Rattle.std.proofs.Common.{◌≡◌, List, sym, subst}
+use Rattle.std.specs.Prelude.{None}
 use Rattle.agent_pool.specs.declared.work.Worked.{Worked}
-use Rattle.agent_pool.specs.code.Gathering.{AllRan}
+use Rattle.agent_pool.specs.declared.outcome.JobOutcome.{JobOutcome}
+use Rattle.agent_pool.specs.Gathers.{HaveOne, NoneFailed, TellsOf, first_stuck, places}
 use Rattle.agent_pool.specs.Pools.{AreApart, AreOutcomes}
-use Rattle.agent_pool.specs.code.Filled.{AreApartIn, IsFilled, done_in, filled_in, players_of, sitting}
-use Rattle.agent_pool.specs.code.Starts.{IsWorkOf}
+use Rattle.agent_pool.specs.code.Filled.{players_of, sitting}
+use Rattle.agent_pool.specs.code.Gathering.{AreGathered}
+use Rattle.agent_pool.proofs.Seen.{all_ran, tells_fault}
 use Rattle.agent_pool.proofs.gather.gather.Goals as goal
 
-pub returns-clause-pool : goal.returns-clause-pool
-returns-clause-pool c =
-    let slots = c.deref-3.ensures.value in
-    let apart = subst (λ (slots : List (Option JobOutcome)). AreApartIn slots) (sym slots) c.in_ok-fill.ensures.apart in
+pub returns-in-Ok-clause-gathers : goal.returns-in-Ok-clause-gathers
+returns-in-Ok-clause-gathers c =
+    subst (λ (ws : List Worked). NoneFailed ws × HaveOne c.args.jobs.now (places ws) × (first_stuck ws ≡ None)) c.as_slice.ensures.value c.in-Ok.ensures.gathers
+
+pub returns-in-Ok-clause-pool : goal.returns-in-Ok-clause-pool
+returns-in-Ok-clause-pool c =
+    let worked = c.args.worked.items in
+    let jobs = c.args.jobs.now in
+    let told = subst (λ (ws : List Worked). NoneFailed ws × HaveOne jobs (places ws) × (first_stuck ws ≡ None)) c.as_slice.ensures.value c.in-Ok.ensures.gathers in
+    let had = subst (λ (ws : List Worked). AreGathered jobs ws c.in-Ok.outcomes.items) c.as_slice.ensures.value c.in-Ok.ensures.outcomes in
+    let same = c.pool_of.ensures.outcomes in
     record {
       agents = c.pool_of.ensures.agents;
       passes = c.pool_of.ensures.passes;
-      ran = subst (λ (ws : List Worked). AllRan ws) c.deref.ensures.value c.in_ok-none_halted.ensures.ran;
-      each = λ seats works.
-          let given = subst (λ (ws : List Worked). AllZip (IsWorkOf c.args.jobs.now) seats ws) (sym c.deref-2.ensures.value) works in
-          let filled = subst (λ (all : List (Option JobOutcome)). AllZip (IsFilled (sitting seats) (players_of c.args.worked.items)) c.args.jobs.now all) (sym slots)
-          (subst (λ (ws : List Worked). AllZip (IsFilled (sitting seats) (players_of ws)) c.args.jobs.now c.fill.new.slots.items) c.deref-2.ensures.value (c.in_ok-fill.ensures.filled seats given)) in
-          subst (λ (os : List JobOutcome). AreOutcomes (sitting seats) (players_of c.args.worked.items) c.args.jobs.now os) (sym c.pool_of.ensures.outcomes)
-          (c.in_ok-outcomes.ensures.each (sitting seats) (players_of c.args.worked.items) filled);
-      apart = subst (λ (os : List JobOutcome). AreApart os) (sym c.pool_of.ensures.outcomes) (c.in_ok-outcomes.ensures.apart apart);
-      once = sym (ap done_in c.deref-2.ensures.value) ∙ sym c.in_ok-fill.ensures.many ∙ ap filled_in (sym slots) ∙ c.in_ok-outcomes.ensures.all;
+      ran = all_ran worked told.0.memory told.0.strange told.2;
+      each = λ seats works. subst (λ (os : List JobOutcome). AreOutcomes (sitting seats) (players_of worked) jobs os) (sym same) (had.each seats works);
+      apart = subst (λ (os : List JobOutcome). AreApart os) (sym same) had.apart;
+      once = had.once;
     }
+
+pub returns-in-Err-clause-gathers : goal.returns-in-Err-clause-gathers
+returns-in-Err-clause-gathers c = subst (λ (ws : List Worked). TellsOf c.args.jobs.now ws c.in-Err.fault) c.as_slice.ensures.value c.in-Err.ensures.gathers
+
+pub returns-in-Err-clause-fault : goal.returns-in-Err-clause-fault
+returns-in-Err-clause-fault c =
+    tells_fault c.args.jobs.now c.requires.worked.0 c.args.worked.items _ c.requires.worked.1 (subst (λ (ws : List Worked). TellsOf c.args.jobs.now ws c.in-Err.fault) c.as_slice.ensures.value c.in-Err.ensures.gathers)

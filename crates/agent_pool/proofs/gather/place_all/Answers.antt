@@ -1,5 +1,9 @@
-use Rattle.std.proofs.Common.{rules, ◌≡◌, ◌∙◌, refl, arith, ◌+◌}
-use Rattle.std.proofs.lemmas.List.{drop_more}
+use Rattle.std.proofs.Common.{rules, ◌≡◌, ◌∙◌, ◌++◌, List, ℕ, append-nil, refl, arith, ◌+◌, subst, sym}
+use Rattle.std.proofs.lemmas.List.{drop_more, take_all}
+use Rattle.agent_pool.specs.declared.work.Done.{Done}
+use Rattle.agent_pool.specs.Gathers.{places_by}
+use Rattle.agent_pool.specs.code.Gathering.{AreSeen}
+use Rattle.agent_pool.proofs.Seen.{double_next, passed_on, seen_next, within_at}
 use Rattle.agent_pool.specs.code.Filled.{filled_in}
 use Rattle.agent_pool.specs.Transcripts.{begins}
 use Rattle.agent_pool.proofs.Apart.{at_next}
@@ -12,6 +16,7 @@ loop-one-init c = (
   (λ numbers low high fresh rise apart below. record { low = low; rise = rise; apart = apart; below = below }),
   omega arith,
   refl,
+  (λ seen was. subst (λ (ps : List ℕ). AreSeen ps c.args.slots.now.items) (sym (append-nil seen)) was),
 )
 
 pub loop-one-preserved : goal.loop-one-preserved
@@ -27,12 +32,28 @@ loop-one-preserved c = (
       let were = c.loop-one.invariant.2 in
       omega arith),
   c.in_ok-place_one.ensures.long ∙ c.loop-one.invariant.3,
+  (λ seen was. seen_next seen c.args.done.now c.loop-one.one-index _ _ _ _ _ c.loop-one-test.true (search rules) (c.loop-one.invariant.4 seen was) c.in_ok-place_one.ensures.put.1),
 )
+
+pub place_one-requires-clause-within : goal.place_one-requires-clause-within
+place_one-requires-clause-within c = within_at _ c.args.done.now c.loop-one.one-index _ c.requires.within c.loop-one-test.true (search rules)
 
 pub returns-clause-many : goal.returns-clause-many
 returns-clause-many c = let past = c.loop-one-test.false in let few = c.loop-one.auto in let were = c.loop-one.invariant.2 in omega arith
+
+pub returns-clause-seen : goal.returns-clause-seen
+returns-clause-seen c seen was =
+    let past = c.loop-one-test.false in
+    subst (λ (ds : List Done). AreSeen (seen ++ places_by ds) c.loop-one.slots.items) (take_all c.loop-one.one-index c.args.done.now (omega arith)) (c.loop-one.invariant.4 seen was)
 
 pub returns-clause-apart : goal.returns-clause-apart
 returns-clause-apart c numbers low high fresh rise apart below =
     let at = c.loop-one.invariant.1 numbers low high fresh rise apart below in
     (at.apart, (at.low, at.below))
+
+pub returns-in_err-place_one-clause-double : goal.returns-in_err-place_one-clause-double
+returns-in_err-place_one-clause-double c =
+    passed_on _ _ _ c.from_residual.ensures.1
+    (λ seen was.
+    let err = c.in_err-place_one.ensures.double in
+    (err.0, err.1, double_next c.args.jobs.now c.loop-one.slots.items seen c.args.done.now c.loop-one.one-index _ err.0 c.loop-one-test.true (search rules) (c.loop-one.invariant.4 seen was) err.2))

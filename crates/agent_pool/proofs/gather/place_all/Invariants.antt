@@ -1,9 +1,11 @@
-use Rattle.std.proofs.Common.{◌≡◌, ◌+◌, ℕ, List, drop, length}
+use Rattle.std.proofs.Common.{◌≡◌, ◌+◌, ◌++◌, ℕ, List, drop, length, take}
 use Rattle.std.specs.Prelude.{Contains}
 use Rattle.agent_pool.specs.Transcripts.{Played, begins}
 use Rattle.agent_pool.specs.code.Working.{AllDone, RiseBetween}
 use Rattle.agent_pool.specs.Pools.{IsOf}
 use Rattle.agent_pool.specs.code.Filled.{AreApartIn, AreBelow, KeepFilled, filled_in}
+use Rattle.agent_pool.specs.code.Gathering.{AreSeen}
+use Rattle.agent_pool.specs.Gathers.{places_by}
 use Rattle.agent_pool.proofs.Apart.{At}
 use Rattle.agent_pool.proofs.gather.place_all.Given as goal
 
@@ -15,3 +17,4 @@ invariant-loop-one l =
     → At l.agent numbers high (drop l.one-index l.done) l.slots.items)
     × (filled_in l.slots.items ≡ filled_in l.fn.slots.items + l.one-index)
     × (length l.slots.items ≡ length l.fn.slots.items)
+    × ((seen : List ℕ) → AreSeen seen l.fn.slots.items → AreSeen (seen ++ places_by (take l.one-index l.done)) l.slots.items)

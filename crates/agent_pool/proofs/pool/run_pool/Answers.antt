@@ -1,4 +1,4 @@
-use Rattle.std.proofs.Common.{rules, ◌+◌, ◌≤◌, ℕ, List, length, sym, subst, arith}
+use Rattle.std.proofs.Common.{rules, ◌+◌, ◌≤◌, inr, ℕ, List, length, sym, subst, arith}
 use Rattle.std.specs.Vec.{vec_len, vec_capacity}
 use Rattle.server_lock.specs.Passes.{Held}
 use Rattle.agent_pool.specs.code.Gathering.{HasRoom}
@@ -7,6 +7,7 @@ use Rattle.agent_pool.specs.code.Starts.{IsWorkOf}
 use Rattle.agent_pool.proofs.Filling.{as_many, seats_idle, still_distinct}
 use Rattle.agent_pool.proofs.Lines.{begins}
 use Rattle.agent_pool.proofs.Pooling.{pool_is}
+use Rattle.agent_pool.proofs.Seen.{handed_back, lacks_only}
 use Rattle.agent_pool.proofs.pool.run_pool.Goals as goal
 
 pub bounded_with-requires-clause-rule : goal.bounded_with-requires-clause-rule
@@ -50,3 +51,26 @@ pub returns-clause-pool : goal.returns-clause-pool
 returns-clause-pool g c =
     pool_is c.args.jobs.now c.args.agents.items c.args.passes.items c.reserve.new.self.items c.in_ok-seats.seats.items c.in_ok-worked.worked.items c.gather.result c.requires.ready.distinct
     (subst (λ (left : List Held). AreSeated c.args.passes.items left c.args.agents.items c.in_ok-seats.seats.items) (sym c.reserve.ensures.items) c.in_ok-seats.ensures) c.in_ok-worked.ensures c.gather.ensures.pool
+
+pub returns-clause-gathers : goal.returns-clause-gathers
+returns-clause-gathers g c =
+    inr (record {
+      worked = c.in_ok-worked.worked.items;
+      each = handed_back c.args.jobs.now c.args.passes.items _ c.args.agents.items c.in_ok-seats.seats.items c.in_ok-worked.worked.items c.in_ok-seats.ensures.each c.in_ok-worked.ensures;
+      gathers = c.gather.ensures.gathers;
+    })
+
+pub returns-in_err-room-clause-gathers : goal.returns-in_err-room-clause-gathers
+returns-in_err-room-clause-gathers g c = lacks_only _ c.from_residual.ensures.1
+
+pub returns-in_err-seats-clause-gathers : goal.returns-in_err-seats-clause-gathers
+returns-in_err-seats-clause-gathers g c = lacks_only _ c.from_residual-in_err-seats.ensures.1
+
+pub returns-in_err-reserve-clause-gathers : goal.returns-in_err-reserve-clause-gathers
+returns-in_err-reserve-clause-gathers g c = lacks_only _ c.from_residual-in_err-reserve.ensures.1
+
+pub returns-in_err-sender-clause-gathers : goal.returns-in_err-sender-clause-gathers
+returns-in_err-sender-clause-gathers g c = lacks_only _ c.from_residual-in_err-sender.ensures.1
+
+pub returns-in_err-worked-clause-gathers : goal.returns-in_err-worked-clause-gathers
+returns-in_err-worked-clause-gathers g c = lacks_only _ c.from_residual-in_err-worked.ensures.1
