@@ -1,8 +1,8 @@
 #!/usr/bin/env python3
 """bench/names.py [PROGRAM]
 
-Names that collide, and plain ones: `suites table` on 20,000, 40,000, 80,000 and 160,000 lines `user NAME 1`, and
-`suites acl` with 20,000, 40,000 and 80,000 words `user:NAME=1`, the least processor time of five runs each.
+Names that collide, and plain ones: `suites table` on 20,000, 40,000 and 80,000 lines `user NAME 1`, and
+`suites acl` with 15,000, 30,000 and 60,000 words `user:NAME=1`, the least processor time of five runs each.
 
 Those that collide (`bench/names.c` looks for them, which `cc` makes) begin at one place of a table that has the hasher
 that `indexmap` takes by default, whose seed is fixed. A table with keys that are a digest of the input spreads
@@ -17,9 +17,11 @@ import tempfile
 import measure
 
 HERE = os.path.dirname(os.path.abspath(__file__))
-COUNTS = [20000, 40000, 80000, 160000]
-# A table of 160,000 names has 2^15 groups.
-BITS = 15
+COUNTS = [20000, 40000, 80000]
+# a command line has room for fewer
+WORDS = [15000, 30000, 60000]
+# A table of 80,000 names has 2^14 groups.
+BITS = 14
 GROWTH = 2.3
 
 
@@ -48,31 +50,19 @@ def by_words(program, names):
             b"user::r--\nuser:1:r--\ngroup::r--\nmask::r--\nother::r--\n")
 
 
-def spent(words, data):
-    """The status, the output and the processor seconds of a run."""
-    with tempfile.TemporaryFile() as source, tempfile.TemporaryFile() as target:
-        source.write(data)
-        source.seek(0)
-        files = [(os.POSIX_SPAWN_DUP2, source.fileno(), 0), (os.POSIX_SPAWN_DUP2, target.fileno(), 1)]
-        _, status, usage = os.wait4(os.posix_spawn(words[0], words, os.environ, file_actions=files), 0)
-        target.seek(0)
-        return os.waitstatus_to_exitcode(status), target.read(), usage.ru_utime + usage.ru_stime
-
-
 def main():
     program = sys.argv[1] if len(sys.argv) > 1 else measure.PROGRAM
     print(f"{'names that':20}{'names':>8}{'MB':>8}{'seconds':>10}{'growth':>8}")
     above = []
     hostile, usual = colliding(max(COUNTS)), plain(max(COUNTS))
-    for title, form, counts in (("table", by_script, COUNTS), ("acl", by_words, COUNTS[:3])):
+    for title, form, counts in (("table", by_script, COUNTS), ("acl", by_words, WORDS)):
         for kind, names in (("collide", hostile), ("do not", usual)):
             before = None
             for count in counts:
                 words, data, wanted = form(program, names[:count])
-                runs = [spent(words, data) for _ in range(5)]
-                if any(run[:2] != (0, wanted) for run in runs):
-                    sys.exit(f"{title}, {kind}, {count} names: status {runs[0][0]}, {runs[0][1][:80]!r}")
-                seconds = min(run[2] for run in runs)
+                status, output, seconds = measure.work(words, data)
+                if (status, output) != (0, wanted):
+                    sys.exit(f"{title}, {kind}, {count} names: status {status}, {output[:80]!r}")
                 size = len(data) if form is by_script else sum(len(word) + 1 for word in words)
                 grown = f"{seconds / before:>8.2f}" if before else ""
                 print(f"{title + ', ' + kind:20}{count:>8}{size / 1e6:>8.2f}{seconds:>10.3f}{grown}", flush=True)
