@@ -3,7 +3,7 @@
 
 Locks that are left behind: 16,000, 32,000 and 64,000 rounds of `play`, in each of which an agent prepares and decides a
 `list /` at a server that then falls down, so that its lock stays there; and at the end one sweep of them all. Prints the
-seconds (the least of three runs) and the growth, and the same of OTHER, a program of the same service, where that is named,
+processor seconds (the least of three runs) and the growth, and the same of OTHER, a program of the same service, where that is named,
 and the ratio to it. A poll, a Finish and a crash do not look at locks that have nothing to do with them: so the growth
 is 2, and the ratio does not rise with the rounds.
 """
@@ -18,7 +18,7 @@ COUNTS = [16000, 32000, 64000]
 
 def timed(program, data):
     """The least seconds of a program, and what it printed."""
-    status, output, seconds, _ = measure.least([program, "play"], data, 3)
+    status, output, seconds = measure.work([program, "play"], data, 3)
     if status != 0:
         sys.exit(f"{program}: status {status}, {output[:200]!r}")
     return seconds, output

@@ -2,7 +2,7 @@
 """bench/lists.py [PROGRAM [OTHER]]
 
 Lists a folder of many names by `serve`: 4,000 jobs `list /` of a folder of 10, 100 and 1,000 names of 64 bytes, by four agents;
-the least seconds of five runs. Where OTHER is named, a program of the same service, its seconds and the ratio to them stand
+the least processor time of five runs. Where OTHER is named, a program of the same service, its seconds and the ratio to them stand
 beside that: what is done for each name is to cost both about the same, so that the ratio does not grow with the names.
 """
 import sys
@@ -15,33 +15,30 @@ COUNTS = [10, 100, 1000]
 
 
 def script(count):
-    """Jobs that make so many files of long names, and then list them again and again."""
+    """Jobs that make so many files with long names, and then list them again and again."""
     names = [f"{number:04d}".ljust(64, "x") for number in range(count)]
     lines = [" ; ".join(f"file /{name} 644" for name in names[at:at + 8]) for at in range(0, count, 8)]
     jobs = [f"do 1 1 0 {line}" for line in lines] + ["together"] + ["do 1 1 0 list /"] * LISTS
-    return (HEAD + "\n".join(jobs) + "\n").encode(), len(lines)
+    return (HEAD + "\n".join(jobs) + "\n").encode()
 
 
 def timed(program, count):
     """The least seconds of a program on so many names."""
-    data, before = script(count)
-    status, output, seconds, peak = measure.least([program, "serve", "--agents", "4"], data)
-    lines = output.split(b"\n")
-    told = sum(line.startswith(b"%d.0 names %d " % (before, count)) for line in lines)
-    if status != 0 or not lines[-2].startswith(b"certified ") or told != 1:
+    status, output, seconds = measure.work([program, "serve", "--agents", "4"], script(count))
+    if status != 0 or b"\ncertified " not in output or output.count(b" answered list 0000x") != LISTS:
         sys.exit(f"{program}, {count} names: status {status}, {output[:200]!r}")
-    return seconds, peak
+    return seconds
 
 
 def main():
     program, other = [*sys.argv[1:], *[measure.PROGRAM, None][len(sys.argv) - 1:]][:2]
     measure.head("Lists of a folder, by serve")
-    print(f"{'names':>6}{'seconds':>10}{'peak MiB':>10}" + (f"{'other':>10}{'ratio':>8}" if other else ""))
+    print(f"{'names':>6}{'seconds':>10}" + (f"{'other':>10}{'ratio':>8}" if other else ""))
     for count in COUNTS:
-        seconds, peak = timed(program, count)
-        line = f"{count:>6}{seconds:>10.3f}{peak:>10.1f}"
+        seconds = timed(program, count)
+        line = f"{count:>6}{seconds:>10.3f}"
         if other:
-            plain, _ = timed(other, count)
+            plain = timed(other, count)
             line += f"{plain:>10.3f}{seconds / plain:>8.2f}"
         print(line, flush=True)
 

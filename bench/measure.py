@@ -38,6 +38,23 @@ def least(words, data, times=5):
     return min(runs, key=lambda one: one[2])
 
 
+def work(words, data, times=5):
+    """The status, the output and the processor seconds of a run of these words, on these bytes: the least seconds of some runs.
+    They say more than those of a clock where the machine has other work."""
+    least_one = None
+    for _ in range(times):
+        with tempfile.TemporaryFile() as source, tempfile.TemporaryFile() as target:
+            source.write(data)
+            source.seek(0)
+            files = [(os.POSIX_SPAWN_DUP2, source.fileno(), 0), (os.POSIX_SPAWN_DUP2, target.fileno(), 1)]
+            _, status, usage = os.wait4(os.posix_spawn(words[0], words, os.environ, file_actions=files), 0)
+            target.seek(0)
+            one = os.waitstatus_to_exitcode(status), target.read(), usage.ru_utime + usage.ru_stime
+        if least_one is None or one[2] < least_one[2]:
+            least_one = one
+    return least_one
+
+
 def suites(words, data, times=5):
     """The same, of the program `suites`."""
     return least([PROGRAM, *words], data, times)

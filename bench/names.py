@@ -1,13 +1,13 @@
 #!/usr/bin/env python3
 """bench/names.py [PROGRAM]
 
-Names that collide, and plain ones: `suites table` on 20,000, 40,000, 80,000 and 160,000 lines `user NAME 1`, and
-`suites acl` with 20,000, 40,000 and 80,000 words `user:NAME=1`, the least of five runs each.
+Names that collide, and plain ones: `suites table` on 20,000, 40,000 and 80,000 lines `user NAME 1`, and
+`suites acl` with 15,000, 30,000 and 60,000 words `user:NAME=1`, the least processor time of five runs each.
 
 Those that collide (`bench/names.c` looks for them, which `cc` makes) begin at one place of a table that has the hasher
 that `indexmap` takes by default, whose seed is fixed. A table with keys that are a digest of the input spreads
 them as others. The growth is how many times as long a line takes as the line above it, which has half as many names:
-it is an error where that is above 2.3 beyond what a program takes that does nothing.
+it is an error where that is above 2.3.
 """
 import os
 import subprocess
@@ -17,9 +17,11 @@ import tempfile
 import measure
 
 HERE = os.path.dirname(os.path.abspath(__file__))
-COUNTS = [20000, 40000, 80000, 160000]
-# A table of 160,000 names has 2^15 groups.
-BITS = 15
+COUNTS = [20000, 40000, 80000]
+# a command line has room for fewer
+WORDS = [15000, 30000, 60000]
+# A table of 80,000 names has 2^14 groups.
+BITS = 14
 GROWTH = 2.3
 
 
@@ -39,7 +41,7 @@ def plain(count):
 def by_script(program, names):
     """A script that names users, and the words and the output that are wanted."""
     lines = ["root 0 0 755", *(f"user {name} 1" for name in names), "do 0 0 list /"]
-    return [program, "table"], "\n".join(lines).encode() + b"\n", b"0 answered\n0.0 names 0\n"
+    return [program, "table"], "\n".join(lines).encode() + b"\n", b"0 answered list -\n"
 
 
 def by_words(program, names):
@@ -50,27 +52,23 @@ def by_words(program, names):
 
 def main():
     program = sys.argv[1] if len(sys.argv) > 1 else measure.PROGRAM
-    measure.head("Names that collide, and plain ones")
-    idle = measure.least(["/bin/true"], b"")[2]
-    print(f"{'':28}{'names':>8}{'MB':>8}{'seconds':>10}{'growth':>8}")
+    print(f"{'names that':20}{'names':>8}{'MB':>8}{'seconds':>10}{'growth':>8}")
     above = []
     hostile, usual = colliding(max(COUNTS)), plain(max(COUNTS))
-    for title, form, counts in (("table", by_script, COUNTS), ("acl", by_words, COUNTS[:3])):
-        for kind, names in (("colliding", hostile), ("plain", usual)):
+    for title, form, counts in (("table", by_script, COUNTS), ("acl", by_words, WORDS)):
+        for kind, names in (("collide", hostile), ("do not", usual)):
             before = None
             for count in counts:
                 words, data, wanted = form(program, names[:count])
-                status, output, seconds, _ = measure.least(words, data)
+                status, output, seconds = measure.work(words, data)
                 if (status, output) != (0, wanted):
                     sys.exit(f"{title}, {kind}, {count} names: status {status}, {output[:80]!r}")
-                spent = max(seconds - idle, 0.0001)
-                grown = spent / before if before else None
                 size = len(data) if form is by_script else sum(len(word) + 1 for word in words)
-                print(f"{title + ', ' + kind:28}{count:>8}{size / 1e6:>8.2f}{seconds:>10.3f}"
-                      + (f"{grown:>8.2f}" if grown else ""), flush=True)
-                if grown and grown > GROWTH:
-                    above.append(f"{title}, {kind}, {count} names: {grown:.2f}")
-                before = spent
+                grown = f"{seconds / before:>8.2f}" if before else ""
+                print(f"{title + ', ' + kind:20}{count:>8}{size / 1e6:>8.2f}{seconds:>10.3f}{grown}", flush=True)
+                if before and seconds > GROWTH * before:
+                    above.append(f"{title}, names that {kind}, {count}: {seconds / before:.2f}")
+                before = seconds
     if above:
         sys.exit(f"growth above {GROWTH}: " + "; ".join(above))
 

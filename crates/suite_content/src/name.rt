@@ -66,8 +66,12 @@ impl PartialEq for Name {
 
     ghost laws = { partial_equiv_from_equiv nat_list_eq_equiv };
 
+    /// Behind a name stand zeros, so all places are compared: so many at once that it takes fewer steps than to compare
+    /// as many as there are bytes.
     fn eq(&self, other: &Name) -> bool {
-        self.as_bytes() == other.as_bytes()
+        let as_long = self.count == other.count;
+        let as_wide = self.array == other.array;
+        as_long & as_wide
     }
 }
 
